@@ -1,0 +1,13 @@
+pub mod Classes
+pub mod Closing
+pub mod CutSoFar
+pub mod Fronts
+pub mod Leaps
+pub mod Outcomes
+pub mod Pieces
+pub mod Places
+pub mod Plain
+pub mod Steps
+pub mod Strings
+pub mod Values
+pub mod Whole

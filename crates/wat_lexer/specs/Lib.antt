@@ -1,0 +1,10 @@
+pub mod Bytes
+pub mod Cut
+pub mod Faults
+pub mod Integer
+pub mod Number
+pub mod Place
+pub mod Scan
+pub mod Sight
+pub mod Token
+pub mod View

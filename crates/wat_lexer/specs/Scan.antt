@@ -1,0 +1,175 @@
+-- Where a piece at the front of a text ends.
+use Rattle.std.specs.Prelude.{◌≡◌, ◌≤◌, drop, Result, Ok, Err, ℕ, ◌+◌, ◌<◌, ◌-◌, ◌*◌, Bool, true, false, List, [], ◌∷◌, ◌++◌, take, length, Option, Some, None, option_map, ◌==◌, ◌&&◌, nat_lt, if◌then◌else◌, encode_utf8}
+use Rattle.std.specs.Char.{digit_value}
+use lib.Utf8.{scalar}
+use Rattle.wat_lexer.specs.Bytes.{is_idchar, between}
+use Rattle.std.specs.Str.{is_utf8}
+use Rattle.wat_lexer.specs.Bytes.{is_space, is_line_end}
+use Rattle.wat_lexer.specs.Number.{is_integer}
+use Rattle.wat_lexer.specs.Cut.{is_raw, is_hex, short_escape, begins}
+use Rattle.wat_lexer.specs.Token.{Tok, LParen, RParen, Keyword, Id, Annotation, Integer, String, Reserved}
+use Rattle.wat_lexer.specs.declared.fault.Fault.{Fault}
+use Rattle.wat_lexer.specs.declared.fault.Fault.TheVariants.{LexChar, LexString, LexComment}
+use Rattle.wat_lexer.specs.declared.string.Mode.{Mode}
+use Rattle.wat_lexer.specs.declared.string.Mode.TheVariants.{Raw, Escape, Byte, Brace, Digits}
+use Rattle.wat_lexer.specs.declared.string.Step.{Step}
+use Rattle.wat_lexer.specs.declared.string.Step.TheVariants.{Bad, Close, Into, Emit, Encode}
+
+-- what follows the `;)` of a block comment in which depth more comments lie open
+unfoldable pub behind_comment : ℕ → List ℕ → Option (List ℕ)
+behind_comment depth [] = None
+behind_comment depth (a ∷ []) = None
+behind_comment depth (a ∷ b ∷ t) =
+    if (a == 40) && (b == 59) then behind_comment (depth + 1) t
+    else (if (a == 59) && (b == 41) then (if depth == 0 then Some t else behind_comment (depth - 1) t)
+    else behind_comment depth (b ∷ t))
+
+abbrev pub emitted : Option ℕ → Step
+emitted None = Bad
+emitted (Some v) = Emit v
+
+-- what a byte of a string does
+unfoldable pub step : Mode → ℕ → Step
+step Raw b = if b == 34 then Close else (if b == 92 then Into Escape else (if is_raw b then Emit b else Bad))
+step Escape b = if is_hex b then Into (Byte (digit_value b)) else (if b == 117 then Into Brace else emitted (short_escape b))
+step (Byte h) b = if is_hex b then Emit (h * 16 + digit_value b) else Bad
+step Brace b = if b == 123 then Into (Digits 0 false) else Bad
+step (Digits n behind) b =
+    if is_hex b then (if nat_lt (n * 16 + digit_value b) 1114112 then Into (Digits (n * 16 + digit_value b) true) else Bad)
+    else (if behind && (b == 95) then Into (Digits n false)
+    else (if behind && ((b == 125) && scalar n) then Encode n else Bad))
+
+abbrev pub with_front : List ℕ → Option (List ℕ × List ℕ) → Option (List ℕ × List ℕ)
+with_front v found = option_map (λ r. (v ++ r.0, r.1)) found
+
+-- What a string is from such a place on: its content, and what follows its closing quote.
+abbrev pub after_step : Step → List ℕ → (Mode → Option (List ℕ × List ℕ)) → Option (List ℕ × List ℕ)
+after_step Bad t go = None
+after_step Close t go = Some ([], t)
+after_step (Into next) t go = go next
+after_step (Emit v) t go = with_front (v ∷ []) (go Raw)
+after_step (Encode n) t go = with_front (encode_utf8 n) (go Raw)
+
+unfoldable pub string_at : Mode → List ℕ → Option (List ℕ × List ℕ)
+string_at mode [] = None
+string_at mode (b ∷ t) = after_step (step mode b) t (λ next. string_at next t)
+
+-- a place in a run: between its parts, or in a mode within the string that begins with the text
+pub data RunPlace : Type 0 where
+  Between : RunPlace
+  Within : Mode → List ℕ → RunPlace
+
+-- what follows a run, or the text from the opening quote of a string in it that is none
+pub data RunEnd : Type 0 where
+  Ends : List ℕ → RunEnd
+  Stuck : List ℕ → RunEnd
+
+-- what follows a run, from such a place on
+abbrev pub run_step : Step → List ℕ → (RunPlace → RunEnd) → RunEnd
+run_step Bad q go = Stuck q
+run_step Close q go = go Between
+run_step (Into next) q go = go (Within next q)
+run_step (Emit v) q go = go (Within Raw q)
+run_step (Encode n) q go = go (Within Raw q)
+
+unfoldable pub behind_run : RunPlace → List ℕ → RunEnd
+behind_run Between [] = Ends []
+behind_run Between (b ∷ t) = if b == 34 then behind_run (Within Raw (b ∷ t)) t else (if is_idchar b then behind_run Between t else Ends (b ∷ t))
+behind_run (Within mode q) [] = Stuck q
+behind_run (Within mode q) (b ∷ t) = run_step (step mode b) q (λ next. behind_run next t)
+
+-- the place at which a run ends, or of the quote of the string in it that is none
+abbrev pub RunEndIs : List ℕ → Result ℕ ℕ → RunEnd → Type 0
+RunEndIs text (Ok end) e = e ≡ Ends (drop end text)
+RunEndIs text (Err quote) e = (e ≡ Stuck (drop quote text)) × (quote ≤ length text)
+
+-- a mode that a string's text leads to
+abbrev pub IsMode : Mode → Type 0
+IsMode Raw = Unit {0}
+IsMode Escape = Unit {0}
+IsMode (Byte h) = h < 16
+IsMode Brace = Unit {0}
+IsMode (Digits n behind) = n < 1114112
+
+abbrev pub StepFits : Step → Type 0
+StepFits Bad = Unit {0}
+StepFits Close = Unit {0}
+StepFits (Into next) = IsMode next
+StepFits (Emit v) = Unit {0}
+StepFits (Encode n) = Unit {0}
+
+-- what follows a line comment
+unfoldable pub behind_line : List ℕ → List ℕ
+behind_line [] = []
+behind_line (b ∷ t) = if is_line_end b then b ∷ t else behind_line t
+
+unfoldable pub all_idchars : List ℕ → Bool
+all_idchars [] = true
+all_idchars (b ∷ t) = is_idchar b && all_idchars t
+
+-- the content where the string that begins at the front is the whole
+abbrev pub whole : Option (List ℕ × List ℕ) → Option (List ℕ)
+whole None = None
+whole (Some (c, [])) = Some c
+whole (Some (c, _ ∷ _)) = None
+
+unfoldable pub string_of : List ℕ → Option (List ℕ)
+string_of [] = None
+string_of (b ∷ t) = if b == 34 then whole (string_at Raw t) else None
+
+-- the name behind `$` or `@`
+abbrev pub text_name : Option (List ℕ) → Option (List ℕ)
+text_name None = None
+text_name (Some []) = None
+text_name (Some (b ∷ t)) = if is_utf8 (b ∷ t) then Some (b ∷ t) else None
+
+unfoldable pub name_of : List ℕ → Option (List ℕ)
+name_of [] = None
+name_of (b ∷ t) = if all_idchars (b ∷ t) then Some (b ∷ t) else text_name (string_of (b ∷ t))
+
+abbrev pub or_reserved : (List ℕ → Tok) → List ℕ → Option (List ℕ) → Tok
+or_reserved make x None = Reserved x
+or_reserved make x (Some n) = make n
+
+-- the class of a run
+unfoldable pub class : Bool → List ℕ → Tok
+class behind [] = Reserved []
+class behind (b ∷ t) =
+    if b == 34 then or_reserved String (b ∷ t) (string_of (b ∷ t))
+    else (if b == 36 then or_reserved Id (b ∷ t) (name_of t)
+    else (if behind && (b == 64) then or_reserved Annotation (b ∷ t) (name_of t)
+    else (if all_idchars (b ∷ t) && between 97 122 b then Keyword (b ∷ t)
+    else (if all_idchars (b ∷ t) && is_integer (b ∷ t) then Integer (b ∷ t)
+    else Reserved (b ∷ t)))))
+
+-- what stands in front of a text; where nothing can, the fault and the text from its place on
+pub data Front : Type 0 where
+  Nothing : Front
+  BlankTo : List ℕ → Front
+  TokenTo : Tok → List ℕ → Front
+  Wrong : Fault → List ℕ → Front
+
+abbrev pub tail : List ℕ → List ℕ
+tail [] = []
+tail (_ ∷ t) = t
+
+abbrev pub comment_front : List ℕ → Option (List ℕ) → Front
+comment_front s None = Wrong LexComment s
+comment_front s (Some rest) = BlankTo rest
+
+abbrev pub run_front : Bool → List ℕ → RunEnd → Front
+run_front behind s (Stuck q) = Wrong LexString q
+run_front behind s (Ends rest) = if length rest == length s then Wrong LexChar s else TokenTo (class behind (take (length s - length rest) s)) rest
+
+unfoldable pub front : Bool → List ℕ → Front
+front behind [] = Nothing
+front behind (b ∷ t) =
+    if is_space b then BlankTo t
+    else (if b == 40 then (if begins 59 t then comment_front (b ∷ t) (behind_comment 0 (tail t)) else TokenTo LParen t)
+    else (if b == 41 then TokenTo RParen t
+    else (if b == 59 then (if begins 59 t then BlankTo (behind_line (tail t)) else Wrong LexChar (b ∷ t))
+    else run_front behind (b ∷ t) (behind_run Between (b ∷ t)))))
+
+-- what follows a string, from a place within it
+unfoldable pub rest_at : Mode → List ℕ → Option (List ℕ)
+rest_at mode s = option_map (λ r. r.1) (string_at mode s)

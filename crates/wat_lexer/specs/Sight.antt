@@ -1,0 +1,57 @@
+-- Groups in parentheses, and what lookups and parsers see of the tokens: groups of annotations that aren't known are left out.
+use Rattle.std.specs.Prelude.{ℕ, zero, suc, ◌+◌, ◌-◌, Bool, true, false, not, ◌&&◌, ◌||◌, if◌then◌else◌, List, [], ◌∷◌, Option, Some, None, codes}
+use Rattle.std.specs.Str.{bytes_eq}
+use Rattle.wat_lexer.specs.Token.{Tok, LParen, RParen, Annotation}
+
+-- the token closes the group in which `depth` more lie open
+abbrev pub shuts : Tok → ℕ → Bool
+shuts RParen zero = true
+shuts _ _ = false
+
+-- how many lie open behind the token
+abbrev pub deeper : Tok → ℕ → ℕ
+deeper LParen depth = depth + 1
+deeper RParen depth = depth - 1
+deeper _ depth = depth
+
+-- what follows the `)` of a group in which `depth` more groups lie open, where it is closed
+unfoldable pub behind_group : ℕ → List Tok → Option (List Tok)
+behind_group depth [] = None
+behind_group depth (x ∷ r) = if shuts x depth then Some r else behind_group (deeper x depth) r
+
+-- one of the five standard names
+abbrev pub is_standard : List ℕ → Bool
+is_standard n = bytes_eq n (codes "custom") || (bytes_eq n (codes "producers") || (bytes_eq n (codes "name") || (bytes_eq n (codes "dylink.0") || bytes_eq n (codes "metadata.code.branch_hint"))))
+
+-- a group that begins with an annotation stands in front
+abbrev pub annotated : List Tok → Bool
+annotated (LParen ∷ Annotation n ∷ r) = true
+annotated _ = false
+
+abbrev pub annotation_name : List Tok → List ℕ
+annotation_name (LParen ∷ Annotation n ∷ r) = n
+annotation_name _ = []
+
+-- a group whose annotation isn't known stands in front; `known` says that the five names are
+abbrev pub hides : Bool → List Tok → Bool
+hides known t = annotated t && not (known && is_standard (annotation_name t))
+
+-- The tokens without each group that is hidden. `Some depth` is within such a group, in which `depth` more lie open.
+unfoldable pub visible : Bool → Option ℕ → List Tok → List Tok
+visible known place [] = []
+visible known None (x ∷ r) = if hides known (x ∷ r) then visible known (Some 0) r else x ∷ visible known None r
+visible known (Some depth) (x ∷ r) = if shuts x depth then visible known None r else visible known (Some (deeper x depth)) r
+
+-- the tokens as they are seen
+unfoldable pub as_seen : Bool → List Tok → List Tok
+as_seen known t = visible known None t
+
+-- how many tokens stand before the first that is seen, with the same places
+unfoldable pub hidden_at : Bool → Option ℕ → List Tok → ℕ
+hidden_at known place [] = 0
+hidden_at known None (x ∷ r) = if hides known (x ∷ r) then suc (hidden_at known (Some 0) r) else 0
+hidden_at known (Some depth) (x ∷ r) = if shuts x depth then suc (hidden_at known None r) else suc (hidden_at known (Some (deeper x depth)) r)
+
+-- how many tokens stand before the first that is seen
+unfoldable pub hidden : Bool → List Tok → ℕ
+hidden known t = hidden_at known None t

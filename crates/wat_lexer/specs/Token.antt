@@ -1,0 +1,38 @@
+-- Tokens as contracts see them.
+use Rattle.std.specs.Prelude.{ℕ, Bool, true, false, List, [], ◌∷◌, ◌||◌, map}
+
+-- A token, without its place. Names are those of the ids and annotations, an integer is its text, a string its content.
+pub data Tok : Type 0 where
+  LParen : Tok
+  RParen : Tok
+  Keyword : List ℕ → Tok
+  Id : List ℕ → Tok
+  Annotation : List ℕ → Tok
+  Integer : List ℕ → Tok
+  String : List ℕ → Tok
+  Reserved : List ℕ → Tok
+
+-- a token, and how many bytes of the text stand before it
+pub record Placed : Type 0 where
+  pub token : Tok
+  pub offset : ℕ
+
+abbrev pub tokens_of : List Placed → List Tok
+tokens_of ps = map (λ p. p.token) ps
+
+abbrev pub is_open : Tok → Bool
+is_open LParen = true
+is_open _ = false
+
+abbrev pub is_close : Tok → Bool
+is_close RParen = true
+is_close _ = false
+
+abbrev pub is_annotation : Tok → Bool
+is_annotation (Annotation n) = true
+is_annotation _ = false
+
+-- an annotation is among the tokens
+abbrev pub has_annotation : List Tok → Bool
+has_annotation [] = false
+has_annotation (x ∷ r) = is_annotation x || has_annotation r

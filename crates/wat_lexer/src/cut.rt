@@ -1,0 +1,208 @@
+//! Cuts a text into tokens.
+
+ghost use Rattle.std.specs.Prelude.{◌≡◌, ◌≢◌, ◌||◌, ◌+◌, ◌-◌, ◌≤◌, ◌<◌, IfOk, IfErr, ℕ, List, Bool, true, false, length, drop, slice_range, slice_index};
+ghost use Rattle.wat_lexer.specs.Cut.{Cuts, Fails, FirstFault, IsCut};
+ghost use Rattle.wat_lexer.specs.Place.{offset_of};
+ghost use Rattle.wat_lexer.specs.Scan.{front, run_front, behind_run, all_idchars, Between};
+ghost use Rattle.wat_lexer.specs.Token.{Placed, has_annotation, is_annotation};
+ghost use Rattle.wat_lexer.specs.View.{view, toks, placed, AreLeaps, FrontGives, IfFault, FailsAt};
+ghost use Rattle.wat_lexer.specs.declared.fault.Fault.{Fault};
+
+use crate::class::{plain_token, quoted_token};
+use crate::fault::{Error, Fault, fault_at};
+use crate::groups::tell_leaps;
+use crate::scan::{comment_end, is_space, line_end, plain_end, run_end};
+use crate::string::string_end;
+use crate::token::{Lexeme, Token, is_annotation, is_open};
+use bumpalo::Bump;
+use std::alloc::Global;
+
+/// What stands in front, a token or a blank, and where it ends.
+#[derive(Clone, Copy, Debug)]
+pub struct Piece<'a> {
+    pub token: Option<Token<'a>>,
+    pub end: usize,
+}
+
+/// The run in front.
+#[tactic(auto, using(crate::proofs::Places::run_steps))]
+fn run<'a>(text: &'a str, at: usize, behind: bool, arena: &'a Bump) -> Result<Piece<'a>, Error>
+    requires { at < length text.now }
+    ensures within { IfOk result (λ p. (at < p.end) × (p.end ≤ length text.now)) }
+    ensures value { FrontGives text.now result (run_front behind (drop at text.now) (behind_run Between (drop at text.now))) }
+{
+    let bytes = text.as_bytes();
+    let plain = plain_end(bytes, at);
+    if plain < bytes.len() && bytes[plain] == b'"' {
+        return string_run(text, at, plain, behind, arena);
+    }
+    if plain == at {
+        return Err(fault_at(Fault::LexChar, at));
+    }
+    let token = plain_token(text, at, plain, behind);
+    Ok(Piece {
+        token: Some(token),
+        end: plain,
+    })
+}
+
+/// A run whose first string begins at quote.
+#[tactic(auto, using(crate::proofs::Places::run_steps))]
+fn string_run<'a>(
+    text: &'a str,
+    at: usize,
+    quote: usize,
+    behind: bool,
+    arena: &'a Bump,
+) -> Result<Piece<'a>, Error>
+    requires order { at ≤ quote }
+    requires quote { quote < length text.now }
+    requires mark { slice_index text.now quote ≡ 34 }
+    requires plain { all_idchars (slice_range text.now at quote) ≡ true }
+    requires same { behind_run Between (drop at text.now) ≡ behind_run Between (drop quote text.now) }
+    ensures within { IfOk result (λ p. (at < p.end) × (p.end ≤ length text.now)) }
+    ensures value { FrontGives text.now result (run_front behind (drop at text.now) (behind_run Between (drop at text.now))) }
+{
+    let bytes = text.as_bytes();
+    let after = match string_end(bytes, quote + 1) {
+        Some((after, _)) => after,
+        None => return Err(fault_at(Fault::LexString, quote)),
+    };
+    match run_end(bytes, after) {
+        Err(wrong) => Err(fault_at(Fault::LexString, wrong)),
+        Ok(end) => {
+            let token = quoted_token(text, at, end, behind, arena)?;
+            Ok(Piece {
+                token: Some(token),
+                end,
+            })
+        }
+    }
+}
+
+/// What stands in front.
+#[tactic(auto, using(crate::proofs::Places::front_steps))]
+fn front<'a>(text: &'a str, at: usize, behind: bool, arena: &'a Bump) -> Result<Piece<'a>, Error>
+    requires { at < length text.now }
+    ensures within { IfOk result (λ p. (at < p.end) × (p.end ≤ length text.now)) }
+    ensures value { FrontGives text.now result (front behind (drop at text.now)) }
+{
+    let bytes = text.as_bytes();
+    let b = bytes[at];
+    if is_space(b) {
+        Ok(Piece {
+            token: None,
+            end: at + 1,
+        })
+    } else if b == b'(' {
+        if at + 1 < bytes.len() && bytes[at + 1] == b';' {
+            match comment_end(bytes, at + 2) {
+                Some(end) => Ok(Piece { token: None, end }),
+                None => Err(fault_at(Fault::LexComment, at)),
+            }
+        } else {
+            Ok(Piece {
+                token: Some(Token::LParen),
+                end: at + 1,
+            })
+        }
+    } else if b == b')' {
+        Ok(Piece {
+            token: Some(Token::RParen),
+            end: at + 1,
+        })
+    } else if b == b';' {
+        if at + 1 < bytes.len() && bytes[at + 1] == b';' {
+            Ok(Piece {
+                token: None,
+                end: line_end(bytes, at + 2),
+            })
+        } else {
+            Err(fault_at(Fault::LexChar, at))
+        }
+    } else {
+        run(text, at, behind, arena)
+    }
+}
+
+/// Whether an annotation was among the tokens or this is one.
+fn notes(noted: bool, token: Token) -> bool
+    ensures { result ≡ (noted || is_annotation (view token.entry)) }
+{
+    noted || is_annotation(token)
+}
+
+/// Cuts a text into pieces. The flag says whether an annotation is among the tokens.
+fn cut_pieces<'a>(
+    alloc: Global,
+    text: &'a str,
+    arena: &'a Bump,
+) -> Result<(Vec<Lexeme<'a>>, bool), Error>
+    ensures found { IfOk result (λ v. Cuts (length text.now) false text.now (placed v.0.items)) }
+    ensures noted { IfOk result (λ v. v.1 ≡ has_annotation (toks v.0.items)) }
+    ensures fails { IfErr result (λ e. IfFault e (FailsAt text.now e)) }
+{
+    let mut tokens = Vec::with_capacity(alloc, text.len() / 4)?;
+    let mut noted = false;
+    let mut behind = false;
+    let mut at = 0;
+    while at < text.len() {
+        let piece = match front(text, at, behind, arena) {
+            Err(e) => return Err(e),
+            Ok(piece) => piece,
+        };
+        match piece.token {
+            None => {
+                behind = false;
+                at = piece.end;
+            }
+            Some(token) => {
+                behind = is_open(token);
+                noted = notes(noted, token);
+                tokens.push(Lexeme {
+                    token,
+                    offset: at,
+                    skip: 0,
+                })?;
+                at = piece.end;
+            }
+        }
+    }
+    Ok((tokens, noted))
+}
+
+/// Cuts a text into tokens, each of whose annotation groups is closed. Names and strings without escapes are slices of
+/// the text, the others lie in the arena.
+///
+/// The faults are LexChar, LexString, LexComment, LexAnnotation and Memory. WebAssembly Core Specification, Text Format,
+/// Lexical Format.
+pub fn cut<'a>(alloc: Global, text: &'a str, arena: &'a Bump) -> Result<Vec<Lexeme<'a>>, Error>
+    ensures found { IfOk result (λ ts. IsCut text.now (placed ts.items)) }
+    ensures leaps { IfOk result (λ ts. AreLeaps ts.items) }
+    // The fault is the text's first from the left.
+    ensures fault { IfErr result (λ e. IfFault e (FirstFault text.now e.fault (offset_of e.span))) }
+    ensures none { IfErr result (λ e. IfFault e ((ts : List Placed) → IsCut text.now ts → ⊥)) }
+{
+    let (mut tokens, noted) = match cut_pieces(alloc, text, arena) {
+        Err(e) => return Err(e),
+        Ok(parts) => parts,
+    };
+    if noted {
+        match tell_leaps(alloc, &mut tokens)? {
+            Some(offset) => return Err(fault_at(Fault::LexAnnotation, offset)),
+            None => return Ok(tokens),
+        }
+    }
+    Ok(tokens)
+}
+
+/// A text has at most one cut.
+pub fn one_cut()
+    ensures { (text : List ℕ) (ts us : List Placed) → IsCut text ts → IsCut text us → ts ≡ us }
+{}
+
+/// A text has at most one first fault, and one that has it has no cut.
+pub fn one_outcome()
+    ensures fault { (text : List ℕ) (f g : Fault) (i j : ℕ) → FirstFault text f i → FirstFault text g j → (f ≡ g) × (i ≡ j) }
+    ensures no_cut { (text : List ℕ) (f : Fault) (i : ℕ) (ts : List Placed) → FirstFault text f i → IsCut text ts → ⊥ }
+{}

@@ -1,0 +1,13 @@
+//! The cut of a text in the WebAssembly text format into tokens.
+#![tactic(auto)]
+
+pub mod class;
+pub mod cut;
+pub mod fault;
+pub mod groups;
+pub mod number;
+pub mod scan;
+pub mod sight;
+pub mod span;
+pub mod string;
+pub mod token;

@@ -1,0 +1,347 @@
+//! Integers: their text, their sign and their values.
+
+ghost use Rattle.std.specs.Prelude.{◌≡◌, ◌+◌, ◌-◌, ◌*◌, ◌^◌, ◌≤◌, ◌<◌, IsTrue, IfSome, is_some, length, drop, pos, neg_ℤ};
+ghost use Rattle.wat_lexer.specs.Number.{number, begins_hex, magnitude, sign_of, without_sign, is_integer, is_width, up_to, unsigned_value, twos_complement, signed_value};
+
+use crate::string::digit_value;
+
+/// The sign that an integer is written with.
+#[derive(Clone, Copy, Debug, PartialEq, Eq)]
+pub enum Sign {
+    /// `+`
+    Plus,
+    /// `-`
+    Minus,
+}
+
+/// An integer as it is written: a sign, if there is one, and then decimal digits, or `0x` and hex digits, with single
+/// underscores between digits ('WebAssembly Core Specification, Text Format, Values, Integers').
+#[derive(Clone, Copy, Debug)]
+pub struct Integer<'a> {
+    text: &'a str,
+}
+
+impl<'a> Integer<'a> {
+    ghost use Rattle.wat_lexer.specs.Integer.{text_of};
+
+    /// The integer that the text is, or `None` where the whole text is none
+    /// ('WebAssembly Core Specification, Text Format, Values, Integers').
+    pub fn of(text: &'a str) -> Option<Integer<'a>>
+        ensures whole { is_some result ≡ is_integer text.now }
+        ensures same { IfSome result (λ i. text_of i ≡ text.now) }
+    {
+        if is_integer(text.as_bytes()) {
+            Some(Integer { text })
+        } else {
+            None
+        }
+    }
+
+    /// The text, with its sign, its `0x` and its underscores
+    /// ('WebAssembly Core Specification, Text Format, Values, Integers').
+    pub fn text(self) -> &'a str
+        ensures { result.now ≡ text_of self.entry }
+    {
+        self.text
+    }
+
+    /// The sign that is written, or `None` where none is
+    /// ('WebAssembly Core Specification, Text Format, Values, Integers').
+    pub fn sign(self) -> Option<Sign>
+        ensures { result ≡ sign_of (text_of self.entry) }
+    {
+        sign_of(self.text.as_bytes())
+    }
+
+    /// The value as an unsigned number of so many bits: 8, 16, 32 or 64. `None` where a `-` is written, also in `-0`,
+    /// or the value is above 2^bits - 1 ('WebAssembly Core Specification, Text Format, Values, Integers').
+    pub fn unsigned(self, bits: u32) -> Option<u64>
+        requires { IsTrue (is_width bits) }
+        ensures { result ≡ unsigned_value bits (text_of self.entry) }
+    {
+        let half = half_range(bits);
+        match self.sign() {
+            Some(Sign::Minus) => None,
+            Some(Sign::Plus) | None => magnitude_up_to(self.text.as_bytes(), half - 1 + half),
+        }
+    }
+
+    /// The value as a signed number of so many bits: 8, 16, 32 or 64. Without `-` it is that of the unsigned number by
+    /// two's complement, so `0xff` in 8 bits is -1. `None` where the value is above 2^bits - 1, or, behind a `-`, above
+    /// 2^(bits - 1) ('WebAssembly Core Specification, Text Format, Values, Integers').
+    pub fn signed(self, bits: u32) -> Option<i64>
+        requires { IsTrue (is_width bits) }
+        ensures { result ≡ signed_value bits (text_of self.entry) }
+    {
+        let text = self.text.as_bytes();
+        let half = half_range(bits);
+        match self.sign() {
+            Some(Sign::Minus) => {
+                let magnitude = magnitude_up_to(text, half)?;
+                Some(negative(magnitude))
+            }
+            Some(Sign::Plus) | None => {
+                let value = magnitude_up_to(text, half - 1 + half)?;
+                Some(twos_complement(bits, value))
+            }
+        }
+    }
+}
+
+/// Half of the numbers of so many bits: the first that is negative by two's complement.
+fn half_range(bits: u32) -> u64
+    requires { IsTrue (is_width bits) }
+    ensures value { result ≡ 2 ^ (bits - 1) }
+    ensures twice { 2 ^ bits ≡ result + result }
+    ensures positive { 0 < result }
+    ensures small { result ≤ 2 ^ 63 }
+{
+    if bits == 8 {
+        0x80
+    } else if bits == 16 {
+        0x8000
+    } else if bits == 32 {
+        0x8000_0000
+    } else {
+        0x8000_0000_0000_0000
+    }
+}
+
+/// The signed number that has the same bits.
+fn twos_complement(bits: u32, value: u64) -> i64
+    requires width { IsTrue (is_width bits) }
+    requires fits { value < 2 ^ bits }
+    ensures { result ≡ twos_complement bits value }
+{
+    let half = half_range(bits);
+    if value < half {
+        value as i64
+    } else {
+        negative(half - (value - half))
+    }
+}
+
+fn negative(magnitude: u64) -> i64
+    requires { magnitude ≤ 2 ^ 63 }
+    ensures { result ≡ neg_ℤ (pos magnitude) }
+{
+    if magnitude == 0 {
+        0
+    } else {
+        -((magnitude - 1) as i64) - 1
+    }
+}
+
+/// The value behind the sign, where it is at most the limit.
+#[tactic(auto, using(crate::proofs::Plain::hex_after))]
+fn magnitude_up_to(text: &[u8], limit: u64) -> Option<u64>
+    ensures value { result ≡ up_to limit (magnitude (without_sign text.now)) }
+    ensures small { IfSome result (λ n. n ≤ limit) }
+{
+    let from = sign_length(text);
+    if begins_hex(text, from) {
+        number_up_to(text, from + 2, 16, limit)
+    } else {
+        number_up_to(text, from, 10, limit)
+    }
+}
+
+/// The value of digits of the base, with single underscores between them, from there on, where it is at most the limit.
+#[tactic(auto, using(crate::proofs::Values::value_steps))]
+fn number_up_to(text: &[u8], from: usize, base: u8, limit: u64) -> Option<u64>
+    requires within { from ≤ length text.now }
+    requires low { 2 ≤ base }
+    requires high { base ≤ 16 }
+    ensures value { result ≡ up_to limit (number base (drop from text.now)) }
+    ensures small { IfSome result (λ n. n ≤ limit) }
+{
+    let mut n: u64 = 0;
+    let mut behind = false;
+    let mut i = from;
+    while i < text.len() {
+        let digit = digit_value(text[i]);
+        if digit < base {
+            let wide = n as u128 * base as u128 + digit as u128;
+            if wide > limit as u128 {
+                return None;
+            }
+            n = wide as u64;
+            behind = true;
+        } else {
+            if !behind {
+                return None;
+            }
+            if text[i] != b'_' {
+                return None;
+            }
+            behind = false;
+        }
+        i += 1;
+    }
+    if behind { Some(n) } else { None }
+}
+
+fn sign_of(text: &[u8]) -> Option<Sign>
+    ensures { result ≡ sign_of text.now }
+{
+    if text.is_empty() {
+        None
+    } else if text[0] == b'+' {
+        Some(Sign::Plus)
+    } else if text[0] == b'-' {
+        Some(Sign::Minus)
+    } else {
+        None
+    }
+}
+
+/// How many bytes the sign takes.
+fn sign_length(text: &[u8]) -> usize
+    ensures within { result ≤ length text.now }
+    ensures rest { drop result text.now ≡ without_sign text.now }
+{
+    if !text.is_empty() && (text[0] == b'+' || text[0] == b'-') {
+        1
+    } else {
+        0
+    }
+}
+
+#[tactic(auto, using(crate::proofs::Plain::hex_at, crate::proofs::Plain::hex_short))]
+fn begins_hex(text: &[u8], from: usize) -> bool
+    requires { from ≤ length text.now }
+    ensures { result ≡ begins_hex (drop from text.now) }
+{
+    from + 1 < text.len() && text[from] == b'0' && text[from + 1] == b'x'
+}
+
+fn is_integer(text: &[u8]) -> bool
+    ensures { result ≡ is_integer text.now }
+{
+    is_magnitude(text, sign_length(text))
+}
+
+#[tactic(auto, using(crate::proofs::Plain::hex_after))]
+fn is_magnitude(text: &[u8], from: usize) -> bool
+    requires { from ≤ length text.now }
+    ensures { result ≡ is_some (magnitude (drop from text.now)) }
+{
+    if begins_hex(text, from) {
+        is_number(text, from + 2, 16)
+    } else {
+        is_number(text, from, 10)
+    }
+}
+
+/// Whether the text from there on is digits of the base, with single underscores between them.
+#[tactic(auto, using(crate::proofs::Plain::number_steps))]
+fn is_number(text: &[u8], from: usize, base: u8) -> bool
+    requires { from ≤ length text.now }
+    ensures { result ≡ is_some (number base (drop from text.now)) }
+{
+    let mut i = from;
+    let mut behind = false;
+    while i < text.len() {
+        let b = text[i];
+        if digit_value(b) < base {
+            behind = true;
+        } else if behind && b == b'_' {
+            behind = false;
+        } else {
+            return false;
+        }
+        i += 1;
+    }
+    behind
+}
+
+#[cfg(test)]
+mod tests {
+    use super::{Integer, Sign};
+
+    fn text(text: &str) -> Option<&str> {
+        Some(Integer::of(text)?.text())
+    }
+
+    fn sign(text: &str) -> Option<Sign> {
+        Integer::of(text)?.sign()
+    }
+
+    fn unsigned(text: &str, bits: u32) -> Option<u64>
+        requires { IsTrue (is_width bits) }
+    {
+        Integer::of(text)?.unsigned(bits)
+    }
+
+    fn signed(text: &str, bits: u32) -> Option<i64>
+        requires { IsTrue (is_width bits) }
+    {
+        Integer::of(text)?.signed(bits)
+    }
+
+    #[test]
+    fn integers_keep_their_text_and_sign(rt: HostRuntime) {
+        for integer in ["0", "007", "1_000", "+0x1", "-0", "0xFf_0a", "-1_2_3"] {
+            assert_eq!(rt; text(integer), Some(integer));
+        }
+        assert_eq!(rt; sign("1"), None);
+        assert_eq!(rt; sign("+1"), Some(Sign::Plus));
+        assert_eq!(rt; sign("-0x1"), Some(Sign::Minus));
+    }
+
+    #[test]
+    fn other_texts_are_no_integers(rt: HostRuntime) {
+        for other in [
+            "", "+", "-", "1__0", "_1", "1_", "0x", "0x_1", "0X1", "0_x1", "+-1", "1a", "0x1g",
+            "1.0", " 1",
+        ] {
+            assert_eq!(rt; text(other), None, "at {other}");
+        }
+    }
+
+    #[test]
+    fn unsigned_values_fit_the_bits(rt: HostRuntime) {
+        assert_eq!(rt; unsigned("1_000", 16), Some(1000));
+        assert_eq!(rt; unsigned("+0x1", 8), Some(1));
+        assert_eq!(rt; unsigned("-0", 8), None);
+        assert_eq!(rt; unsigned("-1", 64), None);
+        assert_eq!(rt; unsigned("255", 8), Some(255));
+        assert_eq!(rt; unsigned("256", 8), None);
+        assert_eq!(rt; unsigned("0xffff", 16), Some(65535));
+        assert_eq!(rt; unsigned("0x1_0000", 16), None);
+        assert_eq!(rt; unsigned("4294967295", 32), Some(4294967295));
+        assert_eq!(rt; unsigned("4294967296", 32), None);
+        assert_eq!(rt;
+            unsigned("18446744073709551615", 64),
+            Some(18446744073709551615)
+        );
+        assert_eq!(rt; unsigned("18446744073709551616", 64), None);
+    }
+
+    #[test]
+    fn signed_values_fit_the_bits(rt: HostRuntime) {
+        assert_eq!(rt; signed("-0", 8), Some(0));
+        assert_eq!(rt; signed("+127", 8), Some(127));
+        assert_eq!(rt; signed("128", 8), Some(-128));
+        assert_eq!(rt; signed("0xff", 8), Some(-1));
+        assert_eq!(rt; signed("256", 8), None);
+        assert_eq!(rt; signed("-128", 8), Some(-128));
+        assert_eq!(rt; signed("-129", 8), None);
+        assert_eq!(rt; signed("-32768", 16), Some(-32768));
+        assert_eq!(rt; signed("-32769", 16), None);
+        assert_eq!(rt; signed("0xffff_ffff", 32), Some(-1));
+        assert_eq!(rt; signed("-0x8000_0000", 32), Some(-2147483648));
+        assert_eq!(rt; signed("-2147483649", 32), None);
+        assert_eq!(rt;
+            signed("0x7fff_ffff_ffff_ffff", 64),
+            Some(9223372036854775807)
+        );
+        assert_eq!(rt; signed("18446744073709551615", 64), Some(-1));
+        assert_eq!(rt; signed("18446744073709551616", 64), None);
+        assert_eq!(rt;
+            signed("-9223372036854775808", 64),
+            Some(-9223372036854775808)
+        );
+        assert_eq!(rt; signed("-9223372036854775809", 64), None);
+    }
+}

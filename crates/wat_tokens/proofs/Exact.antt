@@ -1,0 +1,67 @@
+-- What follows from an answer that is exactly what is read.
+use Rattle.std.proofs.Common.{◌≡◌, ◌≢◌, Bool, true, false, ℕ, zero, suc, List, [], ◌∷◌, length, ◌++◌, Some, None, Result, Ok, Err, refl, sym, ap, ◌∙◌, subst}
+use Rattle.std.specs.Prelude.{IfErr}
+use Rattle.std.proofs.lemmas.List.{append_cancel_right}
+use Rattle.wat_lexer.specs.Token.{Tok}
+use Rattle.wat_tokens.specs.Error.{Error, Fault, Memory}
+use Rattle.wat_tokens.specs.Many.{after_front, many_at, many_reads}
+use Rattle.wat_tokens.specs.Parses.{Gives, Accepts, NotBare, no_items}
+use Rattle.wat_tokens.specs.Production.{Production, Read, bind, by_read, some_is}
+use Rattle.wat_tokens.specs.Tests.{ends, more}
+
+pub gives_refused : {X A : Type 0} (light : Bool) (bare : A → Bool) (view : X → A) (g : Production A) (res : Result X Error) (t left : List Tok) → Gives light bare view res (g.reads t) left
+    → IfErr res (λ e. e.fault ≢ Memory → (v : A) (c r : List Tok) → t ≡ c ++ r → g.spells v c r → ⊥)
+gives_refused light bare view g (Ok x) t left h = tt
+gives_refused light bare view g (Err e) t left h = λ not v c r whole s.
+    (let read : g.reads t ≡ Some (v, r) = ap (λ (u : List Tok). g.reads u) whole ∙ g.complete v c r s in
+    let none : g.reads t ≡ None = h.0 not in
+    cc)
+
+by_fault : {P : Type 0} (f : Fault) → (f ≡ Memory → P) → (f ≢ Memory → P) → P
+by_fault Memory is not = is refl
+by_fault _ is not = not (λ e. cc)
+
+pub gives_accepts : {X A : Type 0} (light : Bool) (bare : A → Bool) (view : X → A) (g : Production A) (res : Result X Error) (t left : List Tok) → Gives light bare view res (g.reads t) left
+    → (v : A) (c r : List Tok) → t ≡ c ++ r → g.spells v c r → Accepts view bare res v left r
+gives_accepts {A = A} light bare view g (Ok x) t left h v c r whole s =
+    let read : g.reads t ≡ Some (v, r) = ap (λ (u : List Tok). g.reads u) whole ∙ g.complete v c r s in
+    let p = some_is (view x, left) (v, r) (sym h ∙ read) in
+    (ap (λ (u : A × List Tok). u.0) p, ap (λ (u : A × List Tok). u.1) p)
+gives_accepts light bare view g (Err e) t left h v c r whole s =
+    let read : g.reads t ≡ Some (v, r) = ap (λ (u : List Tok). g.reads u) whole ∙ g.complete v c r s in
+    by_fault e.fault
+    (λ m. (m, rw read at (h.1 m).1))
+    (λ not. (let none : g.reads t ≡ None = h.0 not in cc))
+
+pub more_is : (t : List Tok) (b : Bool) → b ≡ ends t → b ≡ false → more t ≡ true
+more_is t b e f = rw (← e, f) refl
+
+pub more_not : (t : List Tok) (b : Bool) → b ≡ ends t → b ≡ true → more t ≡ false
+more_not t b e f = rw (← e, f) refl
+
+items_after : {A : Type 0} (before : List A) (v : A) (vs : List A) → no_items (before ++ v ∷ vs) ≡ false
+items_after [] v vs = refl
+items_after (x ∷ before) v vs = refl
+
+rest_after : {A : Type 0} (before : List A) (v : A) (x : Read (List A)) → NotBare no_items (after_front before (bind x (λ vs r. Some (v ∷ vs, r))))
+rest_after before v (Some y) = items_after before v y.0
+rest_after before v None = tt
+
+begun_after : {A : Type 0} (before : List A) (begins : List Tok → Bool) (g : Production A) (n : ℕ) (t : List Tok) → begins t ≡ true → NotBare no_items (after_front before (many_at begins g n t))
+unfolding many_at
+begun_after before begins g zero t k = rw k tt
+begun_after before begins g (suc n) t k = rw k (by_read (g.reads t)
+    (λ x e. rw e (rest_after before x.0 (many_at begins g n x.1)))
+    (λ e. rw e tt))
+
+-- where a part begins, what the loop reads is no value without items
+pub not_bare : {A : Type 0} (begins : List Tok → Bool) (g : Production A) (before : List A) (t : List Tok) (total : Read (List A)) → begins t ≡ true
+    → after_front before (many_reads begins g t) ≡ total → NotBare no_items total
+unfolding many_reads
+not_bare begins g before t total k e = rw (← e) (begun_after before begins g (length t) t k)
+
+pub reads_once : {A : Type 0} (g : Production A) (v w : A) (c d r s : List Tok) → c ++ r ≡ d ++ s → g.spells v c r → g.spells w d s → (v ≡ w) × (r ≡ s) × (c ≡ d)
+reads_once {A} g v w c d r s e p q =
+    let x = some_is (v, r) (w, s) (sym (g.complete v c r p) ∙ ap (λ (u : List Tok). g.reads u) e ∙ g.complete w d s q) in
+    let rest : r ≡ s = ap (λ (u : A × List Tok). u.1) x in
+    (ap (λ (u : A × List Tok). u.0) x, rest, append_cancel_right c d s (subst (λ (u : List Tok). c ++ u ≡ d ++ s) rest e))

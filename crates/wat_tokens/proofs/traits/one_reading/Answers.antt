@@ -1,0 +1,5 @@
+use Rattle.wat_tokens.proofs.Exact.{reads_once}
+use Rattle.wat_tokens.proofs.traits.one_reading.Goals as goal
+
+pub returns : goal.returns
+returns g c = reads_once g.T.Parse.grammar

@@ -1,0 +1,17 @@
+pub use Rattle.wat_lexer.specs.Faults
+pub use Rattle.wat_lexer.specs.Number
+pub use Rattle.wat_lexer.specs.Place
+pub use Rattle.wat_lexer.specs.Sight
+pub use Rattle.wat_lexer.specs.Token
+pub use Rattle.wat_lexer.specs.View
+pub mod Counts
+pub mod Error
+pub mod Groups
+pub mod Lookup
+pub mod Many
+pub mod Parens
+pub mod Parses
+pub mod Parts
+pub mod Production
+pub mod State
+pub mod Tests

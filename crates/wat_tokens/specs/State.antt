@@ -1,0 +1,29 @@
+-- A parser as contracts see it.
+use Rattle.std.specs.Prelude.{◌≡◌, List, ℕ, Bool, true, false}
+use Rattle.std.proofs.Common.{ap, sym}
+use Rattle.wat_lexer.specs.Token.{Tok}
+use Rattle.wat_lexer.specs.Sight.{as_seen}
+
+-- rest: all tokens from the place on; left: those of them that are seen; known: whether the five standard names are on;
+-- tracks: whether spans of instructions are kept; taken, turns, peak: the counts
+pub record State : Type 0 where
+  pub rest : List Tok
+  pub left : List Tok
+  pub known : Bool
+  pub tracks : Bool
+  pub taken : ℕ
+  pub turns : ℕ
+  pub peak : ℕ
+
+-- a parser at the first of the tokens: no name is on, no span is kept, and nothing was counted
+abbrev pub begun : List Tok → State
+begun t = record { rest = t; left = as_seen false t; known = false; tracks = false; taken = 0; turns = 0; peak = 0 }
+
+-- the parser with the five names on
+abbrev pub lit : State → State
+lit s = record s { known = true; left = as_seen true s.rest }
+
+pub lit_is : (s : State) → s.known ≡ true → s.left ≡ as_seen s.known s.rest → lit s ≡ s
+lit_is s k e =
+    let f : as_seen true s.rest ≡ s.left = rw (← k) (sym e) in
+    ap (λ (p : Bool × List Tok). record s { known = p.0; left = p.1 }) {x = (true, as_seen true s.rest)} {y = (s.known, s.left)} (cc)

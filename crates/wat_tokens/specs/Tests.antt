@@ -1,0 +1,110 @@
+-- What one token is, and what stands in front.
+use Rattle.std.specs.Prelude.{ℕ, Bool, true, false, not, if◌then◌else◌, List, [], ◌∷◌, Option, Some, None}
+use Rattle.std.specs.Str.{bytes_eq}
+use Rattle.wat_lexer.specs.Token.{Tok, LParen, RParen, Keyword, Id, Annotation, Integer, String}
+
+-- ---- what one token is
+
+abbrev pub is_any : Tok → Option (Unit {0})
+is_any x = Some tt
+
+abbrev pub is_lparen : Tok → Option (Unit {0})
+is_lparen LParen = Some tt
+is_lparen _ = None
+
+abbrev pub is_rparen : Tok → Option (Unit {0})
+is_rparen RParen = Some tt
+is_rparen _ = None
+
+abbrev pub is_keyword : Tok → Option (List ℕ)
+is_keyword (Keyword w) = Some w
+is_keyword _ = None
+
+-- the name, without its `$`
+abbrev pub is_id : Tok → Option (List ℕ)
+is_id (Id n) = Some n
+is_id _ = None
+
+-- the name, without its `@`
+abbrev pub is_annotation : Tok → Option (List ℕ)
+is_annotation (Annotation n) = Some n
+is_annotation _ = None
+
+-- the text, with its sign and its base
+abbrev pub is_integer : Tok → Option (List ℕ)
+is_integer (Integer text) = Some text
+is_integer _ = None
+
+-- the content
+abbrev pub is_string : Tok → Option (List ℕ)
+is_string (String s) = Some s
+is_string _ = None
+
+-- the one word
+abbrev pub word_only : List ℕ → Tok → Option (Unit {0})
+word_only w (Keyword k) = if bytes_eq k w then Some tt else None
+word_only w _ = None
+
+-- the annotation of the one name
+abbrev pub annotation_only : List ℕ → Tok → Option (Unit {0})
+annotation_only name (Annotation n) = if bytes_eq n name then Some tt else None
+annotation_only name _ = None
+
+-- what a word stands for, by a table
+abbrev pub look_up : {A : Type 0} → List (List ℕ × A) → List ℕ → Option A
+look_up [] w = None
+look_up (e ∷ es) w = if bytes_eq w e.0 then Some e.1 else look_up es w
+
+-- one of the words of a table
+abbrev pub word_in : {A : Type 0} → List (List ℕ × A) → Tok → Option A
+word_in table (Keyword w) = look_up table w
+word_in table _ = None
+
+-- ---- what stands in front
+
+-- the word
+abbrev pub begins_word : List ℕ → List Tok → Bool
+begins_word w (Keyword k ∷ r) = bytes_eq k w
+begins_word w _ = false
+
+-- a group that begins with the word
+abbrev pub begins_group : List ℕ → List Tok → Bool
+begins_group w (LParen ∷ Keyword k ∷ r) = bytes_eq k w
+begins_group w _ = false
+
+-- a group that begins with the annotation of the name
+abbrev pub begins_annotation : List ℕ → List Tok → Bool
+begins_annotation name (LParen ∷ Annotation n ∷ r) = bytes_eq n name
+begins_annotation name _ = false
+
+abbrev pub begins_id : List Tok → Bool
+begins_id (Id n ∷ r) = true
+begins_id _ = false
+
+abbrev pub begins_integer : List Tok → Bool
+begins_integer (Integer text ∷ r) = true
+begins_integer _ = false
+
+abbrev pub begins_string : List Tok → Bool
+begins_string (String s ∷ r) = true
+begins_string _ = false
+
+-- nothing at all
+abbrev pub none_left : List Tok → Bool
+none_left [] = true
+none_left (_ ∷ r) = false
+
+-- nothing, or what closes a group
+abbrev pub ends : List Tok → Bool
+ends [] = true
+ends (RParen ∷ r) = true
+ends (_ ∷ r) = false
+
+-- the group goes on
+abbrev pub more : List Tok → Bool
+more t = not (ends t)
+
+-- a test of what follows the token in front; false at the end
+abbrev pub second : (List Tok → Bool) → List Tok → Bool
+second test [] = false
+second test (x ∷ r) = test r

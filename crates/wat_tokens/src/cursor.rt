@@ -1,0 +1,132 @@
+//! Lookups into the tokens in front.
+
+ghost use Rattle.std.specs.Prelude.{◌≡◌};
+ghost use Rattle.wat_lexer.specs.View.{AreLeaps};
+
+use wat_lexer::number::Integer;
+use wat_lexer::sight::{from, shown};
+use wat_lexer::token::{Lexeme, Token};
+
+/// A place in the tokens, to look at what stands there. A lookup takes nothing: where a token of its kind is the next
+/// that is seen, it answers the place behind that token, and what stands in it.
+///
+/// Groups of annotations that aren't known to the parser (Text Format, "Annotations") are passed over, however many
+/// stand there, in one step.
+#[derive(Clone, Copy)]
+pub struct Cursor<'p> {
+    rest: &'p [Lexeme<'p>],
+    known: bool,
+    ghost leaps: { AreLeaps rest.now },
+}
+
+impl<'p> Cursor<'p> {
+    ghost use Rattle.wat_lexer.specs.Number.{text_of};
+    ghost use Rattle.wat_lexer.specs.Sight.{as_seen};
+    ghost use Rattle.wat_lexer.specs.View.{toks};
+    ghost use Rattle.wat_tokens.specs.Lookup.{front, NextIs, GivesRest, GivesContent};
+    ghost use Rattle.wat_tokens.specs.Tests.{is_any, is_lparen, is_rparen, is_keyword, is_id, is_annotation, is_integer, is_string};
+
+    /// The place in front of the tokens; `known` says whether the five standard annotations are.
+    pub(crate) fn new(rest: &'p [Lexeme<'p>], known: bool) -> Cursor<'p>
+        requires { AreLeaps rest.now }
+        ensures { front result ≡ as_seen known (toks rest.entry.now) }
+    {
+        Cursor { rest, known }
+    }
+
+    /// The token in front, and the place behind it.
+    fn next(self) -> Option<(Token<'p>, Cursor<'p>)>
+        ensures { NextIs result (front self.entry) }
+    {
+        let tokens = shown(self.rest, self.known);
+        match tokens {
+            [first, ..] => Some((first.token, Cursor::new(from(tokens, 1), self.known))),
+            [] => None,
+        }
+    }
+
+    /// Behind a `(`.
+    pub fn lparen(self) -> Option<Cursor<'p>>
+        ensures { GivesRest is_lparen (front self.entry) result }
+    {
+        let (token, rest) = self.next()?;
+        match token {
+            Token::LParen => Some(rest),
+            _ => None,
+        }
+    }
+
+    /// Behind a `)`.
+    pub fn rparen(self) -> Option<Cursor<'p>>
+        ensures { GivesRest is_rparen (front self.entry) result }
+    {
+        let (token, rest) = self.next()?;
+        match token {
+            Token::RParen => Some(rest),
+            _ => None,
+        }
+    }
+
+    /// Behind one token, whatever it is.
+    pub fn any(self) -> Option<Cursor<'p>>
+        ensures { GivesRest is_any (front self.entry) result }
+    {
+        let (_, rest) = self.next()?;
+        Some(rest)
+    }
+
+    /// Behind a keyword, with the word.
+    pub fn keyword(self) -> Option<(&'p str, Cursor<'p>)>
+        ensures { GivesContent (λ w. w.now) is_keyword (front self.entry) result }
+    {
+        let (token, rest) = self.next()?;
+        match token {
+            Token::Keyword(content) => Some((content, rest)),
+            _ => None,
+        }
+    }
+
+    /// Behind an identifier, with the name, without its `$`.
+    pub fn id(self) -> Option<(&'p str, Cursor<'p>)>
+        ensures { GivesContent (λ n. n.now) is_id (front self.entry) result }
+    {
+        let (token, rest) = self.next()?;
+        match token {
+            Token::Id(content) => Some((content, rest)),
+            _ => None,
+        }
+    }
+
+    /// Behind an annotation, with the name, without its `@`.
+    pub fn annotation(self) -> Option<(&'p str, Cursor<'p>)>
+        ensures { GivesContent (λ n. n.now) is_annotation (front self.entry) result }
+    {
+        let (token, rest) = self.next()?;
+        match token {
+            Token::Annotation(content) => Some((content, rest)),
+            _ => None,
+        }
+    }
+
+    /// Behind an integer, with the integer.
+    pub fn integer(self) -> Option<(Integer<'p>, Cursor<'p>)>
+        ensures { GivesContent text_of is_integer (front self.entry) result }
+    {
+        let (token, rest) = self.next()?;
+        match token {
+            Token::Integer(content) => Some((content, rest)),
+            _ => None,
+        }
+    }
+
+    /// Behind a string, with the content, decoded.
+    pub fn string(self) -> Option<(&'p [u8], Cursor<'p>)>
+        ensures { GivesContent (λ s. s.now) is_string (front self.entry) result }
+    {
+        let (token, rest) = self.next()?;
+        match token {
+            Token::String(content) => Some((content, rest)),
+            _ => None,
+        }
+    }
+}

@@ -1,0 +1,23 @@
+//! The layer below a reader of the WebAssembly text format: tokens, and a parser over them.
+//!
+//! A text is cut into tokens as the WebAssembly Core Specification says (Text Format, "Lexical Format"), and a
+//! [`Parser`] takes them from the front. A type that can be read is [`Parse`], one that can be looked for is [`Peek`].
+//! Offsets are in bytes from the start of the text.
+#![tactic(auto)]
+
+pub mod cursor;
+pub mod parser;
+pub mod tally;
+pub mod traits;
+pub mod wrapped;
+
+pub use cursor::Cursor;
+pub use parser::Parser;
+pub use traits::{Parse, Peek};
+pub use wat_lexer::fault::{Error, Fault};
+pub use wat_lexer::number::Integer;
+pub use wat_lexer::span::Span;
+pub use wat_lexer::token::Token;
+
+/// A value, or why the text is refused.
+pub type Result<T> = std::result::Result<T, Error>;

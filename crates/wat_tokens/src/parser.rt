@@ -1,0 +1,397 @@
+//! The parser: a place in the tokens, and what was counted.
+
+ghost use Rattle.std.specs.Prelude.{◌≡◌, ◌≢◌, ◌+◌, ◌≤◌, [], length, drop, max, IfErr, false};
+ghost use Rattle.wat_lexer.specs.Number.{text_of};
+ghost use Rattle.wat_lexer.specs.Sight.{as_seen};
+ghost use Rattle.wat_lexer.specs.View.{toks, AreLeaps};
+ghost use Rattle.wat_tokens.specs.Counts.{Carries, Counted, Quiet, Kept};
+ghost use Rattle.wat_tokens.specs.Lookup.{front, FirstIs};
+ghost use Rattle.wat_tokens.specs.Parses.{Exactly};
+ghost use Rattle.wat_tokens.specs.Parts.{one_reads};
+ghost use Rattle.wat_tokens.specs.State.{begun};
+ghost use Rattle.wat_tokens.specs.Tests.{is_lparen, is_rparen, is_keyword, is_id, is_integer, is_string, word_only, annotation_only, begins_word, begins_group, begins_annotation, none_left, ends};
+
+use crate::cursor::Cursor;
+use crate::tally::Tally;
+use std::alloc::Global;
+use std::marker::Model;
+use wat_lexer::fault::{Error, Fault};
+use wat_lexer::number::Integer;
+use wat_lexer::sight::{from, hidden, shown};
+use wat_lexer::span::Span;
+use wat_lexer::token::{Lexeme, Token};
+
+/// Takes the tokens of a text from the front.
+///
+/// It stands directly behind the last token that it took. A group that begins with an annotation (Text Format,
+/// "Annotations") is passed over, whole, unless its annotation is known: none is at first, and
+/// [`with_standard_annotations`](Parser::with_standard_annotations) turns five on.
+///
+/// A call that takes one token takes it where it stands in front. Else it refuses with Unexpected, at the token in
+/// front or at the end of the text, and leaves the parser as it was.
+///
+/// Names and strings that it gives out live as long as the text and the arena. Contracts see a parser as a `State`:
+/// the tokens that are left, which annotations are known, and what was counted.
+pub struct Parser<'a> {
+    tokens: Vec<Lexeme<'a>>,
+    at: usize,
+    /// How many bytes the text has.
+    end: usize,
+    /// How many bytes stand before the last token that was taken.
+    prev: usize,
+    known: bool,
+    tracks: bool,
+    taken: Tally,
+    turns: Tally,
+    peak: usize,
+    alloc: Global,
+}
+
+impl<'a> Model for Parser<'a> {
+    ghost use Rattle.std.specs.Prelude.{drop, ◌≤◌, length};
+    ghost use Rattle.wat_tokens.specs.State.{State};
+
+    ghost Value = { State };
+
+    ghost use Rattle.wat_lexer.specs.Sight.{as_seen};
+    ghost use Rattle.wat_lexer.specs.View.{toks, AreLeaps};
+
+    ghost view = { λ p. record { rest = toks (drop p.at p.tokens.items); left = as_seen p.known (toks (drop p.at p.tokens.items)); known = p.known; tracks = p.tracks; taken = p.taken.count; turns = p.turns.count; peak = p.peak } };
+
+    ghost invariant = { λ p. (p.at ≤ length p.tokens.items) × AreLeaps p.tokens.items };
+}
+
+impl<'a> Parser<'a> {
+    /// A parser in front of the tokens of a text of `end` bytes. No annotation is known.
+    pub(crate) fn over(alloc: Global, tokens: Vec<Lexeme<'a>>, end: usize) -> Parser<'a>
+        requires { AreLeaps tokens.items }
+        ensures { result ≡ begun (toks tokens.entry.items) }
+    {
+        Parser {
+            tokens,
+            at: 0,
+            end,
+            prev: 0,
+            known: false,
+            tracks: false,
+            taken: Tally::new(),
+            turns: Tally::new(),
+            peak: 0,
+            alloc,
+        }
+    }
+
+    /// Makes the five standard annotations known or unknown: `custom`, `producers`, `name`, `dylink.0` and
+    /// `metadata.code.branch_hint`. The parser stays where it is.
+    pub fn with_standard_annotations(&mut self, on: bool)
+        ensures value { self.new ≡ record self.old { known = on; left = as_seen on self.old.rest } }
+        ensures was { self.old.left ≡ as_seen self.old.known self.old.rest }
+    {
+        self.known = on;
+    }
+
+    /// Whether the five standard annotations are known.
+    pub fn known(&self) -> bool
+        ensures { result ≡ self.now.known }
+    {
+        self.known
+    }
+
+    /// Says whether expressions keep where each instruction stands. At first they don't.
+    pub fn track_instr_spans(&mut self, on: bool)
+        ensures { self.new ≡ record self.old { tracks = on } }
+    {
+        self.tracks = on;
+    }
+
+    /// Whether expressions keep where each instruction stands.
+    pub fn tracks(&self) -> bool
+        ensures { result ≡ self.now.tracks }
+    {
+        self.tracks
+    }
+
+    /// Counts one turn of a loop over the tokens, in `turns`. It takes no time.
+    #[tactic(auto, using(crate::specs::Counts::carries_tick))]
+    pub fn tick(&mut self)
+        ensures only { self.new ≡ record self.old { turns = self.old.turns + 1 } }
+        ensures counts { Carries self.old self.new }
+    {
+        self.turns.tick();
+    }
+
+    /// Notes the height of a stack: `peak` becomes the greater of what it was and the number.
+    pub fn note_height(&mut self, height: usize)
+        ensures { self.new ≡ record self.old { peak = max self.old.peak height } }
+    {
+        if height > self.peak {
+            self.peak = height;
+        }
+    }
+
+    /// The allocator that the parser was given, for what a value keeps.
+    pub fn alloc(&self) -> Global {
+        self.alloc
+    }
+
+    /// The place in front of the parser, for lookups.
+    pub fn cursor(&self) -> Cursor<'_>
+        ensures { front result ≡ self.now.left }
+    {
+        Cursor::new(from(&self.tokens, self.at), self.known)
+    }
+
+    /// Where the token in front begins, or the end of the text where none is left. No clause says which offset it is.
+    pub fn cur_span(&self) -> Span {
+        match shown(from(&self.tokens, self.at), self.known) {
+            [first, ..] => Span::from_offset(first.offset),
+            [] => Span::from_offset(self.end),
+        }
+    }
+
+    /// Where the last token that was taken begins; 0 before any. No clause says which offset it is.
+    pub fn prev_span(&self) -> Span {
+        Span::from_offset(self.prev)
+    }
+
+    /// The fault Unexpected, at the token in front, or at the end of the text where none is left.
+    pub fn unexpected(&self) -> Error
+        ensures { result.fault ≡ Fault.Unexpected }
+    {
+        Error {
+            fault: Fault::Unexpected,
+            span: self.cur_span(),
+        }
+    }
+
+    /// Whether no token is left.
+    pub fn at_end(&self) -> bool
+        ensures { result ≡ none_left self.now.left }
+    {
+        self.first().is_none()
+    }
+
+    /// Whether nothing is left, or what closes a group stands in front.
+    pub fn is_empty(&self) -> bool
+        ensures { result ≡ ends self.now.left }
+    {
+        match self.first() {
+            None | Some(Token::RParen) => true,
+            Some(_) => false,
+        }
+    }
+
+    /// Whether the keyword stands in front.
+    pub fn next_is(&self, word: &str) -> bool
+        ensures { result ≡ begins_word word.now self.now.left }
+    {
+        match self.first() {
+            Some(Token::Keyword(text)) => text == word,
+            _ => false,
+        }
+    }
+
+    /// Whether a group that begins with the keyword stands in front.
+    pub fn group_is(&self, word: &str) -> bool
+        ensures { result ≡ begins_group word.now self.now.left }
+    {
+        match self.cursor().lparen() {
+            Some(inside) => match inside.keyword() {
+                Some((text, _)) => text == word,
+                None => false,
+            },
+            None => false,
+        }
+    }
+
+    /// Whether a group that begins with the annotation of the name, given without its `@`, stands in front.
+    pub fn annotation_is(&self, name: &str) -> bool
+        ensures { result ≡ begins_annotation name.now self.now.left }
+    {
+        match self.cursor().lparen() {
+            Some(inside) => match inside.annotation() {
+                Some((text, _)) => text == name,
+                None => false,
+            },
+            None => false,
+        }
+    }
+
+    /// The token in front.
+    fn first(&self) -> Option<Token<'a>>
+        ensures { FirstIs result self.now.left }
+    {
+        match shown(from(&self.tokens, self.at), self.known) {
+            [first, ..] => Some(first.token),
+            [] => None,
+        }
+    }
+
+    /// Takes the token in front.
+    #[tactic(auto, using(crate::proofs::Steps::stands_before, crate::proofs::Steps::steps_to))]
+    fn advance(&mut self)
+        requires { self.old.left ≢ [] }
+        ensures left { self.new.left ≡ drop 1 self.old.left }
+        ensures taken { self.new.taken ≡ self.old.taken + 1 }
+        ensures quiet { Quiet self.old self.new }
+        ensures names { Kept self.old self.new }
+    {
+        let at = self.at + hidden(from(&self.tokens, self.at), self.known);
+        prove!(at < self.tokens.len());
+        self.prev = self.tokens[at].offset;
+        self.at = at + 1;
+        self.taken.tick();
+    }
+
+    /// Takes the token in front, and what was counted still is.
+    fn step(&mut self)
+        requires { self.old.left ≢ [] }
+        ensures left { self.new.left ≡ drop 1 self.old.left }
+        ensures counts { Carries self.old self.new }
+        ensures taken { self.new.taken ≡ self.old.taken + 1 }
+        ensures quiet { Quiet self.old self.new }
+        ensures names { Kept self.old self.new }
+    {
+        self.advance();
+    }
+
+    /// Takes a `(`, or refuses with Unexpected.
+    pub fn open(&mut self) -> Result<(), Error>
+        ensures exact { Exactly (λ x. x) result (one_reads is_lparen self.old.left) self.new.left }
+        ensures counts { Counted result self.old self.new }
+        ensures quiet { Quiet self.old self.new }
+        ensures names { Kept self.old self.new }
+        ensures refused { IfErr result (λ _. self.new ≡ self.old) }
+    {
+        match self.first() {
+            Some(Token::LParen) => {
+                self.step();
+                Ok(())
+            }
+            _ => Err(self.unexpected()),
+        }
+    }
+
+    /// Takes a `)`, or refuses with Unexpected.
+    pub fn close(&mut self) -> Result<(), Error>
+        ensures exact { Exactly (λ x. x) result (one_reads is_rparen self.old.left) self.new.left }
+        ensures counts { Counted result self.old self.new }
+        ensures quiet { Quiet self.old self.new }
+        ensures names { Kept self.old self.new }
+        ensures refused { IfErr result (λ _. self.new ≡ self.old) }
+    {
+        match self.first() {
+            Some(Token::RParen) => {
+                self.step();
+                Ok(())
+            }
+            _ => Err(self.unexpected()),
+        }
+    }
+
+    /// Takes the one keyword (Text Format, "Tokens") and answers where it begins, or refuses with Unexpected.
+    pub fn keyword(&mut self, word: &str) -> Result<Span, Error>
+        ensures exact { Exactly (λ _. tt) result (one_reads (word_only word.now) self.old.left) self.new.left }
+        ensures counts { Counted result self.old self.new }
+        ensures quiet { Quiet self.old self.new }
+        ensures names { Kept self.old self.new }
+        ensures refused { IfErr result (λ _. self.new ≡ self.old) }
+    {
+        let span = self.cur_span();
+        match self.first() {
+            Some(Token::Keyword(text)) if text == word => {
+                self.step();
+                Ok(span)
+            }
+            _ => Err(self.unexpected()),
+        }
+    }
+
+    /// Takes the annotation of the name (Text Format, "Annotations"), given without its `@`, and answers where it
+    /// begins, or refuses with Unexpected.
+    pub fn take_annotation(&mut self, name: &str) -> Result<Span, Error>
+        ensures exact { Exactly (λ _. tt) result (one_reads (annotation_only name.now) self.old.left) self.new.left }
+        ensures counts { Counted result self.old self.new }
+        ensures quiet { Quiet self.old self.new }
+        ensures names { Kept self.old self.new }
+        ensures refused { IfErr result (λ _. self.new ≡ self.old) }
+    {
+        let span = self.cur_span();
+        match self.first() {
+            Some(Token::Annotation(text)) if text == name => {
+                self.step();
+                Ok(span)
+            }
+            _ => Err(self.unexpected()),
+        }
+    }
+
+    /// Takes a keyword (Text Format, "Tokens"), whichever it is, or refuses with Unexpected.
+    pub fn take_keyword(&mut self) -> Result<&'a str, Error>
+        ensures exact { Exactly (λ x. x.now) result (one_reads is_keyword self.old.left) self.new.left }
+        ensures counts { Counted result self.old self.new }
+        ensures quiet { Quiet self.old self.new }
+        ensures names { Kept self.old self.new }
+        ensures refused { IfErr result (λ _. self.new ≡ self.old) }
+    {
+        match self.first() {
+            Some(Token::Keyword(text)) => {
+                self.step();
+                Ok(text)
+            }
+            _ => Err(self.unexpected()),
+        }
+    }
+
+    /// Takes an identifier (Text Format, "Identifiers") and answers its name, without its `$`, or refuses with
+    /// Unexpected.
+    pub fn take_id(&mut self) -> Result<&'a str, Error>
+        ensures exact { Exactly (λ x. x.now) result (one_reads is_id self.old.left) self.new.left }
+        ensures counts { Counted result self.old self.new }
+        ensures quiet { Quiet self.old self.new }
+        ensures names { Kept self.old self.new }
+        ensures refused { IfErr result (λ _. self.new ≡ self.old) }
+    {
+        match self.first() {
+            Some(Token::Id(text)) => {
+                self.step();
+                Ok(text)
+            }
+            _ => Err(self.unexpected()),
+        }
+    }
+
+    /// Takes an integer (Text Format, "Integers") of any value, or refuses with Unexpected.
+    pub fn take_integer(&mut self) -> Result<Integer<'a>, Error>
+        ensures exact { Exactly text_of result (one_reads is_integer self.old.left) self.new.left }
+        ensures counts { Counted result self.old self.new }
+        ensures quiet { Quiet self.old self.new }
+        ensures names { Kept self.old self.new }
+        ensures refused { IfErr result (λ _. self.new ≡ self.old) }
+    {
+        match self.first() {
+            Some(Token::Integer(integer)) => {
+                self.step();
+                Ok(integer)
+            }
+            _ => Err(self.unexpected()),
+        }
+    }
+
+    /// Takes a string (Text Format, "Strings") and answers its bytes, decoded, or refuses with Unexpected.
+    pub fn take_string(&mut self) -> Result<&'a [u8], Error>
+        ensures exact { Exactly (λ x. x.now) result (one_reads is_string self.old.left) self.new.left }
+        ensures counts { Counted result self.old self.new }
+        ensures quiet { Quiet self.old self.new }
+        ensures names { Kept self.old self.new }
+        ensures refused { IfErr result (λ _. self.new ≡ self.old) }
+    {
+        match self.first() {
+            Some(Token::String(bytes)) => {
+                self.step();
+                Ok(bytes)
+            }
+            _ => Err(self.unexpected()),
+        }
+    }
+}

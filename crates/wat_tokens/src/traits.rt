@@ -1,0 +1,152 @@
+//! What can be parsed, and what can be looked for.
+
+ghost use Rattle.std.specs.Prelude.{◌≡◌, ◌≤◌, ◌+◌, max, length, map, List, ℕ, Bool, IsTrue, IfOk, IfErr, ◌++◌, ◌≢◌, false};
+ghost use Rattle.wat_lexer.specs.Token.{Tok};
+ghost use Rattle.wat_tokens.specs.Counts.{Counted, Turned, Quiet, Kept};
+ghost use Rattle.wat_tokens.specs.Error.{Memory};
+ghost use Rattle.wat_tokens.specs.Lookup.{front};
+ghost use Rattle.wat_tokens.specs.Many.{after_front, many_reads};
+ghost use Rattle.wat_tokens.specs.Parens.{nest};
+ghost use Rattle.wat_tokens.specs.Parses.{Gives, Accepts, no_items};
+ghost use Rattle.wat_tokens.specs.Production.{Production, Front};
+ghost use Rattle.wat_tokens.specs.Tests.{second, more};
+
+use crate::cursor::Cursor;
+use crate::parser::Parser;
+use wat_lexer::fault::Error;
+
+/// A type whose values tokens spell.
+pub trait Parse<'a>: Sized {
+    /// What contracts see of a value: no spans, no references.
+    ghost Seen: { Type 0 };
+
+    ghost seen: { Self → Seen };
+
+    /// Whether no value of the type holds a vector or a box.
+    ghost light: { Bool };
+
+    /// Whether the value holds no box, and no vector that isn't empty.
+    ghost bare: { Seen → Bool };
+
+    /// Whether no expression is in it.
+    ghost quiet: { Bool };
+
+    /// Which tokens spell a value, and how it is read.
+    ghost grammar: { Production Seen };
+
+    /// Takes the tokens of a value that stands in front.
+    ///
+    /// Where none does, it is refused with the first fault that is met, and the parser then has some end of its tokens
+    /// left. Memory may be answered where the value isn't bare.
+    fn parse(parser: &mut Parser<'a>) -> Result<Self, Error>
+        ensures exact { Gives light bare seen result (grammar.reads parser.old.left) parser.new.left }
+        ensures counts { Counted result parser.old parser.new }
+        ensures quiet { IsTrue quiet → Quiet parser.old parser.new }
+        ensures names { Kept parser.old parser.new };
+}
+
+/// A type whose values begin with tokens that tell them from what else may stand there.
+pub trait Peek {
+    /// Whether the tokens begin a value.
+    ghost begins: { List Tok → Bool };
+
+    /// Whether the tokens at the place begin a value.
+    fn peek(cursor: Cursor<'_>) -> bool
+        ensures { result ≡ begins (front cursor.entry) };
+
+    /// Whether the tokens behind the first one at the place begin a value; not where there is no token.
+    fn peek2(cursor: Cursor<'_>) -> bool
+        ensures { result ≡ second begins (front cursor.entry) }
+    {
+        match cursor.any() {
+            Some(rest) => Self::peek(rest),
+            None => false,
+        }
+    }
+
+    /// What a value is called in a message.
+    fn display() -> &'static str;
+}
+
+impl<'a> Parser<'a> {
+    /// Takes the value that stands in front.
+    ///
+    /// Where none does, it is refused with the first fault that is met, and the parser then has some end of its tokens
+    /// left.
+    pub fn parse<T: Parse<'a>>(&mut self) -> Result<T, Error>
+        // The tokens that were taken spell the value.
+        ensures sound { IfOk result (λ v. Front T.grammar.spells self.old.left (T.seen v, self.new.left)) }
+        // Where tokens in front spell a value, it is that one, or memory ran out.
+        ensures accepts { (v : T.Seen) (c r : List Tok) → self.old.left ≡ c ++ r → T.grammar.spells v c r → Accepts T.seen T.bare result v self.new.left r }
+        // A fault other than Memory means that no tokens in front spell a value.
+        ensures refused { IfErr result (λ e. e.fault ≢ Memory → (v : T.Seen) (c r : List Tok) → self.old.left ≡ c ++ r → T.grammar.spells v c r → ⊥) }
+        // Memory comes only of a type that can hold a vector or a box.
+        ensures memory { IfErr result (λ e. e.fault ≡ Memory → T.light ≡ false) }
+        // `taken` rises by the number of tokens that were taken, and never by more than stood in front.
+        ensures taken { (c : List Tok) → self.old.left ≡ c ++ self.new.left → self.new.taken ≡ self.old.taken + length c }
+        ensures within { self.new.taken + length self.new.left ≡ self.old.taken + length self.old.left }
+        // `turns` rises at most as much as `taken`, and on a refusal at most one more.
+        ensures turned { Turned result self.old self.new }
+        // `peak` is at most the greater of what it was and how the tokens that were taken nest.
+        ensures peak { (c : List Tok) → self.old.left ≡ c ++ self.new.left → self.new.peak ≤ max self.old.peak (nest c) }
+        ensures exact { Gives T.light T.bare T.seen result (T.grammar.reads self.old.left) self.new.left }
+        ensures counts { Counted result self.old self.new }
+        ensures quiet { IsTrue T.quiet → Quiet self.old self.new }
+        ensures names { Kept self.old self.new }
+    {
+        T::parse(self)
+    }
+
+    /// Whether a value of the type begins in front.
+    pub fn peek<T: Peek>(&self) -> bool
+        ensures { result ≡ T.begins self.now.left }
+    {
+        T::peek(self.cursor())
+    }
+
+    /// Whether a value of the type begins behind the token in front; not at the end.
+    pub fn peek2<T: Peek>(&self) -> bool
+        ensures { result ≡ second T.begins self.now.left }
+    {
+        T::peek2(self.cursor())
+    }
+}
+
+/// Takes values up to the end of the group, each put behind those that are there.
+pub fn rest_of_group<'a, T: Parse<'a> + Drop>(
+    parser: &mut Parser<'a>,
+    out: &mut Vec<T>,
+) -> Result<(), Error>
+    requires { 1 ≤ T.grammar.least }
+    ensures exact { Gives false no_items (λ _. map T.seen out.new.items) result (after_front (map T.seen out.old.items) (many_reads more T.grammar parser.old.left)) parser.new.left }
+    ensures counts { Counted result parser.old parser.new }
+    ensures quiet { IsTrue T.quiet → Quiet parser.old parser.new }
+    ensures names { Kept parser.old parser.new }
+{
+    'items: while !parser.is_empty() {
+        out.push(T::parse(parser)?)?;
+    }
+    Ok(())
+}
+
+/// Takes values as long as one begins, each put behind those that are there.
+pub fn while_begun<'a, T: Parse<'a> + Peek + Drop>(
+    parser: &mut Parser<'a>,
+    out: &mut Vec<T>,
+) -> Result<(), Error>
+    requires { 1 ≤ T.grammar.least }
+    ensures exact { Gives false no_items (λ _. map T.seen out.new.items) result (after_front (map T.seen out.old.items) (many_reads T.begins T.grammar parser.old.left)) parser.new.left }
+    ensures counts { Counted result parser.old parser.new }
+    ensures quiet { IsTrue T.quiet → Quiet parser.old parser.new }
+    ensures names { Kept parser.old parser.new }
+{
+    'items: while parser.peek::<T>() {
+        out.push(T::parse(parser)?)?;
+    }
+    Ok(())
+}
+
+/// No two fronts of one token list spell values, unless they are one front and one value.
+pub fn one_reading<'a, T: Parse<'a>>()
+    ensures { (v w : T.Seen) (c d r s : List Tok) → c ++ r ≡ d ++ s → T.grammar.spells v c r → T.grammar.spells w d s → (v ≡ w) × (r ≡ s) × (c ≡ d) }
+{}
