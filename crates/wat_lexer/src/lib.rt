@@ -10,4 +10,6 @@ pub mod scan;
 pub mod sight;
 pub mod span;
 pub mod string;
+#[cfg(test)]
+mod tests;
 pub mod token;

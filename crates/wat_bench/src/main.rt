@@ -1,0 +1,61 @@
+//! Measures the cut of standard input into tokens.
+//!
+//! With no argument it prints the number of tokens. With a number of rounds it cuts the text as often, and prints the
+//! nanoseconds of the fastest round, the tokens, and the bytes that a token takes.
+#![tactic(auto)]
+
+use bumpalo::Bump;
+use std::alloc::Global;
+use std::env;
+use std::io;
+use std::io::Read;
+use std::rt::Clock;
+use std::time::Instant;
+use wat_lexer::cut::cut;
+use wat_lexer::token::Lexeme;
+
+/// How many tokens the text has, or `None` where it isn't cut.
+fn tokens_of(alloc: Global, text: &str) -> Option<usize> {
+    let arena = Bump::new(alloc);
+    match cut(alloc, text, &arena) {
+        Ok(tokens) => Some(tokens.len()),
+        Err(_) => None,
+    }
+}
+
+/// The nanoseconds of the fastest of so many cuts.
+fn fastest(rt: &impl Clock, alloc: Global, text: &str, rounds: u32) -> io::Result<u128> {
+    let mut best = u128::MAX;
+    for _ in 0..rounds {
+        let start = Instant::now(rt)?;
+        let _ = tokens_of(alloc, text);
+        best = best.min(start.elapsed(rt)?.as_nanos());
+    }
+    Ok(best)
+}
+
+fn main(rt: HostRuntime) -> io::Result<()> {
+    let alloc = rt.alloc();
+    let mut bytes = Vec::new(alloc);
+    rt.stdin().read_to_end(&mut bytes)?;
+    let text = match str::from_utf8(&bytes) {
+        Ok(text) => text,
+        Err(_) => return println!(rt; "no UTF-8"),
+    };
+    let tokens = match tokens_of(alloc, text) {
+        Some(tokens) => tokens,
+        None => return println!(rt; "refused"),
+    };
+    let mut rounds = 0;
+    for argument in env::args(&rt)?.skip(1) {
+        rounds = argument.parse::<u32>().unwrap_or(0);
+    }
+    println!(rt; "tokens {tokens}")?;
+    if rounds > 0 {
+        let nanoseconds = fastest(&rt, alloc, text, rounds)?;
+        let size = size_of::<Lexeme>();
+        println!(rt; "nanoseconds {nanoseconds}")?;
+        println!(rt; "token {size}")?;
+    }
+    Ok(())
+}
