@@ -1,9 +1,9 @@
 -- What stands in front, and what stands behind it.
-use Rattle.std.proofs.Common.{◌≡◌, ◌≢◌, ℕ, ◌+◌, ◌<◌, ◌≤◌, Bool, List, [], ◌∷◌, length, get_or, drop, sym, ap, ◌∙◌, arith, subst, length-drop, drop-drop}
+use Rattle.std.proofs.Common.{refl, ◌≡◌, ◌≢◌, ℕ, ◌+◌, ◌<◌, ◌≤◌, Bool, List, [], ◌∷◌, length, get_or, drop, sym, ap, ◌∙◌, arith, subst, length-drop, drop-drop}
 use Rattle.std.proofs.lemmas.List.{drop_more}
-use Rattle.wat_lexer.specs.Token.{Tok}
+use Rattle.wat_lexer.specs.Token.{Tok, tokens_of}
 use Rattle.wat_lexer.specs.Sight.{as_seen}
-use Rattle.wat_lexer.specs.View.{lexeme_tok, toks, Shown}
+use Rattle.wat_lexer.specs.View.{lexeme_tok, toks, placed, Shown}
 use Rattle.wat_lexer.specs.declared.token.Lexeme.{Lexeme}
 
 some_shown : (known : Bool) (ls : List Lexeme) (left : List Tok) → Shown known ls left → left ≢ [] → 1 ≤ length ls
@@ -20,3 +20,8 @@ steps_to known ls i n d left s lt =
     let c : drop n (drop i ls) ≡ get_or ls (i + n) d ∷ drop (i + n + 1) ls = drop-drop n i ls ∙ drop_more ls (i + n) d lt in
     let e : left ≡ lexeme_tok (get_or ls (i + n) d) ∷ as_seen known (toks (drop (i + n + 1) ls)) = subst (λ (l : List Lexeme). Shown known l left) c s in
     ap (drop 1) (sym e)
+
+-- the code's tokens are those of their places
+pub tokens_of-placed : (ls : List Lexeme) → tokens_of (placed ls) ≡ toks ls
+tokens_of-placed [] = refl
+tokens_of-placed (x ∷ ls) = ap (λ l. lexeme_tok x ∷ l) (tokens_of-placed ls)

@@ -1,4 +1,7 @@
+pub use Rattle.wat_lexer.specs.Bytes
+pub use Rattle.wat_lexer.specs.Cut
 pub use Rattle.wat_lexer.specs.Faults
+pub use Rattle.wat_lexer.specs.Integer
 pub use Rattle.wat_lexer.specs.Number
 pub use Rattle.wat_lexer.specs.Place
 pub use Rattle.wat_lexer.specs.Sight
@@ -6,12 +9,17 @@ pub use Rattle.wat_lexer.specs.Token
 pub use Rattle.wat_lexer.specs.View
 pub mod Counts
 pub mod Error
+pub mod Floats
 pub mod Groups
+pub mod Index
+pub mod Integers
 pub mod Lookup
 pub mod Many
+pub mod NameAnnotation
 pub mod Parens
 pub mod Parses
 pub mod Parts
 pub mod Production
 pub mod State
+pub mod Strings
 pub mod Tests

@@ -1,8 +1,9 @@
 -- A parser as contracts see it.
 use Rattle.std.specs.Prelude.{◌≡◌, List, ℕ, Bool, true, false}
 use Rattle.std.proofs.Common.{ap, sym}
-use Rattle.wat_lexer.specs.Token.{Tok}
+use Rattle.wat_lexer.specs.Cut.{IsCut}
 use Rattle.wat_lexer.specs.Sight.{as_seen}
+use Rattle.wat_lexer.specs.Token.{Tok, Placed, tokens_of}
 
 -- rest: all tokens from the place on; left: those of them that are seen; known: whether the five standard names are on;
 -- tracks: whether spans of instructions are kept; taken, turns, peak: the counts
@@ -18,6 +19,10 @@ pub record State : Type 0 where
 -- a parser at the first of the tokens: no name is on, no span is kept, and nothing was counted
 abbrev pub begun : List Tok → State
 begun t = record { rest = t; left = as_seen false t; known = false; tracks = false; taken = 0; turns = 0; peak = 0 }
+
+-- a parser at the first token of the text's cut
+abbrev pub IsFresh : List ℕ → State → Type 0
+IsFresh text p = (ts : List Placed) × IsCut text ts × (p ≡ begun (tokens_of ts))
 
 -- the parser with the five names on
 abbrev pub lit : State → State

@@ -20,7 +20,7 @@ pub struct Cursor<'p> {
 }
 
 impl<'p> Cursor<'p> {
-    ghost use Rattle.wat_lexer.specs.Number.{text_of};
+    ghost use Rattle.wat_lexer.specs.Integer.{text_of};
     ghost use Rattle.wat_lexer.specs.Sight.{as_seen};
     ghost use Rattle.wat_lexer.specs.View.{toks};
     ghost use Rattle.wat_tokens.specs.Lookup.{front, NextIs, GivesRest, GivesContent};

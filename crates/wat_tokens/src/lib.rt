@@ -5,17 +5,33 @@
 //! Offsets are in bytes from the start of the text.
 #![tactic(auto)]
 
+#[cfg(test)]
+mod basic_tests;
 pub mod cursor;
+pub mod floats;
+pub mod index;
+pub mod integers;
+pub mod kw;
+pub mod name_annotation;
 pub mod parser;
+#[cfg(test)]
+mod shapes;
+pub mod strings;
 pub mod tally;
+#[cfg(test)]
+mod tests;
 pub mod traits;
 pub mod wrapped;
 
 pub use cursor::Cursor;
+pub use floats::{F32, F64};
+pub use index::{Id, Index};
+pub use name_annotation::NameAnnotation;
 pub use parser::Parser;
 pub use traits::{Parse, Peek};
+pub use wat_lexer::cut::{one_cut, one_outcome};
 pub use wat_lexer::fault::{Error, Fault};
-pub use wat_lexer::number::Integer;
+pub use wat_lexer::number::{Integer, Sign};
 pub use wat_lexer::span::Span;
 pub use wat_lexer::token::Token;
 

@@ -1,20 +1,25 @@
 //! The parser: a place in the tokens, and what was counted.
 
-ghost use Rattle.std.specs.Prelude.{◌≡◌, ◌≢◌, ◌+◌, ◌≤◌, [], length, drop, max, IfErr, false};
-ghost use Rattle.wat_lexer.specs.Number.{text_of};
+ghost use Rattle.std.specs.Prelude.{◌≡◌, ◌≢◌, ◌+◌, ◌≤◌, List, [], length, drop, max, IfOk, IfErr, false};
+ghost use Rattle.wat_lexer.specs.Cut.{IsCut, FirstFault};
+ghost use Rattle.wat_lexer.specs.Integer.{text_of};
+ghost use Rattle.wat_lexer.specs.Place.{offset_of};
 ghost use Rattle.wat_lexer.specs.Sight.{as_seen};
+ghost use Rattle.wat_lexer.specs.Token.{Placed};
 ghost use Rattle.wat_lexer.specs.View.{toks, AreLeaps};
 ghost use Rattle.wat_tokens.specs.Counts.{Carries, Counted, Quiet, Kept};
 ghost use Rattle.wat_tokens.specs.Lookup.{front, FirstIs};
 ghost use Rattle.wat_tokens.specs.Parses.{Exactly};
 ghost use Rattle.wat_tokens.specs.Parts.{one_reads};
-ghost use Rattle.wat_tokens.specs.State.{begun};
+ghost use Rattle.wat_tokens.specs.State.{begun, IsFresh};
 ghost use Rattle.wat_tokens.specs.Tests.{is_lparen, is_rparen, is_keyword, is_id, is_integer, is_string, word_only, annotation_only, begins_word, begins_group, begins_annotation, none_left, ends};
 
 use crate::cursor::Cursor;
 use crate::tally::Tally;
+use bumpalo::Bump;
 use std::alloc::Global;
 use std::marker::Model;
+use wat_lexer::cut::cut;
 use wat_lexer::fault::{Error, Fault};
 use wat_lexer::number::Integer;
 use wat_lexer::sight::{from, hidden, shown};
@@ -32,6 +37,7 @@ use wat_lexer::token::{Lexeme, Token};
 ///
 /// Names and strings that it gives out live as long as the text and the arena. Contracts see a parser as a `State`:
 /// the tokens that are left, which annotations are known, and what was counted.
+#[derive(Drop)]
 pub struct Parser<'a> {
     tokens: Vec<Lexeme<'a>>,
     at: usize,
@@ -62,8 +68,21 @@ impl<'a> Model for Parser<'a> {
 }
 
 impl<'a> Parser<'a> {
+    /// Cuts a text into tokens (Text Format, "Lexical Format"), and stands in front of the first. No annotation is known.
+    ///
+    /// Where the text can't be cut, it is refused with its first fault from the left: LexChar, LexString or LexComment,
+    /// and where it has none of these, LexAnnotation. Memory may be answered for any text.
+    pub fn new(alloc: Global, text: &'a str, arena: &'a Bump) -> Result<Parser<'a>, Error>
+        ensures fresh { IfOk result (λ p. IsFresh text.now p) }
+        ensures fault { IfErr result (λ e. e.fault ≢ Fault.Memory → FirstFault text.now e.fault (offset_of e.span)) }
+        ensures uncut { IfErr result (λ e. e.fault ≢ Fault.Memory → (ts : List Placed) → IsCut text.now ts → ⊥) }
+    {
+        let tokens = cut(alloc, text, arena)?;
+        Ok(Parser::over(alloc, tokens, text.len()))
+    }
+
     /// A parser in front of the tokens of a text of `end` bytes. No annotation is known.
-    pub(crate) fn over(alloc: Global, tokens: Vec<Lexeme<'a>>, end: usize) -> Parser<'a>
+    fn over(alloc: Global, tokens: Vec<Lexeme<'a>>, end: usize) -> Parser<'a>
         requires { AreLeaps tokens.items }
         ensures { result ≡ begun (toks tokens.entry.items) }
     {
@@ -261,7 +280,7 @@ impl<'a> Parser<'a> {
         ensures counts { Counted result self.old self.new }
         ensures quiet { Quiet self.old self.new }
         ensures names { Kept self.old self.new }
-        ensures refused { IfErr result (λ _. self.new ≡ self.old) }
+        ensures refused { IfErr result (λ e. (e.fault ≡ Fault.Unexpected) × (self.new ≡ self.old)) }
     {
         match self.first() {
             Some(Token::LParen) => {
@@ -278,7 +297,7 @@ impl<'a> Parser<'a> {
         ensures counts { Counted result self.old self.new }
         ensures quiet { Quiet self.old self.new }
         ensures names { Kept self.old self.new }
-        ensures refused { IfErr result (λ _. self.new ≡ self.old) }
+        ensures refused { IfErr result (λ e. (e.fault ≡ Fault.Unexpected) × (self.new ≡ self.old)) }
     {
         match self.first() {
             Some(Token::RParen) => {
@@ -295,7 +314,7 @@ impl<'a> Parser<'a> {
         ensures counts { Counted result self.old self.new }
         ensures quiet { Quiet self.old self.new }
         ensures names { Kept self.old self.new }
-        ensures refused { IfErr result (λ _. self.new ≡ self.old) }
+        ensures refused { IfErr result (λ e. (e.fault ≡ Fault.Unexpected) × (self.new ≡ self.old)) }
     {
         let span = self.cur_span();
         match self.first() {
@@ -314,7 +333,7 @@ impl<'a> Parser<'a> {
         ensures counts { Counted result self.old self.new }
         ensures quiet { Quiet self.old self.new }
         ensures names { Kept self.old self.new }
-        ensures refused { IfErr result (λ _. self.new ≡ self.old) }
+        ensures refused { IfErr result (λ e. (e.fault ≡ Fault.Unexpected) × (self.new ≡ self.old)) }
     {
         let span = self.cur_span();
         match self.first() {
@@ -332,7 +351,7 @@ impl<'a> Parser<'a> {
         ensures counts { Counted result self.old self.new }
         ensures quiet { Quiet self.old self.new }
         ensures names { Kept self.old self.new }
-        ensures refused { IfErr result (λ _. self.new ≡ self.old) }
+        ensures refused { IfErr result (λ e. (e.fault ≡ Fault.Unexpected) × (self.new ≡ self.old)) }
     {
         match self.first() {
             Some(Token::Keyword(text)) => {
@@ -350,7 +369,7 @@ impl<'a> Parser<'a> {
         ensures counts { Counted result self.old self.new }
         ensures quiet { Quiet self.old self.new }
         ensures names { Kept self.old self.new }
-        ensures refused { IfErr result (λ _. self.new ≡ self.old) }
+        ensures refused { IfErr result (λ e. (e.fault ≡ Fault.Unexpected) × (self.new ≡ self.old)) }
     {
         match self.first() {
             Some(Token::Id(text)) => {
@@ -367,7 +386,7 @@ impl<'a> Parser<'a> {
         ensures counts { Counted result self.old self.new }
         ensures quiet { Quiet self.old self.new }
         ensures names { Kept self.old self.new }
-        ensures refused { IfErr result (λ _. self.new ≡ self.old) }
+        ensures refused { IfErr result (λ e. (e.fault ≡ Fault.Unexpected) × (self.new ≡ self.old)) }
     {
         match self.first() {
             Some(Token::Integer(integer)) => {
@@ -384,7 +403,7 @@ impl<'a> Parser<'a> {
         ensures counts { Counted result self.old self.new }
         ensures quiet { Quiet self.old self.new }
         ensures names { Kept self.old self.new }
-        ensures refused { IfErr result (λ _. self.new ≡ self.old) }
+        ensures refused { IfErr result (λ e. (e.fault ≡ Fault.Unexpected) × (self.new ≡ self.old)) }
     {
         match self.first() {
             Some(Token::String(bytes)) => {

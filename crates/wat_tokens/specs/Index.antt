@@ -1,0 +1,87 @@
+-- Identifiers and indices.
+use Rattle.std.specs.Prelude.{◌≡◌, ℕ, List, [], ◌∷◌, Bool, true, false, ◌==◌, ◌++◌, Option, None, Some, option_map, refl}
+use Rattle.std.proofs.Common.{ap}
+use Rattle.std.specs.Bool.{Decides}
+use Rattle.std.specs.Cmp.{unsigned_Decides}
+use Rattle.std.specs.Cmp.Lexicographic.{bytes_decides}
+use Rattle.std.specs.Hash as fed
+use Rattle.std.specs.Hash.{HashWrites}
+use Rattle.std.specs.Str.{bytes_eq}
+use Rattle.wat_lexer.specs.Number.{unsigned_value}
+use Rattle.wat_lexer.specs.Token.{Tok, Id, Integer}
+use Rattle.wat_lexer.specs.declared.span.Span.{Span}
+use Rattle.wat_tokens.specs.Tests.{is_id}
+use Rattle.wat_tokens.specs.Production.{Production}
+use Rattle.wat_tokens.specs.Parts.{one}
+use Rattle.wat_tokens.specs.declared.index.Id as code_id
+use Rattle.wat_tokens.specs.declared.index.Index.{Index}
+use Rattle.wat_tokens.specs.declared.index.Index.TheVariants as code
+
+-- ---- identifiers
+
+-- the name, without its `$`
+abbrev pub name_of : code_id.Id → List ℕ
+name_of i = i.name.now
+
+-- where it stands
+abbrev pub span_of : code_id.Id → Span
+span_of i = i.span
+
+-- id
+abbrev pub identifier : Production (List ℕ)
+identifier = one is_id (refl, refl)
+
+-- ---- indices
+
+-- an index, without its place
+pub data Idx : Type 0 where
+  number : ℕ → Idx
+  name : List ℕ → Idx
+
+abbrev pub seen_index : Index → Idx
+seen_index (code.Num n span) = number n
+seen_index (code.Id i) = name (name_of i)
+
+-- the index that the token is
+abbrev pub index_of : Tok → Option Idx
+index_of (Integer text) = option_map number (unsigned_value 32 text)
+index_of (Id n) = Some (name n)
+index_of _ = None
+
+-- u32 | id
+abbrev pub index : Production Idx
+index = one index_of (refl, refl)
+
+abbrev pub begins_index : List Tok → Bool
+begins_index (Id n ∷ r) = true
+begins_index (Integer text ∷ r) = true
+begins_index _ = false
+
+-- ---- equality
+
+-- the same number, or the same name
+abbrev pub same_index : Idx → Idx → Bool
+same_index (number m) (number n) = m == n
+same_index (name x) (name y) = bytes_eq x y
+same_index _ _ = false
+
+abbrev number_in : Idx → ℕ
+number_in (number n) = n
+number_in (name x) = 0
+
+abbrev name_in : Idx → List ℕ
+name_in (number n) = []
+name_in (name x) = x
+
+pub same_index_decides : (x y : Idx) → Decides (same_index x y) (x ≡ y)
+same_index_decides (number m) (number n) = (λ e. ap number ((unsigned_Decides m n).0 e), λ e. (unsigned_Decides m n).1 (ap number_in e))
+same_index_decides (number m) (name y) = (λ e. absurd cc, λ e. absurd cc)
+same_index_decides (name x) (number n) = (λ e. absurd cc, λ e. absurd cc)
+same_index_decides (name x) (name y) = (λ e. ap name ((bytes_decides x y).0 e), λ e. (bytes_decides x y).1 (ap name_in e))
+
+-- ---- hashes
+
+-- what a hasher is fed of an index: 0 and the number, or 1 and the name
+abbrev pub index_writes : Idx → HashWrites
+index_writes (number n) = fed.u8 0 ++ fed.u32 n
+index_writes (name x) = fed.u8 1 ++ fed.str x

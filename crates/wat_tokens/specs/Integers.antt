@@ -1,0 +1,29 @@
+-- Integers, and the numbers that they are read as.
+use Rattle.std.specs.Prelude.{ℕ, ℤ, List, Option, None, refl}
+use Rattle.wat_lexer.specs.Number.{unsigned_value, signed_value}
+use Rattle.wat_lexer.specs.Token.{Tok, Integer}
+use Rattle.wat_tokens.specs.Tests.{is_integer}
+use Rattle.wat_tokens.specs.Production.{Production}
+use Rattle.wat_tokens.specs.Parts.{one}
+
+-- an integer of any value, as its text
+abbrev pub integer : Production (List ℕ)
+integer = one is_integer (refl, refl)
+
+-- the number of so many bits that the token reads as without a sign
+abbrev pub unsigned_of : ℕ → Tok → Option ℕ
+unsigned_of bits (Integer text) = unsigned_value bits text
+unsigned_of bits _ = None
+
+-- the number of so many bits that the token reads as with a sign
+abbrev pub signed_of : ℕ → Tok → Option ℤ
+signed_of bits (Integer text) = signed_value bits text
+signed_of bits _ = None
+
+-- uN
+abbrev pub unsigned : ℕ → Production ℕ
+unsigned bits = one (unsigned_of bits) (refl, refl)
+
+-- iN
+abbrev pub signed : ℕ → Production ℤ
+signed bits = one (signed_of bits) (refl, refl)

@@ -1,0 +1,14 @@
+-- The annotation that gives a name.
+use Rattle.std.specs.Prelude.{ℕ, Bool, List, codes}
+use Rattle.wat_lexer.specs.Token.{Tok}
+use Rattle.wat_tokens.specs.Tests.{begins_annotation}
+use Rattle.wat_tokens.specs.Production.{Production}
+use Rattle.wat_tokens.specs.Groups.{annotation_group}
+use Rattle.wat_tokens.specs.Strings.{text}
+
+-- ( @name name )
+unfoldable pub name_annotation : Production (List ℕ)
+name_annotation = annotation_group (codes "name") text
+
+abbrev pub begins_name : List Tok → Bool
+begins_name t = begins_annotation (codes "name") t

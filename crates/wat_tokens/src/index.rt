@@ -1,0 +1,200 @@
+//! Identifiers and indices.
+
+ghost use Rattle.std.specs.Prelude.{◌≡◌, ◌↔◌, List, ℕ, true, IsTrue};
+ghost use Rattle.std.specs.Cmp.{partial_equiv_from_equiv, on_equiv, decided};
+ghost use Rattle.std.specs.Cmp.Lexicographic.{bytes_decides, nat_list_eq_equiv};
+ghost use Rattle.std.specs.Hash as fed;
+ghost use Rattle.std.specs.Str.{bytes_eq};
+ghost use Rattle.std.proofs.Common.{ap};
+ghost use Rattle.wat_tokens.specs.Index.{name_of, span_of, identifier, Idx, seen_index, index, begins_index, same_index, same_index_decides, index_writes};
+ghost use Rattle.wat_tokens.specs.Lookup.{front};
+ghost use Rattle.wat_tokens.specs.Tests.{begins_id};
+
+use crate::cursor::Cursor;
+use crate::parser::Parser;
+use crate::traits::{Parse, Peek};
+use std::hash::{Hash, Hasher};
+use wat_lexer::fault::Error;
+use wat_lexer::span::Span;
+
+/// An identifier (Text Format, "Identifiers"). Two are equal where their names are; where they stand doesn't count.
+#[derive(Clone, Copy, Debug)]
+pub struct Id<'a> {
+    name: &'a str,
+    span: Span,
+}
+
+impl<'a> Id<'a> {
+    /// The identifier of the name, given without its `$`, at the place.
+    pub fn new(name: &'a str, span: Span) -> Id<'a>
+        ensures name { name_of result ≡ name.now }
+        ensures place { span_of result ≡ span }
+    {
+        Id { name, span }
+    }
+
+    /// The name, without its `$`.
+    pub fn name(&self) -> &'a str
+        ensures { result.now ≡ name_of self.now }
+    {
+        self.name
+    }
+
+    /// Where it stands.
+    pub fn span(&self) -> Span
+        ensures { result ≡ span_of self.now }
+    {
+        self.span
+    }
+}
+
+impl PartialEq for Id<'_> {
+    ghost eq = { λ a b. bytes_eq (name_of a) (name_of b) };
+
+    ghost laws = { partial_equiv_from_equiv (on_equiv name_of nat_list_eq_equiv) };
+
+    fn eq(&self, other: &Self) -> bool
+        ensures value { result ≡ bytes_eq (name_of self.now) (name_of other.now) }
+        ensures alike { IsTrue result ↔ (name_of self.now ≡ name_of other.now) }
+    {
+        self.name == other.name
+    }
+}
+
+impl Eq for Id<'_> {
+    ghost laws = { on_equiv name_of nat_list_eq_equiv };
+}
+
+impl Hash for Id<'_> {
+    ghost hash_input = { λ i. fed.str (name_of i) };
+
+    ghost respects_eq = { λ a b e. ap fed.str ((bytes_decides (name_of a) (name_of b)).0 e) };
+
+    fn hash<H: Hasher>(&self, state: &mut H) {
+        self.name.hash(state);
+    }
+}
+
+/// An index: a number, or an identifier (Text Format, "Indices"). Two are equal where their numbers or their names are;
+/// where they stand doesn't count.
+#[derive(Clone, Copy, Debug)]
+pub enum Index<'a> {
+    /// A number, and where it stands.
+    Num(u32, Span),
+    /// An identifier.
+    Id(Id<'a>),
+}
+
+impl PartialEq for Index<'_> {
+    ghost eq = { λ a b. same_index (seen_index a) (seen_index b) };
+
+    ghost laws = { partial_equiv_from_equiv (on_equiv seen_index (decided same_index same_index_decides)) };
+
+    fn eq(&self, other: &Self) -> bool
+        ensures value { result ≡ same_index (seen_index self.now) (seen_index other.now) }
+        ensures alike { IsTrue result ↔ (seen_index self.now ≡ seen_index other.now) }
+    {
+        match (self, other) {
+            (Index::Num(a, _), Index::Num(b, _)) => a == b,
+            (Index::Id(a), Index::Id(b)) => a == b,
+            _ => false,
+        }
+    }
+}
+
+impl Eq for Index<'_> {
+    ghost laws = { on_equiv seen_index (decided same_index same_index_decides) };
+}
+
+impl Hash for Index<'_> {
+    ghost hash_input = { λ i. index_writes (seen_index i) };
+
+    ghost respects_eq = { λ a b e. ap index_writes ((same_index_decides (seen_index a) (seen_index b)).0 e) };
+
+    fn hash<H: Hasher>(&self, state: &mut H) {
+        match self {
+            Index::Num(number, _) => {
+                state.write_u8(0);
+                number.hash(state);
+            }
+            Index::Id(id) => {
+                state.write_u8(1);
+                id.hash(state);
+            }
+        }
+    }
+}
+
+impl<'a> Parse<'a> for Id<'a> {
+    ghost Seen = { List ℕ };
+
+    ghost seen = { name_of };
+
+    ghost light = { true };
+
+    ghost bare = { λ _. true };
+
+    ghost quiet = { true };
+
+    ghost grammar = { identifier };
+
+    fn parse(parser: &mut Parser<'a>) -> Result<Self, Error> {
+        let span = parser.cur_span();
+        let name = parser.take_id()?;
+        Ok(Id::new(name, span))
+    }
+}
+
+impl<'p> Peek for Id<'p> {
+    ghost begins = { begins_id };
+
+    fn peek(cursor: Cursor<'_>) -> bool
+        ensures { result ≡ begins_id (front cursor.entry) }
+    {
+        cursor.id().is_some()
+    }
+
+    fn display() -> &'static str {
+        "identifier"
+    }
+}
+
+/// A number is read without a sign in 32 bits: it is refused with Range, at the number, where it is too large or a `-`
+/// is written.
+impl<'a> Parse<'a> for Index<'a> {
+    ghost Seen = { Idx };
+
+    ghost seen = { seen_index };
+
+    ghost light = { true };
+
+    ghost bare = { λ _. true };
+
+    ghost quiet = { true };
+
+    ghost grammar = { index };
+
+    fn parse(parser: &mut Parser<'a>) -> Result<Self, Error> {
+        if parser.peek::<Id>() {
+            return Ok(Index::Id(Id::parse(parser)?));
+        }
+        let span = parser.cur_span();
+        let number = u32::parse(parser)?;
+        Ok(Index::Num(number, span))
+    }
+}
+
+/// An identifier, or an integer of any value.
+impl<'p> Peek for Index<'p> {
+    ghost begins = { begins_index };
+
+    fn peek(cursor: Cursor<'_>) -> bool
+        ensures { result ≡ begins_index (front cursor.entry) }
+    {
+        cursor.id().is_some() || cursor.integer().is_some()
+    }
+
+    fn display() -> &'static str {
+        "index"
+    }
+}

@@ -1,0 +1,322 @@
+//! Integers, and the numbers that they are read as.
+
+ghost use Rattle.std.specs.Prelude.{◌≡◌, List, ℕ, ℤ, true, IsTrue};
+ghost use Rattle.wat_lexer.specs.Integer.{text_of};
+ghost use Rattle.wat_lexer.specs.Number.{is_width};
+ghost use Rattle.wat_tokens.specs.Counts.{Counted, Quiet, Kept};
+ghost use Rattle.wat_tokens.specs.Integers.{integer, unsigned, signed};
+ghost use Rattle.wat_tokens.specs.Parses.{Exactly};
+ghost use Rattle.wat_tokens.specs.Tests.{begins_integer};
+
+use crate::cursor::Cursor;
+use crate::parser::Parser;
+use crate::traits::{Parse, Peek};
+use wat_lexer::fault::{Error, Fault};
+use wat_lexer::number::Integer;
+
+/// An integer of any value, as it is written (Text Format, "Integers").
+impl<'a> Parse<'a> for Integer<'a> {
+    ghost Seen = { List ℕ };
+
+    ghost seen = { text_of };
+
+    ghost light = { true };
+
+    ghost bare = { λ _. true };
+
+    ghost quiet = { true };
+
+    ghost grammar = { integer };
+
+    fn parse(parser: &mut Parser<'a>) -> Result<Self, Error> {
+        parser.take_integer()
+    }
+}
+
+/// Takes an integer and answers the unsigned number of so many bits that it reads as. It refuses with Unexpected where
+/// none stands in front, and with Range, at the integer, where its value is too large or a `-` is written.
+fn unsigned(parser: &mut Parser<'_>, bits: u32) -> Result<u64, Error>
+    requires { IsTrue (is_width bits) }
+    ensures exact { Exactly (λ n. n) result ((unsigned bits).reads parser.old.left) parser.new.left }
+    ensures counts { Counted result parser.old parser.new }
+    ensures quiet { Quiet parser.old parser.new }
+    ensures names { Kept parser.old parser.new }
+{
+    let span = parser.cur_span();
+    let integer = parser.take_integer()?;
+    match integer.unsigned(bits) {
+        Some(number) => Ok(number),
+        None => Err(Error {
+            fault: Fault::Range,
+            span,
+        }),
+    }
+}
+
+/// An unsigned number of 8 bits (Text Format, "Integers").
+impl<'a> Parse<'a> for u8 {
+    ghost Seen = { ℕ };
+
+    ghost seen = { λ n. n };
+
+    ghost light = { true };
+
+    ghost bare = { λ _. true };
+
+    ghost quiet = { true };
+
+    ghost grammar = { unsigned 8 };
+
+    fn parse(parser: &mut Parser<'a>) -> Result<Self, Error> {
+        Ok(unsigned(parser, 8)? as u8)
+    }
+}
+
+impl Peek for u8 {
+    ghost begins = { begins_integer };
+
+    fn peek(cursor: Cursor<'_>) -> bool {
+        cursor.integer().is_some()
+    }
+
+    fn display() -> &'static str {
+        "integer"
+    }
+}
+
+/// An unsigned number of 16 bits (Text Format, "Integers").
+impl<'a> Parse<'a> for u16 {
+    ghost Seen = { ℕ };
+
+    ghost seen = { λ n. n };
+
+    ghost light = { true };
+
+    ghost bare = { λ _. true };
+
+    ghost quiet = { true };
+
+    ghost grammar = { unsigned 16 };
+
+    fn parse(parser: &mut Parser<'a>) -> Result<Self, Error> {
+        Ok(unsigned(parser, 16)? as u16)
+    }
+}
+
+impl Peek for u16 {
+    ghost begins = { begins_integer };
+
+    fn peek(cursor: Cursor<'_>) -> bool {
+        cursor.integer().is_some()
+    }
+
+    fn display() -> &'static str {
+        "integer"
+    }
+}
+
+/// An unsigned number of 32 bits (Text Format, "Integers").
+impl<'a> Parse<'a> for u32 {
+    ghost Seen = { ℕ };
+
+    ghost seen = { λ n. n };
+
+    ghost light = { true };
+
+    ghost bare = { λ _. true };
+
+    ghost quiet = { true };
+
+    ghost grammar = { unsigned 32 };
+
+    fn parse(parser: &mut Parser<'a>) -> Result<Self, Error> {
+        Ok(unsigned(parser, 32)? as u32)
+    }
+}
+
+impl Peek for u32 {
+    ghost begins = { begins_integer };
+
+    fn peek(cursor: Cursor<'_>) -> bool {
+        cursor.integer().is_some()
+    }
+
+    fn display() -> &'static str {
+        "integer"
+    }
+}
+
+/// An unsigned number of 64 bits (Text Format, "Integers").
+impl<'a> Parse<'a> for u64 {
+    ghost Seen = { ℕ };
+
+    ghost seen = { λ n. n };
+
+    ghost light = { true };
+
+    ghost bare = { λ _. true };
+
+    ghost quiet = { true };
+
+    ghost grammar = { unsigned 64 };
+
+    fn parse(parser: &mut Parser<'a>) -> Result<Self, Error> {
+        unsigned(parser, 64)
+    }
+}
+
+impl Peek for u64 {
+    ghost begins = { begins_integer };
+
+    fn peek(cursor: Cursor<'_>) -> bool {
+        cursor.integer().is_some()
+    }
+
+    fn display() -> &'static str {
+        "integer"
+    }
+}
+
+/// Takes an integer and answers the signed number of so many bits that it reads as. It refuses with Unexpected where
+/// none stands in front, and with Range, at the integer, where its value is out of range.
+fn signed(parser: &mut Parser<'_>, bits: u32) -> Result<i64, Error>
+    requires { IsTrue (is_width bits) }
+    ensures exact { Exactly (λ n. n) result ((signed bits).reads parser.old.left) parser.new.left }
+    ensures counts { Counted result parser.old parser.new }
+    ensures quiet { Quiet parser.old parser.new }
+    ensures names { Kept parser.old parser.new }
+{
+    let span = parser.cur_span();
+    let integer = parser.take_integer()?;
+    match integer.signed(bits) {
+        Some(number) => Ok(number),
+        None => Err(Error {
+            fault: Fault::Range,
+            span,
+        }),
+    }
+}
+
+/// A signed number of 8 bits (Text Format, "Integers").
+impl<'a> Parse<'a> for i8 {
+    ghost Seen = { ℤ };
+
+    ghost seen = { λ n. n };
+
+    ghost light = { true };
+
+    ghost bare = { λ _. true };
+
+    ghost quiet = { true };
+
+    ghost grammar = { signed 8 };
+
+    fn parse(parser: &mut Parser<'a>) -> Result<Self, Error> {
+        Ok(signed(parser, 8)? as i8)
+    }
+}
+
+impl Peek for i8 {
+    ghost begins = { begins_integer };
+
+    fn peek(cursor: Cursor<'_>) -> bool {
+        cursor.integer().is_some()
+    }
+
+    fn display() -> &'static str {
+        "integer"
+    }
+}
+
+/// A signed number of 16 bits (Text Format, "Integers").
+impl<'a> Parse<'a> for i16 {
+    ghost Seen = { ℤ };
+
+    ghost seen = { λ n. n };
+
+    ghost light = { true };
+
+    ghost bare = { λ _. true };
+
+    ghost quiet = { true };
+
+    ghost grammar = { signed 16 };
+
+    fn parse(parser: &mut Parser<'a>) -> Result<Self, Error> {
+        Ok(signed(parser, 16)? as i16)
+    }
+}
+
+impl Peek for i16 {
+    ghost begins = { begins_integer };
+
+    fn peek(cursor: Cursor<'_>) -> bool {
+        cursor.integer().is_some()
+    }
+
+    fn display() -> &'static str {
+        "integer"
+    }
+}
+
+/// A signed number of 32 bits (Text Format, "Integers").
+impl<'a> Parse<'a> for i32 {
+    ghost Seen = { ℤ };
+
+    ghost seen = { λ n. n };
+
+    ghost light = { true };
+
+    ghost bare = { λ _. true };
+
+    ghost quiet = { true };
+
+    ghost grammar = { signed 32 };
+
+    fn parse(parser: &mut Parser<'a>) -> Result<Self, Error> {
+        Ok(signed(parser, 32)? as i32)
+    }
+}
+
+impl Peek for i32 {
+    ghost begins = { begins_integer };
+
+    fn peek(cursor: Cursor<'_>) -> bool {
+        cursor.integer().is_some()
+    }
+
+    fn display() -> &'static str {
+        "integer"
+    }
+}
+
+/// A signed number of 64 bits (Text Format, "Integers").
+impl<'a> Parse<'a> for i64 {
+    ghost Seen = { ℤ };
+
+    ghost seen = { λ n. n };
+
+    ghost light = { true };
+
+    ghost bare = { λ _. true };
+
+    ghost quiet = { true };
+
+    ghost grammar = { signed 64 };
+
+    fn parse(parser: &mut Parser<'a>) -> Result<Self, Error> {
+        signed(parser, 64)
+    }
+}
+
+impl Peek for i64 {
+    ghost begins = { begins_integer };
+
+    fn peek(cursor: Cursor<'_>) -> bool {
+        cursor.integer().is_some()
+    }
+
+    fn display() -> &'static str {
+        "integer"
+    }
+}

@@ -1,0 +1,233 @@
+//! Keywords whose place is kept. Each type has the name of its word.
+
+ghost use Rattle.std.specs.Prelude.{◌≡◌, codes, true};
+ghost use Rattle.wat_tokens.specs.Lookup.{front};
+ghost use Rattle.wat_tokens.specs.Parts.{word};
+ghost use Rattle.wat_tokens.specs.Place.{offset_of};
+ghost use Rattle.wat_tokens.specs.Tests.{begins_word};
+
+use crate::cursor::Cursor;
+use crate::parser::Parser;
+use crate::traits::{Parse, Peek};
+use wat_lexer::fault::Error;
+use wat_lexer::span::Span;
+
+/// Whether the keyword stands in front.
+fn stands(cursor: Cursor<'_>, word: &str) -> bool
+    ensures { result ≡ begins_word word.now (front cursor.entry) }
+{
+    match cursor.keyword() {
+        Some((text, _)) => text == word,
+        None => false,
+    }
+}
+
+/// The keyword `func` (Text Format, "Functions"), and where it stands.
+#[derive(Clone, Copy, Debug)]
+pub struct func(pub Span);
+
+impl Default for func {
+    ghost is_default = { λ w. offset_of w.0 ≡ 0 };
+
+    fn default() -> Self {
+        func(Span::from_offset(0))
+    }
+}
+
+impl<'a> Parse<'a> for func {
+    ghost Seen = { Unit {0} };
+
+    ghost seen = { λ _. tt };
+
+    ghost light = { true };
+
+    ghost bare = { λ _. true };
+
+    ghost quiet = { true };
+
+    ghost grammar = { word (codes "func") };
+
+    fn parse(parser: &mut Parser<'a>) -> Result<Self, Error> {
+        Ok(func(parser.keyword("func")?))
+    }
+}
+
+impl Peek for func {
+    ghost begins = { λ t. begins_word (codes "func") t };
+
+    fn peek(cursor: Cursor<'_>) -> bool {
+        stands(cursor, "func")
+    }
+
+    fn display() -> &'static str {
+        "func"
+    }
+}
+
+/// The keyword `table` (Text Format, "Tables"), and where it stands.
+#[derive(Clone, Copy, Debug)]
+pub struct table(pub Span);
+
+impl Default for table {
+    ghost is_default = { λ w. offset_of w.0 ≡ 0 };
+
+    fn default() -> Self {
+        table(Span::from_offset(0))
+    }
+}
+
+impl<'a> Parse<'a> for table {
+    ghost Seen = { Unit {0} };
+
+    ghost seen = { λ _. tt };
+
+    ghost light = { true };
+
+    ghost bare = { λ _. true };
+
+    ghost quiet = { true };
+
+    ghost grammar = { word (codes "table") };
+
+    fn parse(parser: &mut Parser<'a>) -> Result<Self, Error> {
+        Ok(table(parser.keyword("table")?))
+    }
+}
+
+impl Peek for table {
+    ghost begins = { λ t. begins_word (codes "table") t };
+
+    fn peek(cursor: Cursor<'_>) -> bool {
+        stands(cursor, "table")
+    }
+
+    fn display() -> &'static str {
+        "table"
+    }
+}
+
+/// The keyword `memory` (Text Format, "Memories"), and where it stands.
+#[derive(Clone, Copy, Debug)]
+pub struct memory(pub Span);
+
+impl Default for memory {
+    ghost is_default = { λ w. offset_of w.0 ≡ 0 };
+
+    fn default() -> Self {
+        memory(Span::from_offset(0))
+    }
+}
+
+impl<'a> Parse<'a> for memory {
+    ghost Seen = { Unit {0} };
+
+    ghost seen = { λ _. tt };
+
+    ghost light = { true };
+
+    ghost bare = { λ _. true };
+
+    ghost quiet = { true };
+
+    ghost grammar = { word (codes "memory") };
+
+    fn parse(parser: &mut Parser<'a>) -> Result<Self, Error> {
+        Ok(memory(parser.keyword("memory")?))
+    }
+}
+
+impl Peek for memory {
+    ghost begins = { λ t. begins_word (codes "memory") t };
+
+    fn peek(cursor: Cursor<'_>) -> bool {
+        stands(cursor, "memory")
+    }
+
+    fn display() -> &'static str {
+        "memory"
+    }
+}
+
+/// The keyword `global` (Text Format, "Globals"), and where it stands.
+#[derive(Clone, Copy, Debug)]
+pub struct global(pub Span);
+
+impl Default for global {
+    ghost is_default = { λ w. offset_of w.0 ≡ 0 };
+
+    fn default() -> Self {
+        global(Span::from_offset(0))
+    }
+}
+
+impl<'a> Parse<'a> for global {
+    ghost Seen = { Unit {0} };
+
+    ghost seen = { λ _. tt };
+
+    ghost light = { true };
+
+    ghost bare = { λ _. true };
+
+    ghost quiet = { true };
+
+    ghost grammar = { word (codes "global") };
+
+    fn parse(parser: &mut Parser<'a>) -> Result<Self, Error> {
+        Ok(global(parser.keyword("global")?))
+    }
+}
+
+impl Peek for global {
+    ghost begins = { λ t. begins_word (codes "global") t };
+
+    fn peek(cursor: Cursor<'_>) -> bool {
+        stands(cursor, "global")
+    }
+
+    fn display() -> &'static str {
+        "global"
+    }
+}
+
+/// The keyword `tag` (Text Format, "Tags"), and where it stands.
+#[derive(Clone, Copy, Debug)]
+pub struct tag(pub Span);
+
+impl Default for tag {
+    ghost is_default = { λ w. offset_of w.0 ≡ 0 };
+
+    fn default() -> Self {
+        tag(Span::from_offset(0))
+    }
+}
+
+impl<'a> Parse<'a> for tag {
+    ghost Seen = { Unit {0} };
+
+    ghost seen = { λ _. tt };
+
+    ghost light = { true };
+
+    ghost bare = { λ _. true };
+
+    ghost quiet = { true };
+
+    ghost grammar = { word (codes "tag") };
+
+    fn parse(parser: &mut Parser<'a>) -> Result<Self, Error> {
+        Ok(tag(parser.keyword("tag")?))
+    }
+}
+
+impl Peek for tag {
+    ghost begins = { λ t. begins_word (codes "tag") t };
+
+    fn peek(cursor: Cursor<'_>) -> bool {
+        stands(cursor, "tag")
+    }
+
+    fn display() -> &'static str {
+        "tag"
+    }
+}

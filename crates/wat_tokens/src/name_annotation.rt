@@ -1,0 +1,61 @@
+//! The annotation that gives a name.
+
+ghost use Rattle.std.specs.Prelude.{◌≡◌, List, ℕ, true};
+ghost use Rattle.wat_tokens.specs.Lookup.{front};
+ghost use Rattle.wat_tokens.specs.NameAnnotation.{name_annotation, begins_name};
+
+use crate::cursor::Cursor;
+use crate::parser::Parser;
+use crate::traits::{Parse, Peek};
+use wat_lexer::fault::Error;
+
+/// `( @name name )`: a name that the text gives (Appendix, "Custom Sections and Annotations", "Name Annotations"). It is
+/// read where the annotation `name` is known.
+#[derive(Clone, Copy, Debug)]
+pub struct NameAnnotation<'a> {
+    /// The name.
+    pub name: &'a str,
+}
+
+impl<'a> Parse<'a> for NameAnnotation<'a> {
+    ghost Seen = { List ℕ };
+
+    ghost seen = { λ a. a.name.now };
+
+    ghost light = { true };
+
+    ghost bare = { λ _. true };
+
+    ghost quiet = { true };
+
+    ghost grammar = { name_annotation };
+
+    #[tactic(auto, unfolding(crate::specs::NameAnnotation::name_annotation))]
+    fn parse(parser: &mut Parser<'a>) -> Result<Self, Error> {
+        parser.open()?;
+        parser.take_annotation("name")?;
+        let name = <&str as Parse>::parse(parser)?;
+        parser.close()?;
+        Ok(NameAnnotation { name })
+    }
+}
+
+impl<'p> Peek for NameAnnotation<'p> {
+    ghost begins = { begins_name };
+
+    fn peek(cursor: Cursor<'_>) -> bool
+        ensures { result ≡ begins_name (front cursor.entry) }
+    {
+        match cursor.lparen() {
+            Some(inside) => match inside.annotation() {
+                Some((name, _)) => name == "name",
+                None => false,
+            },
+            None => false,
+        }
+    }
+
+    fn display() -> &'static str {
+        "name annotation"
+    }
+}

@@ -1,0 +1,89 @@
+//! Strings.
+
+ghost use Rattle.std.specs.Prelude.{◌≡◌, List, ℕ, true};
+ghost use Rattle.wat_tokens.specs.Lookup.{front};
+ghost use Rattle.wat_tokens.specs.Strings.{string, text};
+ghost use Rattle.wat_tokens.specs.Tests.{begins_string};
+
+use crate::cursor::Cursor;
+use crate::parser::Parser;
+use crate::traits::{Parse, Peek};
+use wat_lexer::fault::{Error, Fault};
+
+/// A string, as its bytes (Text Format, "Strings").
+impl<'a> Parse<'a> for &'a [u8] {
+    ghost Seen = { List ℕ };
+
+    ghost seen = { λ s. s.now };
+
+    ghost light = { true };
+
+    ghost bare = { λ _. true };
+
+    ghost quiet = { true };
+
+    ghost grammar = { string };
+
+    fn parse(parser: &mut Parser<'a>) -> Result<Self, Error> {
+        parser.take_string()
+    }
+}
+
+/// Any string.
+impl<'p> Peek for &'p [u8] {
+    ghost begins = { begins_string };
+
+    fn peek(cursor: Cursor<'_>) -> bool
+        ensures { result ≡ begins_string (front cursor.entry) }
+    {
+        cursor.string().is_some()
+    }
+
+    fn display() -> &'static str {
+        "string"
+    }
+}
+
+/// A string that is UTF-8 (Text Format, "Names"). Where the string in front isn't, it is refused with Utf8, at the
+/// string.
+impl<'a> Parse<'a> for &'a str {
+    ghost Seen = { List ℕ };
+
+    ghost seen = { λ s. s.now };
+
+    ghost light = { true };
+
+    ghost bare = { λ _. true };
+
+    ghost quiet = { true };
+
+    ghost grammar = { text };
+
+    #[tactic(auto, using(crate::proofs::Texts::is_text, crate::proofs::Texts::is_no_text))]
+    fn parse(parser: &mut Parser<'a>) -> Result<Self, Error> {
+        let span = parser.cur_span();
+        let bytes = parser.take_string()?;
+        match str::from_utf8(bytes) {
+            Ok(text) => Ok(text),
+            Err(_) => Err(Error {
+                fault: Fault::Utf8,
+                span,
+            }),
+        }
+    }
+}
+
+/// Any string, UTF-8 or not.
+impl<'p> Peek for &'p str {
+    ghost begins = { begins_string };
+
+    fn peek(cursor: Cursor<'_>) -> bool
+        ensures { result ≡ begins_string (front cursor.entry) }
+    {
+        cursor.string().is_some()
+    }
+
+    fn display() -> &'static str {
+        "string"
+    }
+}
