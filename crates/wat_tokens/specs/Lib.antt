@@ -7,6 +7,7 @@ pub use Rattle.wat_lexer.specs.Place
 pub use Rattle.wat_lexer.specs.Sight
 pub use Rattle.wat_lexer.specs.Token
 pub use Rattle.wat_lexer.specs.View
+pub mod Begin
 pub mod Counts
 pub mod Error
 pub mod Floats
@@ -20,6 +21,7 @@ pub mod Parens
 pub mod Parses
 pub mod Parts
 pub mod Production
+pub mod Restated
 pub mod State
 pub mod Strings
 pub mod Tests

@@ -24,7 +24,7 @@ impl<'p> Cursor<'p> {
     ghost use Rattle.wat_lexer.specs.Sight.{as_seen};
     ghost use Rattle.wat_lexer.specs.View.{toks};
     ghost use Rattle.wat_tokens.specs.Lookup.{front, NextIs, GivesRest, GivesContent};
-    ghost use Rattle.wat_tokens.specs.Tests.{is_any, is_lparen, is_rparen, is_keyword, is_id, is_annotation, is_integer, is_string};
+    ghost use Rattle.wat_tokens.specs.Tests.{is_any, is_lparen, is_rparen, is_keyword, is_id, is_annotation, is_integer, is_string, begins_group};
 
     /// The place in front of the tokens; `known` says whether the five standard annotations are.
     pub(crate) fn new(rest: &'p [Lexeme<'p>], known: bool) -> Cursor<'p>
@@ -127,6 +127,19 @@ impl<'p> Cursor<'p> {
         match token {
             Token::String(content) => Some((content, rest)),
             _ => None,
+        }
+    }
+
+    /// Whether a group that begins with the keyword stands there.
+    pub fn group_is(self, word: &str) -> bool
+        ensures { result ≡ begins_group word.now (front self.entry) }
+    {
+        match self.lparen() {
+            Some(inside) => match inside.keyword() {
+                Some((text, _)) => text == word,
+                None => false,
+            },
+            None => false,
         }
     }
 }

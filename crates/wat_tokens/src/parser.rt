@@ -10,7 +10,8 @@ ghost use Rattle.wat_lexer.specs.View.{toks, AreLeaps};
 ghost use Rattle.wat_tokens.specs.Counts.{Carries, Counted, Quiet, Kept};
 ghost use Rattle.wat_tokens.specs.Lookup.{front, FirstIs};
 ghost use Rattle.wat_tokens.specs.Parses.{Exactly};
-ghost use Rattle.wat_tokens.specs.Parts.{one_reads};
+ghost use Rattle.wat_tokens.specs.Error.{Error};
+ghost use Rattle.wat_tokens.specs.Parts.{one_reads, flag};
 ghost use Rattle.wat_tokens.specs.State.{begun, IsFresh};
 ghost use Rattle.wat_tokens.specs.Tests.{is_lparen, is_rparen, is_keyword, is_id, is_integer, is_string, word_only, annotation_only, begins_word, begins_group, begins_annotation, none_left, ends};
 
@@ -214,13 +215,7 @@ impl<'a> Parser<'a> {
     pub fn group_is(&self, word: &str) -> bool
         ensures { result ≡ begins_group word.now self.now.left }
     {
-        match self.cursor().lparen() {
-            Some(inside) => match inside.keyword() {
-                Some((text, _)) => text == word,
-                None => false,
-            },
-            None => false,
-        }
+        self.cursor().group_is(word)
     }
 
     /// Whether a group that begins with the annotation of the name, given without its `@`, stands in front.
@@ -324,6 +319,20 @@ impl<'a> Parser<'a> {
             }
             _ => Err(self.unexpected()),
         }
+    }
+
+    /// Takes the one keyword (Text Format, "Tokens") where it stands in front, and answers whether it did.
+    pub fn flag(&mut self, word: &str) -> bool
+        ensures exact { (flag word.now).reads self.old.left ≡ Some (result, self.new.left) }
+        ensures counts { Counted {E = Error} (Ok result) self.old self.new }
+        ensures quiet { Quiet self.old self.new }
+        ensures names { Kept self.old self.new }
+    {
+        let stands = self.next_is(word);
+        if stands {
+            self.step();
+        }
+        stands
     }
 
     /// Takes the annotation of the name (Text Format, "Annotations"), given without its `@`, and answers where it

@@ -1,0 +1,5 @@
+pub mod Listing
+pub mod Modes
+pub mod Shown
+pub mod Streams
+pub mod Whole

@@ -1,0 +1,16 @@
+-- A production whose relation is said in another way.
+use Rattle.std.specs.Prelude.{List}
+use Rattle.wat_lexer.specs.Token.{Tok}
+use Rattle.wat_tokens.specs.Production.{Production}
+
+-- g, where Spells says the same as its relation
+abbrev pub restated : {A : Type 0} → (g : Production A) (Spells : A → List Tok → List Tok → Type 0) → ((v : A) (c r : List Tok) → g.spells v c r → Spells v c r) → ((v : A) (c r : List Tok) → Spells v c r → g.spells v c r) → Production A
+restated g Spells to from = record {
+  spells = Spells;
+  reads = g.reads;
+  least = g.least;
+  sound = λ t x e. (let y = g.sound t x e in (y.0, y.1, to x.0 y.0 x.1 y.2));
+  complete = λ v c r s. g.complete v c r (from v c r s);
+  takes = λ v c r s. g.takes v c r (from v c r s);
+  level = λ v c r s. g.level v c r (from v c r s);
+}

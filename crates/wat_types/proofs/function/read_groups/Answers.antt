@@ -1,0 +1,43 @@
+use Rattle.std.proofs.Common.{rules, ◌≡◌, refl, sym, ap, ◌∙◌}
+use Rattle.std.proofs.lemmas.Result.{err_from_is_err_and}
+use Rattle.wat_tokens.specs.Many.{add_rest, adding_goes_on, adding_ends, adding_fails, adding_takes}
+use Rattle.wat_types.specs.Group.{FuncTy, empty_function, func_group, func_group_eats, group_follows}
+use Rattle.wat_types.specs.Order.{add}
+use Rattle.wat_types.specs.Function.{seen_function, func_groups, function_begins_at}
+use Rattle.wat_types.proofs.Groups.{groups_not_bare}
+use Rattle.wat_types.proofs.function.read_groups.Goals as goal
+
+pub groups-init : goal.groups-init
+groups-init c =
+    let e : seen_function c.empty-found.result ≡ empty_function = rw (c.empty-found.ensures.params, c.empty-found.ensures.results) refl in
+    record {
+      exact = ap (λ (u : FuncTy). add_rest add u ((func_groups c.args.labels).reads c.args.parser.now.left)) e ∙ function_begins_at c.args.labels c.args.parser.now.left;
+      counts = search rules;
+      turned = search rules;
+      quiet = search rules;
+      names = search rules;
+    }
+
+pub groups-smaller : goal.groups-smaller
+groups-smaller c = adding_takes add group_follows (func_group c.args.labels) (func_group_eats c.args.labels) (seen_function c.groups.found) c.groups.parser.left (seen_function c.read_group.new.out) c.read_group.new.parser.left c.in_ok-read_group.ensures.exact
+
+pub groups-preserved : goal.groups-preserved
+unfolding func_groups
+groups-preserved c = record {
+  exact = sym (adding_goes_on add group_follows (func_group c.args.labels) (func_group_eats c.args.labels) (seen_function c.groups.found) c.groups.parser.left (seen_function c.read_group.new.out) c.read_group.new.parser.left (sym c.group_next.ensures ∙ c.groups-test.true) c.in_ok-read_group.ensures.exact) ∙ c.groups.invariant.exact;
+  counts = search rules;
+  turned = search rules;
+  quiet = search rules;
+  names = search rules;
+}
+
+pub returns-in_err-read_group-clause-exact : goal.returns-in_err-read_group-clause-exact
+unfolding func_groups
+returns-in_err-read_group-clause-exact c =
+    let begun = sym c.group_next.ensures ∙ c.groups-test.true in
+    let p = err_from_is_err_and c.from_residual.result c.from_residual.ensures.1 in
+    rw (p.1, p.2) ((λ not. sym c.groups.invariant.exact ∙ adding_fails add group_follows (func_group c.args.labels) (func_group_eats c.args.labels) (seen_function c.groups.found) c.groups.parser.left begun (c.in_err-read_group.ensures.exact.0 not)), (λ m. (refl, groups_not_bare c.args.labels (seen_function c.groups.found) c.groups.parser.left _ begun (c.in_err-read_group.ensures.exact.1 m).1 c.groups.invariant.exact)))
+
+pub returns-clause-exact : goal.returns-clause-exact
+unfolding func_groups
+returns-clause-exact c = sym c.groups.invariant.exact ∙ adding_ends add group_follows (func_group c.args.labels) (func_group_eats c.args.labels) (seen_function c.groups.found) c.groups.parser.left (sym c.group_next.ensures ∙ c.groups-test.false)

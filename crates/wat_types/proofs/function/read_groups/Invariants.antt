@@ -1,0 +1,19 @@
+use Rattle.std.proofs.Common.{◌≡◌, length}
+use Rattle.std.specs.Prelude.{◌≤◌, ◌+◌}
+use Rattle.wat_tokens.specs.Many.{add_rest}
+use Rattle.wat_tokens.specs.Counts.{Carries, Quiet, Kept}
+use Rattle.wat_types.specs.Order.{add}
+use Rattle.wat_types.specs.Function.{seen_function, func_groups, function_groups}
+use Rattle.wat_types.proofs.function.read_groups.Given as goal
+
+abbrev pub invariant-groups : goal.invariant-groups
+invariant-groups l = record {
+  exact : add_rest add (seen_function l.found) ((func_groups l.fn.labels).reads l.parser.left) ≡ (function_groups l.fn.labels).reads l.fn.parser.left;
+  counts : Carries l.fn.parser l.parser;
+  turned : l.parser.turns + l.fn.parser.taken ≤ l.fn.parser.turns + l.parser.taken;
+  quiet : Quiet l.fn.parser l.parser;
+  names : Kept l.fn.parser l.parser;
+}
+
+abbrev pub decreases-groups : goal.decreases-groups
+decreases-groups l = length l.parser.left

@@ -1,0 +1,101 @@
+-- The groups of a function type, and the order in which they may stand.
+use Rattle.std.specs.Prelude.{◌≤◌, Bool, true, not, ◌&&◌, ◌||◌, List, [], ◌∷◌, codes, flat_map, AllPairs, ⊤}
+use Rattle.std.proofs.Common.{lit≤}
+use Rattle.wat_tokens.specs.Token.{Tok}
+use Rattle.wat_tokens.specs.Tests.{begins_word, begins_group, more, second}
+use Rattle.wat_tokens.specs.Production.{Production}
+use Rattle.wat_tokens.specs.Parts.{seq, made, where_else}
+use Rattle.wat_tokens.specs.Many.{many}
+use Rattle.wat_tokens.specs.Groups.{group}
+use Rattle.wat_tokens.specs.NameAnnotation.{name_annotation}
+use Rattle.wat_types.specs.Heap.{heap_type, abstract_heap_type}
+use Rattle.wat_types.specs.Reference.{ref_type, shorthand}
+use Rattle.wat_types.specs.Value.{ValTy, val_type, val_type_eats}
+use Rattle.wat_types.specs.Label.{Label, no_label, labelled, label, begins_label}
+
+-- a parameter, and what names it
+pub record ParamTy : Type 0 where
+  pub label : Label
+  pub ty : ValTy
+
+abbrev pub labelled_param : Label × ValTy → List ParamTy
+labelled_param v = record { label = v.0; ty = v.1 } ∷ []
+
+abbrev pub plain_param : ValTy → ParamTy
+plain_param t = record { label = no_label; ty = t }
+
+abbrev pub plain_param_only : Production ParamTy
+plain_param_only = made plain_param val_type
+
+-- ValType*
+unfoldable pub plain_params : Production (List ParamTy)
+plain_params = many more plain_param_only val_type_eats
+
+-- where labels may stand and one begins, id? name? ValType; else ValType*
+unfoldable pub params : Bool → Production (List ParamTy)
+params labels = where_else (λ t. labels && begins_label t) (made labelled_param (seq label val_type)) plain_params
+
+-- ValType*
+unfoldable pub val_types : Production (List ValTy)
+val_types = many more val_type val_type_eats
+
+pub data Group : Type 0 where
+  param : List ParamTy → Group
+  result : List ValTy → Group
+
+-- ( param ) | ( param id? name? ValType ), with an id or a name | ( param ValType* ) | ( result ValType* )
+unfoldable pub func_group : Bool → Production Group
+func_group labels =
+    where_else (begins_group (codes "param")) (made param (group (codes "param") (params labels)))
+    (made result (group (codes "result") val_types))
+
+pub func_group_eats : (labels : Bool) → 1 ≤ (func_group labels).least
+unfolding func_group params label name_annotation plain_params val_types val_type ref_type heap_type abstract_heap_type shorthand
+func_group_eats labels = lit≤ tt
+
+-- one more group has to follow: the second token is `param` or `result`, whatever the first is
+abbrev pub group_follows : List Tok → Bool
+group_follows t = second (begins_word (codes "param")) t || second (begins_word (codes "result")) t
+
+-- what begins a function type: `(` and `param` or `result`
+abbrev pub begins_func : List Tok → Bool
+begins_func t = begins_group (codes "param") t || begins_group (codes "result") t
+
+-- none of the parameters has a label
+abbrev pub unlabelled : List ParamTy → Bool
+unlabelled [] = true
+unlabelled (p ∷ ps) = not (labelled p.label) && unlabelled ps
+
+-- ---- what the groups say together
+
+-- a function type, without places
+pub record FuncTy : Type 0 where
+  pub params : List ParamTy
+  pub results : List ValTy
+
+abbrev pub function_of : List ParamTy → List ValTy → FuncTy
+function_of ps rs = record { params = ps; results = rs }
+
+abbrev pub empty_function : FuncTy
+empty_function = function_of [] []
+
+abbrev pub params_in : Group → List ParamTy
+params_in (param ps) = ps
+params_in (result rs) = []
+
+abbrev pub results_in : Group → List ValTy
+results_in (param ps) = []
+results_in (result rs) = rs
+
+-- the parameters and the results of all groups, one behind the other
+abbrev pub joined : List Group → FuncTy
+joined gs = function_of (flat_map params_in gs) (flat_map results_in gs)
+
+-- a result group with a type doesn't stand before a param group
+abbrev pub MayStandBefore : Group → Group → Type 0
+MayStandBefore (result (t ∷ ts)) (param ps) = ⊥
+MayStandBefore _ _ = ⊤
+
+-- of any two groups the earlier may stand before the later
+abbrev pub InOrder : List Group → Type 0
+InOrder gs = AllPairs MayStandBefore gs

@@ -1,0 +1,58 @@
+-- Heap types.
+use Rattle.std.specs.Prelude.{◌≡◌, ℕ, Bool, true, false, ◌||◌, List, [], ◌∷◌, None, codes, refl}
+use Rattle.wat_tokens.specs.Token.{Tok, LParen}
+use Rattle.wat_tokens.specs.Tests.{word_in, begins_group}
+use Rattle.wat_tokens.specs.Production.{Production}
+use Rattle.wat_tokens.specs.Parts.{one, made, where_else}
+use Rattle.wat_tokens.specs.Groups.{group}
+use Rattle.wat_tokens.specs.Begin.{begins_one_of}
+use Rattle.wat_tokens.specs.Index.{Idx, seen_index, index, begins_index}
+use Rattle.wat_types.specs.declared.heap.AbstractHeapType.{AbstractHeapType}
+use Rattle.wat_types.specs.declared.heap.AbstractHeapType.TheVariants as word
+use Rattle.wat_types.specs.declared.heap.HeapType.{HeapType}
+use Rattle.wat_types.specs.declared.heap.HeapType.TheVariants as code
+
+-- ---- abstract heap types
+
+abbrev pub abstract_words : List (List ℕ × AbstractHeapType)
+abstract_words =
+    (codes "func", word.Func) ∷ (codes "extern", word.Extern) ∷ (codes "exn", word.Exn) ∷ (codes "cont", word.Cont) ∷ (codes "any", word.Any)
+    ∷ (codes "eq", word.Eq) ∷ (codes "struct", word.Struct) ∷ (codes "array", word.Array) ∷ (codes "i31", word.I31) ∷ (codes "nofunc", word.NoFunc)
+    ∷ (codes "noextern", word.NoExtern) ∷ (codes "noexn", word.NoExn) ∷ (codes "nocont", word.NoCont) ∷ (codes "none", word.None) ∷ []
+
+-- one of the words
+unfoldable pub abstract_heap_type : Production AbstractHeapType
+abstract_heap_type = one (word_in abstract_words) (refl, refl)
+
+pub abstract_no_group : (t : List Tok) → abstract_heap_type.reads (LParen ∷ t) ≡ None
+unfolding abstract_heap_type
+abstract_no_group t = refl
+
+-- one of the words
+unfoldable pub begins_abstract : List Tok → Bool
+begins_abstract t = begins_one_of (word_in abstract_words) t
+
+-- ---- heap types
+
+-- a heap type, without the places of indices
+pub data HeapTy : Type 0 where
+  concrete : Idx → HeapTy
+  exact : Idx → HeapTy
+  abstract_ : Bool → AbstractHeapType → HeapTy
+
+abbrev pub seen_heap : HeapType → HeapTy
+seen_heap (code.Abstract shared t) = abstract_ shared t
+seen_heap (code.Concrete i) = concrete (seen_index i)
+seen_heap (code.Exact i) = exact (seen_index i)
+
+-- idx | ( exact idx ) | ( shared abstract ) | abstract
+unfoldable pub heap_type : Production HeapTy
+heap_type =
+    where_else begins_index (made concrete index)
+    (where_else (begins_group (codes "exact")) (made exact (group (codes "exact") index))
+    (where_else (begins_group (codes "shared")) (made (λ t. abstract_ true t) (group (codes "shared") abstract_heap_type))
+    (made (λ t. abstract_ false t) abstract_heap_type)))
+
+-- an abstract word, or `(` and `shared` or `type`
+abbrev pub begins_heap : List Tok → Bool
+begins_heap t = begins_abstract t || (begins_group (codes "shared") t || begins_group (codes "type") t)

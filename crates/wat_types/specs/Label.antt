@@ -1,0 +1,36 @@
+-- What may name a parameter: an identifier, and a name that an annotation gives.
+use Rattle.std.specs.Prelude.{ℕ, Bool, ◌||◌, List, Option, None, is_some}
+use Rattle.wat_tokens.specs.Token.{Tok}
+use Rattle.wat_tokens.specs.Tests.{begins_id}
+use Rattle.wat_tokens.specs.Production.{Production}
+use Rattle.wat_tokens.specs.Parts.{seq, made, opt}
+use Rattle.wat_tokens.specs.Parses.{seen_option}
+use Rattle.wat_tokens.specs.Index.{name_of, identifier}
+use Rattle.wat_tokens.specs.NameAnnotation.{name_annotation, begins_name}
+use Rattle.wat_tokens.specs.declared.index.Id.{Id}
+use Rattle.wat_tokens.specs.declared.name_annotation.NameAnnotation.{NameAnnotation}
+
+pub record Label : Type 0 where
+  pub id : Option (List ℕ)
+  pub name : Option (List ℕ)
+
+abbrev pub label_of : Option (List ℕ) → Option (List ℕ) → Label
+label_of i n = record { id = i; name = n }
+
+abbrev pub no_label : Label
+no_label = label_of None None
+
+abbrev pub seen_label : Option Id → Option NameAnnotation → Label
+seen_label i n = label_of (seen_option name_of i) (seen_option (λ a. a.name.now) n)
+
+-- an id or a name is there
+abbrev pub labelled : Label → Bool
+labelled l = is_some l.id || is_some l.name
+
+-- id? name?
+unfoldable pub label : Production Label
+label = made (λ v. label_of v.0 v.1) (seq (opt begins_id identifier) (opt begins_name name_annotation))
+
+-- an id, or a name
+abbrev pub begins_label : List Tok → Bool
+begins_label t = begins_id t || begins_name t

@@ -1,0 +1,11 @@
+pub use Rattle.wat_tokens.specs.Index
+pub use Rattle.wat_tokens.specs.Lookup
+pub use Rattle.wat_tokens.specs.Production
+pub mod Function
+pub mod Group
+pub mod Heap
+pub mod Label
+pub mod Order
+pub mod Reference
+pub mod Unlabelled
+pub mod Value

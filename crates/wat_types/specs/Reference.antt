@@ -1,0 +1,81 @@
+-- Reference types.
+use Rattle.std.specs.Prelude.{◌≡◌, ℕ, Bool, true, false, ◌||◌, List, [], ◌∷◌, codes, Option, Some, None, refl}
+use Rattle.wat_tokens.specs.Token.{Tok, LParen}
+use Rattle.wat_tokens.specs.Tests.{word_in, begins_group}
+use Rattle.wat_tokens.specs.Production.{Production}
+use Rattle.wat_tokens.specs.Parts.{one, seq, made, where_else, flag}
+use Rattle.wat_tokens.specs.Groups.{group}
+use Rattle.wat_tokens.specs.Begin.{begins_one_of}
+use Rattle.wat_types.specs.Heap.{HeapTy, abstract_, seen_heap, heap_type}
+use Rattle.wat_types.specs.declared.heap.AbstractHeapType.{AbstractHeapType}
+use Rattle.wat_types.specs.declared.heap.AbstractHeapType.TheVariants as word
+use Rattle.wat_types.specs.declared.heap.HeapType.{HeapType}
+use Rattle.wat_types.specs.declared.heap.HeapType.TheVariants as code
+use Rattle.wat_types.specs.declared.reference.RefType.{RefType}
+
+-- a reference type, without the places of indices
+pub record RefTy : Type 0 where
+  pub nullable : Bool
+  pub heap : HeapTy
+
+abbrev pub seen_ref : RefType → RefTy
+seen_ref t = record { nullable = t.nullable; heap = seen_heap t.heap }
+
+-- the heap type that a shorthand names
+abbrev pub shorthand_words : List (List ℕ × AbstractHeapType)
+shorthand_words =
+    (codes "funcref", word.Func) ∷ (codes "externref", word.Extern) ∷ (codes "exnref", word.Exn) ∷ (codes "contref", word.Cont) ∷ (codes "anyref", word.Any)
+    ∷ (codes "eqref", word.Eq) ∷ (codes "structref", word.Struct) ∷ (codes "arrayref", word.Array) ∷ (codes "i31ref", word.I31) ∷ (codes "nullfuncref", word.NoFunc)
+    ∷ (codes "nullexternref", word.NoExtern) ∷ (codes "nullexnref", word.NoExn) ∷ (codes "nullcontref", word.NoCont) ∷ (codes "nullref", word.None) ∷ []
+
+-- one of the shorthands
+unfoldable pub shorthand : Production AbstractHeapType
+shorthand = one (word_in shorthand_words) (refl, refl)
+
+pub shorthand_no_group : (t : List Tok) → shorthand.reads (LParen ∷ t) ≡ None
+unfolding shorthand
+shorthand_no_group t = refl
+
+-- one of the shorthands
+unfoldable pub begins_shorthand : List Tok → Bool
+begins_shorthand t = begins_one_of (word_in shorthand_words) t
+
+-- what a shorthand of the heap type is, shared or not
+abbrev pub short : Bool → AbstractHeapType → RefTy
+short shared t = record { nullable = true; heap = abstract_ shared t }
+
+-- ( ref null? HeapType ) | ( shared shorthand ) | shorthand
+unfoldable pub ref_type : Production RefTy
+ref_type =
+    where_else (begins_group (codes "ref")) (made (λ v. record { nullable = v.0; heap = v.1 }) (group (codes "ref") (seq (flag (codes "null")) heap_type)))
+    (where_else (begins_group (codes "shared")) (made (short true) (group (codes "shared") shorthand))
+    (made (short false) shorthand))
+
+-- `(` and `ref` or `shared`
+abbrev pub begins_long_ref : List Tok → Bool
+begins_long_ref t = begins_group (codes "ref") t || begins_group (codes "shared") t
+
+-- a shorthand, or `(` and `ref` or `shared`
+abbrev pub begins_ref : List Tok → Bool
+begins_ref t = begins_shorthand t || begins_long_ref t
+
+-- ---- types made without a text
+
+-- what a shorthand of the heap type stands for: nullable, not shared
+abbrev pub nullable_ref : AbstractHeapType → RefType
+nullable_ref t = record { nullable = true; heap = code.Abstract false t }
+
+-- the heap type, shared, where it is abstract
+abbrev pub shared_heap : HeapType → Option HeapType
+shared_heap (code.Abstract shared t) = Some (code.Abstract true t)
+shared_heap (code.Concrete i) = None
+shared_heap (code.Exact i) = None
+
+-- the reference to the heap type, where there is one
+abbrev pub ref_to : Bool → Option HeapType → Option RefType
+ref_to nullable (Some h) = Some (record { nullable = nullable; heap = h })
+ref_to nullable None = None
+
+-- the reference to the shared heap type, nullable as before
+abbrev pub shared_ref : RefType → Option RefType
+shared_ref t = ref_to t.nullable (shared_heap t.heap)

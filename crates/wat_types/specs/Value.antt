@@ -1,0 +1,54 @@
+-- Value types.
+use Rattle.std.specs.Prelude.{◌≡◌, ℕ, ◌≤◌, Bool, ◌||◌, List, [], ◌∷◌, codes, Option, Some, None, refl}
+use Rattle.std.proofs.Common.{lit≤}
+use Rattle.wat_tokens.specs.Token.{Tok}
+use Rattle.wat_tokens.specs.Tests.{word_in, look_up}
+use Rattle.wat_tokens.specs.Production.{Production}
+use Rattle.wat_tokens.specs.Parts.{one, made, where_else}
+use Rattle.wat_tokens.specs.Begin.{begins_one_of}
+use Rattle.wat_types.specs.Heap.{heap_type, abstract_heap_type}
+use Rattle.wat_types.specs.Reference.{RefTy, seen_ref, ref_type, shorthand, begins_shorthand, begins_long_ref}
+use Rattle.wat_types.specs.declared.value.ValType.{ValType}
+use Rattle.wat_types.specs.declared.value.ValType.TheVariants as code
+
+-- a value type, without the places of indices
+pub data ValTy : Type 0 where
+  i32 : ValTy
+  i64 : ValTy
+  f32 : ValTy
+  f64 : ValTy
+  v128 : ValTy
+  ref : RefTy → ValTy
+
+abbrev pub seen_val : ValType → ValTy
+seen_val code.I32 = i32
+seen_val code.I64 = i64
+seen_val code.F32 = f32
+seen_val code.F64 = f64
+seen_val code.V128 = v128
+seen_val (code.Ref r) = ref (seen_ref r)
+
+-- the types of numbers and vectors
+abbrev pub plain_words : List (List ℕ × ValTy)
+plain_words = (codes "i32", i32) ∷ (codes "i64", i64) ∷ (codes "f32", f32) ∷ (codes "f64", f64) ∷ (codes "v128", v128) ∷ []
+
+-- one of five words, or a RefType
+unfoldable pub val_type : Production ValTy
+val_type = where_else (begins_one_of (word_in plain_words)) (one (word_in plain_words) (refl, refl)) (made ref ref_type)
+
+pub val_type_eats : 1 ≤ val_type.least
+unfolding val_type ref_type shorthand heap_type abstract_heap_type
+val_type_eats = lit≤ tt
+
+-- the type that the word names, where it is one of the five
+abbrev pub IsPlain : List ℕ → Option ValType → Type 0
+IsPlain w (Some t) = look_up plain_words w ≡ Some (seen_val t)
+IsPlain w None = look_up plain_words w ≡ None
+
+-- one of the five words
+unfoldable pub begins_plain : List Tok → Bool
+begins_plain t = begins_one_of (word_in plain_words) t
+
+-- one of the five words, a shorthand, or `(` and `ref` or `shared`
+abbrev pub begins_val : List Tok → Bool
+begins_val t = begins_plain t || (begins_shorthand t || begins_long_ref t)

@@ -1,0 +1,245 @@
+//! Function types.
+
+ghost use Rattle.std.specs.Prelude.{◌≡◌, [], true, false, map, IfOk, IfErr};
+ghost use Rattle.wat_tokens.specs.Counts.{Counted, Quiet, Kept};
+ghost use Rattle.wat_tokens.specs.Lookup.{front};
+ghost use Rattle.wat_tokens.specs.Many.{after_front, add_read};
+ghost use Rattle.wat_tokens.specs.Parses.{Gives, no_items};
+ghost use Rattle.wat_types.specs.Function.{seen_params, seen_function, seen_unnamed, bare_function, function_groups, function_type, function_type_no_names};
+ghost use Rattle.wat_types.specs.Group.{FuncTy, params, plain_params, func_group, group_follows, begins_func};
+ghost use Rattle.wat_types.specs.Order.{add};
+
+use crate::value::ValType;
+use std::alloc::Global;
+use wat_tokens::traits::rest_of_group;
+use wat_tokens::{Cursor, Error, Fault, Id, NameAnnotation, Parse, Parser, Peek, Result};
+
+/// A function type (Text Format, Types, "Composite Types").
+#[derive(Debug, Drop)]
+pub struct FunctionType<'a> {
+    /// The parameters, each with the identifier and the name that it has.
+    pub params: Vec<(Option<Id<'a>>, Option<NameAnnotation<'a>>, ValType<'a>)>,
+    /// The results.
+    pub results: Vec<ValType<'a>>,
+}
+
+/// A function type whose parameters have neither identifiers nor names.
+#[derive(Debug, Drop)]
+pub struct FunctionTypeNoNames<'a>(pub FunctionType<'a>);
+
+/// Parameters without labels, up to the end of the group, each put behind those that are there.
+fn read_plain_params<'a>(
+    parser: &mut Parser<'a>,
+    out: &mut Vec<(Option<Id<'a>>, Option<NameAnnotation<'a>>, ValType<'a>)>,
+) -> Result<()>
+    ensures exact { Gives false no_items (λ _. seen_params out.new.items) result (after_front (seen_params out.old.items) (plain_params.reads parser.old.left)) parser.new.left }
+    ensures counts { Counted result parser.old parser.new }
+    ensures quiet { Quiet parser.old parser.new }
+    ensures names { Kept parser.old parser.new }
+{
+    'params: while !parser.is_empty() {
+        let ty = ValType::parse(parser)?;
+        out.push((None, None, ty))?;
+    }
+    Ok(())
+}
+
+/// The parameters of a group, each put behind those that are there; `labels` says whether one may have a label.
+#[tactic(auto, unfolding(crate::specs::Group::params, crate::specs::Label::label))]
+fn read_params<'a>(
+    parser: &mut Parser<'a>,
+    labels: bool,
+    out: &mut Vec<(Option<Id<'a>>, Option<NameAnnotation<'a>>, ValType<'a>)>,
+) -> Result<()>
+    ensures exact { Gives false no_items (λ _. seen_params out.new.items) result (after_front (seen_params out.old.items) ((params labels).reads parser.old.left)) parser.new.left }
+    ensures counts { Counted result parser.old parser.new }
+    ensures quiet { Quiet parser.old parser.new }
+    ensures names { Kept parser.old parser.new }
+{
+    if labels && (parser.peek::<Id>() || parser.peek::<NameAnnotation>()) {
+        let id = Option::<Id>::parse(parser)?;
+        let name = Option::<NameAnnotation>::parse(parser)?;
+        let ty = ValType::parse(parser)?;
+        out.push((id, name, ty))?;
+        return Ok(());
+    }
+    read_plain_params(parser, out)
+}
+
+/// One group, put behind what is there.
+#[tactic(auto, using(crate::specs::Value::val_type_eats), unfolding(crate::specs::Group::func_group, crate::specs::Group::val_types))]
+fn read_group<'a>(parser: &mut Parser<'a>, labels: bool, out: &mut FunctionType<'a>) -> Result<()>
+    ensures exact { Gives false bare_function (λ _. seen_function out.new) result (add_read add (seen_function out.old) ((func_group labels).reads parser.old.left)) parser.new.left }
+    ensures counts { Counted result parser.old parser.new }
+    ensures quiet { Quiet parser.old parser.new }
+    ensures names { Kept parser.old parser.new }
+{
+    let is_param = parser.group_is("param");
+    parser.open()?;
+    if is_param {
+        if !out.results.is_empty() {
+            return Err(Error {
+                fault: Fault::ParamAfterResult,
+                span: parser.cur_span(),
+            });
+        }
+        parser.keyword("param")?;
+        read_params(parser, labels, &mut out.params)?;
+    } else {
+        parser.keyword("result")?;
+        rest_of_group::<ValType>(parser, &mut out.results)?;
+    }
+    parser.close()?;
+    Ok(())
+}
+
+/// Whether the second token is `param` or `result`, whatever the first is.
+fn group_next(parser: &Parser<'_>) -> bool
+    ensures { result ≡ group_follows parser.now.left }
+{
+    match parser.cursor().any() {
+        Some(rest) => match rest.keyword() {
+            Some((word, _)) => word == "param" || word == "result",
+            None => false,
+        },
+        None => false,
+    }
+}
+
+/// Groups, as long as one has to follow.
+fn read_groups<'a>(parser: &mut Parser<'a>, labels: bool) -> Result<FunctionType<'a>>
+    ensures exact { Gives false bare_function seen_function result ((function_groups labels).reads parser.old.left) parser.new.left }
+    ensures counts { Counted result parser.old parser.new }
+    ensures quiet { Quiet parser.old parser.new }
+    ensures names { Kept parser.old parser.new }
+{
+    let mut found = FunctionType::empty(parser.alloc());
+    'groups: while group_next(parser) {
+        read_group(parser, labels, &mut found)?;
+    }
+    Ok(found)
+}
+
+impl<'a> FunctionType<'a> {
+    /// No parameters and no results.
+    pub fn empty(alloc: Global) -> FunctionType<'a>
+        ensures params { result.params.items ≡ [] }
+        ensures results { result.results.items ≡ [] }
+    {
+        FunctionType {
+            params: Vec::new(alloc),
+            results: Vec::new(alloc),
+        }
+    }
+
+    /// The same function type once more. Memory may be answered where it has a parameter or a result.
+    pub fn clone(&self) -> Result<FunctionType<'a>>
+        ensures params { IfOk result (λ f. f.params.items ≡ self.now.params.items) }
+        ensures results { IfOk result (λ f. f.results.items ≡ self.now.results.items) }
+        ensures seen { IfOk result (λ f. seen_function f ≡ seen_function self.now) }
+        ensures memory { IfErr result (λ e. (e.fault ≡ Fault.Memory) × (bare_function (seen_function self.now) ≡ false)) }
+    {
+        let mut copy = FunctionType::empty(*self.params.allocator());
+        copy.params.extend_from_slice(&self.params)?;
+        copy.results.extend_from_slice(&self.results)?;
+        Ok(copy)
+    }
+}
+
+/// Groups `( param )`, `( param id? name? ValType )` with an id or a name, `( param ValType* )` and `( result ValType* )`,
+/// to where the second token is neither `param` nor `result`. Where a param group follows a result group with a type, it
+/// is refused with ParamAfterResult, at the word `param`.
+impl<'a> Parse<'a> for FunctionType<'a> {
+    ghost Seen = { FuncTy };
+
+    ghost seen = { seen_function };
+
+    ghost light = { false };
+
+    ghost bare = { bare_function };
+
+    ghost quiet = { true };
+
+    ghost grammar = { function_type };
+
+    fn parse(parser: &mut Parser<'a>) -> Result<Self> {
+        read_groups(parser, true)
+    }
+}
+
+/// `(` and `param` or `result`.
+impl<'p> Peek for FunctionType<'p> {
+    ghost begins = { begins_func };
+
+    fn peek(cursor: Cursor<'_>) -> bool
+        ensures { result ≡ begins_func (front cursor.entry) }
+    {
+        cursor.group_is("param") || cursor.group_is("result")
+    }
+
+    fn display() -> &'static str {
+        "function type"
+    }
+}
+
+impl<'a> FunctionTypeNoNames<'a> {
+    /// No parameters and no results.
+    pub fn empty(alloc: Global) -> FunctionTypeNoNames<'a>
+        ensures params { result.0.params.items ≡ [] }
+        ensures results { result.0.results.items ≡ [] }
+    {
+        FunctionTypeNoNames(FunctionType::empty(alloc))
+    }
+
+    /// The same function type once more. Memory may be answered where it has a parameter or a result.
+    pub fn clone(&self) -> Result<FunctionTypeNoNames<'a>>
+        ensures params { IfOk result (λ f. f.0.params.items ≡ self.now.0.params.items) }
+        ensures results { IfOk result (λ f. f.0.results.items ≡ self.now.0.results.items) }
+        ensures seen { IfOk result (λ f. seen_unnamed f ≡ seen_unnamed self.now) }
+        ensures memory { IfErr result (λ e. (e.fault ≡ Fault.Memory) × (bare_function (seen_unnamed self.now) ≡ false)) }
+    {
+        Ok(FunctionTypeNoNames(self.0.clone()?))
+    }
+}
+
+/// As a [`FunctionType`], but an identifier or a name is refused with Unexpected.
+impl<'a> Parse<'a> for FunctionTypeNoNames<'a> {
+    ghost Seen = { FuncTy };
+
+    ghost seen = { seen_unnamed };
+
+    ghost light = { false };
+
+    ghost bare = { bare_function };
+
+    ghost quiet = { true };
+
+    ghost grammar = { function_type_no_names };
+
+    fn parse(parser: &mut Parser<'a>) -> Result<Self> {
+        Ok(FunctionTypeNoNames(read_groups(parser, false)?))
+    }
+}
+
+/// `(` and `param` or `result`.
+impl<'p> Peek for FunctionTypeNoNames<'p> {
+    ghost begins = { begins_func };
+
+    fn peek(cursor: Cursor<'_>) -> bool
+        ensures { result ≡ begins_func (front cursor.entry) }
+    {
+        FunctionType::peek(cursor)
+    }
+
+    fn display() -> &'static str {
+        FunctionType::display()
+    }
+}
+
+impl<'a> From<FunctionTypeNoNames<'a>> for FunctionType<'a> {
+    ghost from_gives = { λ t f. f ≡ t.0 };
+
+    fn from(value: FunctionTypeNoNames<'a>) -> FunctionType<'a> {
+        value.0
+    }
+}

@@ -1,0 +1,180 @@
+//! Heap types.
+
+ghost use Rattle.std.specs.Prelude.{◌≡◌, true};
+ghost use Rattle.wat_tokens.specs.Lookup.{front};
+ghost use Rattle.wat_tokens.specs.Tests.{look_up};
+ghost use Rattle.wat_types.specs.Heap.{abstract_words, abstract_heap_type, begins_abstract, heap_type, HeapTy, seen_heap, begins_heap};
+
+use wat_tokens::{Cursor, Error, Fault, Index, Parse, Parser, Peek, Result};
+
+/// An abstract heap type (Text Format, Types, "Heap Types"). Each variant has the name of its word.
+#[derive(Clone, Copy, Debug, PartialEq, Eq, Hash)]
+pub enum AbstractHeapType {
+    /// Any function.
+    Func,
+    /// Any value of the host.
+    Extern,
+    /// Any exception.
+    Exn,
+    /// Any continuation.
+    Cont,
+    /// Any internal value.
+    Any,
+    /// Any value that can be compared.
+    Eq,
+    /// Any structure.
+    Struct,
+    /// Any array.
+    Array,
+    /// Any integer of 31 bits.
+    I31,
+    /// No function.
+    NoFunc,
+    /// No value of the host.
+    NoExtern,
+    /// No internal value.
+    None,
+    /// No exception.
+    NoExn,
+    /// No continuation.
+    NoCont,
+}
+
+/// A heap type (Text Format, Types, "Heap Types").
+#[derive(Clone, Copy, Debug, PartialEq, Eq, Hash)]
+pub enum HeapType<'a> {
+    /// One of the words: `func`, or `(shared func)`.
+    Abstract {
+        /// Whether `shared` is written.
+        shared: bool,
+        /// What the word names.
+        ty: AbstractHeapType,
+    },
+    /// A defined type, by its index: `$t`.
+    Concrete(Index<'a>),
+    /// A defined type and none below it: `(exact $t)`.
+    Exact(Index<'a>),
+}
+
+/// The type that a word names.
+fn abstract_of(word: &str) -> Option<AbstractHeapType>
+    ensures { result ≡ look_up abstract_words word.now }
+{
+    match word {
+        "func" => Some(AbstractHeapType::Func),
+        "extern" => Some(AbstractHeapType::Extern),
+        "exn" => Some(AbstractHeapType::Exn),
+        "cont" => Some(AbstractHeapType::Cont),
+        "any" => Some(AbstractHeapType::Any),
+        "eq" => Some(AbstractHeapType::Eq),
+        "struct" => Some(AbstractHeapType::Struct),
+        "array" => Some(AbstractHeapType::Array),
+        "i31" => Some(AbstractHeapType::I31),
+        "nofunc" => Some(AbstractHeapType::NoFunc),
+        "noextern" => Some(AbstractHeapType::NoExtern),
+        "noexn" => Some(AbstractHeapType::NoExn),
+        "nocont" => Some(AbstractHeapType::NoCont),
+        "none" => Some(AbstractHeapType::None),
+        _ => None,
+    }
+}
+
+/// Another word is refused with Unexpected, at the word.
+impl<'a> Parse<'a> for AbstractHeapType {
+    ghost use Rattle.wat_types.specs.declared.heap.AbstractHeapType.{AbstractHeapType};
+    ghost use Rattle.wat_types.specs.Heap.{abstract_heap_type};
+
+    ghost Seen = { AbstractHeapType };
+
+    ghost seen = { λ t. t };
+
+    ghost light = { true };
+
+    ghost bare = { λ _. true };
+
+    ghost quiet = { true };
+
+    ghost grammar = { abstract_heap_type };
+
+    #[tactic(auto, using(wat_tokens::specs::Begin::reads_table, wat_tokens::specs::Begin::reads_no_table), unfolding(crate::specs::Heap::abstract_heap_type))]
+    fn parse(parser: &mut Parser<'a>) -> Result<Self> {
+        let span = parser.cur_span();
+        match abstract_of(parser.take_keyword()?) {
+            Some(ty) => Ok(ty),
+            None => Err(Error {
+                fault: Fault::Unexpected,
+                span,
+            }),
+        }
+    }
+}
+
+impl Peek for AbstractHeapType {
+    ghost begins = { begins_abstract };
+
+    #[tactic(auto, using(wat_tokens::specs::Begin::begins_table, wat_tokens::specs::Begin::begins_no_table), unfolding(crate::specs::Heap::begins_abstract))]
+    fn peek(cursor: Cursor<'_>) -> bool {
+        match cursor.keyword() {
+            Some((word, _)) => abstract_of(word).is_some(),
+            None => false,
+        }
+    }
+
+    fn display() -> &'static str {
+        "absheaptype"
+    }
+}
+
+/// `idx`, `( exact idx )`, `( shared abstract )`, or an abstract heap type.
+impl<'a> Parse<'a> for HeapType<'a> {
+    ghost Seen = { HeapTy };
+
+    ghost seen = { seen_heap };
+
+    ghost light = { true };
+
+    ghost bare = { λ _. true };
+
+    ghost quiet = { true };
+
+    ghost grammar = { heap_type };
+
+    #[tactic(auto, using(crate::specs::Heap::abstract_no_group), unfolding(crate::specs::Heap::heap_type))]
+    fn parse(parser: &mut Parser<'a>) -> Result<Self> {
+        if parser.peek::<Index>() {
+            return Ok(HeapType::Concrete(Index::parse(parser)?));
+        }
+        if parser.cursor().lparen().is_none() {
+            return Ok(HeapType::Abstract {
+                shared: false,
+                ty: AbstractHeapType::parse(parser)?,
+            });
+        }
+        parser.open()?;
+        if parser.next_is("exact") {
+            parser.keyword("exact")?;
+            let index = Index::parse(parser)?;
+            parser.close()?;
+            return Ok(HeapType::Exact(index));
+        }
+        parser.keyword("shared")?;
+        let ty = AbstractHeapType::parse(parser)?;
+        parser.close()?;
+        Ok(HeapType::Abstract { shared: true, ty })
+    }
+}
+
+/// An abstract heap type, or `(` and `shared` or `type`: not an index, nor `(exact`.
+impl<'p> Peek for HeapType<'p> {
+    ghost begins = { begins_heap };
+
+    fn peek(cursor: Cursor<'_>) -> bool
+        ensures { result ≡ begins_heap (front cursor.entry) }
+    {
+        AbstractHeapType::peek(cursor) || cursor.group_is("shared") || cursor.group_is("type")
+    }
+
+    fn display() -> &'static str {
+        "heaptype"
+    }
+}

@@ -1,0 +1,95 @@
+//! Value types.
+
+ghost use Rattle.std.specs.Prelude.{◌≡◌, true};
+ghost use Rattle.wat_tokens.specs.Lookup.{front};
+ghost use Rattle.wat_types.specs.Value.{ValTy, seen_val, val_type, IsPlain, begins_plain, begins_val};
+
+use crate::reference::{RefType, long_ref_at, shorthand_at};
+use wat_tokens::{Cursor, Parse, Parser, Peek, Result};
+
+/// A value type (Text Format, Types, "Value Types").
+#[derive(Clone, Copy, Debug, PartialEq, Eq, Hash)]
+pub enum ValType<'a> {
+    /// `i32`
+    I32,
+    /// `i64`
+    I64,
+    /// `f32`
+    F32,
+    /// `f64`
+    F64,
+    /// `v128`
+    V128,
+    /// A reference type.
+    Ref(RefType<'a>),
+}
+
+/// The type of numbers or vectors that a word names (Text Format, Types, "Number Types" and "Vector Types").
+fn plain<'a>(word: &str) -> Option<ValType<'a>>
+    ensures { IsPlain word.now result }
+{
+    match word {
+        "i32" => Some(ValType::I32),
+        "i64" => Some(ValType::I64),
+        "f32" => Some(ValType::F32),
+        "f64" => Some(ValType::F64),
+        "v128" => Some(ValType::V128),
+        _ => None,
+    }
+}
+
+/// `i32`, `i64`, `f32`, `f64`, `v128`, or a reference type.
+impl<'a> Parse<'a> for ValType<'a> {
+    ghost Seen = { ValTy };
+
+    ghost seen = { seen_val };
+
+    ghost light = { true };
+
+    ghost bare = { λ _. true };
+
+    ghost quiet = { true };
+
+    ghost grammar = { val_type };
+
+    #[tactic(auto, unfolding(crate::specs::Value::val_type))]
+    fn parse(parser: &mut Parser<'a>) -> Result<Self> {
+        let known = match parser.cursor().keyword() {
+            Some((word, _)) => plain(word),
+            None => None,
+        };
+        match known {
+            Some(ty) => {
+                parser.take_keyword()?;
+                Ok(ty)
+            }
+            None => Ok(ValType::Ref(RefType::parse(parser)?)),
+        }
+    }
+}
+
+/// Whether one of the five words stands there.
+#[tactic(auto, using(wat_tokens::specs::Begin::begins_table, wat_tokens::specs::Begin::begins_no_table), unfolding(crate::specs::Value::begins_plain))]
+fn plain_at(cursor: Cursor<'_>) -> bool
+    ensures { result ≡ begins_plain (front cursor.entry) }
+{
+    match cursor.keyword() {
+        Some((word, _)) => plain(word).is_some(),
+        None => false,
+    }
+}
+
+/// One of the five words, or what begins a reference type.
+impl<'p> Peek for ValType<'p> {
+    ghost begins = { begins_val };
+
+    fn peek(cursor: Cursor<'_>) -> bool
+        ensures { result ≡ begins_val (front cursor.entry) }
+    {
+        plain_at(cursor) || shorthand_at(cursor) || long_ref_at(cursor)
+    }
+
+    fn display() -> &'static str {
+        "valtype"
+    }
+}

@@ -1,0 +1,38 @@
+//! The program `watshow MODE`: reads standard input and lists on standard output what it spells.
+#![tactic(auto)]
+
+use std::env;
+use std::process::ExitCode;
+use std::rt::Env;
+use wat_show::{Mode, RunError, Watched, run};
+
+/// The mode that the one argument names.
+fn mode_of_arguments(rt: &impl Env) -> Option<Mode> {
+    let mut words = env::args(rt).ok()?.skip(1);
+    let word = words.next()?;
+    if words.next().is_some() {
+        return None;
+    }
+    Mode::of(word.as_str())
+}
+
+/// Says on standard error why nothing is shown.
+fn failed(rt: &impl Eprint, words: &str) -> ExitCode {
+    let _ = eprintln!(rt; "{words}");
+    ExitCode::from(2)
+}
+
+fn main(rt: HostRuntime) -> ExitCode {
+    let mode = match mode_of_arguments(&rt) {
+        Some(mode) => mode,
+        None => return failed(&rt, "usage: watshow functype|expr|folded|module"),
+    };
+    let mut reader = Watched::new(rt.stdin());
+    let mut writer = Watched::new(rt.stdout());
+    match run(rt.alloc(), mode, &mut reader, &mut writer) {
+        Ok(status) => ExitCode::from(status),
+        Err(RunError::Read) => failed(&rt, "watshow: cannot read"),
+        Err(RunError::Write) => failed(&rt, "watshow: cannot write"),
+        Err(RunError::Memory) => failed(&rt, "watshow: out of memory"),
+    }
+}
