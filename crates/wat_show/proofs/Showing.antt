@@ -1,5 +1,5 @@
 -- What is shown of a text is right for it.
-use Rattle.std.proofs.Common.{◌≡◌, ◌≢◌, ℕ, List, ◌⊎◌, inl, inr, subst}
+use Rattle.std.proofs.Common.{◌≡◌, ◌≢◌, ℕ, List, inl, inr, subst}
 use Rattle.std.specs.Prelude.{Result, Ok, Err, IfOk}
 use Rattle.std.specs.Str.{IsUtf8}
 use Rattle.wat_show.specs.Listing.{function_text}
@@ -9,7 +9,7 @@ use Rattle.wat_show.specs.declared.mode.Mode.{Mode}
 use Rattle.wat_show.specs.declared.mode.Mode.TheVariants.{FuncType}
 use Rattle.wat_types.specs.Function.{function_type}
 use Rattle.wat_show.specs.Whole.{Spelled}
-use Rattle.wat_tokens.specs.Error.{Error, Fault, Memory}
+use Rattle.wat_tokens.specs.Error.{Error, Memory}
 use Rattle.wat_tokens.specs.Place.{offset_of}
 use Rattle.wat_tokens.specs.Production.{Production}
 

@@ -1,5 +1,5 @@
 -- How values are listed.
-use Rattle.std.specs.Prelude.{ℕ, Bool, true, false, List, [], ◌∷◌, ◌++◌, map, flat_map, codes, decimal, if◌then◌else◌}
+use Rattle.std.specs.Prelude.{ℕ, true, false, List, ◌++◌, map, flat_map, codes, decimal, if◌then◌else◌}
 use Rattle.wat_tokens.specs.Index.{Idx, number, name}
 use Rattle.wat_types.specs.Heap.{HeapTy, concrete, exact, abstract_}
 use Rattle.wat_types.specs.Reference.{RefTy}

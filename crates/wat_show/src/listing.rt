@@ -73,7 +73,14 @@ fn add_abstract(out: &mut Vec<u8>, shared: bool, ty: AbstractHeapType) -> Result
 fn add_ref(out: &mut Vec<u8>, reference: &RefType) -> Result<(), AllocError>
     ensures { OnOk result (out.new.items ≡ out.old.items ++ ref_text (seen_ref reference.now)) }
 {
-    add(out, if reference.nullable { "(ref null " } else { "(ref " })?;
+    add(
+        out,
+        if reference.nullable {
+            "(ref null "
+        } else {
+            "(ref "
+        },
+    )?;
     add_heap(out, &reference.heap)?;
     add(out, ")")
 }
@@ -102,7 +109,10 @@ fn add_results(out: &mut Vec<u8>, results: &[ValType]) -> Result<(), AllocError>
     Ok(())
 }
 
-fn add_params(out: &mut Vec<u8>, params: &[(Option<Id>, Option<NameAnnotation>, ValType)]) -> Result<(), AllocError>
+fn add_params(
+    out: &mut Vec<u8>,
+    params: &[(Option<Id>, Option<NameAnnotation>, ValType)],
+) -> Result<(), AllocError>
     ensures { OnOk result (out.new.items ≡ out.old.items ++ types_text (param_types (seen_params params.now))) }
 {
     for param in params {

@@ -9,7 +9,11 @@ use std::alloc::Global;
 use wat_tokens::{Error, Parse, Parser, one_cut};
 
 /// Reads the value that the whole text spells. A token that is left over is Unexpected.
-pub fn read_whole<'a, T: Parse<'a> + Drop>(alloc: Global, text: &'a str, arena: &'a Bump) -> Result<T, Error>
+pub fn read_whole<'a, T: Parse<'a> + Drop>(
+    alloc: Global,
+    text: &'a str,
+    arena: &'a Bump,
+) -> Result<T, Error>
     ensures found { IfOk result (λ v. Spelled T.grammar text.now (T.seen v)) }
     ensures none { IfErr result (λ e. e.fault ≢ Memory → (v : T.Seen) → Spelled T.grammar text.now v → ⊥) }
 {

@@ -7,7 +7,7 @@ use std::rt::Env;
 use wat_show::{Mode, RunError, Watched, run};
 
 /// The mode that the one argument names.
-fn mode_of_arguments(rt: &impl Env) -> Option<Mode> {
+fn mode_of_arguments(rt: &(impl Env + Alloc)) -> Option<Mode> {
     let mut words = env::args(rt).ok()?.skip(1);
     let word = words.next()?;
     if words.next().is_some() {
