@@ -10,8 +10,7 @@ use Rattle.std.specs.Char.{digit_value}
 use Rattle.wat_lexer.specs.Number.{is_integer, number, read, magnitude, begins_hex}
 use Rattle.wat_lexer.specs.Token.{Tok, LParen, RParen, Keyword, Id, Annotation, Integer, String, Reserved}
 use Rattle.wat_lexer.specs.Cut.{Idchars, Name, Classed, IsString}
-use Rattle.wat_lexer.specs.Scan.{string_at, all_idchars, whole, string_of, text_name, name_of, or_reserved, class}
-use Rattle.wat_lexer.specs.declared.string.Mode.TheVariants.{Raw}
+use Rattle.wat_lexer.specs.Scan.{string_at, all_idchars, whole, string_of, text_name, name_of, or_reserved, class, Raw}
 use Rattle.wat_lexer.proofs.Strings.{if_cases, some_same, string_sound, string_complete}
 
 pub idchars_sound : (x : List ℕ) → all_idchars x ≡ true → Idchars x

@@ -10,8 +10,7 @@ use Rattle.wat_lexer.specs.Token.{Tok, LParen, RParen, Keyword, Id, Annotation, 
 use Rattle.wat_lexer.specs.Cut.{Classed, Token, Inside, Str, Blank, space, line, block, Cuts, done, blank, token, Run, none, idchar, string, Begins, begins, in_no_run, Broken, wrong_char, open_comment, wrong_string, Fails, at_once, behind_blank, behind_token}
 use Rattle.wat_lexer.specs.declared.fault.Fault.{Fault}
 use Rattle.wat_lexer.specs.declared.fault.Fault.TheVariants.{LexChar, LexString, LexComment}
-use Rattle.wat_lexer.specs.declared.string.Mode.TheVariants.{Raw}
-use Rattle.wat_lexer.specs.Scan.{Front, Nothing, BlankTo, TokenTo, Wrong, front, run_front, comment_front, tail, behind_comment, behind_line, behind_run, class, string_at, RunEnd, Ends, Stuck, Between}
+use Rattle.wat_lexer.specs.Scan.{Front, Nothing, BlankTo, TokenTo, Wrong, front, run_front, comment_front, tail, behind_comment, behind_line, behind_run, class, string_at, RunEnd, Ends, Stuck, Between, Raw}
 use Rattle.wat_lexer.proofs.Strings.{if_cases, string_sound, string_complete}
 use Rattle.wat_lexer.proofs.Pieces.{comment_sound, comment_complete, line_sound, line_complete, RunUpTo, run_sound, run_complete, run_stuck, ends_here}
 use Rattle.wat_lexer.proofs.Classes.{class_complete, class_right, class_reserved, class_none, KnownRight, no_integer}

@@ -6,11 +6,7 @@ use Rattle.std.proofs.lemmas.Bool.{eqb-true, and_parts}
 use Rattle.std.proofs.lemmas.Bool.Decides.{nat_tests}
 use Rattle.wat_lexer.specs.Bytes.{is_idchar, is_line_end}
 use Rattle.wat_lexer.specs.Cut.{Inside, last, closed, opened, other, Begins, Run, none, idchar, string, in_no_run, Element, Str, close, more}
-use Rattle.wat_lexer.specs.Scan.{step, string_at, with_front, after_step, behind_comment, behind_run, behind_line, run_step, RunPlace, Between, Within, RunEnd, Ends, Stuck}
-use Rattle.wat_lexer.specs.declared.string.Mode.{Mode}
-use Rattle.wat_lexer.specs.declared.string.Mode.TheVariants.{Raw}
-use Rattle.wat_lexer.specs.declared.string.Step.{Step}
-use Rattle.wat_lexer.specs.declared.string.Step.TheVariants.{Bad, Close, Into, Emit, Encode}
+use Rattle.wat_lexer.specs.Scan.{step, string_at, with_front, after_step, behind_comment, behind_run, behind_line, run_step, RunPlace, Between, Within, RunEnd, Ends, Stuck, Mode, Raw, Step, Bad, Close, Into, Emit, Encode}
 use Rattle.wat_lexer.proofs.Strings.{if_cases, some_same, Reached, reach, StepsTo, string_complete}
 
 -- COMMENTS
@@ -115,9 +111,6 @@ emitted : (b : ℕ) (t p v : List ℕ) (e : RunEnd) → Element (p ++ b ∷ []) 
 emitted b t p v e el (y, c, x, s, h, r, k) = (b ∷ y, v ++ c, x, ap (λ l. b ∷ l) s, subst (λ l. Str l (v ++ c)) (append_assoc p (b ∷ []) y) (more (p ++ b ∷ []) v y c el h), r, k)
 
 -- one byte more of a string: what follows it is none, or goes on
-abbrev Stepped : Step → List ℕ → List ℕ → List ℕ → RunEnd → Type 0
-Stepped st q p s e = ((e ≡ Stuck q) × (after_step st s (λ next. string_at next s) ≡ None)) ⊎ StringThenRun p s e
-
 then_emit : (b : ℕ) (t q p v : List ℕ) (e : RunEnd) → Element (p ++ b ∷ []) v → StringOrRun Raw q [] t e → ((e ≡ Stuck q) × (with_front v (string_at Raw t) ≡ None)) ⊎ StringThenRun p (b ∷ t) e
 then_emit b t q p v e el (inl (stuck, none_there)) = inl (stuck, ap (with_front v) none_there)
 then_emit b t q p v e el (inr run) = inr (emitted b t p v e el run)

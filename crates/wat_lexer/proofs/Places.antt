@@ -5,12 +5,12 @@ use Rattle.std.specs.Prelude.{nat_lt}
 use Rattle.std.proofs.lemmas.Bool.{cases_Bool, ltb-true, ltb-false}
 use Rattle.std.proofs.lemmas.Bool.Decides.{nat_tests}
 use Rattle.std.proofs.Math.ListN.{drop_of_length-le}
-use Rattle.wat_lexer.specs.Bytes.{is_idchar, is_space}
+use Rattle.wat_lexer.specs.Bytes.{is_space}
 use Rattle.wat_lexer.specs.Cut.{begins}
 use Rattle.wat_lexer.specs.Token.{LParen, RParen}
 use Rattle.wat_lexer.specs.declared.fault.Fault.TheVariants.{LexChar, LexString}
 use Rattle.wat_lexer.specs.Scan.{all_idchars, class, behind_run, behind_comment, behind_line, front, run_front, comment_front, BlankTo, TokenTo, Wrong, RunEnd, Ends, Stuck, Between}
-use Rattle.wat_lexer.proofs.Plain.{plain_ascii, plain_idchar}
+use Rattle.wat_lexer.proofs.Plain.{plain_ascii}
 use Rattle.wat_lexer.proofs.Steps.{at_front, at_front_two, run_stop, run_over, run_quote, run_broken, idchar_ascii, all_push}
 
 pub front_space : (behind : Bool) (i : ℕ) (s : List ℕ) → i < length s → is_space (get_or s i 0) ≡ true → front behind (drop i s) ≡ BlankTo (drop (i + 1) s)
@@ -70,10 +70,4 @@ pub run_first : (at quote : ℕ) (s : List ℕ) → at ≤ quote → quote < len
 run_first at quote s h k e all = elim (cases_Bool (nat_lt at quote)) [
   | inl lt ↦ plain_ascii at quote at s (omega arith) all (omega arith) (ltb-true at quote lt)
   | inr ge ↦ (let same : at ≡ quote = (let f = ltb-false at quote ge in omega arith) in let f = ap (λ i. get_or s i 0) same ∙ e in omega arith)
-]
-
-pub quoted_run : (at quote end : ℕ) (s : List ℕ) → at ≤ quote → quote < end → end ≤ length s → get_or s quote 0 ≡ 34 → all_idchars (slice_range s at end) ≡ false
-quoted_run at quote end s h k l e = elim (cases_Bool (all_idchars (slice_range s at end))) [
-  | inl all ↦ (let f = plain_idchar at end quote s l all h k in let g = ap is_idchar (sym e) ∙ f in cc)
-  | inr quoted ↦ quoted
 ]

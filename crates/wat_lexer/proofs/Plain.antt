@@ -2,7 +2,7 @@
 use Rattle.std.proofs.Common.{◌≡◌, ℕ, ◌+◌, ◌-◌, ◌<◌, ◌≤◌, List, [], ◌∷◌, length, drop, take, get_or, refl, ap, sym, ◌∙◌, arith, length-drop, length-take}
 use Rattle.std.proofs.Common.{suc, inl, inr}
 use Rattle.std.specs.Prelude.{Bool, true, false, slice_range, ◌==◌, ◌&&◌, if◌then◌else◌, Some, None}
-use Rattle.std.proofs.lemmas.Bool.{eqb-true, cases_Bool, and_parts}
+use Rattle.std.proofs.lemmas.Bool.{cases_Bool, and_parts}
 use Rattle.std.proofs.lemmas.Bool.Decides.{nat_tests}
 use Rattle.wat_lexer.specs.Bytes.{is_idchar, between}
 use Rattle.std.proofs.Math.ListN.{drop_of_length-le}
@@ -13,7 +13,7 @@ use Rattle.wat_lexer.specs.Number.{is_integer, read, begins_hex}
 use Rattle.wat_lexer.specs.Token.{Keyword, Id, Annotation, Integer, Reserved}
 use Rattle.wat_lexer.specs.Scan.{all_idchars, name_of, or_reserved, class}
 use Rattle.std.proofs.Common.{get_or-drop, get_or-take, zero, drop-drop}
-use Rattle.wat_lexer.proofs.Steps.{at_front, at_front_two, idchar_ascii}
+use Rattle.wat_lexer.proofs.Steps.{at_front, at_front_two, idchar_ascii, not_quote}
 
 pub slice_front : (from end : ℕ) (s : List ℕ) → from < end → end ≤ length s → slice_range s from end ≡ get_or s from 0 ∷ slice_range s (from + 1) end
 slice_front from end s h k =
@@ -36,9 +36,6 @@ pub all_tail : (b : ℕ) (t : List ℕ) → all_idchars (b ∷ t) ≡ true → (
 unfolding all_idchars
 all_tail b t h = and_parts (is_idchar b) (all_idchars t) h
 
-no_quote : (b : ℕ) → is_idchar b ≡ true → (b == 34) ≡ false
-no_quote b h = elim (cases_Bool (b == 34)) [ inl e ↦ (let f = ap is_idchar (eqb-true b 34 e) in cc) | inr e ↦ e ]
-
 -- the class by the first byte
 by_first : (behind : Bool) (b : ℕ) (t : List ℕ) → all_idchars (b ∷ t) ≡ true → class behind (b ∷ t) ≡
     (if b == 36 then or_reserved Id (b ∷ t) (name_of t)
@@ -47,7 +44,7 @@ by_first : (behind : Bool) (b : ℕ) (t : List ℕ) → all_idchars (b ∷ t) �
     else (if is_integer (b ∷ t) then Integer (b ∷ t)
     else Reserved (b ∷ t)))))
 unfolding class
-by_first behind b t h = rw (no_quote b (all_tail b t h).0, h) refl
+by_first behind b t h = rw (not_quote b (all_tail b t h).0, h) refl
 
 -- the class of the run, by its first byte
 pub plain_here : (behind : Bool) (from end : ℕ) (s : List ℕ) → from < end → end ≤ length s → all_idchars (slice_range s from end) ≡ true → class behind (slice_range s from end) ≡

@@ -1,22 +1,18 @@
 -- One step of each scan, at a place of the text.
 use Rattle.std.proofs.Common.{◌≡◌, ℕ, ◌+◌, ◌-◌, ◌<◌, ◌≤◌, List, [], ◌∷◌, length, drop, get_or, refl, ap, sym, ◌∙◌, add-one, arith, drop-cons, length-drop}
 use Rattle.std.specs.Prelude.{◌==◌, ◌&&◌, if◌then◌else◌, Option, None, Some}
-use Rattle.std.specs.Prelude.{true, false, nat_lt, encode_utf8, option_map, ◌*◌}
+use Rattle.std.specs.Prelude.{Bool, true, false, encode_utf8, option_map, ◌*◌}
 use Rattle.std.specs.Char.{digit_value}
 use Rattle.std.proofs.Math.ListN.{drop_of_length-le}
-use Rattle.std.proofs.Math.Dec.{lit<}
-use Rattle.std.proofs.lemmas.Bool.{ltb-true, eqb-true, cases_Bool, and_parts}
+use Rattle.std.proofs.lemmas.Bool.{lt-ltb, le-ltb, eqb-true, cases_Bool, and_parts}
 use Rattle.std.specs.Prelude.{slice_range, ◌++◌}
 use Rattle.std.proofs.Common.{append_assoc, append-nil, take, get_or-drop}
 use Rattle.std.proofs.lemmas.List.{take_more}
-use Rattle.std.proofs.Common.{subst, inl, inr}
+use Rattle.std.proofs.Common.{inl, inr}
 use lib.Utf8.{scalar}
-use Rattle.wat_lexer.specs.Cut.{is_raw, is_hex, short_escape}
+use Rattle.wat_lexer.specs.Cut.{is_raw, short_escape}
 use Rattle.wat_lexer.specs.Bytes.{is_idchar, is_line_end}
-use Rattle.wat_lexer.specs.Scan.{behind_line, behind_run, all_idchars, behind_comment, step, emitted, string_at, after_step, with_front, rest_at, IsMode, StepFits, Between, Ends, Stuck}
-use Rattle.wat_lexer.specs.declared.string.Mode.{Mode}
-use Rattle.wat_lexer.specs.declared.string.Mode.TheVariants.{Raw, Escape, Byte, Brace, Digits}
-use Rattle.wat_lexer.specs.declared.string.Step.TheVariants.{Bad, Close, Into, Emit, Encode}
+use Rattle.wat_lexer.specs.Scan.{behind_line, behind_run, all_idchars, behind_comment, step, emitted, string_at, after_step, with_front, rest_at, closing, Step, Between, Ends, Stuck, Mode, Raw, Escape, Byte, Brace, Digits, Emit}
 use Rattle.wat_lexer.proofs.Strings.{if_cases}
 use Rattle.wat_lexer.proofs.Pieces.{string_goes, then_run}
 use Rattle.std.proofs.lemmas.Bool.{and_from}
@@ -56,102 +52,28 @@ comment_none depth i s h = comment_short depth (drop i s) (omega (arith, length-
 
 -- STRINGS
 
-rest_front : (v : List ℕ) (f : Option (List ℕ × List ℕ)) → option_map (λ r. r.1) (with_front v f) ≡ option_map (λ r. r.1) f
-rest_front v None = refl
-rest_front v (Some r) = refl
+string_cons : (m : Mode) (i : ℕ) (s : List ℕ) → i < length s → string_at m (drop i s) ≡ after_step (step m (get_or s i 0)) (drop (i + 1) s) (λ next. string_at next (drop (i + 1) s))
+unfolding string_at
+string_cons m i s h = ap (string_at m) (at_front i s h)
 
-at_cons : (m : Mode) (i : ℕ) (s : List ℕ) → i < length s → rest_at m (drop i s) ≡ option_map (λ r. r.1) (after_step (step m (get_or s i 0)) (drop (i + 1) s) (λ next. string_at next (drop (i + 1) s)))
-unfolding rest_at string_at
-at_cons m i s h = ap (λ t. option_map (λ r. r.1) (string_at m t)) (at_front i s h)
+-- where the byte does this
+string_by : (m : Mode) (i : ℕ) (s : List ℕ) (st : Step) → i < length s → step m (get_or s i 0) ≡ st → string_at m (drop i s) ≡ after_step st (drop (i + 1) s) (λ next. string_at next (drop (i + 1) s))
+string_by m i s st h e = string_cons m i s h ∙ ap (λ st. after_step st (drop (i + 1) s) (λ next. string_at next (drop (i + 1) s))) e
 
-pub rest_bad : (m : Mode) (i : ℕ) (s : List ℕ) → i < length s → step m (get_or s i 0) ≡ Bad → rest_at m (drop i s) ≡ None
-rest_bad m i s h e = at_cons m i s h ∙ ap (λ st. option_map (λ r. r.1) (after_step st (drop (i + 1) s) (λ next. string_at next (drop (i + 1) s)))) e
-
-pub rest_close : (m : Mode) (i : ℕ) (s : List ℕ) → i < length s → step m (get_or s i 0) ≡ Close → rest_at m (drop i s) ≡ Some (drop (i + 1) s)
-rest_close m i s h e = at_cons m i s h ∙ ap (λ st. option_map (λ r. r.1) (after_step st (drop (i + 1) s) (λ next. string_at next (drop (i + 1) s)))) e
-
-pub rest_into : (m n : Mode) (i : ℕ) (s : List ℕ) → i < length s → step m (get_or s i 0) ≡ Into n → rest_at m (drop i s) ≡ rest_at n (drop (i + 1) s)
-unfolding rest_at
-rest_into m n i s h e = at_cons m i s h ∙ ap (λ st. option_map (λ r. r.1) (after_step st (drop (i + 1) s) (λ next. string_at next (drop (i + 1) s)))) e
-
-pub rest_emit : (m : Mode) (v i : ℕ) (s : List ℕ) → i < length s → step m (get_or s i 0) ≡ Emit v → rest_at m (drop i s) ≡ rest_at Raw (drop (i + 1) s)
-unfolding rest_at
-rest_emit m v i s h e = at_cons m i s h ∙ ap (λ st. option_map (λ r. r.1) (after_step st (drop (i + 1) s) (λ next. string_at next (drop (i + 1) s)))) e ∙ rest_front (v ∷ []) (string_at Raw (drop (i + 1) s))
-
-pub rest_encode : (m : Mode) (n i : ℕ) (s : List ℕ) → i < length s → step m (get_or s i 0) ≡ Encode n → rest_at m (drop i s) ≡ rest_at Raw (drop (i + 1) s)
-unfolding rest_at
-rest_encode m n i s h e = at_cons m i s h ∙ ap (λ st. option_map (λ r. r.1) (after_step st (drop (i + 1) s) (λ next. string_at next (drop (i + 1) s)))) e ∙ rest_front (encode_utf8 n) (string_at Raw (drop (i + 1) s))
-
-pub rest_end : (m : Mode) (i : ℕ) (s : List ℕ) → length s ≤ i → rest_at m (drop i s) ≡ None
-unfolding rest_at string_at
-rest_end m i s h = ap (λ t. option_map (λ r. r.1) (string_at m t)) (drop_of_length-le s h)
-
-pub ruleset string_steps = (rest_bad, rest_close, rest_into, rest_emit, rest_encode, rest_end)
-
--- a step leads to a mode
-emitted_fits : (o : Option ℕ) → StepFits (emitted o)
-emitted_fits None = tt
-emitted_fits (Some v) = tt
-
-pub step_fits : (m : Mode) (b : ℕ) → IsMode m → StepFits (step m b)
-unfolding step
-step_fits Raw b h = if_cases StepFits (b == 34) _ _ (λ _. tt) (λ _. if_cases StepFits (b == 92) _ _ (λ _. tt) (λ _. if_cases StepFits (is_raw b) _ _ (λ _. tt) (λ _. tt)))
-step_fits Escape b h = if_cases StepFits (is_hex b) _ _ (λ e. ltb-true (digit_value b) 16 e) (λ _. if_cases StepFits (b == 117) _ _ (λ _. tt) (λ _. emitted_fits (short_escape b)))
-step_fits (Byte n) b h = if_cases StepFits (is_hex b) _ _ (λ _. tt) (λ _. tt)
-step_fits Brace b h = if_cases StepFits (b == 123) _ _ (λ _. lit< tt) (λ _. tt)
-step_fits (Digits n behind) b h =
-    if_cases StepFits (is_hex b) _ _
-    (λ _. if_cases StepFits (nat_lt (n * 16 + digit_value b) 1114112) _ _ (λ e. ltb-true (n * 16 + digit_value b) 1114112 e) (λ _. tt))
-    (λ _. if_cases StepFits (behind && (b == 95)) _ _ (λ _. h) (λ _. if_cases StepFits (behind && ((b == 125) && scalar n)) _ _ (λ _. tt) (λ _. tt)))
-
-pub into_fits : (m n : Mode) (b : ℕ) → IsMode m → step m b ≡ Into n → IsMode n
-into_fits m n b h e = subst StepFits e (step_fits m b h)
-
--- so far the bytes of the string stand for themselves
-pub record Clear (m : Mode) (from i : ℕ) (s : List ℕ) : Type 0 where
-  pub raw : m ≡ Raw
-  pub same : string_at Raw (drop from s) ≡ with_front (slice_range s from i) (string_at Raw (drop i s))
-
-not_close : (o : Option ℕ) (b : ℕ) → emitted o ≡ Close → b ≡ 34
-not_close None b h = cc
-not_close (Some v) b h = cc
-
-pub close_is_quote : (m : Mode) (b : ℕ) → step m b ≡ Close → b ≡ 34
-unfolding step
-close_is_quote Raw b h = if_cases (λ st. st ≡ Close → b ≡ 34) (b == 34) _ _ (λ e _. eqb-true b 34 e) (λ _. if_cases (λ st. st ≡ Close → b ≡ 34) (b == 92) _ _ (λ _ h. cc) (λ _. if_cases (λ st. st ≡ Close → b ≡ 34) (is_raw b) _ _ (λ _ h. cc) (λ _ h. cc))) h
-close_is_quote Escape b h = if_cases (λ st. st ≡ Close → b ≡ 34) (is_hex b) _ _ (λ _ h. cc) (λ _. if_cases (λ st. st ≡ Close → b ≡ 34) (b == 117) _ _ (λ _ h. cc) (λ _. not_close (short_escape b) b)) h
-close_is_quote (Byte n) b h = if_cases (λ st. st ≡ Close → b ≡ 34) (is_hex b) _ _ (λ _ h. cc) (λ _ h. cc) h
-close_is_quote Brace b h = if_cases (λ st. st ≡ Close → b ≡ 34) (b == 123) _ _ (λ _ h. cc) (λ _ h. cc) h
-close_is_quote (Digits n behind) b h =
-    if_cases (λ st. st ≡ Close → b ≡ 34) (is_hex b) _ _
-    (λ _. if_cases (λ st. st ≡ Close → b ≡ 34) (nat_lt (n * 16 + digit_value b) 1114112) _ _ (λ _ h. cc) (λ _ h. cc))
-    (λ _. if_cases (λ st. st ≡ Close → b ≡ 34) (behind && (b == 95)) _ _ (λ _ h. cc) (λ _. if_cases (λ st. st ≡ Close → b ≡ 34) (behind && ((b == 125) && scalar n)) _ _ (λ _ h. cc) (λ _ h. cc))) h
-
-pub raw_emits : (b v : ℕ) → step Raw b ≡ Emit v → v ≡ b
-unfolding step
-raw_emits b v h = if_cases (λ st. st ≡ Emit v → v ≡ b) (b == 34) _ _ (λ _ h. cc) (λ _. if_cases (λ st. st ≡ Emit v → v ≡ b) (b == 92) _ _ (λ _ h. cc) (λ _. if_cases (λ st. st ≡ Emit v → v ≡ b) (is_raw b) _ _ (λ _ h. cc) (λ _ h. cc))) h
-
-pub raw_encodes_none : (b n : ℕ) → step Raw b ≡ Encode n → ⊥
-unfolding step
-raw_encodes_none b n h = if_cases (λ st. st ≡ Encode n → ⊥) (b == 34) _ _ (λ _ h. cc) (λ _. if_cases (λ st. st ≡ Encode n → ⊥) (b == 92) _ _ (λ _ h. cc) (λ _. if_cases (λ st. st ≡ Encode n → ⊥) (is_raw b) _ _ (λ _ h. cc) (λ _ h. cc))) h
+pub string_over : (m : Mode) (i : ℕ) (s : List ℕ) → length s ≤ i → string_at m (drop i s) ≡ None
+unfolding string_at
+string_over m i s h = ap (string_at m) (drop_of_length-le s h)
 
 front_nil : (f : Option (List ℕ × List ℕ)) → with_front [] f ≡ f
 front_nil None = refl
 front_nil (Some r) = refl
 
-front_front : (v w : List ℕ) (f : Option (List ℕ × List ℕ)) → with_front v (with_front w f) ≡ with_front (v ++ w) f
+pub front_front : (v w : List ℕ) (f : Option (List ℕ × List ℕ)) → with_front v (with_front w f) ≡ with_front (v ++ w) f
 front_front v w None = refl
 front_front v w (Some r) = ap (λ l. Some (l, r.1)) (sym (append_assoc v w r.0))
 
-slice_none : (from : ℕ) (s : List ℕ) → slice_range s from from ≡ []
+pub slice_none : (from : ℕ) (s : List ℕ) → slice_range s from from ≡ []
 slice_none from s = let z : from - from ≡ 0 = omega arith in ap (λ n. take n (drop from s)) z
-
-pub clear_start : (from : ℕ) (s : List ℕ) → Clear Raw from from s
-clear_start from s = record { raw = refl; same = sym (ap (λ l. with_front l (string_at Raw (drop from s))) (slice_none from s) ∙ front_nil (string_at Raw (drop from s))) }
-
-string_cons : (m : Mode) (i : ℕ) (s : List ℕ) → i < length s → string_at m (drop i s) ≡ after_step (step m (get_or s i 0)) (drop (i + 1) s) (λ next. string_at next (drop (i + 1) s))
-unfolding string_at
-string_cons m i s h = ap (string_at m) (at_front i s h)
 
 slice_more : (from i : ℕ) (s : List ℕ) → from ≤ i → i < length s → slice_range s from (i + 1) ≡ slice_range s from i ++ get_or s i 0 ∷ []
 slice_more from i s l h =
@@ -161,23 +83,187 @@ slice_more from i s l h =
     ∙ take_more (drop from s) (i - from) 0 (omega (arith, length-drop from s))
     ∙ ap (λ b. slice_range s from i ++ b ∷ []) (get_or-drop from s (i - from) 0 ∙ ap (λ j. get_or s j 0) place)
 
-pub clear_step : (m : Mode) (from i v : ℕ) (s : List ℕ) → from ≤ i → i < length s → Clear m from i s → step m (get_or s i 0) ≡ Emit v → Clear Raw from (i + 1) s
-clear_step m from i v s l h c e =
-    let e_raw : step Raw (get_or s i 0) ≡ Emit v = ap (λ m. step m (get_or s i 0)) (sym c.raw) ∙ e in
-    let byte : v ≡ get_or s i 0 = raw_emits (get_or s i 0) v e_raw in
-    record {
-      raw = refl;
-      same =
-          c.same ∙ ap (with_front (slice_range s from i)) (string_cons Raw i s h ∙ ap (λ st. after_step st (drop (i + 1) s) (λ next. string_at next (drop (i + 1) s))) e_raw)
-          ∙ front_front (slice_range s from i) (v ∷ []) (string_at Raw (drop (i + 1) s))
-          ∙ ap (λ l. with_front l (string_at Raw (drop (i + 1) s))) (ap (λ v. slice_range s from i ++ v ∷ []) byte ∙ sym (slice_more from i s l h));
-    }
+pub raw_none : (from : ℕ) (s : List ℕ) → string_at Raw (drop from s) ≡ with_front (slice_range s from from) (string_at Raw (drop from s))
+raw_none from s = sym (ap (λ l. with_front l (string_at Raw (drop from s))) (slice_none from s) ∙ front_nil (string_at Raw (drop from s)))
 
-pub clear_close : (m : Mode) (from i : ℕ) (s : List ℕ) → i < length s → Clear m from i s → step m (get_or s i 0) ≡ Close → string_at Raw (drop from s) ≡ Some (slice_range s from i, drop (i + 1) s)
-clear_close m from i s h c e =
-    let e_raw : step Raw (get_or s i 0) ≡ Close = ap (λ m. step m (get_or s i 0)) (sym c.raw) ∙ e in
-    c.same ∙ ap (with_front (slice_range s from i)) (string_cons Raw i s h ∙ ap (λ st. after_step st (drop (i + 1) s) (λ next. string_at next (drop (i + 1) s))) e_raw)
-    ∙ ap (λ l. Some (l, drop (i + 1) s)) (append-nil (slice_range s from i))
+raw_step : (b : ℕ) → is_raw b ≡ true → step Raw b ≡ Emit b
+unfolding step
+raw_step b h = grind (arith, nat_tests)
+
+pub raw_more : (from i : ℕ) (s : List ℕ) → from ≤ i → i < length s → is_raw (get_or s i 0) ≡ true → string_at Raw (drop from s) ≡ with_front (slice_range s from i) (string_at Raw (drop i s)) → string_at Raw (drop from s) ≡ with_front (slice_range s from (i + 1)) (string_at Raw (drop (i + 1) s))
+raw_more from i s l h e same =
+    same ∙ ap (with_front (slice_range s from i)) (string_by Raw i s (Emit (get_or s i 0)) h (raw_step (get_or s i 0) e))
+    ∙ front_front (slice_range s from i) (get_or s i 0 ∷ []) (string_at Raw (drop (i + 1) s))
+    ∙ ap (λ l. with_front l (string_at Raw (drop (i + 1) s))) (sym (slice_more from i s l h))
+
+pub ruleset raw_steps = (raw_none, raw_more)
+
+pub digits_hex : (behind : Bool) (n i : ℕ) (s : List ℕ) → i < length s → digit_value (get_or s i 0) < 16 → n * 16 + digit_value (get_or s i 0) < 1114112 → string_at (Digits n behind) (drop i s) ≡ string_at (Digits (n * 16 + digit_value (get_or s i 0)) true) (drop (i + 1) s)
+unfolding step
+digits_hex behind n i s h d k = string_cons (Digits n behind) i s h ∙ rw (lt-ltb (digit_value (get_or s i 0)) 16 d, lt-ltb (n * 16 + digit_value (get_or s i 0)) 1114112 k) refl
+
+pub digits_large : (behind : Bool) (n i : ℕ) (s : List ℕ) → i < length s → digit_value (get_or s i 0) < 16 → 1114112 ≤ n * 16 + digit_value (get_or s i 0) → string_at (Digits n behind) (drop i s) ≡ None
+unfolding step
+digits_large behind n i s h d k = string_cons (Digits n behind) i s h ∙ rw (lt-ltb (digit_value (get_or s i 0)) 16 d, le-ltb (n * 16 + digit_value (get_or s i 0)) 1114112 k) refl
+
+pub digits_early : (n i : ℕ) (s : List ℕ) → i < length s → 16 ≤ digit_value (get_or s i 0) → string_at (Digits n false) (drop i s) ≡ None
+unfolding step
+digits_early n i s h d = string_cons (Digits n false) i s h ∙ rw (le-ltb (digit_value (get_or s i 0)) 16 d) refl
+
+pub digits_line : (n i : ℕ) (s : List ℕ) → i < length s → get_or s i 0 ≡ 95 → string_at (Digits n true) (drop i s) ≡ string_at (Digits n false) (drop (i + 1) s)
+unfolding step
+digits_line n i s h e = string_cons (Digits n true) i s h ∙ rw e refl
+
+pub digits_close : (n i : ℕ) (s : List ℕ) → i < length s → get_or s i 0 ≡ 125 → scalar n ≡ true → string_at (Digits n true) (drop i s) ≡ with_front (encode_utf8 n) (string_at Raw (drop (i + 1) s))
+unfolding step
+digits_close n i s h e k = string_cons (Digits n true) i s h ∙ rw (e, k) refl
+
+pub digits_no_character : (n i : ℕ) (s : List ℕ) → i < length s → get_or s i 0 ≡ 125 → (scalar n ≡ true → ⊥) → string_at (Digits n true) (drop i s) ≡ None
+unfolding step
+digits_no_character n i s h e k =
+    let no : scalar n ≡ false = elim (cases_Bool (scalar n)) [ inl t ↦ absurd (k t) | inr f ↦ f ] in
+    string_cons (Digits n true) i s h ∙ rw (e, no) refl
+
+pub digits_other : (n i : ℕ) (s : List ℕ) → i < length s → 16 ≤ digit_value (get_or s i 0) → (get_or s i 0 ≡ 95 → ⊥) → (get_or s i 0 ≡ 125 → ⊥) → string_at (Digits n true) (drop i s) ≡ None
+unfolding step
+digits_other n i s h d e f =
+    let line : (get_or s i 0 == 95) ≡ false = grind (arith, nat_tests) in
+    let brace : (get_or s i 0 == 125) ≡ false = grind (arith, nat_tests) in
+    string_cons (Digits n true) i s h ∙ rw (le-ltb (digit_value (get_or s i 0)) 16 d, line, brace) refl
+
+pub ruleset digits_steps = (digits_hex, digits_large, digits_early, digits_line, digits_close, digits_no_character, digits_other, string_over)
+
+escape_digit : (i : ℕ) (s : List ℕ) → i < length s → digit_value (get_or s i 0) < 16 → string_at Escape (drop i s) ≡ string_at (Byte (digit_value (get_or s i 0))) (drop (i + 1) s)
+unfolding step
+escape_digit i s h d = string_cons Escape i s h ∙ rw (lt-ltb (digit_value (get_or s i 0)) 16 d) refl
+
+pub escape_byte : (i : ℕ) (s : List ℕ) → i + 1 < length s → digit_value (get_or s i 0) < 16 → digit_value (get_or s (i + 1) 0) < 16 → string_at Escape (drop i s) ≡ with_front ((digit_value (get_or s i 0) * 16 + digit_value (get_or s (i + 1) 0)) ∷ []) (string_at Raw (drop (i + 2) s))
+unfolding step
+escape_byte i s h d k =
+    let e : i + 1 + 1 ≡ i + 2 = omega arith in
+    escape_digit i s (omega arith) d
+    ∙ string_cons (Byte (digit_value (get_or s i 0))) (i + 1) s h
+    ∙ rw (lt-ltb (digit_value (get_or s (i + 1) 0)) 16 k) (ap (λ j. with_front ((digit_value (get_or s i 0) * 16 + digit_value (get_or s (i + 1) 0)) ∷ []) (string_at Raw (drop j s))) e)
+
+pub escape_half : (i : ℕ) (s : List ℕ) → i < length s → digit_value (get_or s i 0) < 16 → length s ≤ i + 1 → string_at Escape (drop i s) ≡ None
+escape_half i s h d k = escape_digit i s h d ∙ string_over (Byte (digit_value (get_or s i 0))) (i + 1) s k
+
+pub escape_no_byte : (i : ℕ) (s : List ℕ) → i + 1 < length s → digit_value (get_or s i 0) < 16 → 16 ≤ digit_value (get_or s (i + 1) 0) → string_at Escape (drop i s) ≡ None
+unfolding step
+escape_no_byte i s h d k =
+    escape_digit i s (omega arith) d
+    ∙ string_cons (Byte (digit_value (get_or s i 0))) (i + 1) s h
+    ∙ rw (le-ltb (digit_value (get_or s (i + 1) 0)) 16 k) refl
+
+escape_u : (i : ℕ) (s : List ℕ) → i < length s → get_or s i 0 ≡ 117 → string_at Escape (drop i s) ≡ string_at Brace (drop (i + 1) s)
+unfolding step
+escape_u i s h e = string_cons Escape i s h ∙ rw e refl
+
+pub escape_brace : (i : ℕ) (s : List ℕ) → i + 1 < length s → get_or s i 0 ≡ 117 → get_or s (i + 1) 0 ≡ 123 → string_at Escape (drop i s) ≡ string_at (Digits 0 false) (drop (i + 2) s)
+unfolding step
+escape_brace i s h e f =
+    let k : i + 1 + 1 ≡ i + 2 = omega arith in
+    escape_u i s (omega arith) e ∙ string_cons Brace (i + 1) s h ∙ rw f (ap (λ j. string_at (Digits 0 false) (drop j s)) k)
+
+pub escape_cut : (i : ℕ) (s : List ℕ) → i < length s → get_or s i 0 ≡ 117 → length s ≤ i + 1 → string_at Escape (drop i s) ≡ None
+escape_cut i s h e k = escape_u i s h e ∙ string_over Brace (i + 1) s k
+
+pub escape_no_brace : (i : ℕ) (s : List ℕ) → i + 1 < length s → get_or s i 0 ≡ 117 → (get_or s (i + 1) 0 ≡ 123 → ⊥) → string_at Escape (drop i s) ≡ None
+unfolding step
+escape_no_brace i s h e f =
+    let no : (get_or s (i + 1) 0 == 123) ≡ false = grind (arith, nat_tests) in
+    escape_u i s (omega arith) e ∙ string_cons Brace (i + 1) s h ∙ rw no refl
+
+escape_letter : (i : ℕ) (s : List ℕ) (o : Option ℕ) → i < length s → 16 ≤ digit_value (get_or s i 0) → (get_or s i 0 ≡ 117 → ⊥) → short_escape (get_or s i 0) ≡ o → string_at Escape (drop i s) ≡ after_step (emitted o) (drop (i + 1) s) (λ next. string_at next (drop (i + 1) s))
+unfolding step
+escape_letter i s o h d e f =
+    let no : (get_or s i 0 == 117) ≡ false = grind (arith, nat_tests) in
+    string_cons Escape i s h ∙ rw (le-ltb (digit_value (get_or s i 0)) 16 d, no) (ap (λ o. after_step (emitted o) (drop (i + 1) s) (λ next. string_at next (drop (i + 1) s))) f)
+
+pub escape_short : (i v : ℕ) (s : List ℕ) → i < length s → 16 ≤ digit_value (get_or s i 0) → (get_or s i 0 ≡ 117 → ⊥) → Some v ≡ short_escape (get_or s i 0) → string_at Escape (drop i s) ≡ with_front (v ∷ []) (string_at Raw (drop (i + 1) s))
+escape_short i v s h d e f = escape_letter i s (Some v) h d e (sym f)
+
+pub escape_bad : (i : ℕ) (s : List ℕ) → i < length s → 16 ≤ digit_value (get_or s i 0) → (get_or s i 0 ≡ 117 → ⊥) → None ≡ short_escape (get_or s i 0) → string_at Escape (drop i s) ≡ None
+escape_bad i s h d e f = escape_letter i s None h d e (sym f)
+
+pub ruleset escape_steps = (escape_byte, escape_half, escape_no_byte, escape_brace, escape_cut, escape_no_brace, escape_short, escape_bad, string_over)
+
+pub at_slash : (i : ℕ) (s : List ℕ) → i < length s → get_or s i 0 ≡ 92 → string_at Raw (drop i s) ≡ string_at Escape (drop (i + 1) s)
+unfolding step
+at_slash i s h e = string_cons Raw i s h ∙ rw e refl
+
+close_step : (b : ℕ) (t : List ℕ) → (b ≡ 92 → ⊥) → is_raw b ≡ false → after_step (step Raw b) t (λ next. string_at next t) ≡ closing (b ∷ t)
+unfolding step
+close_step b t h e =
+    let slash : (b == 92) ≡ false = grind (arith, nat_tests) in
+    if_cases (λ st. after_step st t (λ next. string_at next t) ≡ closing (b ∷ t)) (b == 34) _ _
+    (λ q. rw q refl)
+    (λ q. rw (e, slash, q) refl)
+
+pub at_other : (i : ℕ) (s : List ℕ) → i < length s → (get_or s i 0 ≡ 92 → ⊥) → is_raw (get_or s i 0) ≡ false → string_at Raw (drop i s) ≡ closing (drop i s)
+at_other i s h e f = string_cons Raw i s h ∙ close_step (get_or s i 0) (drop (i + 1) s) e f ∙ ap closing (sym (at_front i s h))
+
+pub at_over : (i : ℕ) (s : List ℕ) → length s ≤ i → string_at Raw (drop i s) ≡ closing (drop i s)
+at_over i s h = string_over Raw i s h ∙ ap closing (sym (drop_of_length-le s h))
+
+pub closing_slash : (i : ℕ) (s : List ℕ) → i < length s → get_or s i 0 ≡ 92 → closing (drop i s) ≡ None
+closing_slash i s h e = ap closing (at_front i s h) ∙ rw e refl
+
+pub ruleset closing_steps = (at_slash, at_other, at_over)
+
+rest_front : (v : List ℕ) (f : Option (List ℕ × List ℕ)) → option_map (λ r. r.1) (with_front v f) ≡ option_map (λ r. r.1) f
+rest_front v None = refl
+rest_front v (Some r) = refl
+
+pub rest_over : (i j : ℕ) (v s : List ℕ) → string_at Raw (drop i s) ≡ with_front v (string_at Raw (drop j s)) → rest_at (drop i s) ≡ rest_at (drop j s)
+unfolding rest_at
+rest_over i j v s e = ap (option_map (λ r. r.1)) e ∙ rest_front v (string_at Raw (drop j s))
+
+pub closing_quote : (i : ℕ) (s : List ℕ) → i < length s → get_or s i 0 ≡ 34 → closing (drop i s) ≡ Some ([], drop (i + 1) s)
+closing_quote i s h e = ap closing (at_front i s h) ∙ rw e refl
+
+closing_other : (i : ℕ) (s : List ℕ) → i < length s → (get_or s i 0 ≡ 34 → ⊥) → closing (drop i s) ≡ None
+closing_other i s h e = let no : (get_or s i 0 == 34) ≡ false = grind (arith, nat_tests) in ap closing (at_front i s h) ∙ rw no refl
+
+pub rest_quote : (i : ℕ) (s : List ℕ) → string_at Raw (drop i s) ≡ closing (drop i s) → i < length s → get_or s i 0 ≡ 34 → rest_at (drop i s) ≡ Some (drop (i + 1) s)
+unfolding rest_at
+rest_quote i s e h f = ap (option_map (λ r. r.1)) (e ∙ closing_quote i s h f)
+
+pub rest_other : (i : ℕ) (s : List ℕ) → string_at Raw (drop i s) ≡ closing (drop i s) → i < length s → (get_or s i 0 ≡ 34 → ⊥) → rest_at (drop i s) ≡ None
+unfolding rest_at
+rest_other i s e h f = ap (option_map (λ r. r.1)) (e ∙ closing_other i s h f)
+
+pub rest_none : (i : ℕ) (s : List ℕ) → length s ≤ i → rest_at (drop i s) ≡ None
+unfolding rest_at
+rest_none i s h = ap (option_map (λ r. r.1)) (string_over Raw i s h)
+
+-- the content of a string without escapes
+pub content_plain : (from i : ℕ) (s : List ℕ) → string_at Raw (drop from s) ≡ with_front (slice_range s from i) (string_at Raw (drop i s)) → string_at Raw (drop i s) ≡ closing (drop i s) → i < length s → get_or s i 0 ≡ 34 → string_at Raw (drop from s) ≡ Some (slice_range s from i, drop (i + 1) s)
+content_plain from i s same e h f =
+    same ∙ ap (with_front (slice_range s from i)) (e ∙ closing_quote i s h f) ∙ ap (λ l. Some (l, drop (i + 1) s)) (append-nil (slice_range s from i))
+
+pub ruleset string_steps = (rest_over, rest_quote, rest_other, rest_none, content_plain)
+
+-- what was decoded, in front of what is left of the string, is the string
+pub content_over : (i j k : ℕ) (v w s : List ℕ) → string_at Raw (drop i s) ≡ with_front w (string_at Raw (drop j s)) → string_at Raw (drop j s) ≡ with_front (slice_range s j k) (string_at Raw (drop k s)) → with_front v (string_at Raw (drop i s)) ≡ with_front ((v ++ w) ++ slice_range s j k) (string_at Raw (drop k s))
+content_over i j k v w s e f =
+    ap (with_front v) e ∙ front_front v w (string_at Raw (drop j s)) ∙ ap (with_front (v ++ w)) f
+    ∙ front_front (v ++ w) (slice_range s j k) (string_at Raw (drop k s))
+
+closed : (v r t : List ℕ) → Some r ≡ option_map (λ r. r.1) (with_front v (closing t)) → with_front v (closing t) ≡ Some (v, r)
+closed v r [] h = cc
+closed v r (b ∷ t) h =
+    if_cases (λ f. Some r ≡ option_map (λ r. r.1) (with_front v f) → with_front v f ≡ Some (v, r)) (b == 34) _ _
+    (λ _ h. let same : r ≡ t = cc in ap (λ l. Some (l, t)) (append-nil v) ∙ ap (λ t. Some (v, t)) (sym same))
+    (λ _ h. cc) h
+
+pub content_closed : (from i : ℕ) (v r s : List ℕ) → with_front v (string_at Raw (drop i s)) ≡ string_at Raw (drop from s) → string_at Raw (drop i s) ≡ closing (drop i s) → Some r ≡ rest_at (drop from s) → string_at Raw (drop from s) ≡ Some (v, r)
+unfolding rest_at
+content_closed from i v r s same e h =
+    let all : string_at Raw (drop from s) ≡ with_front v (closing (drop i s)) = sym same ∙ ap (with_front v) e in
+    all ∙ closed v r (drop i s) (h ∙ ap (option_map (λ r. r.1)) all)
+
+pub ruleset content_steps = (content_over, content_closed)
 
 -- LINES AND RUNS
 
@@ -195,7 +281,7 @@ line_over i s h = let e = drop_of_length-le s h in ap behind_line e ∙ sym e
 
 pub ruleset line_steps = (line_stop, line_more, line_over, nat_tests)
 
-not_quote : (b : ℕ) → is_idchar b ≡ true → (b == 34) ≡ false
+pub not_quote : (b : ℕ) → is_idchar b ≡ true → (b == 34) ≡ false
 not_quote b h = elim (cases_Bool (b == 34)) [ inl e ↦ (let f = ap is_idchar (eqb-true b 34 e) in cc) | inr e ↦ e ]
 
 pub run_idchar : (i : ℕ) (s : List ℕ) → i < length s → is_idchar (get_or s i 0) ≡ true → behind_run Between (drop i s) ≡ behind_run Between (drop (i + 1) s)
@@ -215,11 +301,11 @@ then_none : (q : List ℕ) (f : Option (List ℕ × List ℕ)) → None ≡ opti
 then_none q None e = refl
 then_none q (Some x) e = cc
 
-pub run_quote : (i end : ℕ) (s : List ℕ) → i < length s → get_or s i 0 ≡ 34 → Some (drop end s) ≡ rest_at Raw (drop (i + 1) s) → behind_run Between (drop i s) ≡ behind_run Between (drop end s)
+pub run_quote : (i end : ℕ) (s : List ℕ) → i < length s → get_or s i 0 ≡ 34 → Some (drop end s) ≡ rest_at (drop (i + 1) s) → behind_run Between (drop i s) ≡ behind_run Between (drop end s)
 unfolding rest_at
 run_quote i end s h e f = quote_run i s h e ∙ then_some (drop i s) (drop end s) (string_at Raw (drop (i + 1) s)) f
 
-pub run_broken : (i : ℕ) (s : List ℕ) → i < length s → get_or s i 0 ≡ 34 → None ≡ rest_at Raw (drop (i + 1) s) → behind_run Between (drop i s) ≡ Stuck (drop i s)
+pub run_broken : (i : ℕ) (s : List ℕ) → i < length s → get_or s i 0 ≡ 34 → None ≡ rest_at (drop (i + 1) s) → behind_run Between (drop i s) ≡ Stuck (drop i s)
 unfolding rest_at
 run_broken i s h e f = quote_run i s h e ∙ then_none (drop i s) (string_at Raw (drop (i + 1) s)) f
 
@@ -249,30 +335,3 @@ unfolding all_idchars
 plain_none from s = ap all_idchars (slice_none from s)
 
 pub ruleset plain_steps = (plain_more, plain_none, run_idchar)
-
--- CONTENTS
-
--- what was decoded, in front of what is left of the string, is the string
-pub content_into : (m n : Mode) (i : ℕ) (s v : List ℕ) → i < length s → step m (get_or s i 0) ≡ Into n → with_front v (string_at m (drop i s)) ≡ with_front v (string_at n (drop (i + 1) s))
-content_into m n i s v h e = ap (with_front v) (string_cons m i s h ∙ ap (λ st. after_step st (drop (i + 1) s) (λ next. string_at next (drop (i + 1) s))) e)
-
-pub content_emit : (m : Mode) (b i : ℕ) (s v : List ℕ) → i < length s → step m (get_or s i 0) ≡ Emit b → with_front v (string_at m (drop i s)) ≡ with_front (v ++ b ∷ []) (string_at Raw (drop (i + 1) s))
-content_emit m b i s v h e = ap (with_front v) (string_cons m i s h ∙ ap (λ st. after_step st (drop (i + 1) s) (λ next. string_at next (drop (i + 1) s))) e) ∙ front_front v (b ∷ []) (string_at Raw (drop (i + 1) s))
-
-pub content_encode : (m : Mode) (n i : ℕ) (s v : List ℕ) → i < length s → step m (get_or s i 0) ≡ Encode n → with_front v (string_at m (drop i s)) ≡ with_front (v ++ encode_utf8 n) (string_at Raw (drop (i + 1) s))
-content_encode m n i s v h e = ap (with_front v) (string_cons m i s h ∙ ap (λ st. after_step st (drop (i + 1) s) (λ next. string_at next (drop (i + 1) s))) e) ∙ front_front v (encode_utf8 n) (string_at Raw (drop (i + 1) s))
-
-pub content_close : (m : Mode) (i : ℕ) (s v : List ℕ) → i < length s → step m (get_or s i 0) ≡ Close → with_front v (string_at m (drop i s)) ≡ Some (v, drop (i + 1) s)
-content_close m i s v h e = ap (with_front v) (string_cons m i s h ∙ ap (λ st. after_step st (drop (i + 1) s) (λ next. string_at next (drop (i + 1) s))) e) ∙ ap (λ l. Some (l, drop (i + 1) s)) (append-nil v)
-
-pub content_bad : (m : Mode) (i : ℕ) (s v : List ℕ) → i < length s → step m (get_or s i 0) ≡ Bad → with_front v (string_at m (drop i s)) ≡ None
-content_bad m i s v h e = ap (with_front v) (string_cons m i s h ∙ ap (λ st. after_step st (drop (i + 1) s) (λ next. string_at next (drop (i + 1) s))) e)
-
-pub content_end : (m : Mode) (i : ℕ) (s v : List ℕ) → length s ≤ i → with_front v (string_at m (drop i s)) ≡ None
-unfolding string_at
-content_end m i s v h = ap (λ t. with_front v (string_at m t)) (drop_of_length-le s h)
-
-pub content_start : (from : ℕ) (s : List ℕ) → with_front [] (string_at Raw (drop from s)) ≡ string_at Raw (drop from s)
-content_start from s = front_nil (string_at Raw (drop from s))
-
-pub ruleset content_steps = (content_into, content_emit, content_encode, content_close, content_bad, content_end, content_start, into_fits)

@@ -8,11 +8,7 @@ use lib.Utf8.{scalar}
 use Rattle.std.proofs.Math.Utf8.{scalar_cases}
 use Rattle.wat_lexer.specs.Number.{read}
 use Rattle.wat_lexer.specs.Cut.{is_raw, is_hex, short_escape, Element, raw_byte, short_form, hex_byte, code_point, Str, close, more}
-use Rattle.wat_lexer.specs.Scan.{step, string_at, with_front, emitted, after_step}
-use Rattle.wat_lexer.specs.declared.string.Mode.{Mode}
-use Rattle.wat_lexer.specs.declared.string.Mode.TheVariants.{Raw, Escape, Byte, Brace, Digits}
-use Rattle.wat_lexer.specs.declared.string.Step.{Step}
-use Rattle.wat_lexer.specs.declared.string.Step.TheVariants.{Bad, Close, Into, Emit, Encode}
+use Rattle.wat_lexer.specs.Scan.{step, string_at, with_front, emitted, after_step, Mode, Raw, Escape, Byte, Brace, Digits, Step, Bad, Close, Into, Emit, Encode}
 
 pub if_cases : {A : Type 0} (P : A → Type 0) (b : Bool) (x y : A) → (b ≡ true → P x) → (b ≡ false → P y) → P (if b then x else y)
 if_cases P true x y t f = t refl

@@ -1,5 +1,5 @@
 -- Where a piece at the front of a text ends.
-use Rattle.std.specs.Prelude.{◌≡◌, ◌≤◌, drop, Result, Ok, Err, ℕ, ◌+◌, ◌<◌, ◌-◌, ◌*◌, Bool, true, false, List, [], ◌∷◌, ◌++◌, take, length, Option, Some, None, option_map, ◌==◌, ◌&&◌, nat_lt, if◌then◌else◌, encode_utf8}
+use Rattle.std.specs.Prelude.{◌≡◌, ◌≤◌, drop, Result, Ok, Err, ℕ, ◌+◌, ◌-◌, ◌*◌, Bool, true, false, List, [], ◌∷◌, ◌++◌, take, length, Option, Some, None, option_map, ◌==◌, ◌&&◌, nat_lt, if◌then◌else◌, encode_utf8}
 use Rattle.std.specs.Char.{digit_value}
 use lib.Utf8.{scalar}
 use Rattle.wat_lexer.specs.Bytes.{is_idchar, between}
@@ -10,10 +10,8 @@ use Rattle.wat_lexer.specs.Cut.{is_raw, is_hex, short_escape, begins}
 use Rattle.wat_lexer.specs.Token.{Tok, LParen, RParen, Keyword, Id, Annotation, Integer, String, Reserved}
 use Rattle.wat_lexer.specs.declared.fault.Fault.{Fault}
 use Rattle.wat_lexer.specs.declared.fault.Fault.TheVariants.{LexChar, LexString, LexComment}
-use Rattle.wat_lexer.specs.declared.string.Mode.{Mode}
-use Rattle.wat_lexer.specs.declared.string.Mode.TheVariants.{Raw, Escape, Byte, Brace, Digits}
-use Rattle.wat_lexer.specs.declared.string.Step.{Step}
-use Rattle.wat_lexer.specs.declared.string.Step.TheVariants.{Bad, Close, Into, Emit, Encode}
+use Rattle.wat_lexer.specs.declared.string.Escaped.{Escaped}
+use Rattle.wat_lexer.specs.declared.string.Escaped.TheVariants as escaped
 
 -- what follows the `;)` of a block comment in which depth more comments lie open
 unfoldable pub behind_comment : ℕ → List ℕ → Option (List ℕ)
@@ -23,6 +21,23 @@ behind_comment depth (a ∷ b ∷ t) =
     if (a == 40) && (b == 59) then behind_comment (depth + 1) t
     else (if (a == 59) && (b == 41) then (if depth == 0 then Some t else behind_comment (depth - 1) t)
     else behind_comment depth (b ∷ t))
+
+-- Where a place lies within a string: between two elements, behind a backslash, behind a backslash and a hex digit, behind
+-- `\u`, behind `\u{` and digits of this value. The flag says that a digit stands directly before.
+pub data Mode : Type 0 where
+  Raw : Mode
+  Escape : Mode
+  Byte : ℕ → Mode
+  Brace : Mode
+  Digits : ℕ → Bool → Mode
+
+-- what a byte does there
+pub data Step : Type 0 where
+  Bad : Step
+  Close : Step
+  Into : Mode → Step
+  Emit : ℕ → Step
+  Encode : ℕ → Step
 
 abbrev pub emitted : Option ℕ → Step
 emitted None = Bad
@@ -82,21 +97,6 @@ behind_run (Within mode q) (b ∷ t) = run_step (step mode b) q (λ next. behind
 abbrev pub RunEndIs : List ℕ → Result ℕ ℕ → RunEnd → Type 0
 RunEndIs text (Ok end) e = e ≡ Ends (drop end text)
 RunEndIs text (Err quote) e = (e ≡ Stuck (drop quote text)) × (quote ≤ length text)
-
--- a mode that a string's text leads to
-abbrev pub IsMode : Mode → Type 0
-IsMode Raw = Unit {0}
-IsMode Escape = Unit {0}
-IsMode (Byte h) = h < 16
-IsMode Brace = Unit {0}
-IsMode (Digits n behind) = n < 1114112
-
-abbrev pub StepFits : Step → Type 0
-StepFits Bad = Unit {0}
-StepFits Close = Unit {0}
-StepFits (Into next) = IsMode next
-StepFits (Emit v) = Unit {0}
-StepFits (Encode n) = Unit {0}
 
 -- what follows a line comment
 unfoldable pub behind_line : List ℕ → List ℕ
@@ -170,6 +170,16 @@ front behind (b ∷ t) =
     else (if b == 59 then (if begins 59 t then BlankTo (behind_line (tail t)) else Wrong LexChar (b ∷ t))
     else run_front behind (b ∷ t) (behind_run Between (b ∷ t)))))
 
--- what follows a string, from a place within it
-unfoldable pub rest_at : Mode → List ℕ → Option (List ℕ)
-rest_at mode s = option_map (λ r. r.1) (string_at mode s)
+-- what follows a string, from behind its opening quote on
+unfoldable pub rest_at : List ℕ → Option (List ℕ)
+rest_at s = option_map (λ r. r.1) (string_at Raw s)
+
+-- what an escape stands for
+abbrev pub spelled : Escaped → List ℕ
+spelled (escaped.Byte b) = b ∷ []
+spelled (escaped.Char c) = encode_utf8 c
+
+-- a string's end, where its closing quote stands in front
+abbrev pub closing : List ℕ → Option (List ℕ × List ℕ)
+closing [] = None
+closing (b ∷ t) = if b == 34 then Some ([], t) else None

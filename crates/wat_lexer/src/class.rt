@@ -1,19 +1,18 @@
 //! The class of a run.
 
-ghost use Rattle.std.specs.Prelude.{◌≡◌, ◌+◌, ◌-◌, ◌≤◌, ◌<◌, Bool, true, false, option_map, IfOk, IsSome, is_some, Some, not, length, drop, slice_range, slice_index};
-ghost use Rattle.wat_lexer.specs.Scan.{all_idchars, string_at, string_of, class, text_name};
+ghost use Rattle.std.specs.Prelude.{◌≡◌, ◌+◌, ◌-◌, ◌≤◌, ◌<◌, ◌++◌, true, option_map, IfOk, OnOk, IsTrue, Some, length, drop, take, slice_range, slice_index};
+ghost use Rattle.wat_lexer.specs.Scan.{all_idchars, string_at, rest_at, spelled, string_of, class, text_name, Raw};
 ghost use Rattle.wat_lexer.specs.View.{view};
-ghost use Rattle.wat_lexer.specs.declared.string.Mode.TheVariants.{Raw};
 
 use crate::number::Integer;
-use crate::string::{Mode, Step, digit_value, step_at, string_end};
+use crate::string::{Escaped, escape, raw_end};
 use crate::token::Token;
 use bumpalo::Bump;
 use bumpalo::collections::into_bump_slice;
 use std::alloc::AllocError;
 
 /// Part of a text, which begins and ends with ASCII.
-fn part(text: &str, from: usize, end: usize) -> &str
+pub fn part(text: &str, from: usize, end: usize) -> &str
     requires order { from < end }
     requires within { end ≤ length text.now }
     requires first { slice_index text.now from < 128 }
@@ -55,115 +54,99 @@ pub fn plain_token<'a>(text: &'a str, from: usize, end: usize, behind: bool) -> 
     }
 }
 
-/// The content of a string that has escapes.
-#[tactic(auto, using(crate::proofs::Steps::content_steps))]
-fn decode<'a>(text: &[u8], from: usize, arena: &'a Bump) -> Result<&'a [u8], AllocError>
-    requires within { from ≤ length text.now }
-    requires a_string { IsSome (string_at Raw (drop from text.now)) }
-    ensures { IfOk result (λ v. option_map (λ r. r.0) (string_at Raw (drop from text.now)) ≡ Some v.now) }
+/// Adds what an escape stands for.
+fn add(out: &mut Vec<u8, &Bump>, escaped: Escaped) -> Result<(), AllocError>
+    ensures { OnOk result (out.new.items ≡ out.old.items ++ spelled escaped) }
 {
-    let mut out = Vec::new(arena);
-    let mut mode = Mode::Raw;
-    let mut i = from;
-    while i < text.len() {
-        match step_at(mode, text[i]) {
-            Step::Bad => return Ok(into_bump_slice(out)),
-            Step::Close => return Ok(into_bump_slice(out)),
-            Step::Into(next) => {
-                mode = next;
-                i += 1;
-            }
-            Step::Emit(b) => {
-                out.push(b)?;
-                mode = Mode::Raw;
-                i += 1;
-            }
-            Step::Encode(c) => {
-                out.extend_from_slice(c.encode_utf8(&mut [0; 4]).as_bytes())?;
-                mode = Mode::Raw;
-                i += 1;
-            }
-        }
+    match escaped {
+        Escaped::Byte(b) => out.push(b)?,
+        Escaped::Char(c) => out.extend_from_slice(c.encode_utf8(&mut [0; 4]).as_bytes())?,
+    }
+    Ok(())
+}
+
+/// The content of a string that has escapes, from behind its opening quote to behind its closing one.
+// Inlined it slows the cut of texts without strings.
+#[inline(never)]
+#[tactic(auto, using(crate::proofs::Steps::content_steps))]
+fn decode<'a>(text: &[u8], from: usize, end: usize, arena: &'a Bump) -> Result<&'a [u8], AllocError>
+    requires order { from ≤ end }
+    requires within { end ≤ length text.now }
+    requires a_string { Some (drop end text.now) ≡ rest_at (drop from text.now) }
+    ensures { IfOk result (λ v. string_at Raw (drop from text.now) ≡ Some (v.now, drop end text.now)) }
+{
+    let mut out = Vec::with_capacity(arena, end - from)?;
+    let mut i = raw_end(text, from);
+    out.extend_from_slice(&text[from..i])?;
+    while let Some((escaped, behind)) = escape(text, i) {
+        add(&mut out, escaped)?;
+        i = raw_end(text, behind);
+        out.extend_from_slice(&text[behind..i])?;
     }
     Ok(into_bump_slice(out))
 }
 
-/// The content where a string is the whole of the bytes.
-#[tactic(auto, using(crate::proofs::Whole::whole_steps))]
-fn whole_string<'a>(text: &'a [u8], arena: &'a Bump) -> Result<Option<&'a [u8]>, AllocError>
-    ensures { IfOk result (λ o. option_map (λ b. b.now) o ≡ string_of text.now) }
+/// The content of a string, from behind its opening quote to behind its closing one.
+pub fn content<'a>(
+    text: &'a [u8],
+    from: usize,
+    end: usize,
+    plain: bool,
+    arena: &'a Bump,
+) -> Result<&'a [u8], AllocError>
+    requires order { from < end }
+    requires within { end ≤ length text.now }
+    requires a_string { Some (drop end text.now) ≡ rest_at (drop from text.now) }
+    requires plain { IsTrue plain → string_at Raw (drop from text.now) ≡ Some (slice_range text.now from (end - 1), drop end text.now) }
+    ensures { IfOk result (λ v. string_at Raw (drop from text.now) ≡ Some (v.now, drop end text.now)) }
 {
-    if text.is_empty() || text[0] != b'"' {
-        return Ok(None);
-    }
-    match string_end(text, 1) {
-        None => Ok(None),
-        Some((end, plain)) => {
-            if end != text.len() {
-                Ok(None)
-            } else if plain {
-                Ok(Some(&text[1..end - 1]))
-            } else {
-                Ok(Some(decode(text, 1, arena)?))
-            }
-        }
+    if plain {
+        Ok(&text[from..end - 1])
+    } else {
+        decode(text, from, end, arena)
     }
 }
 
 /// The name that a string spells.
 #[tactic(auto, using(crate::proofs::Whole::name_steps))]
-fn text_name<'a>(text: &'a [u8], arena: &'a Bump) -> Result<Option<&'a str>, AllocError>
-    ensures { IfOk result (λ o. option_map (λ b. b.now) o ≡ text_name (string_of text.now)) }
+fn text_name(content: &[u8]) -> Option<&str>
+    ensures { option_map (λ n. n.now) result ≡ text_name (Some content.now) }
 {
-    match whole_string(text, arena)? {
-        None => Ok(None),
-        Some(content) => {
-            if content.is_empty() {
-                return Ok(None);
-            }
-            match str::from_utf8(content) {
-                Ok(name) => Ok(Some(name)),
-                Err(_) => Ok(None),
-            }
-        }
+    if content.is_empty() {
+        return None;
+    }
+    match str::from_utf8(content) {
+        Ok(name) => Some(name),
+        Err(_) => None,
     }
 }
 
-/// The token of a run that has a string in it.
-#[tactic(auto, using(crate::proofs::Whole::quoted_here, crate::proofs::Whole::quoted_name))]
-pub fn quoted_token<'a>(
-    text: &'a str,
-    from: usize,
-    end: usize,
-    behind: bool,
-    arena: &'a Bump,
-) -> Result<Token<'a>, AllocError>
-    requires order { from < end }
-    requires within { end ≤ length text.now }
-    requires first { slice_index text.now from < 128 }
-    requires last { slice_index text.now (end - 1) < 128 }
-    requires quoted { all_idchars (slice_range text.now from end) ≡ false }
-    ensures { IfOk result (λ t. view t ≡ class behind (slice_range text.now from end)) }
+/// The token of a run that ends with the one string in it, whose quote stands at a place of the run.
+#[tactic(auto, using(crate::proofs::Whole::token_steps))]
+pub fn string_token<'a>(run: &'a str, quote: usize, behind: bool, content: &'a [u8]) -> Token<'a>
+    requires within { quote < length run.now }
+    requires prefix { all_idchars (take quote run.now) ≡ true }
+    requires a_string { string_of (drop quote run.now) ≡ Some content.now }
+    ensures { view result ≡ class behind run.now }
 {
-    let run = part(text, from, end);
-    let bytes = text.as_bytes();
-    let first = bytes[from];
-    if first == b'"' {
-        match whole_string(&bytes[from..end], arena)? {
-            Some(content) => Ok(Token::String(content)),
-            None => Ok(Token::Reserved(run)),
-        }
-    } else if first == b'$' {
-        match text_name(&bytes[from + 1..end], arena)? {
-            Some(name) => Ok(Token::Id(name)),
-            None => Ok(Token::Reserved(run)),
+    if quote == 0 {
+        return Token::String(content);
+    }
+    if quote > 1 {
+        return Token::Reserved(run);
+    }
+    let first = run.as_bytes()[0];
+    if first == b'$' {
+        match text_name(content) {
+            Some(name) => Token::Id(name),
+            None => Token::Reserved(run),
         }
     } else if behind && first == b'@' {
-        match text_name(&bytes[from + 1..end], arena)? {
-            Some(name) => Ok(Token::Annotation(name)),
-            None => Ok(Token::Reserved(run)),
+        match text_name(content) {
+            Some(name) => Token::Annotation(name),
+            None => Token::Reserved(run),
         }
     } else {
-        Ok(Token::Reserved(run))
+        Token::Reserved(run)
     }
 }

@@ -8,7 +8,7 @@ ghost use Rattle.wat_lexer.specs.Token.{Placed, has_annotation, is_annotation};
 ghost use Rattle.wat_lexer.specs.View.{view, toks, placed, AreLeaps, FrontGives, IfFault, FailsAt};
 ghost use Rattle.wat_lexer.specs.declared.fault.Fault.{Fault};
 
-use crate::class::{plain_token, quoted_token};
+use crate::class::{content, part, plain_token, string_token};
 use crate::fault::{Error, Fault, fault_at};
 use crate::groups::tell_leaps;
 use crate::scan::{comment_end, is_space, line_end, plain_end, run_end};
@@ -64,20 +64,25 @@ fn string_run<'a>(
     ensures value { FrontGives text.now result (run_front behind (drop at text.now) (behind_run Between (drop at text.now))) }
 {
     let bytes = text.as_bytes();
-    let after = match string_end(bytes, quote + 1) {
-        Some((after, _)) => after,
+    let (after, plain) = match string_end(bytes, quote + 1) {
+        Some(string) => string,
         None => return Err(fault_at(Fault::LexString, quote)),
     };
-    match run_end(bytes, after) {
-        Err(wrong) => Err(fault_at(Fault::LexString, wrong)),
-        Ok(end) => {
-            let token = quoted_token(text, at, end, behind, arena)?;
-            Ok(Piece {
-                token: Some(token),
-                end,
-            })
-        }
-    }
+    let end = match run_end(bytes, after) {
+        Ok(end) => end,
+        Err(wrong) => return Err(fault_at(Fault::LexString, wrong)),
+    };
+    let run = part(text, at, end);
+    let token = if end == after {
+        let content = content(bytes, quote + 1, end, plain, arena)?;
+        string_token(run, quote - at, behind, content)
+    } else {
+        Token::Reserved(run)
+    };
+    Ok(Piece {
+        token: Some(token),
+        end,
+    })
 }
 
 /// What stands in front.

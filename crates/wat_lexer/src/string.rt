@@ -1,34 +1,16 @@
 //! The strings of the text.
 
-ghost use Rattle.std.specs.Prelude.{◌≡◌, ◌+◌, ◌-◌, ◌≤◌, ◌<◌, option_map, IfSome, IsTrue, Some, length, drop, take, slice_range, slice_index};
+ghost use Rattle.std.specs.Prelude.{◌≡◌, ◌+◌, ◌-◌, ◌≤◌, ◌<◌, option_map, IfSome, IsTrue, MatchOption, None, Some, false, length, drop, encode_utf8, slice_range, slice_index};
 ghost use Rattle.std.specs.Char.{digit_value};
-ghost use Rattle.wat_lexer.specs.Cut.{is_raw};
-ghost use Rattle.wat_lexer.specs.Scan.{step, string_at, rest_at, IsMode, StepFits};
-ghost use Rattle.wat_lexer.specs.declared.string.Mode.TheVariants.{Raw, Escape, Digits};
+ghost use Rattle.wat_lexer.specs.Cut.{is_raw, short_escape};
+ghost use Rattle.wat_lexer.specs.Scan.{string_at, rest_at, with_front, spelled, closing, Raw, Escape, Digits};
 
-/// Where a place lies within a string.
+/// What an escape stands for.
 #[derive(Clone, Copy, Drop)]
-pub enum Mode {
-    /// Between two elements.
-    Raw,
-    /// Behind a backslash.
-    Escape,
-    /// Behind a backslash and a hex digit.
+pub enum Escaped {
     Byte(u8),
-    /// Behind `\u`.
-    Brace,
-    /// Behind `\u{` and digits of this value; the flag says that a digit stands directly before.
-    Digits(u32, bool),
-}
-
-/// What a byte does there.
-#[derive(Clone, Copy, Drop)]
-pub enum Step {
-    Bad,
-    Close,
-    Into(Mode),
-    Emit(u8),
-    Encode(char),
+    /// The bytes of the character.
+    Char(char),
 }
 
 fn is_raw(b: u8) -> bool
@@ -49,88 +31,119 @@ pub fn digit_value(b: u8) -> u8
     }
 }
 
-#[tactic(auto, unfolding(crate::specs::Scan::step))]
-fn raw_step(b: u8) -> Step
-    ensures { result ≡ step Raw b }
+/// What a backslash and this letter stand for.
+fn short_escape(b: u8) -> Option<u8>
+    ensures { result ≡ short_escape b }
 {
-    if b == b'"' {
-        Step::Close
-    } else if b == b'\\' {
-        Step::Into(Mode::Escape)
-    } else if is_raw(b) {
-        Step::Emit(b)
-    } else {
-        Step::Bad
-    }
-}
-
-#[tactic(auto, unfolding(crate::specs::Scan::step))]
-fn escape_step(b: u8) -> Step
-    ensures { result ≡ step Escape b }
-{
-    let digit = digit_value(b);
-    if digit < 16 {
-        return Step::Into(Mode::Byte(digit));
-    }
     match b {
-        b'u' => Step::Into(Mode::Brace),
-        b't' => Step::Emit(9),
-        b'n' => Step::Emit(10),
-        b'r' => Step::Emit(13),
-        b'"' | b'\'' | b'\\' => Step::Emit(b),
-        _ => Step::Bad,
+        b't' => Some(9),
+        b'n' => Some(10),
+        b'r' => Some(13),
+        b'"' | b'\'' | b'\\' => Some(b),
+        _ => None,
     }
 }
 
-#[tactic(auto, unfolding(crate::specs::Scan::step))]
-fn digits_step(n: u32, behind: bool, b: u8) -> Step
-    requires { n < 1114112 }
-    ensures { result ≡ step (Digits n behind) b }
+/// Where the bytes of a string that stand for themselves end.
+#[tactic(auto, using(crate::proofs::Steps::raw_steps))]
+pub fn raw_end(text: &[u8], from: usize) -> usize
+    requires { from ≤ length text.now }
+    ensures within { (from ≤ result) × (result ≤ length text.now) }
+    ensures same { string_at Raw (drop from text.now) ≡ with_front (slice_range text.now from result) (string_at Raw (drop result text.now)) }
+    ensures stops { result < length text.now → is_raw (slice_index text.now result) ≡ false }
 {
-    let digit = digit_value(b);
-    if digit < 16 {
-        let more = n * 16 + digit as u32;
-        if more < 1114112 {
-            Step::Into(Mode::Digits(more, true))
+    let mut i = from;
+    while i < text.len() && is_raw(text[i]) {
+        i += 1;
+    }
+    i
+}
+
+/// The character whose code point stands behind `\u{`, and the place behind its `}`.
+#[tactic(auto, using(crate::proofs::Steps::digits_steps))]
+fn code_point(text: &[u8], from: usize) -> Option<(char, usize)>
+    requires { from ≤ length text.now }
+    ensures within { IfSome result (λ c. (from < c.1) × (c.1 ≤ length text.now)) }
+    ensures value { MatchOption result (string_at (Digits 0 false) (drop from text.now) ≡ None) (λ c. string_at (Digits 0 false) (drop from text.now) ≡ with_front (encode_utf8 c.0) (string_at Raw (drop c.1 text.now))) }
+{
+    let mut n: u32 = 0;
+    let mut behind = false;
+    let mut i = from;
+    while i < text.len() {
+        let b = text[i];
+        let digit = digit_value(b);
+        if digit < 16 {
+            n = n * 16 + digit as u32;
+            behind = true;
+            if n >= 0x110000 {
+                return None;
+            }
+        } else if !behind {
+            return None;
+        } else if b == b'_' {
+            behind = false;
+        } else if b == b'}' {
+            return match char::from_u32(n) {
+                Some(c) => Some((c, i + 1)),
+                None => None,
+            };
         } else {
-            Step::Bad
+            return None;
         }
-    } else if behind && b == b'_' {
-        Step::Into(Mode::Digits(n, false))
-    } else if behind && b == b'}' {
-        match char::from_u32(n) {
-            Some(c) => Step::Encode(c),
-            None => Step::Bad,
+        i += 1;
+    }
+    None
+}
+
+/// What stands behind a backslash, and the place behind it.
+#[tactic(auto, using(crate::proofs::Steps::escape_steps))]
+fn behind_backslash(text: &[u8], at: usize) -> Option<(Escaped, usize)>
+    requires { at ≤ length text.now }
+    ensures within { IfSome result (λ e. (at < e.1) × (e.1 ≤ length text.now)) }
+    ensures value { MatchOption result (string_at Escape (drop at text.now) ≡ None) (λ e. string_at Escape (drop at text.now) ≡ with_front (spelled e.0) (string_at Raw (drop e.1 text.now))) }
+{
+    if at >= text.len() {
+        return None;
+    }
+    let b = text[at];
+    let high = digit_value(b);
+    if high < 16 {
+        if at + 1 >= text.len() {
+            return None;
         }
-    } else {
-        Step::Bad
+        let low = digit_value(text[at + 1]);
+        if low >= 16 {
+            return None;
+        }
+        return Some((Escaped::Byte(high * 16 + low), at + 2));
+    }
+    if b == b'u' {
+        if at + 1 >= text.len() || text[at + 1] != b'{' {
+            return None;
+        }
+        return match code_point(text, at + 2) {
+            Some((c, end)) => Some((Escaped::Char(c), end)),
+            None => None,
+        };
+    }
+    match short_escape(b) {
+        Some(v) => Some((Escaped::Byte(v), at + 1)),
+        None => None,
     }
 }
 
-#[tactic(auto, unfolding(crate::specs::Scan::step))]
-pub fn step_at(mode: Mode, b: u8) -> Step
-    requires { IsMode mode }
-    ensures value { result ≡ step mode b }
+/// What the escape that begins at a place stands for, and the place behind it.
+#[tactic(auto, using(crate::proofs::Steps::closing_steps))]
+pub fn escape(text: &[u8], at: usize) -> Option<(Escaped, usize)>
+    requires within { at ≤ length text.now }
+    requires no_raw { at < length text.now → is_raw (slice_index text.now at) ≡ false }
+    ensures within { IfSome result (λ e. (at < e.1) × (e.1 ≤ length text.now)) }
+    ensures value { MatchOption result (string_at Raw (drop at text.now) ≡ closing (drop at text.now)) (λ e. string_at Raw (drop at text.now) ≡ with_front (spelled e.0) (string_at Raw (drop e.1 text.now))) }
 {
-    match mode {
-        Mode::Raw => raw_step(b),
-        Mode::Escape => escape_step(b),
-        Mode::Byte(high) => {
-            let digit = digit_value(b);
-            if digit < 16 {
-                Step::Emit(high * 16 + digit)
-            } else {
-                Step::Bad
-            }
-        }
-        Mode::Brace => {
-            if b == b'{' {
-                Step::Into(Mode::Digits(0, false))
-            } else {
-                Step::Bad
-            }
-        }
-        Mode::Digits(n, behind) => digits_step(n, behind, b),
+    if at < text.len() && text[at] == b'\\' {
+        behind_backslash(text, at + 1)
+    } else {
+        None
     }
 }
 
@@ -140,24 +153,17 @@ pub fn string_end(text: &[u8], from: usize) -> Option<(usize, bool)>
     requires { from ≤ length text.now }
     ensures within { IfSome result (λ end. (from < end.0) × (end.0 ≤ length text.now)) }
     ensures quote { IfSome result (λ end. slice_index text.now (end.0 - 1) ≡ 34) }
-    ensures rest { option_map (λ end. drop end.0 text.now) result ≡ rest_at Raw (drop from text.now) }
+    ensures rest { option_map (λ end. drop end.0 text.now) result ≡ rest_at (drop from text.now) }
     ensures content { IfSome result (λ end. IsTrue end.1 → string_at Raw (drop from text.now) ≡ Some (slice_range text.now from (end.0 - 1), drop end.0 text.now)) }
 {
-    let mut mode = Mode::Raw;
-    let mut plain = true;
-    let mut i = from;
-    while i < text.len() {
-        match step_at(mode, text[i]) {
-            Step::Bad => return None,
-            Step::Close => return Some((i + 1, plain)),
-            Step::Into(next) => {
-                mode = next;
-                plain = false;
-            }
-            Step::Emit(_) => mode = Mode::Raw,
-            Step::Encode(_) => mode = Mode::Raw,
-        }
-        i += 1;
+    let raw = raw_end(text, from);
+    let mut i = raw;
+    while let Some((_, behind)) = escape(text, i) {
+        i = raw_end(text, behind);
     }
-    None
+    if i < text.len() && text[i] == b'"' {
+        Some((i + 1, i == raw))
+    } else {
+        None
+    }
 }

@@ -148,6 +148,26 @@ fn runs_have_classes(rt: HostRuntime) -> Result<(), Fail> {
 }
 
 #[test]
+fn runs_with_escaped_strings_have_classes(rt: HostRuntime) -> Result<(), Fail> {
+    agrees(
+        &rt,
+        rt.alloc(),
+        &[
+            ("(@\"\\62\\u{63}\") @\"\\62\"", " ( @bc ) ?@\"\\62\""),
+            ("(@\"\")(@\"\\ff\")", " ( ?@\"\" ) ( ?@\"\\ff\" )"),
+            (
+                "\"\\41\"b $\"\\41\"b (@\"\\41\"b)",
+                " ?\"\\41\"b ?$\"\\41\"b ( ?@\"\\41\"b )",
+            ),
+            (
+                "x\"\\41\" $\"a\"\"\\41\" $$\"a\"",
+                " ?x\"\\41\" ?$\"a\"\"\\41\" ?$$\"a\"",
+            ),
+        ],
+    )
+}
+
+#[test]
 fn other_characters_are_refused(rt: HostRuntime) -> Result<(), Fail> {
     agrees(
         &rt,
@@ -178,6 +198,7 @@ fn strings_are_decoded(rt: HostRuntime) -> Result<(), Fail> {
             ("\"\\t\\n\\r\\\"\\'\\\\\"", " '\t\n\r\"'\\"),
             ("\"\\41\\c3\\A9\"", " 'A\u{e9}"),
             ("\"\\ff\"", " 'no UTF-8"),
+            ("\"ab\\63d\\te\\u{66}gh\"", " 'abcd\tefgh"),
             ("\"\u{e9}\u{10ffff}\"", " '\u{e9}\u{10ffff}"),
             ("\"\\u{41}\\u{10FFFF}\\u{1_0}x\"", " 'A\u{10ffff}\u{10}x"),
             ("\"\\u{00000041}\\u{d7ff}\"", " 'A\u{d7ff}"),
@@ -195,6 +216,12 @@ fn other_strings_are_refused(rt: HostRuntime) -> Result<(), Fail> {
             ("a \"\n\"", "LexString 2"),
             ("\"\u{7f}\"", "LexString 0"),
             ("\"\\\"", "LexString 0"),
+            ("\"\\", "LexString 0"),
+            ("\"\\4", "LexString 0"),
+            ("\"\\u", "LexString 0"),
+            ("\"\\u{41", "LexString 0"),
+            ("\"\\41bc", "LexString 0"),
+            ("\"\\41b\n\"", "LexString 0"),
             ("\"\\x\"", "LexString 0"),
             ("\"\\4\"", "LexString 0"),
             ("\"\\4g\"", "LexString 0"),

@@ -1,14 +1,15 @@
-use Rattle.std.proofs.Common.{◌≡◌, ◌-◌, ◌≤◌, length, drop}
-use Rattle.wat_lexer.specs.Scan.{string_at, with_front, IsMode}
-use Rattle.wat_lexer.specs.declared.string.Mode.TheVariants.{Raw}
+use Rattle.std.proofs.Common.{◌≡◌, ◌-◌, ◌≤◌, ◌<◌, length, drop, get_or}
+use Rattle.std.specs.Prelude.{false}
+use Rattle.wat_lexer.specs.Cut.{is_raw}
+use Rattle.wat_lexer.specs.Scan.{string_at, with_front, Raw}
 use Rattle.wat_lexer.proofs.class.decode.Given as goal
 
-abbrev pub invariant-loop-i : goal.invariant-loop-i
-invariant-loop-i l = record {
-  same : with_front l.out.items (string_at l.mode (drop l.i l.text)) ≡ string_at Raw (drop l.fn.from l.text);
-  mode : IsMode l.mode;
+abbrev pub invariant-loop-escaped : goal.invariant-loop-escaped
+invariant-loop-escaped l = record {
+  same : with_front l.out.items (string_at Raw (drop l.i l.text)) ≡ string_at Raw (drop l.fn.from l.text);
+  no_raw : l.i < length l.text → is_raw (get_or l.text l.i 0) ≡ false;
   within : l.i ≤ length l.text;
 }
 
-abbrev pub decreases-loop-i : goal.decreases-loop-i
-decreases-loop-i l = length l.text - l.i
+abbrev pub decreases-loop-escaped : goal.decreases-loop-escaped
+decreases-loop-escaped l = length l.text - l.i

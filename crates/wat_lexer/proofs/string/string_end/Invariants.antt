@@ -1,18 +1,16 @@
-use Rattle.std.proofs.Common.{◌≡◌, ◌-◌, ◌≤◌, length, drop}
-use Rattle.wat_lexer.specs.Scan.{rest_at, IsMode}
-use Rattle.wat_lexer.specs.declared.string.Mode.TheVariants.{Raw}
-use Rattle.std.specs.Prelude.{IsTrue}
-use Rattle.wat_lexer.proofs.Steps.{Clear}
+use Rattle.std.proofs.Common.{◌≡◌, ◌-◌, ◌≤◌, ◌<◌, length, drop, get_or}
+use Rattle.std.specs.Prelude.{false}
+use Rattle.wat_lexer.specs.Cut.{is_raw}
+use Rattle.wat_lexer.specs.Scan.{rest_at}
 use Rattle.wat_lexer.proofs.string.string_end.Given as goal
 
-abbrev pub invariant-loop-i : goal.invariant-loop-i
-invariant-loop-i l = record {
-  same : rest_at l.mode (drop l.i l.text) ≡ rest_at Raw (drop l.fn.from l.text);
-  mode : IsMode l.mode;
-  from : l.fn.from ≤ l.i;
+abbrev pub invariant-loop-behind : goal.invariant-loop-behind
+invariant-loop-behind l = record {
+  same : rest_at (drop l.i l.text) ≡ rest_at (drop l.fn.from l.text);
+  no_raw : l.i < length l.text → is_raw (get_or l.text l.i 0) ≡ false;
+  from : l.raw ≤ l.i;
   within : l.i ≤ length l.text;
-  clear : IsTrue l.plain → Clear l.mode l.fn.from l.i l.text;
 }
 
-abbrev pub decreases-loop-i : goal.decreases-loop-i
-decreases-loop-i l = length l.text - l.i
+abbrev pub decreases-loop-behind : goal.decreases-loop-behind
+decreases-loop-behind l = length l.text - l.i
