@@ -1,0 +1,5 @@
+//! Tests that cross crates: texts, and what the program shows of them.
+#![tactic(auto)]
+
+#[cfg(test)]
+mod functype;
