@@ -1,19 +1,22 @@
 //! The program `watshow MODE`: reads standard input and lists on standard output what it spells.
 #![tactic(auto)]
 
-use std::env;
 use std::process::ExitCode;
 use std::rt::Env;
+use std::{env, io};
 use wat_show::{Mode, RunError, Watched, run};
 
 /// The mode that the one argument names.
-fn mode_of_arguments(rt: &(impl Env + Alloc)) -> Option<Mode> {
-    let mut words = env::args(rt).ok()?.skip(1);
-    let word = words.next()?;
+fn mode_of_arguments(rt: &(impl Env + Alloc)) -> io::Result<Option<Mode>> {
+    let mut words = env::args(rt)?.skip(1);
+    let word = match words.next() {
+        Some(word) => word,
+        None => return Ok(None),
+    };
     if words.next().is_some() {
-        return None;
+        return Ok(None);
     }
-    Mode::of(word.as_str())
+    Ok(Mode::of(word.as_str()))
 }
 
 /// Says on standard error why nothing is shown.
@@ -24,8 +27,9 @@ fn failed(rt: &impl Eprint, words: &str) -> ExitCode {
 
 fn main(rt: HostRuntime) -> ExitCode {
     let mode = match mode_of_arguments(&rt) {
-        Some(mode) => mode,
-        None => return failed(&rt, "usage: watshow functype|expr|folded|module"),
+        Ok(Some(mode)) => mode,
+        Ok(None) => return failed(&rt, "usage: watshow functype|expr|folded|module"),
+        Err(_) => return failed(&rt, "watshow: out of memory"),
     };
     let mut reader = Watched::new(rt.stdin());
     let mut writer = Watched::new(rt.stdout());
