@@ -12,7 +12,7 @@ is_space b = (b == 32) || ((b == 9) || ((b == 10) || (b == 13)))
 abbrev pub is_line_end : ℕ → Bool
 is_line_end b = (b == 10) || (b == 13)
 
--- letters, digits and  ! # $ % & ' * + - . / : < = > ? @ \ ^ _ ` | ~
+-- letters, digits and !#$%&'*+-./:<=>?@\^_`|~
 abbrev pub is_idchar : ℕ → Bool
 is_idchar b =
     (b == 33) || (between 35 39 b || (between 42 43 b || (between 45 58 b || (between 60 90 b || ((b == 92) || (between 94 122 b || ((b == 124) || (b == 126))))))))

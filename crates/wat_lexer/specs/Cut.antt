@@ -125,7 +125,8 @@ IsCut text ts = Cuts (length text) false text ts × Closed (tokens_of ts)
 
 -- FAULTS
 
--- No blank and no token stands in front of the text. The fault, and the text from its place on.
+-- No blank and no token stands in front of the text. The fault, and the text from its place on: a character that begins
+-- none, the `(` of a comment that isn't closed, or the quote of a string in a run that is none.
 pub data Broken : List ℕ → Fault → List ℕ → Type 0 where
   wrong_char : (b : ℕ) (rest : List ℕ) → is_space b ≡ false → in_no_run b ≡ true → (b == 40) ≡ false → (b == 41) ≡ false → (b == 59) && begins 59 rest ≡ false → Broken (b ∷ rest) LexChar (b ∷ rest)
   open_comment : (rest : List ℕ) → ((x more : List ℕ) → rest ≡ x ++ more → Inside 0 x → ⊥) → Broken (40 ∷ 59 ∷ rest) LexComment (40 ∷ 59 ∷ rest)
