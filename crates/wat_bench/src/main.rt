@@ -1,18 +1,18 @@
-//! Measures the cut of standard input into tokens.
+//! Measures the cut of standard input into tokens, and a lookup in front of them.
 //!
-//! With no argument it prints the number of tokens. With a number of rounds it cuts the text as often, and prints the
-//! nanoseconds of the fastest round, the tokens, and the bytes that a token takes.
+//! With no argument it prints the number of tokens. With a number of rounds it cuts the text as often, and also prints the
+//! nanoseconds of the fastest round, the bytes that a token takes, and the nanoseconds of a million lookups.
 #![tactic(auto)]
 
 use bumpalo::Bump;
 use std::alloc::Global;
-use std::env;
-use std::io;
 use std::io::Read;
 use std::rt::Clock;
 use std::time::Instant;
+use std::{env, io};
 use wat_lexer::cut::cut;
 use wat_lexer::token::Lexeme;
+use wat_tokens::Parser;
 
 /// How many tokens the text has, or `None` where it isn't cut.
 fn tokens_of(alloc: Global, text: &str) -> Option<usize> {
@@ -32,6 +32,24 @@ fn fastest(rt: &impl Clock, alloc: Global, text: &str, rounds: u32) -> io::Resul
         best = best.min(start.elapsed(rt)?.as_nanos());
     }
     Ok(best)
+}
+
+/// The nanoseconds of a million lookups in front of the text's first token that is seen.
+fn lookups(rt: &impl Clock, alloc: Global, text: &str) -> io::Result<u128> {
+    let arena = Bump::new(alloc);
+    let mut found = 0u32;
+    let start = Instant::now(rt)?;
+    if let Ok(parser) = Parser::new(alloc, text, &arena) {
+        let start = Instant::now(rt)?;
+        for _ in 0..1000000 {
+            if parser.next_is("module") {
+                found = found.wrapping_add(1);
+            }
+        }
+        let taken = start.elapsed(rt)?.as_nanos();
+        return Ok(taken.max(u128::from(found % 2)));
+    }
+    Ok(start.elapsed(rt)?.as_nanos())
 }
 
 fn main(rt: HostRuntime) -> io::Result<()> {
@@ -56,6 +74,8 @@ fn main(rt: HostRuntime) -> io::Result<()> {
         let size = size_of::<Lexeme>();
         println!(rt; "nanoseconds {nanoseconds}")?;
         println!(rt; "token {size}")?;
+        let nanoseconds = lookups(&rt, alloc, text)?;
+        println!(rt; "lookups {nanoseconds}")?;
     }
     Ok(())
 }
