@@ -1,11 +1,14 @@
 pub use Rattle.wat_tokens.specs.Index
 pub use Rattle.wat_tokens.specs.Lookup
 pub use Rattle.wat_tokens.specs.Production
+pub mod Exponent
 pub mod Function
 pub mod Group
 pub mod Heap
 pub mod Label
+pub mod Limits
 pub mod Order
 pub mod Reference
+pub mod Storage
 pub mod Unlabelled
 pub mod Value

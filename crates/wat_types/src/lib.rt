@@ -6,12 +6,18 @@
 
 pub mod function;
 pub mod heap;
+pub mod limits;
+#[cfg(test)]
+mod limits_tests;
 pub mod reference;
+pub mod storage;
 #[cfg(test)]
 mod tests;
 pub mod value;
 
 pub use function::{FunctionType, FunctionTypeNoNames};
 pub use heap::{AbstractHeapType, HeapType};
+pub use limits::{Limits, MemoryType, TableType, page_size};
 pub use reference::RefType;
+pub use storage::{GlobalType, StorageType};
 pub use value::ValType;

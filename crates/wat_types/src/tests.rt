@@ -39,7 +39,7 @@ fn reference(nullable: bool, heap: HeapType<'_>) -> ValType<'_> {
     ValType::Ref(RefType { nullable, heap })
 }
 
-fn hash_of<T: Hash>(value: &T) -> u64 {
+pub(crate) fn hash_of<T: Hash>(value: &T) -> u64 {
     let mut state = DefaultHasher::new();
     value.hash(&mut state);
     state.finish()

@@ -16,7 +16,13 @@ fn shown(alloc: Global, bytes: &[u8]) -> Result<(Vec<u8>, u8), Fail> {
     }
 }
 
-fn shows(rt: &impl Abort, alloc: Global, bytes: &[u8], expected: &str, status: u8) -> Result<(), Fail> {
+fn shows(
+    rt: &impl Abort,
+    alloc: Global,
+    bytes: &[u8],
+    expected: &str,
+    status: u8,
+) -> Result<(), Fail> {
     let (out, code) = shown(alloc, bytes)?;
     let text = str::from_utf8(&out).unwrap_or("no UTF-8");
     assert_eq!(rt; text, expected);
@@ -58,7 +64,10 @@ fn function_types_are_listed(rt: HostRuntime) -> Result<(), Fail> {
 #[test]
 fn other_texts_are_refused(rt: HostRuntime) -> Result<(), Fail> {
     for (text, expected) in [
-        ("(result i32) (param i32)", "refused ParamAfterResult at 14\n"),
+        (
+            "(result i32) (param i32)",
+            "refused ParamAfterResult at 14\n",
+        ),
         ("\"abc", "refused LexString at 0\n"),
         ("(;", "refused LexComment at 0\n"),
         ("[", "refused LexChar at 0\n"),

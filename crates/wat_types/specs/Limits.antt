@@ -1,0 +1,90 @@
+-- Limits, page sizes, table types and memory types.
+use Rattle.std.specs.Prelude.{◌≡◌, ℕ, Bool, true, false, List, codes, Option, is_some, unwrap_or, refl}
+use Rattle.wat_tokens.specs.Token.{Tok}
+use Rattle.wat_tokens.specs.Tests.{begins_word, begins_group, begins_integer}
+use Rattle.wat_tokens.specs.Production.{Production, by_option}
+use Rattle.wat_tokens.specs.Parts.{word, seq, made, made_where, where_else, opt, flag}
+use Rattle.wat_tokens.specs.Groups.{group}
+use Rattle.wat_tokens.specs.Integers.{unsigned}
+use Rattle.wat_tokens.specs.Restated.{restated}
+use Rattle.wat_types.specs.Reference.{RefTy, seen_ref, ref_type}
+use Rattle.wat_types.specs.Exponent.{IsTwoTo, exponent, exponent_sound, exponent_complete}
+use Rattle.wat_types.specs.declared.limits.Limits.{Limits}
+use Rattle.wat_types.specs.declared.limits.MemoryType.{MemoryType}
+use Rattle.wat_types.specs.declared.limits.TableType.{TableType}
+
+-- ---- limits
+
+-- ( i32 | i64 )?, whether `i64` stands
+unfoldable pub is_64 : Production Bool
+is_64 = where_else (begins_word (codes "i64")) (made (λ _. true) (word (codes "i64"))) (made (λ _. false) (flag (codes "i32")))
+
+abbrev pub limits_of : Bool × (ℕ × Option ℕ) → Limits
+limits_of v = record { is64 = v.0; min = v.1.0; max = v.1.1 }
+
+-- ( i32 | i64 )? u64 u64?; the second is there where an integer of any value stands
+unfoldable pub limits_type : Production Limits
+limits_type = made limits_of (seq is_64 (seq (unsigned 64) (opt begins_integer (unsigned 64))))
+
+-- ---- page sizes
+
+-- u32, which is 2 to the k
+abbrev pub ExponentSpells : ℕ → List Tok → List Tok → Type 0
+ExponentSpells k c r = (n : ℕ) × (unsigned 32).spells n c r × IsTwoTo k n
+
+abbrev has_exponent : ℕ → Bool
+has_exponent n = is_some (exponent n)
+
+abbrev exponent_or_0 : ℕ → ℕ
+exponent_or_0 n = unwrap_or (exponent n) 0
+
+abbrev pub exponent_tested : Production ℕ
+exponent_tested = made_where has_exponent exponent_or_0 (unsigned 32)
+
+is_two_to : (k n : ℕ) → has_exponent n ≡ true → exponent_or_0 n ≡ k → IsTwoTo k n
+is_two_to k n s e = by_option (exponent n) (λ j f. exponent_sound n k (let g : j ≡ k = rw f at e in rw g at f)) (λ f. absurd (let g : false ≡ true = rw f at s in cc))
+
+pub exponent_to : (k : ℕ) (c r : List Tok) → exponent_tested.spells k c r → ExponentSpells k c r
+exponent_to k c r s = (s.0, s.1, is_two_to k s.0 s.2 s.3)
+
+pub exponent_from : (k : ℕ) (c r : List Tok) → ExponentSpells k c r → exponent_tested.spells k c r
+exponent_from k c r s = let e = exponent_complete s.0 k s.2 in (s.0, s.1, rw e refl, rw e refl)
+
+-- u32, a power of two, as its exponent
+unfoldable pub page_exponent : Production ℕ
+page_exponent = restated exponent_tested ExponentSpells exponent_to exponent_from
+
+-- ( pagesize u32 ), a power of two, as its exponent
+unfoldable pub pagesize : Production ℕ
+pagesize = group (codes "pagesize") page_exponent
+
+-- pagesize?, absent where what follows isn't `(` and then `pagesize`
+unfoldable pub pagesize_or_none : Production (Option ℕ)
+pagesize_or_none = opt (begins_group (codes "pagesize")) pagesize
+
+-- ---- table types
+
+-- a table type, without the places of indices
+pub record TableTy : Type 0 where
+  pub limits : Limits
+  pub elem : RefTy
+  pub shared : Bool
+
+abbrev pub seen_table : TableType → TableTy
+seen_table t = record { limits = t.limits; elem = seen_ref t.elem; shared = t.shared }
+
+abbrev pub table_of : Bool × (Limits × RefTy) → TableTy
+table_of v = record { shared = v.0; limits = v.1.0; elem = v.1.1 }
+
+-- shared? Limits RefType
+unfoldable pub table_type : Production TableTy
+table_type = made table_of (seq (flag (codes "shared")) (seq limits_type ref_type))
+
+-- ---- memory types
+
+abbrev pub memory_of : Limits × (Bool × Option ℕ) → MemoryType
+memory_of v = record { limits = v.0; shared = v.1.0; page_size_log2 = v.1.1 }
+
+-- Limits shared? pagesize?
+unfoldable pub memory_type : Production MemoryType
+memory_type = made memory_of (seq limits_type (seq (flag (codes "shared")) pagesize_or_none))

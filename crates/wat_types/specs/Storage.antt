@@ -1,0 +1,59 @@
+-- Storage types and global types.
+use Rattle.std.specs.Prelude.{Bool, false, ◌||◌, List, codes}
+use Rattle.wat_tokens.specs.Token.{Tok}
+use Rattle.wat_tokens.specs.Tests.{begins_word, second}
+use Rattle.wat_tokens.specs.Production.{Production}
+use Rattle.wat_tokens.specs.Parts.{word, seq, made, where_else, flag}
+use Rattle.wat_tokens.specs.Groups.{paren}
+use Rattle.wat_types.specs.Value.{ValTy, seen_val, val_type}
+use Rattle.wat_types.specs.declared.storage.StorageType.{StorageType}
+use Rattle.wat_types.specs.declared.storage.StorageType.TheVariants as code
+use Rattle.wat_types.specs.declared.storage.GlobalType.{GlobalType}
+
+-- ---- storage types
+
+-- a storage type, without the places of indices
+pub data StorageTy : Type 0 where
+  i8 : StorageTy
+  i16 : StorageTy
+  val : ValTy → StorageTy
+
+abbrev pub seen_storage : StorageType → StorageTy
+seen_storage code.I8 = i8
+seen_storage code.I16 = i16
+seen_storage (code.Val t) = val (seen_val t)
+
+-- i8 | i16 | ValType
+unfoldable pub storage_type : Production StorageTy
+storage_type =
+    where_else (begins_word (codes "i8")) (made (λ _. i8) (word (codes "i8")))
+    (where_else (begins_word (codes "i16")) (made (λ _. i16) (word (codes "i16")))
+    (made val val_type))
+
+-- ---- global types
+
+-- a global type, without the places of indices
+pub record GlobalTy : Type 0 where
+  pub ty : ValTy
+  pub mutable : Bool
+  pub shared : Bool
+
+abbrev pub seen_global : GlobalType → GlobalTy
+seen_global t = record { ty = seen_val t.ty; mutable = t.mutable; shared = t.shared }
+
+-- the second token is `shared` or `mut`, whatever the first is
+abbrev pub long_global : List Tok → Bool
+long_global t = second (begins_word (codes "shared")) t || second (begins_word (codes "mut")) t
+
+abbrev pub global_of : Bool × (Bool × ValTy) → GlobalTy
+global_of v = record { shared = v.0; mutable = v.1.0; ty = v.1.1 }
+
+-- neither mutable nor shared
+abbrev pub plain_global : ValTy → GlobalTy
+plain_global t = record { ty = t; mutable = false; shared = false }
+
+-- where the second token is `shared` or `mut`, ( shared? mut? ValType ); else ValType
+unfoldable pub global_type : Production GlobalTy
+global_type =
+    where_else long_global (made global_of (paren (seq (flag (codes "shared")) (seq (flag (codes "mut")) val_type))))
+    (made plain_global val_type)

@@ -1,0 +1,107 @@
+//! Storage types and global types.
+
+ghost use Rattle.std.specs.Prelude.{◌≡◌, true};
+ghost use Rattle.wat_types.specs.Storage.{StorageTy, seen_storage, storage_type, GlobalTy, seen_global, global_type, long_global};
+
+use crate::value::ValType;
+use wat_tokens::{Parse, Parser, Result};
+
+/// The type of what a field of a structure or an array holds (Text Format, Types, "Composite Types").
+#[derive(Clone, Copy, Debug, PartialEq, Eq, Hash)]
+pub enum StorageType<'a> {
+    /// `i8`
+    I8,
+    /// `i16`
+    I16,
+    /// A value type.
+    Val(ValType<'a>),
+}
+
+/// The type of a global (Text Format, Types, "Global Types").
+#[derive(Clone, Copy, Debug, PartialEq, Eq, Hash)]
+pub struct GlobalType<'a> {
+    /// The type of its value.
+    pub ty: ValType<'a>,
+    /// Whether it may be written.
+    pub mutable: bool,
+    /// Whether it is shared among threads.
+    pub shared: bool,
+}
+
+/// `i8`, `i16`, or a value type.
+impl<'a> Parse<'a> for StorageType<'a> {
+    ghost Seen = { StorageTy };
+
+    ghost seen = { seen_storage };
+
+    ghost light = { true };
+
+    ghost bare = { λ _. true };
+
+    ghost quiet = { true };
+
+    ghost grammar = { storage_type };
+
+    #[tactic(auto, unfolding(crate::specs::Storage::storage_type))]
+    fn parse(parser: &mut Parser<'a>) -> Result<Self> {
+        if parser.next_is("i8") {
+            parser.keyword("i8")?;
+            return Ok(StorageType::I8);
+        }
+        if parser.next_is("i16") {
+            parser.keyword("i16")?;
+            return Ok(StorageType::I16);
+        }
+        Ok(StorageType::Val(ValType::parse(parser)?))
+    }
+}
+
+/// Whether the second token is `shared` or `mut`, whatever the first is.
+fn long_global_next(parser: &Parser<'_>) -> bool
+    ensures { result ≡ long_global parser.now.left }
+{
+    match parser.cursor().any() {
+        Some(rest) => match rest.keyword() {
+            Some((word, _)) => word == "shared" || word == "mut",
+            None => false,
+        },
+        None => false,
+    }
+}
+
+/// `( shared? mut? ValType )` where the second token is `shared` or `mut`, else a value type. So `(shared funcref)` is a
+/// shared global of `funcref`, and `(mut (shared funcref))` a mutable global of a shared reference.
+impl<'a> Parse<'a> for GlobalType<'a> {
+    ghost Seen = { GlobalTy };
+
+    ghost seen = { seen_global };
+
+    ghost light = { true };
+
+    ghost bare = { λ _. true };
+
+    ghost quiet = { true };
+
+    ghost grammar = { global_type };
+
+    #[tactic(auto, unfolding(crate::specs::Storage::global_type))]
+    fn parse(parser: &mut Parser<'a>) -> Result<Self> {
+        if !long_global_next(parser) {
+            return Ok(GlobalType {
+                ty: ValType::parse(parser)?,
+                mutable: false,
+                shared: false,
+            });
+        }
+        parser.open()?;
+        let shared = parser.flag("shared");
+        let mutable = parser.flag("mut");
+        let ty = ValType::parse(parser)?;
+        parser.close()?;
+        Ok(GlobalType {
+            ty,
+            mutable,
+            shared,
+        })
+    }
+}
