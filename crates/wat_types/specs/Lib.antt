@@ -10,5 +10,7 @@ pub mod Limits
 pub mod Order
 pub mod Reference
 pub mod Storage
+pub mod Tag
 pub mod Unlabelled
+pub mod Use
 pub mod Value

@@ -11,8 +11,12 @@ pub mod limits;
 mod limits_tests;
 pub mod reference;
 pub mod storage;
+pub mod tag;
 #[cfg(test)]
 mod tests;
+pub mod type_use;
+#[cfg(test)]
+mod type_use_tests;
 pub mod value;
 
 pub use function::{FunctionType, FunctionTypeNoNames};
@@ -20,4 +24,6 @@ pub use heap::{AbstractHeapType, HeapType};
 pub use limits::{Limits, MemoryType, TableType, page_size};
 pub use reference::RefType;
 pub use storage::{GlobalType, StorageType};
+pub use tag::TagType;
+pub use type_use::TypeUse;
 pub use value::ValType;

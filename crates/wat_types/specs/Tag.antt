@@ -1,0 +1,19 @@
+-- Types of tags.
+use Rattle.wat_tokens.specs.Production.{Production}
+use Rattle.wat_types.specs.Function.{seen_function, function_type}
+use Rattle.wat_types.specs.Group.{FuncTy, begins_func}
+use Rattle.wat_types.specs.Use.{UseTy, seen_use, type_use, SameFunction, SameUse}
+use Rattle.wat_types.specs.declared.tag.TagType.{TagType}
+use Rattle.wat_types.specs.declared.tag.TagType.TheVariants as code
+
+-- the use of a function type that it is
+abbrev pub seen_tag : TagType → UseTy FuncTy
+seen_tag (code.Exception u) = seen_use seen_function u
+
+-- a type use of a FunctionType
+abbrev pub tag_type : Production (UseTy FuncTy)
+tag_type = type_use begins_func function_type
+
+-- the same variant, with the same index and the same inline type
+abbrev pub SameTag : TagType → TagType → Type 0
+SameTag (code.Exception u) (code.Exception v) = SameUse SameFunction u v

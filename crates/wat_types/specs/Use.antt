@@ -1,0 +1,65 @@
+-- Type uses: a type by its index, written in line, or both.
+use Rattle.std.specs.Prelude.{◌≡◌, Bool, List, codes, Option, Some, None, option_map, ⊤}
+use Rattle.wat_tokens.specs.Token.{Tok}
+use Rattle.wat_tokens.specs.Tests.{begins_word, second}
+use Rattle.wat_tokens.specs.Production.{Production}
+use Rattle.wat_tokens.specs.Parts.{seq, made, opt}
+use Rattle.wat_tokens.specs.Groups.{group}
+use Rattle.wat_tokens.specs.Parses.{seen_option, bare_option}
+use Rattle.wat_tokens.specs.Index.{Idx, seen_index, index}
+use Rattle.wat_types.specs.declared.function.FunctionType.{FunctionType}
+use Rattle.wat_types.specs.declared.function.FunctionTypeNoNames.{FunctionTypeNoNames}
+use Rattle.wat_types.specs.declared.type_use.TypeUse.{TypeUse}
+
+-- a type use, without the place of the index
+pub record UseTy (A : Type 0) : Type 0 where
+  pub index : Option Idx
+  pub inline : Option A
+
+abbrev pub use_of : {A : Type 0} → Option Idx → Option A → UseTy A
+use_of i t = record { index = i; inline = t }
+
+-- its inline type seen by view
+abbrev pub seen_use : {T A : Type 0} → (T → A) → TypeUse T → UseTy A
+seen_use view u = use_of (seen_option seen_index u.index) (seen_option view u.inline)
+
+-- there is no inline type, or a bare one
+abbrev pub bare_use : {A : Type 0} → (A → Bool) → UseTy A → Bool
+bare_use bare u = bare_option bare u.inline
+
+-- ---- the grammar
+
+-- the second token is `type`, whatever the first is
+abbrev pub type_follows : List Tok → Bool
+type_follows t = second (begins_word (codes "type")) t
+
+-- ( type idx )
+abbrev pub type_index : Production Idx
+type_index = group (codes "type") index
+
+-- ( type idx )?, there where a type has to follow; then T?, there where one begins
+unfoldable pub type_use : {A : Type 0} → (List Tok → Bool) → Production A → Production (UseTy A)
+type_use begins t = made (λ v. use_of v.0 v.1) (seq (opt type_follows type_index) (opt begins t))
+
+-- ---- other uses of the same type
+
+-- the same index; of the inline type, the function type in it
+abbrev pub with_names : TypeUse FunctionTypeNoNames → TypeUse FunctionType
+with_names u = record { index = u.index; inline = option_map (λ t. t.0) u.inline }
+
+-- the same parameters and the same results
+abbrev pub SameFunction : FunctionType → FunctionType → Type 0
+SameFunction f g = (f.params.items ≡ g.params.items) × (f.results.items ≡ g.results.items)
+
+abbrev pub SameUnnamed : FunctionTypeNoNames → FunctionTypeNoNames → Type 0
+SameUnnamed f g = SameFunction f.0 g.0
+
+-- both are there and the same, or neither is
+abbrev pub SameOption : {T : Type 0} → (T → T → Type 0) → Option T → Option T → Type 0
+SameOption Same (Some x) (Some y) = Same x y
+SameOption Same None None = ⊤
+SameOption Same _ _ = ⊥
+
+-- the same index, and the same inline type
+abbrev pub SameUse : {T : Type 0} → (T → T → Type 0) → TypeUse T → TypeUse T → Type 0
+SameUse Same u v = (u.index ≡ v.index) × SameOption Same u.inline v.inline

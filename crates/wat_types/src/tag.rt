@@ -1,0 +1,50 @@
+//! Types of tags.
+
+ghost use Rattle.std.specs.Prelude.{◌≡◌, true, false, IfOk, IfErr};
+ghost use Rattle.wat_types.specs.Function.{bare_function};
+ghost use Rattle.wat_types.specs.Group.{FuncTy};
+ghost use Rattle.wat_types.specs.Tag.{SameTag, seen_tag, tag_type};
+ghost use Rattle.wat_types.specs.Use.{UseTy, bare_use};
+
+use crate::function::FunctionType;
+use crate::type_use::TypeUse;
+use wat_tokens::{Fault, Parse, Parser, Result};
+
+/// The type of a tag (WebAssembly Core Specification, Text Format, "Tags" and "Type Uses").
+#[derive(Debug, Drop)]
+pub enum TagType<'a> {
+    /// The tag of an exception: its parameters are what the exception carries.
+    Exception(TypeUse<'a, FunctionType<'a>>),
+}
+
+impl<'a> TagType<'a> {
+    /// The same type once more. Memory may be answered where its inline type has a parameter or a result.
+    pub fn clone(&self) -> Result<TagType<'a>>
+        ensures same { IfOk result (λ t. SameTag self.now t) }
+        ensures seen { IfOk result (λ t. seen_tag t ≡ seen_tag self.now) }
+        ensures memory { IfErr result (λ e. (e.fault ≡ Fault.Memory) × (bare_use bare_function (seen_tag self.now) ≡ false)) }
+    {
+        match self {
+            TagType::Exception(ty) => Ok(TagType::Exception(ty.clone()?)),
+        }
+    }
+}
+
+/// As a [`TypeUse`] of a [`FunctionType`].
+impl<'a> Parse<'a> for TagType<'a> {
+    ghost Seen = { UseTy FuncTy };
+
+    ghost seen = { seen_tag };
+
+    ghost light = { false };
+
+    ghost bare = { bare_use bare_function };
+
+    ghost quiet = { true };
+
+    ghost grammar = { tag_type };
+
+    fn parse(parser: &mut Parser<'a>) -> Result<Self> {
+        Ok(TagType::Exception(TypeUse::parse(parser)?))
+    }
+}

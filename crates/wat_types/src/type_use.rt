@@ -1,0 +1,119 @@
+//! Type uses.
+
+ghost use Rattle.std.specs.Prelude.{◌≡◌, Some, None, false, IfOk, IfErr};
+ghost use Rattle.wat_types.specs.Function.{seen_function, seen_unnamed, bare_function};
+ghost use Rattle.wat_types.specs.Use.{UseTy, seen_use, bare_use, type_use, type_follows, SameFunction, SameUnnamed, SameUse, with_names};
+
+use crate::function::{FunctionType, FunctionTypeNoNames};
+use wat_tokens::{Fault, Index, Parse, Parser, Peek, Result};
+
+/// A use of a type (WebAssembly Core Specification, Text Format, "Type Uses"): its index, the type written in line,
+/// both or neither.
+#[derive(Debug, Drop)]
+pub struct TypeUse<'a, T> {
+    /// The index of the type, where `(type ..)` is written.
+    pub index: Option<Index<'a>>,
+    /// The type that is written in line.
+    pub inline: Option<T>,
+}
+
+impl<'a, T> TypeUse<'a, T> {
+    /// The use of the type with the index, and none in line.
+    pub fn new_with_index(idx: Index<'a>) -> TypeUse<'a, T>
+        ensures index { result.index ≡ Some idx.entry }
+        ensures inline { result.inline ≡ None }
+    {
+        TypeUse {
+            index: Some(idx),
+            inline: None,
+        }
+    }
+}
+
+/// Whether the second token is `type`, whatever the first is.
+fn index_next(parser: &Parser<'_>) -> bool
+    ensures { result ≡ type_follows parser.now.left }
+{
+    match parser.cursor().any() {
+        Some(rest) => match rest.keyword() {
+            Some((word, _)) => word == "type",
+            None => false,
+        },
+        None => false,
+    }
+}
+
+/// `( type idx )`, where the second token is `type`, and then T, where one begins. Where a token other than `(` stands
+/// before `type`, it is refused with Unexpected, at that token.
+impl<'a, T: Parse<'a> + Peek> Parse<'a> for TypeUse<'a, T> {
+    ghost Seen = { UseTy T.Seen };
+
+    ghost seen = { seen_use T.seen };
+
+    ghost light = { T.light };
+
+    ghost bare = { bare_use T.bare };
+
+    ghost quiet = { T.quiet };
+
+    ghost grammar = { type_use T.begins T.grammar };
+
+    #[tactic(auto, unfolding(crate::specs::Use::type_use))]
+    fn parse(parser: &mut Parser<'a>) -> Result<Self> {
+        let index = if index_next(parser) {
+            parser.open()?;
+            parser.keyword("type")?;
+            let index = Index::parse(parser)?;
+            parser.close()?;
+            Some(index)
+        } else {
+            None
+        };
+        let inline = Option::<T>::parse(parser)?;
+        Ok(TypeUse { index, inline })
+    }
+}
+
+impl<'a> TypeUse<'a, FunctionType<'a>> {
+    /// The same use once more. Memory may be answered where its inline type has a parameter or a result.
+    pub fn clone(&self) -> Result<Self>
+        ensures same { IfOk result (λ u. SameUse SameFunction self.now u) }
+        ensures seen { IfOk result (λ u. seen_use seen_function u ≡ seen_use seen_function self.now) }
+        ensures memory { IfErr result (λ e. (e.fault ≡ Fault.Memory) × (bare_use bare_function (seen_use seen_function self.now) ≡ false)) }
+    {
+        Ok(TypeUse {
+            index: self.index,
+            inline: self.inline.as_ref().map(FunctionType::clone).transpose()?,
+        })
+    }
+}
+
+impl<'a> TypeUse<'a, FunctionTypeNoNames<'a>> {
+    /// The same use once more. Memory may be answered where its inline type has a parameter or a result.
+    pub fn clone(&self) -> Result<Self>
+        ensures same { IfOk result (λ u. SameUse SameUnnamed self.now u) }
+        ensures seen { IfOk result (λ u. seen_use seen_unnamed u ≡ seen_use seen_unnamed self.now) }
+        ensures memory { IfErr result (λ e. (e.fault ≡ Fault.Memory) × (bare_use bare_function (seen_use seen_unnamed self.now) ≡ false)) }
+    {
+        Ok(TypeUse {
+            index: self.index,
+            inline: self
+                .inline
+                .as_ref()
+                .map(FunctionTypeNoNames::clone)
+                .transpose()?,
+        })
+    }
+}
+
+/// With the same index, and with the function type that was in the inline type.
+impl<'a> From<TypeUse<'a, FunctionTypeNoNames<'a>>> for TypeUse<'a, FunctionType<'a>> {
+    ghost from_gives = { λ u v. v ≡ with_names u };
+
+    fn from(value: TypeUse<'a, FunctionTypeNoNames<'a>>) -> TypeUse<'a, FunctionType<'a>> {
+        TypeUse {
+            index: value.index,
+            inline: value.inline.map(|ty| ty.0),
+        }
+    }
+}
