@@ -13,7 +13,7 @@ ghost use Rattle.wat_tokens.specs.Parses.{Exactly};
 ghost use Rattle.wat_tokens.specs.Error.{Error};
 ghost use Rattle.wat_tokens.specs.Parts.{one_reads, flag};
 ghost use Rattle.wat_tokens.specs.State.{begun, IsFresh};
-ghost use Rattle.wat_tokens.specs.Tests.{is_lparen, is_rparen, is_keyword, is_id, is_integer, is_string, word_only, annotation_only, begins_word, begins_group, begins_annotation, none_left, ends};
+ghost use Rattle.wat_tokens.specs.Tests.{is_lparen, is_rparen, is_keyword, is_id, is_integer, is_string, word_only, annotation_only, begins_word, begins_group, begins_annotation, none_left, ends, second};
 
 use crate::cursor::Cursor;
 use crate::tally::Tally;
@@ -216,6 +216,19 @@ impl<'a> Parser<'a> {
         ensures { result ≡ begins_group word.now self.now.left }
     {
         self.cursor().group_is(word)
+    }
+
+    /// Whether the keyword is the second token, whatever the first is.
+    pub fn second_is(&self, word: &str) -> bool
+        ensures { result ≡ second (begins_word word.now) self.now.left }
+    {
+        match self.cursor().any() {
+            Some(rest) => match rest.keyword() {
+                Some((text, _)) => text == word,
+                None => false,
+            },
+            None => false,
+        }
     }
 
     /// Whether a group that begins with the annotation of the name, given without its `@`, stands in front.

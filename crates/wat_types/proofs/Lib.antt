@@ -1,1 +1,4 @@
+pub mod Begun
+pub mod Definitions
 pub mod Groups
+pub mod Members

@@ -1,6 +1,7 @@
 pub use Rattle.wat_tokens.specs.Index
 pub use Rattle.wat_tokens.specs.Lookup
 pub use Rattle.wat_tokens.specs.Production
+pub mod Define
 pub mod Exponent
 pub mod Function
 pub mod Group
@@ -10,6 +11,7 @@ pub mod Limits
 pub mod Order
 pub mod Reference
 pub mod Storage
+pub mod Struct
 pub mod Tag
 pub mod Unlabelled
 pub mod Use

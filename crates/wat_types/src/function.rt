@@ -97,13 +97,7 @@ fn read_group<'a>(parser: &mut Parser<'a>, labels: bool, out: &mut FunctionType<
 fn group_next(parser: &Parser<'_>) -> bool
     ensures { result ≡ group_follows parser.now.left }
 {
-    match parser.cursor().any() {
-        Some(rest) => match rest.keyword() {
-            Some((word, _)) => word == "param" || word == "result",
-            None => false,
-        },
-        None => false,
-    }
+    parser.second_is("param") || parser.second_is("result")
 }
 
 /// Groups, as long as one has to follow.

@@ -4,6 +4,9 @@
 //! written: nothing is resolved.
 #![tactic(auto)]
 
+pub mod define;
+#[cfg(test)]
+mod define_tests;
 pub mod function;
 pub mod heap;
 pub mod limits;
@@ -11,6 +14,7 @@ pub mod limits;
 mod limits_tests;
 pub mod reference;
 pub mod storage;
+pub mod structure;
 pub mod tag;
 #[cfg(test)]
 mod tests;
@@ -19,11 +23,13 @@ pub mod type_use;
 mod type_use_tests;
 pub mod value;
 
+pub use define::{ContType, InnerTypeKind, Rec, Type, TypeDef};
 pub use function::{FunctionType, FunctionTypeNoNames};
 pub use heap::{AbstractHeapType, HeapType};
 pub use limits::{Limits, MemoryType, TableType, page_size};
 pub use reference::RefType;
 pub use storage::{GlobalType, StorageType};
+pub use structure::{ArrayType, StructField, StructType};
 pub use tag::TagType;
 pub use type_use::TypeUse;
 pub use value::ValType;

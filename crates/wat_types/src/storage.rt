@@ -28,7 +28,7 @@ pub struct GlobalType<'a> {
     pub shared: bool,
 }
 
-/// `i8`, `i16`, or a value type.
+/// `i8`, `i16`, or a value type. Where none of them begins, it is refused with Unexpected, at the token in front.
 impl<'a> Parse<'a> for StorageType<'a> {
     ghost Seen = { StorageTy };
 
@@ -42,7 +42,7 @@ impl<'a> Parse<'a> for StorageType<'a> {
 
     ghost grammar = { storage_type };
 
-    #[tactic(auto, unfolding(crate::specs::Storage::storage_type))]
+    #[tactic(auto, using(crate::proofs::Begun::no_value_type), unfolding(crate::specs::Storage::storage_type))]
     fn parse(parser: &mut Parser<'a>) -> Result<Self> {
         if parser.next_is("i8") {
             parser.keyword("i8")?;
@@ -52,7 +52,10 @@ impl<'a> Parse<'a> for StorageType<'a> {
             parser.keyword("i16")?;
             return Ok(StorageType::I16);
         }
-        Ok(StorageType::Val(ValType::parse(parser)?))
+        if parser.peek::<ValType>() {
+            return Ok(StorageType::Val(ValType::parse(parser)?));
+        }
+        Err(parser.unexpected())
     }
 }
 
@@ -60,13 +63,7 @@ impl<'a> Parse<'a> for StorageType<'a> {
 fn long_global_next(parser: &Parser<'_>) -> bool
     ensures { result ≡ long_global parser.now.left }
 {
-    match parser.cursor().any() {
-        Some(rest) => match rest.keyword() {
-            Some((word, _)) => word == "shared" || word == "mut",
-            None => false,
-        },
-        None => false,
-    }
+    parser.second_is("shared") || parser.second_is("mut")
 }
 
 /// `( shared? mut? ValType )` where the second token is `shared` or `mut`, else a value type. So `(shared funcref)` is a

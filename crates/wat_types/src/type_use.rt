@@ -2,7 +2,7 @@
 
 ghost use Rattle.std.specs.Prelude.{◌≡◌, Some, None, false, IfOk, IfErr};
 ghost use Rattle.wat_types.specs.Function.{seen_function, seen_unnamed, bare_function};
-ghost use Rattle.wat_types.specs.Use.{UseTy, seen_use, bare_use, type_use, type_follows, SameFunction, SameUnnamed, SameUse, with_names};
+ghost use Rattle.wat_types.specs.Use.{UseTy, seen_use, bare_use, type_use, SameFunction, SameUnnamed, SameUse, with_names};
 
 use crate::function::{FunctionType, FunctionTypeNoNames};
 use wat_tokens::{Fault, Index, Parse, Parser, Peek, Result};
@@ -30,19 +30,6 @@ impl<'a, T> TypeUse<'a, T> {
     }
 }
 
-/// Whether the second token is `type`, whatever the first is.
-fn index_next(parser: &Parser<'_>) -> bool
-    ensures { result ≡ type_follows parser.now.left }
-{
-    match parser.cursor().any() {
-        Some(rest) => match rest.keyword() {
-            Some((word, _)) => word == "type",
-            None => false,
-        },
-        None => false,
-    }
-}
-
 /// `( type idx )`, where the second token is `type`, and then T, where one begins. Where a token other than `(` stands
 /// before `type`, it is refused with Unexpected, at that token.
 impl<'a, T: Parse<'a> + Peek> Parse<'a> for TypeUse<'a, T> {
@@ -60,7 +47,7 @@ impl<'a, T: Parse<'a> + Peek> Parse<'a> for TypeUse<'a, T> {
 
     #[tactic(auto, unfolding(crate::specs::Use::type_use))]
     fn parse(parser: &mut Parser<'a>) -> Result<Self> {
-        let index = if index_next(parser) {
+        let index = if parser.second_is("type") {
             parser.open()?;
             parser.keyword("type")?;
             let index = Index::parse(parser)?;

@@ -1,0 +1,48 @@
+-- Where a definition without `sub` isn't bare, the one with `sub` around it isn't either.
+use Rattle.std.proofs.Common.{◌≡◌, Bool, true, false, List, [], ◌∷◌, Some, None, refl, sym, ap, ◌∙◌, inl, inr}
+use Rattle.std.specs.Prelude.{◌&&◌, codes}
+use Rattle.wat_tokens.specs.Token.{Tok, RParen}
+use Rattle.wat_tokens.specs.Tests.{is_lparen, is_rparen, begins_word}
+use Rattle.wat_tokens.specs.Production.{Read, by_read}
+use Rattle.wat_tokens.specs.Parts.{one_reads, word, flag}
+use Rattle.wat_tokens.specs.Many.{after_front, many_reads}
+use Rattle.wat_tokens.specs.Index.{Idx, index, begins_index}
+use Rattle.wat_tokens.specs.Parses.{NotBare, no_items}
+use Rattle.wat_types.specs.Define.{DefTy, bare_kind, bare_def, described, maybe_shared, type_def}
+
+described_alone : (d : DefTy) (c r : List Tok) → described.spells d c r → d.parents ≡ []
+unfolding described
+described_alone d c r s = sym (ap (λ (u : DefTy). u.parents) s.3)
+
+alone : (d : DefTy) (c r : List Tok) → maybe_shared.spells d c r → d.parents ≡ []
+unfolding maybe_shared
+alone d c r (inl s) =
+    let q = s.1.1 in
+    sym (ap (λ (u : DefTy). u.parents) s.1.3) ∙ (sym (ap (λ (u : DefTy). u.parents) q.3) ∙ described_alone q.0.1 q.1.4.0 (RParen ∷ r) q.1.4.2)
+alone d c r (inr s) = described_alone d c r s.1
+
+bare_left : (ps : List Idx) (b : Bool) → ps ≡ [] → (no_items ps && b) ≡ false → b ≡ false
+bare_left [] b e f = f
+bare_left (p ∷ ps) b e f = absurd cc
+
+either : (a b : Bool) → b ≡ false → (a && b) ≡ false
+either true b e = e
+either false b e = refl
+
+front_is : {A : Type 0} (x : Read (List A)) (y : List A × List Tok) → after_front [] x ≡ Some y → x ≡ Some y
+front_is (Some x) y e = e
+front_is None y e = absurd cc
+
+module _ (b : Bool) (ps : List Idx) (t t1 t2 t3 t4 : List Tok) (k : begins_word (codes "sub") t ≡ true) (e : (word (codes "sub")).reads t ≡ Some (tt, t1)) (f : (flag (codes "final")).reads t1 ≡ Some (b, t2)) (g : after_front [] (many_reads begins_index index t2) ≡ Some (ps, t3)) (h : one_reads is_lparen t3 ≡ Some (tt, t4)) where
+  pub sub_fails : maybe_shared.reads t4 ≡ None → type_def.reads t ≡ None
+  unfolding type_def
+  sub_fails n = rw (k, e, f, front_is (many_reads begins_index index t2) (ps, t3) g, h, n) refl
+
+  pub sub_not_bare : NotBare bare_def (maybe_shared.reads t4) → NotBare bare_def (type_def.reads t)
+  unfolding type_def
+  sub_not_bare n = rw (k, e, f, front_is (many_reads begins_index index t2) (ps, t3) g, h) (by_read (maybe_shared.reads t4)
+      (λ y m. (let s = maybe_shared.sound t4 y m in
+      let bare : bare_def y.0 ≡ false = rw m at n in
+      let left : bare_kind y.0.kind ≡ false = bare_left y.0.parents (bare_kind y.0.kind) (alone y.0 s.0 y.1 s.2) bare in
+      rw m (by_read (one_reads is_rparen y.1) (λ z o. rw o (either (no_items ps) (bare_kind y.0.kind) left)) (λ o. rw o tt))))
+      (λ m. rw m tt))

@@ -1,0 +1,137 @@
+-- Definitions of types, and recursion groups.
+use Rattle.std.specs.Prelude.{◌≤◌, ℕ, Bool, true, false, ◌&&◌, List, [], codes, Option, Some, None, map}
+use Rattle.std.proofs.Common.{lit≤, arith}
+use Rattle.wat_tokens.specs.Token.{Tok}
+use Rattle.wat_tokens.specs.Tests.{begins_word, second}
+use Rattle.wat_tokens.specs.Production.{Production}
+use Rattle.wat_tokens.specs.Parts.{seq, made, where_else, opt, word, flag}
+use Rattle.wat_tokens.specs.Many.{many}
+use Rattle.wat_tokens.specs.Groups.{paren, turn}
+use Rattle.wat_tokens.specs.Index.{Idx, seen_index, index, begins_index}
+use Rattle.wat_tokens.specs.Parses.{seen_option, no_items}
+use Rattle.wat_types.specs.Label.{Label, seen_label, label}
+use Rattle.wat_types.specs.Group.{FuncTy}
+use Rattle.wat_types.specs.Function.{seen_function, bare_function, function_type}
+use Rattle.wat_types.specs.Struct.{FieldTy, seen_array, field_type, MemberTy, seen_struct, struct_type}
+use Rattle.wat_types.specs.declared.define.InnerTypeKind.{InnerTypeKind}
+use Rattle.wat_types.specs.declared.define.InnerTypeKind.TheVariants as code
+use Rattle.wat_types.specs.declared.define.TypeDef.{TypeDef}
+use Rattle.wat_types.specs.declared.define.«Type».{«Type»}
+use Rattle.wat_types.specs.declared.define.Rec.{Rec}
+
+-- ---- what is defined
+
+-- a function type, a structure type, an array type or a continuation type
+pub data KindTy : Type 0 where
+  func : FuncTy → KindTy
+  struct_ : List MemberTy → KindTy
+  array : FieldTy → KindTy
+  cont : Idx → KindTy
+
+abbrev pub seen_kind : InnerTypeKind → KindTy
+seen_kind (code.Func f) = func (seen_function f)
+seen_kind (code.Struct s) = struct_ (seen_struct s)
+seen_kind (code.Array a) = array (seen_array a)
+seen_kind (code.Cont c) = cont (seen_index c.0)
+
+-- no parameter, no result and no field
+abbrev pub bare_kind : KindTy → Bool
+bare_kind (func f) = bare_function f
+bare_kind (struct_ ms) = no_items ms
+bare_kind (array f) = true
+bare_kind (cont i) = true
+
+-- w g, the value of g
+abbrev pub behind : {A : Type 0} → List ℕ → Production A → Production A
+behind w g = made (λ v. v.1) (seq (word w) g)
+
+-- `func` FunctionType | `struct` StructType | `array` ArrayType | `cont` ContType
+unfoldable pub kind : Production KindTy
+kind =
+    where_else (begins_word (codes "func")) (made func (behind (codes "func") function_type))
+    (where_else (begins_word (codes "struct")) (made struct_ (behind (codes "struct") struct_type))
+    (where_else (begins_word (codes "array")) (made array (behind (codes "array") field_type))
+    (made cont (behind (codes "cont") index))))
+
+-- ---- definitions
+
+-- a definition of a type, without places
+pub record DefTy : Type 0 where
+  pub kind : KindTy
+  pub shared : Bool
+  pub parents : List Idx
+  pub descriptor : Option Idx
+  pub describes : Option Idx
+  pub final_type : Option Bool
+
+abbrev pub seen_def : TypeDef → DefTy
+seen_def d = record { kind = seen_kind d.kind; shared = d.shared; parents = map seen_index d.parents.items; descriptor = seen_option seen_index d.descriptor; describes = seen_option seen_index d.describes; final_type = d.final_type }
+
+-- no parent, no parameter, no result and no field
+abbrev pub bare_def : DefTy → Bool
+bare_def d = no_items d.parents && bare_kind d.kind
+
+-- the word, an index, and then `) (`; or nothing, where the word doesn't stand
+unfoldable pub linked : List ℕ → Production (Option Idx)
+linked w = opt (begins_word w) (behind w (made (λ v. v.0) (seq index turn)))
+
+abbrev pub plain_def : Option Idx × (Option Idx × KindTy) → DefTy
+plain_def v = record { kind = v.1.1; shared = false; parents = []; descriptor = v.1.0; describes = v.0; final_type = None }
+
+-- (`describes` idx `) (`)?, then (`descriptor` idx `) (`)?, then InnerTypeKind
+unfoldable pub described : Production DefTy
+described = made plain_def (seq (linked (codes "describes")) (seq (linked (codes "descriptor")) kind))
+
+abbrev pub shared_def : DefTy → DefTy
+shared_def d = record d { shared = true }
+
+-- `shared (` K `)` | K
+unfoldable pub maybe_shared : Production DefTy
+maybe_shared = where_else (begins_word (codes "shared")) (made shared_def (behind (codes "shared") (paren described))) described
+
+abbrev pub sub_def : Bool × (List Idx × DefTy) → DefTy
+sub_def v = record v.1.1 { parents = v.1.0; final_type = Some v.0 }
+
+-- `sub final? idx* (` S `)` | S
+unfoldable pub type_def : Production DefTy
+type_def = where_else (begins_word (codes "sub")) (made sub_def (behind (codes "sub") (seq (flag (codes "final")) (seq (many begins_index index (lit≤ tt)) (paren maybe_shared))))) maybe_shared
+
+-- ---- types and recursion groups
+
+-- a type, and what names it
+pub record TypeTy : Type 0 where
+  pub label : Label
+  pub def : DefTy
+
+abbrev pub seen_type : «Type» → TypeTy
+seen_type t = record { label = seen_label t.id t.name; def = seen_def t.def }
+
+abbrev pub bare_type : TypeTy → Bool
+bare_type t = bare_def t.def
+
+-- `type id? name? (` TypeDef `)`
+unfoldable pub type_ : Production TypeTy
+type_ = made (λ v. record { label = v.0; def = v.1 }) (behind (codes "type") (seq label (paren type_def)))
+
+abbrev pub begins_type : List Tok → Bool
+begins_type t = begins_word (codes "type") t
+
+abbrev pub seen_types : List «Type» → List TypeTy
+seen_types ts = map seen_type ts
+
+abbrev pub grouped_type : Production TypeTy
+grouped_type = paren type_
+
+pub grouped_type_eats : 1 ≤ grouped_type.least
+grouped_type_eats = omega arith
+
+-- ( Type )*, to where the second token isn't `type`
+unfoldable pub types : Production (List TypeTy)
+types = many (second begins_type) grouped_type grouped_type_eats
+
+abbrev pub seen_rec : Rec → List TypeTy
+seen_rec r = seen_types r.types.items
+
+-- `rec ( Type )*`
+unfoldable pub rec : Production (List TypeTy)
+rec = behind (codes "rec") types

@@ -1,0 +1,313 @@
+//! Definitions of types, and recursion groups.
+
+ghost use Rattle.std.specs.Prelude.{◌≡◌, true, false, List};
+ghost use Rattle.wat_tokens.specs.Counts.{Counted, Quiet, Kept};
+ghost use Rattle.wat_tokens.specs.Index.{Idx, seen_index, index};
+ghost use Rattle.wat_tokens.specs.Lookup.{front};
+ghost use Rattle.wat_tokens.specs.Many.{after_front};
+ghost use Rattle.wat_tokens.specs.Parses.{Gives, no_items, seen_option};
+ghost use Rattle.wat_types.specs.Define.{KindTy, seen_kind, bare_kind, kind, linked, DefTy, seen_def, bare_def, described, maybe_shared, type_def, TypeTy, seen_type, bare_type, type_, begins_type, grouped_type, seen_types, types, seen_rec, rec};
+
+use crate::function::FunctionType;
+use crate::structure::{ArrayType, StructType};
+use wat_tokens::traits::while_begun;
+use wat_tokens::{Cursor, Id, Index, NameAnnotation, Parse, Parser, Peek, Result, Span};
+
+/// A continuation type: the function type that it is of, by its index (WebAssembly Core Specification, Text Format,
+/// Types, "Composite Types").
+#[derive(Clone, Copy, Debug)]
+pub struct ContType<'a>(pub Index<'a>);
+
+/// What a definition defines (WebAssembly Core Specification, Text Format, Types, "Composite Types").
+#[derive(Debug, Drop)]
+pub enum InnerTypeKind<'a> {
+    /// A function type.
+    Func(FunctionType<'a>),
+    /// A structure type.
+    Struct(StructType<'a>),
+    /// An array type.
+    Array(ArrayType<'a>),
+    /// A continuation type.
+    Cont(ContType<'a>),
+}
+
+/// A definition of a type (WebAssembly Core Specification, Text Format, Types, "Recursive Types").
+#[derive(Debug, Drop)]
+pub struct TypeDef<'a> {
+    /// What it defines.
+    pub kind: InnerTypeKind<'a>,
+    /// Whether `shared` is written.
+    pub shared: bool,
+    /// The types that it is declared to be below.
+    pub parents: Vec<Index<'a>>,
+    /// The type that describes it.
+    pub descriptor: Option<Index<'a>>,
+    /// The type that it describes.
+    pub describes: Option<Index<'a>>,
+    /// Whether `final` is written, where `sub` is.
+    pub final_type: Option<bool>,
+}
+
+/// A type that a module defines (WebAssembly Core Specification, Text Format, Types, "Recursive Types").
+#[derive(Debug, Drop)]
+pub struct Type<'a> {
+    /// Where the word `type` begins.
+    pub span: Span,
+    /// Its identifier.
+    pub id: Option<Id<'a>>,
+    /// The name that an annotation gives.
+    pub name: Option<NameAnnotation<'a>>,
+    /// Its definition.
+    pub def: TypeDef<'a>,
+}
+
+/// A recursion group (WebAssembly Core Specification, Text Format, Types, "Recursive Types").
+#[derive(Debug, Drop)]
+pub struct Rec<'a> {
+    /// Where the word `rec` begins.
+    pub span: Span,
+    /// The types in it.
+    pub types: Vec<Type<'a>>,
+}
+
+/// An index.
+impl<'a> Parse<'a> for ContType<'a> {
+    ghost Seen = { Idx };
+
+    ghost seen = { λ c. seen_index c.0 };
+
+    ghost light = { true };
+
+    ghost bare = { λ _. true };
+
+    ghost quiet = { true };
+
+    ghost grammar = { index };
+
+    fn parse(parser: &mut Parser<'a>) -> Result<Self> {
+        Ok(ContType(Index::parse(parser)?))
+    }
+}
+
+/// `func` FunctionType, `struct` StructType, `array` ArrayType, or `cont` ContType.
+impl<'a> Parse<'a> for InnerTypeKind<'a> {
+    ghost Seen = { KindTy };
+
+    ghost seen = { seen_kind };
+
+    ghost light = { false };
+
+    ghost bare = { bare_kind };
+
+    ghost quiet = { true };
+
+    ghost grammar = { kind };
+
+    #[tactic(auto, unfolding(crate::specs::Define::kind))]
+    fn parse(parser: &mut Parser<'a>) -> Result<Self> {
+        if parser.next_is("func") {
+            parser.keyword("func")?;
+            return Ok(InnerTypeKind::Func(FunctionType::parse(parser)?));
+        }
+        if parser.next_is("struct") {
+            parser.keyword("struct")?;
+            return Ok(InnerTypeKind::Struct(StructType::parse(parser)?));
+        }
+        if parser.next_is("array") {
+            parser.keyword("array")?;
+            return Ok(InnerTypeKind::Array(ArrayType::parse(parser)?));
+        }
+        parser.keyword("cont")?;
+        Ok(InnerTypeKind::Cont(ContType::parse(parser)?))
+    }
+}
+
+/// The index behind the word, where it stands, and then `) (`.
+#[tactic(auto, unfolding(crate::specs::Define::linked))]
+fn read_link<'a>(parser: &mut Parser<'a>, word: &str) -> Result<Option<Index<'a>>>
+    ensures exact { Gives true (λ _. true) (seen_option seen_index) result ((linked word.now).reads parser.old.left) parser.new.left }
+    ensures counts { Counted result parser.old parser.new }
+    ensures quiet { Quiet parser.old parser.new }
+    ensures names { Kept parser.old parser.new }
+{
+    if !parser.next_is(word) {
+        return Ok(None);
+    }
+    parser.keyword(word)?;
+    let index = Index::parse(parser)?;
+    parser.close()?;
+    parser.open()?;
+    Ok(Some(index))
+}
+
+/// A definition with neither `sub` nor `shared`.
+#[tactic(auto, unfolding(crate::specs::Define::described))]
+fn read_described<'a>(parser: &mut Parser<'a>) -> Result<TypeDef<'a>>
+    ensures exact { Gives false bare_def seen_def result (described.reads parser.old.left) parser.new.left }
+    ensures counts { Counted result parser.old parser.new }
+    ensures quiet { Quiet parser.old parser.new }
+    ensures names { Kept parser.old parser.new }
+{
+    let describes = read_link(parser, "describes")?;
+    let descriptor = read_link(parser, "descriptor")?;
+    let kind = InnerTypeKind::parse(parser)?;
+    Ok(TypeDef {
+        kind,
+        shared: false,
+        parents: Vec::new(parser.alloc()),
+        descriptor,
+        describes,
+        final_type: None,
+    })
+}
+
+/// A definition without `sub`.
+#[tactic(auto, unfolding(crate::specs::Define::maybe_shared))]
+fn read_maybe_shared<'a>(parser: &mut Parser<'a>) -> Result<TypeDef<'a>>
+    ensures exact { Gives false bare_def seen_def result (maybe_shared.reads parser.old.left) parser.new.left }
+    ensures counts { Counted result parser.old parser.new }
+    ensures quiet { Quiet parser.old parser.new }
+    ensures names { Kept parser.old parser.new }
+{
+    if !parser.next_is("shared") {
+        return read_described(parser);
+    }
+    parser.keyword("shared")?;
+    parser.open()?;
+    let mut def = read_described(parser)?;
+    parser.close()?;
+    def.shared = true;
+    Ok(def)
+}
+
+/// `sub final? idx* (` S `)` or S; S is `shared (` K `)` or K; K is (`describes` idx `) (`)?, then (`descriptor` idx
+/// `) (`)?, then an InnerTypeKind.
+impl<'a> Parse<'a> for TypeDef<'a> {
+    ghost Seen = { DefTy };
+
+    ghost seen = { seen_def };
+
+    ghost light = { false };
+
+    ghost bare = { bare_def };
+
+    ghost quiet = { true };
+
+    ghost grammar = { type_def };
+
+    #[tactic(auto, unfolding(crate::specs::Define::type_def))]
+    fn parse(parser: &mut Parser<'a>) -> Result<Self> {
+        if !parser.next_is("sub") {
+            return read_maybe_shared(parser);
+        }
+        parser.keyword("sub")?;
+        let is_final = parser.flag("final");
+        let mut parents = Vec::new(parser.alloc());
+        while_begun::<Index>(parser, &mut parents)?;
+        parser.open()?;
+        let mut def = read_maybe_shared(parser)?;
+        parser.close()?;
+        def.parents = parents;
+        def.final_type = Some(is_final);
+        Ok(def)
+    }
+}
+
+/// `type id? name? (` TypeDef `)`.
+impl<'a> Parse<'a> for Type<'a> {
+    ghost Seen = { TypeTy };
+
+    ghost seen = { seen_type };
+
+    ghost light = { false };
+
+    ghost bare = { bare_type };
+
+    ghost quiet = { true };
+
+    ghost grammar = { type_ };
+
+    #[tactic(auto, unfolding(crate::specs::Define::type_, crate::specs::Label::label))]
+    fn parse(parser: &mut Parser<'a>) -> Result<Self> {
+        let span = parser.keyword("type")?;
+        let id = Option::<Id>::parse(parser)?;
+        let name = Option::<NameAnnotation>::parse(parser)?;
+        parser.open()?;
+        let def = TypeDef::parse(parser)?;
+        parser.close()?;
+        Ok(Type {
+            span,
+            id,
+            name,
+            def,
+        })
+    }
+}
+
+/// `type`
+impl<'p> Peek for Type<'p> {
+    ghost begins = { begins_type };
+
+    fn peek(cursor: Cursor<'_>) -> bool
+        ensures { result ≡ begins_type (front cursor.entry) }
+    {
+        match cursor.keyword() {
+            Some((word, _)) => word == "type",
+            None => false,
+        }
+    }
+
+    fn display() -> &'static str {
+        "type"
+    }
+}
+
+/// `( Type )`
+fn read_grouped<'a>(parser: &mut Parser<'a>) -> Result<Type<'a>>
+    ensures exact { Gives false bare_type seen_type result (grouped_type.reads parser.old.left) parser.new.left }
+    ensures counts { Counted result parser.old parser.new }
+    ensures quiet { Quiet parser.old parser.new }
+    ensures names { Kept parser.old parser.new }
+{
+    parser.open()?;
+    let found = Type::parse(parser)?;
+    parser.close()?;
+    Ok(found)
+}
+
+/// Types in parentheses, as long as the second token is `type`, each put behind those that are there.
+fn read_types<'a>(parser: &mut Parser<'a>, out: &mut Vec<Type<'a>>) -> Result<()>
+    ensures exact { Gives false no_items (λ _. seen_types out.new.items) result (after_front (seen_types out.old.items) (types.reads parser.old.left)) parser.new.left }
+    ensures counts { Counted result parser.old parser.new }
+    ensures quiet { Quiet parser.old parser.new }
+    ensures names { Kept parser.old parser.new }
+{
+    'types: while parser.peek2::<Type>() {
+        let found = read_grouped(parser)?;
+        out.push(found)?;
+    }
+    Ok(())
+}
+
+/// `rec`, then `( Type )` as long as the second token is `type`, whatever the first is.
+impl<'a> Parse<'a> for Rec<'a> {
+    ghost Seen = { List TypeTy };
+
+    ghost seen = { seen_rec };
+
+    ghost light = { false };
+
+    ghost bare = { no_items };
+
+    ghost quiet = { true };
+
+    ghost grammar = { rec };
+
+    #[tactic(auto, unfolding(crate::specs::Define::rec))]
+    fn parse(parser: &mut Parser<'a>) -> Result<Self> {
+        let span = parser.keyword("rec")?;
+        let mut types = Vec::new(parser.alloc());
+        read_types(parser, &mut types)?;
+        Ok(Rec { span, types })
+    }
+}

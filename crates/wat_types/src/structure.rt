@@ -1,0 +1,162 @@
+//! Structure and array types.
+
+ghost use Rattle.std.specs.Prelude.{◌≡◌, true, false, List, IfOk, IfErr};
+ghost use Rattle.wat_tokens.specs.Counts.{Counted, Quiet, Kept};
+ghost use Rattle.wat_tokens.specs.Many.{after_front};
+ghost use Rattle.wat_tokens.specs.Parses.{Gives, no_items};
+ghost use Rattle.wat_types.specs.Struct.{FieldTy, seen_array, field_type, MemberTy, seen_members, plain_members, members, member_group, seen_struct, struct_type};
+
+use crate::storage::StorageType;
+use wat_tokens::{Fault, Id, NameAnnotation, Parse, Parser, Result};
+
+/// An array type (WebAssembly Core Specification, Text Format, Types, "Composite Types").
+#[derive(Clone, Copy, Debug)]
+pub struct ArrayType<'a> {
+    /// Whether an element may be changed.
+    pub mutable: bool,
+    /// What an element holds.
+    pub ty: StorageType<'a>,
+}
+
+/// A field of a structure type (WebAssembly Core Specification, Text Format, Types, "Composite Types").
+#[derive(Clone, Copy, Debug)]
+pub struct StructField<'a> {
+    /// Its identifier.
+    pub id: Option<Id<'a>>,
+    /// The name that an annotation gives.
+    pub name: Option<NameAnnotation<'a>>,
+    /// Whether it may be changed.
+    pub mutable: bool,
+    /// What it holds.
+    pub ty: StorageType<'a>,
+}
+
+/// A structure type (WebAssembly Core Specification, Text Format, Types, "Composite Types").
+#[derive(Debug, Drop)]
+pub struct StructType<'a> {
+    /// The fields.
+    pub fields: Vec<StructField<'a>>,
+}
+
+/// Where the second token is `mut`: `( mut StorageType )`; else a storage type.
+impl<'a> Parse<'a> for ArrayType<'a> {
+    ghost Seen = { FieldTy };
+
+    ghost seen = { seen_array };
+
+    ghost light = { true };
+
+    ghost bare = { λ _. true };
+
+    ghost quiet = { true };
+
+    ghost grammar = { field_type };
+
+    #[tactic(auto, unfolding(crate::specs::Struct::field_type))]
+    fn parse(parser: &mut Parser<'a>) -> Result<Self> {
+        if parser.second_is("mut") {
+            parser.open()?;
+            parser.keyword("mut")?;
+            let ty = StorageType::parse(parser)?;
+            parser.close()?;
+            return Ok(ArrayType { mutable: true, ty });
+        }
+        let ty = StorageType::parse(parser)?;
+        Ok(ArrayType { mutable: false, ty })
+    }
+}
+
+/// Fields without labels, up to the end of the group, each put behind those that are there.
+fn read_plain_fields<'a>(parser: &mut Parser<'a>, out: &mut Vec<StructField<'a>>) -> Result<()>
+    ensures exact { Gives false no_items (λ _. seen_members out.new.items) result (after_front (seen_members out.old.items) (plain_members.reads parser.old.left)) parser.new.left }
+    ensures counts { Counted result parser.old parser.new }
+    ensures quiet { Quiet parser.old parser.new }
+    ensures names { Kept parser.old parser.new }
+{
+    'fields: while !parser.is_empty() {
+        let field = ArrayType::parse(parser)?;
+        out.push(StructField {
+            id: None,
+            name: None,
+            mutable: field.mutable,
+            ty: field.ty,
+        })?;
+    }
+    Ok(())
+}
+
+/// The fields of a group, each put behind those that are there.
+#[tactic(auto, unfolding(crate::specs::Struct::members, crate::specs::Label::label))]
+fn read_fields<'a>(parser: &mut Parser<'a>, out: &mut Vec<StructField<'a>>) -> Result<()>
+    ensures exact { Gives false no_items (λ _. seen_members out.new.items) result (after_front (seen_members out.old.items) (members.reads parser.old.left)) parser.new.left }
+    ensures counts { Counted result parser.old parser.new }
+    ensures quiet { Quiet parser.old parser.new }
+    ensures names { Kept parser.old parser.new }
+{
+    if parser.peek::<Id>() || parser.peek::<NameAnnotation>() {
+        let id = Option::<Id>::parse(parser)?;
+        let name = Option::<NameAnnotation>::parse(parser)?;
+        let field = ArrayType::parse(parser)?;
+        out.push(StructField {
+            id,
+            name,
+            mutable: field.mutable,
+            ty: field.ty,
+        })?;
+        return Ok(());
+    }
+    read_plain_fields(parser, out)
+}
+
+/// One group of fields, put behind those that are there.
+#[tactic(auto, unfolding(crate::specs::Struct::member_group))]
+fn read_group<'a>(parser: &mut Parser<'a>, out: &mut Vec<StructField<'a>>) -> Result<()>
+    ensures exact { Gives false no_items (λ _. seen_members out.new.items) result (after_front (seen_members out.old.items) (member_group.reads parser.old.left)) parser.new.left }
+    ensures counts { Counted result parser.old parser.new }
+    ensures quiet { Quiet parser.old parser.new }
+    ensures names { Kept parser.old parser.new }
+{
+    parser.open()?;
+    parser.keyword("field")?;
+    read_fields(parser, out)?;
+    parser.close()?;
+    Ok(())
+}
+
+impl<'a> StructType<'a> {
+    /// The same structure type once more. Memory may be answered where it has a field.
+    pub fn clone(&self) -> Result<StructType<'a>>
+        ensures fields { IfOk result (λ s. s.fields.items ≡ self.now.fields.items) }
+        ensures seen { IfOk result (λ s. seen_struct s ≡ seen_struct self.now) }
+        ensures memory { IfErr result (λ e. (e.fault ≡ Fault.Memory) × (no_items (seen_struct self.now) ≡ false)) }
+    {
+        let mut fields = Vec::new(*self.fields.allocator());
+        fields.extend_from_slice(&self.fields)?;
+        Ok(StructType { fields })
+    }
+}
+
+/// Groups, up to the end of the group they stand in: `( field id? name? StructField )` with an id or a name, and
+/// `( field StructField* )`. A StructField is, where the second token is `mut`, `( mut StorageType )`, else a storage
+/// type.
+impl<'a> Parse<'a> for StructType<'a> {
+    ghost Seen = { List MemberTy };
+
+    ghost seen = { seen_struct };
+
+    ghost light = { false };
+
+    ghost bare = { no_items };
+
+    ghost quiet = { true };
+
+    ghost grammar = { struct_type };
+
+    fn parse(parser: &mut Parser<'a>) -> Result<Self> {
+        let mut fields = Vec::new(parser.alloc());
+        'groups: while !parser.is_empty() {
+            read_group(parser, &mut fields)?;
+        }
+        Ok(StructType { fields })
+    }
+}
