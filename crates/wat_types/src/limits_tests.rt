@@ -73,7 +73,7 @@ fn storage_types(rt: HostRuntime) -> Result<(), Fail> {
     }
     assert_eq!(rt;
         refusal(read::<StorageType>(alloc, "(foo)", &arena)),
-        Some((Fault::Unexpected, 1))
+        Some((Fault::Unexpected, 0))
     );
     Ok(())
 }
