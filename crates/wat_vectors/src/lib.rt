@@ -3,3 +3,5 @@
 
 #[cfg(test)]
 mod functype;
+#[cfg(test)]
+mod types;
