@@ -1,5 +1,7 @@
 -- Proofs: groups in which no label may stand are those in which one may and none does.
 use Rattle.std.specs.Prelude.{◌≡◌, ℕ, Bool, true, false, not, ◌&&◌, List, [], ◌∷◌, ◌++◌, codes, Option, Some, None, flat_map, refl}
+use Rattle.std.specs.Cmp.{first_so, second_so}
+use Rattle.std.specs.Cmp.Derive.{both_true}
 use Rattle.std.proofs.Common.{sym, ◌∙◌, inl, inr, append_assoc, subst}
 use Rattle.wat_tokens.specs.Token.{Tok, LParen, RParen, Id, Annotation}
 use Rattle.wat_tokens.specs.Tests.{begins_id, more}
@@ -110,26 +112,15 @@ unlabelled-append : (ps qs : List ParamTy) → unlabelled (ps ++ qs) ≡ (unlabe
 unlabelled-append [] qs = refl
 unlabelled-append (p ∷ ps) qs = by_test (labelled p.label) (λ k. rw k refl) (λ k. rw k (unlabelled-append ps qs))
 
-both : (a b : Bool) → a ≡ true → b ≡ true → (a && b) ≡ true
-both a b e f = rw (e, f) refl
-
-first : (a b : Bool) → (a && b) ≡ true → a ≡ true
-first true b e = refl
-first false b e = absurd cc
-
-then : (a b : Bool) → (a && b) ≡ true → b ≡ true
-then true b e = e
-then false b e = absurd cc
-
 pub groups_allow : (gs : List Group) (c r : List Tok) → many_spells group_follows (func_group false) gs c r → many_spells group_follows (func_group true) gs c r × Unlabelled (flat_map params_in gs)
 groups_allow [] c r s = (s, refl)
 groups_allow (x ∷ gs) c r s =
     let m = one_allow x s.0 (s.1 ++ r) s.4 in
     let n = groups_allow gs s.1 r s.5 in
-    ((s.0, s.1, s.2, s.3, m.0, n.0), unlabelled-append (params_in x) (flat_map params_in gs) ∙ both (unlabelled (params_in x)) (unlabelled (flat_map params_in gs)) m.1 n.1)
+    ((s.0, s.1, s.2, s.3, m.0, n.0), unlabelled-append (params_in x) (flat_map params_in gs) ∙ both_true m.1 n.1)
 
 pub groups_forbid : (gs : List Group) (c r : List Tok) → many_spells group_follows (func_group true) gs c r → Unlabelled (flat_map params_in gs) → many_spells group_follows (func_group false) gs c r
 groups_forbid [] c r s u = s
 groups_forbid (x ∷ gs) c r s u =
     let w = sym (unlabelled-append (params_in x) (flat_map params_in gs)) ∙ u in
-    (s.0, s.1, s.2, s.3, one_forbid x s.0 (s.1 ++ r) s.4 (first (unlabelled (params_in x)) (unlabelled (flat_map params_in gs)) w), groups_forbid gs s.1 r s.5 (then (unlabelled (params_in x)) (unlabelled (flat_map params_in gs)) w))
+    (s.0, s.1, s.2, s.3, one_forbid x s.0 (s.1 ++ r) s.4 (first_so (unlabelled (params_in x)) (unlabelled (flat_map params_in gs)) w), groups_forbid gs s.1 r s.5 (second_so (unlabelled (params_in x)) (unlabelled (flat_map params_in gs)) w))
