@@ -1,4 +1,5 @@
 -- Where groups end, found from the right, and how far each hidden one leaps.
+use Rattle.std.specs.Cmp.{first_so}
 use Rattle.std.proofs.Common.{◌≡◌, ℕ, zero, suc, ◌+◌, ◌-◌, ◌<◌, ◌≤◌, List, [], ◌∷◌, ◌++◌, length, drop, get_or, refl, ap, sym, subst, ◌∙◌, arith, inl, inr, add-one, append-nil, drop-drop, length-drop}
 use Rattle.std.specs.Prelude.{Bool, true, false, Option, Some, None, option_map, slice_get, IsSome, MatchOption, ◌↔◌, option_to_list, reverse, nat_lt, ◌&&◌, not}
 use Rattle.std.proofs.lemmas.Bool.{cases_Bool, ltb-true, ltb-false}
@@ -81,13 +82,9 @@ ends_open ts i end t lt all front e = (
 
 -- LEAPS
 
-both_left : (a b : Bool) → (a && b) ≡ true → a ≡ true
-both_left true b e = refl
-both_left false b e = e
-
 -- what is hidden where the five names are known is hidden where none is
 hidden_anyway : (known : Bool) (t : List Tok) → hides known t ≡ true → hides false t ≡ true
-hidden_anyway known t h = rw (both_left (annotated t) (not (known && is_standard (annotation_name t))) h) refl
+hidden_anyway known t h = rw (first_so (annotated t) (not (known && is_standard (annotation_name t))) h) refl
 
 hides_is : (t : List Tok) → hides false t ≡ true → (n : List ℕ) × (r : List Tok) × (t ≡ LParen ∷ (Annotation n ∷ r))
 hides_is [] h = absurd cc

@@ -1,4 +1,5 @@
 -- A text has one outcome: its cut or its first fault.
+use Rattle.std.proofs.lemmas.Bool.{or_parts}
 use Rattle.std.proofs.Common.{◌≡◌, ℕ, zero, suc, ◌-◌, ◌<◌, List, [], ◌∷◌, ◌++◌, length, drop, take, refl, ap, sym, subst, ◌∙◌, arith, inl, inr, append-nil}
 use Rattle.std.specs.Prelude.{Bool, true, false, ◌||◌, ◌&&◌, not, Some, slice_get, nat_lt}
 use Rattle.std.proofs.lemmas.List.{drop-map}
@@ -60,14 +61,10 @@ failed_none text e h = λ no_memory ts cut. let (at, fails, place) = h no_memory
 pub left_open : (text : List ℕ) (ts : List Placed) (offset : ℕ) (e : Error) → Cuts (length text) false text ts → FirstUnclosed ts offset → e.fault ≡ LexAnnotation → offset_of e.span ≡ offset → FirstFault text e.fault (offset_of e.span)
 left_open text ts offset e c first f place = subst (λ f. FirstFault text f (offset_of e.span)) (sym f) (subst (FirstFault text LexAnnotation) (sym place) (closing text ts offset c first))
 
-either_right : (a b : Bool) → a || b ≡ false → b ≡ false
-either_right true b e = absurd (let f : true ≡ false = e in cc)
-either_right false b e = e
-
 none_noted : (ts : List Tok) → has_annotation ts ≡ false → (i : ℕ) → annotated (drop i ts) ≡ false
 none_noted [] e zero = refl
 none_noted [] e (suc i) = refl
-none_noted (x ∷ ts) e (suc i) = none_noted ts (either_right (is_annotation x) (has_annotation ts) e) i
+none_noted (x ∷ ts) e (suc i) = none_noted ts (or_parts (is_annotation x) (has_annotation ts) e).1 i
 none_noted (LParen ∷ Annotation n ∷ ts) e zero = absurd (let f : true ≡ false = e in cc)
 none_noted (LParen ∷ []) e zero = refl
 none_noted (LParen ∷ _ ∷ ts) e zero = refl

@@ -1,4 +1,5 @@
 -- Where no value type begins, none is read.
+use Rattle.std.proofs.lemmas.Bool.{or_parts}
 use Rattle.std.proofs.Common.{◌≡◌, ℕ, Bool, true, false, List, [], ◌∷◌, Option, Some, None, refl}
 use Rattle.std.specs.Prelude.{◌||◌, codes, is_some}
 use Rattle.wat_tokens.specs.Token.{Tok}
@@ -7,14 +8,6 @@ use Rattle.wat_tokens.specs.Parts.{one_reads, with_rest}
 use Rattle.wat_tokens.specs.Begin.{begins_one_of}
 use Rattle.wat_types.specs.Reference.{ref_type, shorthand, shorthand_words, begins_shorthand, begins_long_ref}
 use Rattle.wat_types.specs.Value.{plain_words, val_type, begins_plain, begins_val}
-
-first : (a b : Bool) → (a || b) ≡ false → a ≡ false
-first true b e = absurd cc
-first false b e = refl
-
-then : (a b : Bool) → (a || b) ≡ false → b ≡ false
-then true b e = absurd cc
-then false b e = e
 
 none_known : {A : Type 0} (o : Option A) (r : List Tok) → is_some o ≡ false → with_rest o r ≡ None
 none_known (Some v) r e = absurd cc
@@ -30,11 +23,11 @@ no_shorthand t e = no_word shorthand_words t e
 
 no_reference : (t : List Tok) → begins_shorthand t ≡ false → begins_long_ref t ≡ false → ref_type.reads t ≡ None
 unfolding ref_type
-no_reference t e f = rw (first (begins_group (codes "ref") t) (begins_group (codes "shared") t) f, then (begins_group (codes "ref") t) (begins_group (codes "shared") t) f, no_shorthand t e) refl
+no_reference t e f = rw ((or_parts (begins_group (codes "ref") t) (begins_group (codes "shared") t) f).0, (or_parts (begins_group (codes "ref") t) (begins_group (codes "shared") t) f).1, no_shorthand t e) refl
 
 pub no_value_type : (t : List Tok) → begins_val t ≡ false → val_type.reads t ≡ None
 unfolding val_type begins_plain
 no_value_type t e =
-    let long = then (begins_plain t) (begins_shorthand t || begins_long_ref t) e in
-    let known : begins_one_of (word_in plain_words) t ≡ false = first (begins_plain t) (begins_shorthand t || begins_long_ref t) e in
-    rw (known, no_reference t (first (begins_shorthand t) (begins_long_ref t) long) (then (begins_shorthand t) (begins_long_ref t) long)) refl
+    let long = (or_parts (begins_plain t) (begins_shorthand t || begins_long_ref t) e).1 in
+    let known : begins_one_of (word_in plain_words) t ≡ false = (or_parts (begins_plain t) (begins_shorthand t || begins_long_ref t) e).0 in
+    rw (known, no_reference t (or_parts (begins_shorthand t) (begins_long_ref t) long).0 (or_parts (begins_shorthand t) (begins_long_ref t) long).1) refl

@@ -1,4 +1,5 @@
 -- Where a definition without `sub` isn't bare, the one with `sub` around it isn't either.
+use Rattle.std.proofs.lemmas.Bool.{and_right}
 use Rattle.std.proofs.Common.{◌≡◌, Bool, true, false, List, [], ◌∷◌, Some, None, refl, sym, ap, ◌∙◌, inl, inr}
 use Rattle.std.specs.Prelude.{◌&&◌, codes}
 use Rattle.wat_tokens.specs.Token.{Tok, RParen}
@@ -25,10 +26,6 @@ bare_left : (ps : List Idx) (b : Bool) → ps ≡ [] → (no_items ps && b) ≡ 
 bare_left [] b e f = f
 bare_left (p ∷ ps) b e f = absurd cc
 
-either : (a b : Bool) → b ≡ false → (a && b) ≡ false
-either true b e = e
-either false b e = refl
-
 front_is : {A : Type 0} (x : Read (List A)) (y : List A × List Tok) → after_front [] x ≡ Some y → x ≡ Some y
 front_is (Some x) y e = e
 front_is None y e = absurd cc
@@ -44,5 +41,5 @@ module _ (b : Bool) (ps : List Idx) (t t1 t2 t3 t4 : List Tok) (k : begins_word 
       (λ y m. (let s = maybe_shared.sound t4 y m in
       let bare : bare_def y.0 ≡ false = rw m at n in
       let left : bare_kind y.0.kind ≡ false = bare_left y.0.parents (bare_kind y.0.kind) (alone y.0 s.0 y.1 s.2) bare in
-      rw m (by_read (one_reads is_rparen y.1) (λ z o. rw o (either (no_items ps) (bare_kind y.0.kind) left)) (λ o. rw o tt))))
+      rw m (by_read (one_reads is_rparen y.1) (λ z o. rw o (and_right (no_items ps) (bare_kind y.0.kind) left)) (λ o. rw o tt))))
       (λ m. rw m tt))
