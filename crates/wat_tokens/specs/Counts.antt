@@ -34,9 +34,9 @@ Turned r a b = b.turns + a.taken ≤ a.turns + b.taken + on_refusal r
 abbrev pub Counted : {X E : Type 0} → Result X E → State → State → Type 0
 Counted r a b = Carries a b × Turned r a b
 
--- nothing but `taken` was counted
+-- nothing but `taken` was counted: no turn, no comparison, no height
 abbrev pub Quiet : State → State → Type 0
-Quiet a b = (b.turns ≡ a.turns) × (b.peak ≡ a.peak)
+Quiet a b = (b.turns ≡ a.turns) × (b.probes ≡ a.probes) × (b.peak ≡ a.peak) × (b.held ≡ a.held)
 
 -- which names are on, and whether spans of instructions are kept, stands as before
 abbrev pub Kept : State → State → Type 0
@@ -72,11 +72,12 @@ pub carries_step : (a b : State) → a.left ≢ [] → b.left ≡ drop 1 a.left 
 unfolding Counts
 carries_step a b some l t q =
     let s = some_left a.left some in
-    carries_of a b (record { front = take 1 a.left; left = sym s.0 ∙ ap (λ l. take 1 a.left ++ l) (sym l); taken = omega (arith, t, s.1); more = omega (arith, q.0); peak = omega (arith, q.1) })
+    carries_of a b (record { front = take 1 a.left; left = sym s.0 ∙ ap (λ l. take 1 a.left ++ l) (sym l); taken = omega (arith, t, s.1); more = omega (arith, q.0); peak = omega (arith, q.2) })
 
-pub carries_tick : (a b : State) → b ≡ record a { turns = a.turns + 1 } → Carries a b
+-- nothing was taken, and the greatest height stayed
+pub carries_still : (a b : State) → b.left ≡ a.left → b.taken ≡ a.taken → a.turns ≤ b.turns → b.peak ≡ a.peak → Carries a b
 unfolding Counts
-carries_tick a b e = rw e (carries_of a (record a { turns = a.turns + 1 }) (record { front = []; left = refl; taken = omega arith; more = omega arith; peak = omega arith }))
+carries_still a b l t m p = carries_of a b (record { front = []; left = sym l; taken = omega (arith, t); more = m; peak = omega (arith, p) })
 
 -- in plain words: what was taken is a front, `taken` rose by its length, and `peak` at most to how it nests
 pub counts_taken : (a b : State) (c : List Tok) → Carries a b → a.left ≡ c ++ b.left → b.taken ≡ a.taken + length c

@@ -6,7 +6,8 @@ use Rattle.wat_lexer.specs.Sight.{as_seen}
 use Rattle.wat_lexer.specs.Token.{Tok, Placed, tokens_of}
 
 -- rest: all tokens from the place on; left: those of them that are seen; known: whether the five standard names are on;
--- tracks: whether spans of instructions are kept; taken, turns, peak: the counts
+-- tracks: whether spans of instructions are kept; the rest are counts: of tokens that were taken, turns of loops,
+-- comparisons of a word with a table's, and the greatest heights of a stack's levels and of the heads that it holds
 pub record State : Type 0 where
   pub rest : List Tok
   pub left : List Tok
@@ -14,11 +15,13 @@ pub record State : Type 0 where
   pub tracks : Bool
   pub taken : ℕ
   pub turns : ℕ
+  pub probes : ℕ
   pub peak : ℕ
+  pub held : ℕ
 
 -- a parser at the first of the tokens: no name is on, no span is kept, and nothing was counted
 abbrev pub begun : List Tok → State
-begun t = record { rest = t; left = as_seen false t; known = false; tracks = false; taken = 0; turns = 0; peak = 0 }
+begun t = record { rest = t; left = as_seen false t; known = false; tracks = false; taken = 0; turns = 0; probes = 0; peak = 0; held = 0 }
 
 -- a parser at the first token of the text's cut
 abbrev pub IsFresh : List ℕ → State → Type 0

@@ -50,7 +50,9 @@ pub struct Parser<'a> {
     tracks: bool,
     taken: Tally,
     turns: Tally,
+    probes: Tally,
     peak: usize,
+    held: usize,
     alloc: Global,
 }
 
@@ -63,7 +65,7 @@ impl<'a> Model for Parser<'a> {
     ghost use Rattle.wat_lexer.specs.Sight.{as_seen};
     ghost use Rattle.wat_lexer.specs.View.{toks, AreLeaps};
 
-    ghost view = { λ p. record { rest = toks (drop p.at p.tokens.items); left = as_seen p.known (toks (drop p.at p.tokens.items)); known = p.known; tracks = p.tracks; taken = p.taken.count; turns = p.turns.count; peak = p.peak } };
+    ghost view = { λ p. record { rest = toks (drop p.at p.tokens.items); left = as_seen p.known (toks (drop p.at p.tokens.items)); known = p.known; tracks = p.tracks; taken = p.taken.count; turns = p.turns.count; probes = p.probes.count; peak = p.peak; held = p.held } };
 
     ghost invariant = { λ p. (p.at ≤ length p.tokens.items) × AreLeaps p.tokens.items };
 }
@@ -96,7 +98,9 @@ impl<'a> Parser<'a> {
             tracks: false,
             taken: Tally::new(),
             turns: Tally::new(),
+            probes: Tally::new(),
             peak: 0,
+            held: 0,
             alloc,
         }
     }
@@ -132,7 +136,7 @@ impl<'a> Parser<'a> {
     }
 
     /// Counts one turn of a loop over the tokens, in `turns`. It takes no time.
-    #[tactic(auto, using(crate::specs::Counts::carries_tick))]
+    #[tactic(auto, using(crate::specs::Counts::carries_still))]
     pub fn tick(&mut self)
         ensures only { self.new ≡ record self.old { turns = self.old.turns + 1 } }
         ensures counts { Carries self.old self.new }
@@ -140,13 +144,29 @@ impl<'a> Parser<'a> {
         self.turns.tick();
     }
 
+    /// Counts one comparison of a word with an entry of a table, in `probes`. It takes no time.
+    #[tactic(auto, using(crate::specs::Counts::carries_still))]
+    pub fn probe(&mut self)
+        ensures only { self.new ≡ record self.old { probes = self.old.probes + 1 } }
+        ensures counts { Carries self.old self.new }
+    {
+        self.probes.tick();
+    }
+
     /// Notes the height of a stack: `peak` becomes the greater of what it was and the number.
     pub fn note_height(&mut self, height: usize)
         ensures { self.new ≡ record self.old { peak = max self.old.peak height } }
     {
-        if height > self.peak {
-            self.peak = height;
-        }
+        self.peak = self.peak.max(height);
+    }
+
+    /// Notes how many heads a stack holds: `held` becomes the greater of what it was and the number.
+    #[tactic(auto, using(crate::specs::Counts::carries_still))]
+    pub fn note_held(&mut self, heads: usize)
+        ensures only { self.new ≡ record self.old { held = max self.old.held heads } }
+        ensures counts { Carries self.old self.new }
+    {
+        self.held = self.held.max(heads);
     }
 
     /// The allocator that the parser was given, for what a value keeps.

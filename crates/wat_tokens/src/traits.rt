@@ -28,7 +28,7 @@ pub trait Parse<'a>: Sized {
     /// Whether the value holds no box, and no vector that isn't empty.
     ghost bare: { Seen → Bool };
 
-    /// Whether no expression is in it.
+    /// Whether no instruction is in it.
     ghost quiet: { Bool };
 
     /// Which tokens spell a value, and how it is read.
