@@ -7,7 +7,6 @@ use Rattle.wat_tokens.specs.Error.{Error, Fault, Memory}
 use Rattle.wat_tokens.specs.Many.{after_front, many_at, many_reads}
 use Rattle.wat_tokens.specs.Parses.{Gives, Accepts, NotBare, no_items}
 use Rattle.wat_tokens.specs.Production.{Production, Read, bind, by_read, some_is}
-use Rattle.wat_tokens.specs.Tests.{ends, more}
 
 pub gives_refused : {X A : Type 0} (light : Bool) (bare : A → Bool) (view : X → A) (g : Production A) (res : Result X Error) (t left : List Tok) → Gives light bare view res (g.reads t) left
     → IfErr res (λ e. e.fault ≢ Memory → (v : A) (c r : List Tok) → t ≡ c ++ r → g.spells v c r → ⊥)
@@ -32,12 +31,6 @@ gives_accepts light bare view g (Err e) t left h v c r whole s =
     by_fault e.fault
     (λ m. (m, rw read at (h.1 m).1))
     (λ not. (let none : g.reads t ≡ None = h.0 not in cc))
-
-pub more_is : (t : List Tok) (b : Bool) → b ≡ ends t → b ≡ false → more t ≡ true
-more_is t b e f = rw (← e, f) refl
-
-pub more_not : (t : List Tok) (b : Bool) → b ≡ ends t → b ≡ true → more t ≡ false
-more_not t b e f = rw (← e, f) refl
 
 items_after : {A : Type 0} (before : List A) (v : A) (vs : List A) → no_items (before ++ v ∷ vs) ≡ false
 items_after [] v vs = refl

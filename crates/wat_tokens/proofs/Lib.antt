@@ -1,3 +1,4 @@
 pub mod Exact
+pub mod Joined
 pub mod Steps
 pub mod Texts

@@ -14,6 +14,7 @@ pub mod Floats
 pub mod Groups
 pub mod Index
 pub mod Integers
+pub mod Joined
 pub mod Lookup
 pub mod Many
 pub mod NameAnnotation

@@ -14,6 +14,7 @@ pub mod integers;
 pub mod kw;
 pub mod name_annotation;
 pub mod parser;
+pub mod repeat;
 #[cfg(test)]
 mod shapes;
 pub mod strings;

@@ -10,7 +10,7 @@ ghost use Rattle.wat_tokens.specs.Parses.{no_items, seen_option};
 ghost use Rattle.wat_tokens.specs.Parts.{opt, seq};
 ghost use Rattle.wat_tokens.specs.Tests.{begins_group, begins_id};
 
-use crate::traits::while_begun;
+use crate::repeat::while_begun;
 use crate::{Cursor, Fault, Id, Parse, Parser, Peek};
 use bumpalo::Bump;
 use std::test::Fail;

@@ -1,15 +1,14 @@
 //! What can be parsed, and what can be looked for.
 
-ghost use Rattle.std.specs.Prelude.{◌≡◌, ◌≤◌, ◌+◌, max, length, map, List, ℕ, Bool, IsTrue, IfOk, IfErr, ◌++◌, ◌≢◌, false};
+ghost use Rattle.std.specs.Prelude.{◌≡◌, ◌≤◌, ◌+◌, max, length, List, ℕ, Bool, IsTrue, IfOk, IfErr, ◌++◌, ◌≢◌, false};
 ghost use Rattle.wat_lexer.specs.Token.{Tok};
 ghost use Rattle.wat_tokens.specs.Counts.{Counted, Turned, Quiet, Kept};
 ghost use Rattle.wat_tokens.specs.Error.{Memory};
 ghost use Rattle.wat_tokens.specs.Lookup.{front};
-ghost use Rattle.wat_tokens.specs.Many.{after_front, many_reads};
 ghost use Rattle.wat_tokens.specs.Parens.{nest};
-ghost use Rattle.wat_tokens.specs.Parses.{Gives, Accepts, no_items};
+ghost use Rattle.wat_tokens.specs.Parses.{Gives, Accepts};
 ghost use Rattle.wat_tokens.specs.Production.{Production, Front};
-ghost use Rattle.wat_tokens.specs.Tests.{second, more};
+ghost use Rattle.wat_tokens.specs.Tests.{second};
 
 use crate::cursor::Cursor;
 use crate::parser::Parser;
@@ -110,40 +109,6 @@ impl<'a> Parser<'a> {
     {
         T::peek2(self.cursor())
     }
-}
-
-/// Takes values up to the end of the group, each put behind those that are there.
-pub fn rest_of_group<'a, T: Parse<'a> + Drop>(
-    parser: &mut Parser<'a>,
-    out: &mut Vec<T>,
-) -> Result<(), Error>
-    requires { 1 ≤ T.grammar.least }
-    ensures exact { Gives false no_items (λ _. map T.seen out.new.items) result (after_front (map T.seen out.old.items) (many_reads more T.grammar parser.old.left)) parser.new.left }
-    ensures counts { Counted result parser.old parser.new }
-    ensures quiet { IsTrue T.quiet → Quiet parser.old parser.new }
-    ensures names { Kept parser.old parser.new }
-{
-    'items: while !parser.is_empty() {
-        out.push(T::parse(parser)?)?;
-    }
-    Ok(())
-}
-
-/// Takes values as long as one begins, each put behind those that are there.
-pub fn while_begun<'a, T: Parse<'a> + Peek + Drop>(
-    parser: &mut Parser<'a>,
-    out: &mut Vec<T>,
-) -> Result<(), Error>
-    requires { 1 ≤ T.grammar.least }
-    ensures exact { Gives false no_items (λ _. map T.seen out.new.items) result (after_front (map T.seen out.old.items) (many_reads T.begins T.grammar parser.old.left)) parser.new.left }
-    ensures counts { Counted result parser.old parser.new }
-    ensures quiet { IsTrue T.quiet → Quiet parser.old parser.new }
-    ensures names { Kept parser.old parser.new }
-{
-    'items: while parser.peek::<T>() {
-        out.push(T::parse(parser)?)?;
-    }
-    Ok(())
 }
 
 /// No two fronts of one token list spell values, unless they are one front and one value.

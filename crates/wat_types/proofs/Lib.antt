@@ -1,4 +1,3 @@
 pub mod Begun
 pub mod Definitions
 pub mod Groups
-pub mod Members

@@ -1,12 +1,12 @@
 -- Structure and array types.
 use Rattle.std.specs.Prelude.{◌≡◌, ◌≤◌, Bool, true, false, List, [], ◌∷◌, ◌++◌, codes, Option, Some, None, map, flat_map, refl}
-use Rattle.std.proofs.Common.{lit≤, ap, sym, ◌∙◌, append_assoc}
-use Rattle.std.proofs.lemmas.List.{append-nil}
+use Rattle.std.proofs.Common.{lit≤}
 use Rattle.wat_tokens.specs.Token.{Tok}
 use Rattle.wat_tokens.specs.Tests.{begins_word, more, second}
 use Rattle.wat_tokens.specs.Production.{Production, Read, bind, some_of, option_of}
 use Rattle.wat_tokens.specs.Parts.{seq, made, where_else}
-use Rattle.wat_tokens.specs.Many.{many, add_all, add_rest}
+use Rattle.wat_tokens.specs.Joined.{joined}
+use Rattle.wat_tokens.specs.Many.{many}
 use Rattle.wat_tokens.specs.Groups.{group}
 use Rattle.wat_tokens.specs.NameAnnotation.{name_annotation}
 use Rattle.wat_types.specs.Heap.{heap_type, abstract_heap_type}
@@ -81,27 +81,6 @@ pub member_group_eats : 1 ≤ member_group.least
 unfolding member_group members label name_annotation plain_members field_type storage_type val_type ref_type shorthand heap_type abstract_heap_type
 member_group_eats = lit≤ tt
 
--- groups, to the end
-unfoldable pub member_groups : Production (List (List MemberTy))
-member_groups = many more member_group member_group_eats
-
--- the fields of all groups, one behind the other
+-- groups, to the end: the fields of all, one behind the other
 unfoldable pub struct_type : Production (List MemberTy)
-struct_type = made (λ gs. flat_map (λ fs. fs) gs) member_groups
-
--- ---- proofs: putting group behind group gives the fields of all
-
-abbrev pub join : List MemberTy → List MemberTy → Option (List MemberTy)
-join fs gs = Some (fs ++ gs)
-
-pub joins : (gs : List (List MemberTy)) (fs : List MemberTy) → add_all join gs fs ≡ Some (fs ++ flat_map (λ g. g) gs)
-joins [] fs = ap (λ (u : List MemberTy). option_of u) (sym (append-nil fs))
-joins (g ∷ gs) fs = joins gs (fs ++ g) ∙ ap (λ (u : List MemberTy). option_of u) (append_assoc fs g (flat_map (λ h. h) gs))
-
-pub join_groups : (x : Read (List (List MemberTy))) → add_rest join [] x ≡ bind x (λ gs r. some_of (flat_map (λ g. g) gs, r))
-join_groups (Some x) = rw (joins x.0 []) refl
-join_groups None = refl
-
-pub joined_reads : (t : List Tok) → add_rest join [] (member_groups.reads t) ≡ struct_type.reads t
-unfolding struct_type
-joined_reads t = join_groups (member_groups.reads t)
+struct_type = joined more member_group member_group_eats

@@ -6,11 +6,12 @@ ghost use Rattle.wat_tokens.specs.Index.{Idx, seen_index, index};
 ghost use Rattle.wat_tokens.specs.Lookup.{front};
 ghost use Rattle.wat_tokens.specs.Many.{after_front};
 ghost use Rattle.wat_tokens.specs.Parses.{Gives, no_items, seen_option};
+ghost use Rattle.wat_tokens.specs.Tests.{second};
 ghost use Rattle.wat_types.specs.Define.{KindTy, seen_kind, bare_kind, kind, linked, DefTy, seen_def, bare_def, described, maybe_shared, type_def, TypeTy, seen_type, bare_type, type_, begins_type, grouped_type, seen_types, types, seen_rec, rec};
 
 use crate::function::FunctionType;
 use crate::structure::{ArrayType, StructType};
-use wat_tokens::traits::while_begun;
+use wat_tokens::repeat::{Part, parts, while_begun};
 use wat_tokens::{Cursor, Id, Index, NameAnnotation, Parse, Parser, Peek, Result, Span};
 
 /// A continuation type: the function type that it is of, by its index (WebAssembly Core Specification, Text Format,
@@ -262,31 +263,34 @@ impl<'p> Peek for Type<'p> {
     }
 }
 
-/// `( Type )`
-fn read_grouped<'a>(parser: &mut Parser<'a>) -> Result<Type<'a>>
-    ensures exact { Gives false bare_type seen_type result (grouped_type.reads parser.old.left) parser.new.left }
-    ensures counts { Counted result parser.old parser.new }
-    ensures quiet { Quiet parser.old parser.new }
-    ensures names { Kept parser.old parser.new }
-{
-    parser.open()?;
-    let found = Type::parse(parser)?;
-    parser.close()?;
-    Ok(found)
-}
+/// `( Type )`, where the second token is `type`.
+struct GroupedType;
 
-/// Types in parentheses, as long as the second token is `type`, each put behind those that are there.
-fn read_types<'a>(parser: &mut Parser<'a>, out: &mut Vec<Type<'a>>) -> Result<()>
-    ensures exact { Gives false no_items (λ _. seen_types out.new.items) result (after_front (seen_types out.old.items) (types.reads parser.old.left)) parser.new.left }
-    ensures counts { Counted result parser.old parser.new }
-    ensures quiet { Quiet parser.old parser.new }
-    ensures names { Kept parser.old parser.new }
-{
-    'types: while parser.peek2::<Type>() {
-        let found = read_grouped(parser)?;
-        out.push(found)?;
+impl<'a> Part<'a, Type<'a>> for GroupedType {
+    ghost Seen = { TypeTy };
+
+    ghost seen = { seen_type };
+
+    ghost light = { false };
+
+    ghost bare = { bare_type };
+
+    ghost quiet = { true };
+
+    ghost grammar = { grouped_type };
+
+    ghost follows = { second begins_type };
+
+    fn follows(parser: &Parser<'a>) -> bool {
+        parser.peek2::<Type>()
     }
-    Ok(())
+
+    fn take(parser: &mut Parser<'a>) -> Result<Type<'a>> {
+        parser.open()?;
+        let found = Type::parse(parser)?;
+        parser.close()?;
+        Ok(found)
+    }
 }
 
 /// `rec`, then `( Type )` as long as the second token is `type`, whatever the first is.
@@ -303,11 +307,11 @@ impl<'a> Parse<'a> for Rec<'a> {
 
     ghost grammar = { rec };
 
-    #[tactic(auto, unfolding(crate::specs::Define::rec))]
+    #[tactic(auto, using(crate::specs::Define::grouped_type_eats), unfolding(crate::specs::Define::rec, crate::specs::Define::types))]
     fn parse(parser: &mut Parser<'a>) -> Result<Self> {
         let span = parser.keyword("rec")?;
         let mut types = Vec::new(parser.alloc());
-        read_types(parser, &mut types)?;
+        parts::<_, GroupedType>(parser, &mut types)?;
         Ok(Rec { span, types })
     }
 }

@@ -5,13 +5,14 @@ ghost use Rattle.wat_tokens.specs.Counts.{Counted, Quiet, Kept};
 ghost use Rattle.wat_tokens.specs.Lookup.{front};
 ghost use Rattle.wat_tokens.specs.Many.{after_front, add_read};
 ghost use Rattle.wat_tokens.specs.Parses.{Gives, no_items};
-ghost use Rattle.wat_types.specs.Function.{seen_params, seen_function, seen_unnamed, bare_function, function_groups, function_type, function_type_no_names};
-ghost use Rattle.wat_types.specs.Group.{FuncTy, params, plain_params, func_group, group_follows, begins_func};
+ghost use Rattle.wat_tokens.specs.Tests.{more};
+ghost use Rattle.wat_types.specs.Function.{seen_param, seen_params, seen_function, seen_unnamed, bare_function, function_groups, function_type, function_type_no_names};
+ghost use Rattle.wat_types.specs.Group.{FuncTy, ParamTy, params, plain_param_only, func_group, group_follows, begins_func};
 ghost use Rattle.wat_types.specs.Order.{add};
 
 use crate::value::ValType;
 use std::alloc::Global;
-use wat_tokens::traits::rest_of_group;
+use wat_tokens::repeat::{Part, parts, rest_of_group};
 use wat_tokens::{Cursor, Error, Fault, Id, NameAnnotation, Parse, Parser, Peek, Result};
 
 /// A function type (Text Format, Types, "Composite Types").
@@ -27,25 +28,37 @@ pub struct FunctionType<'a> {
 #[derive(Debug, Drop)]
 pub struct FunctionTypeNoNames<'a>(pub FunctionType<'a>);
 
-/// Parameters without labels, up to the end of the group, each put behind those that are there.
-fn read_plain_params<'a>(
-    parser: &mut Parser<'a>,
-    out: &mut Vec<(Option<Id<'a>>, Option<NameAnnotation<'a>>, ValType<'a>)>,
-) -> Result<()>
-    ensures exact { Gives false no_items (λ _. seen_params out.new.items) result (after_front (seen_params out.old.items) (plain_params.reads parser.old.left)) parser.new.left }
-    ensures counts { Counted result parser.old parser.new }
-    ensures quiet { Quiet parser.old parser.new }
-    ensures names { Kept parser.old parser.new }
-{
-    'params: while !parser.is_empty() {
-        let ty = ValType::parse(parser)?;
-        out.push((None, None, ty))?;
+/// A parameter without a label.
+struct PlainParam;
+
+impl<'a> Part<'a, (Option<Id<'a>>, Option<NameAnnotation<'a>>, ValType<'a>)> for PlainParam {
+    ghost Seen = { ParamTy };
+
+    ghost seen = { seen_param };
+
+    ghost light = { true };
+
+    ghost bare = { λ _. true };
+
+    ghost quiet = { true };
+
+    ghost grammar = { plain_param_only };
+
+    ghost follows = { more };
+
+    fn follows(parser: &Parser<'a>) -> bool {
+        !parser.is_empty()
     }
-    Ok(())
+
+    fn take(
+        parser: &mut Parser<'a>,
+    ) -> Result<(Option<Id<'a>>, Option<NameAnnotation<'a>>, ValType<'a>)> {
+        Ok((None, None, ValType::parse(parser)?))
+    }
 }
 
 /// The parameters of a group, each put behind those that are there; `labels` says whether one may have a label.
-#[tactic(auto, unfolding(crate::specs::Group::params, crate::specs::Label::label))]
+#[tactic(auto, using(crate::specs::Value::val_type_eats), unfolding(crate::specs::Group::params, crate::specs::Group::plain_params, crate::specs::Label::label))]
 fn read_params<'a>(
     parser: &mut Parser<'a>,
     labels: bool,
@@ -63,7 +76,7 @@ fn read_params<'a>(
         out.push((id, name, ty))?;
         return Ok(());
     }
-    read_plain_params(parser, out)
+    parts::<_, PlainParam>(parser, out)
 }
 
 /// One group, put behind what is there.

@@ -4,9 +4,11 @@ ghost use Rattle.std.specs.Prelude.{◌≡◌, true, false, List, IfOk, IfErr};
 ghost use Rattle.wat_tokens.specs.Counts.{Counted, Quiet, Kept};
 ghost use Rattle.wat_tokens.specs.Many.{after_front};
 ghost use Rattle.wat_tokens.specs.Parses.{Gives, no_items};
-ghost use Rattle.wat_types.specs.Struct.{FieldTy, seen_array, field_type, MemberTy, seen_members, plain_members, members, member_group, seen_struct, struct_type};
+ghost use Rattle.wat_tokens.specs.Tests.{more};
+ghost use Rattle.wat_types.specs.Struct.{FieldTy, seen_array, field_type, MemberTy, seen_member, seen_members, plain_member, members, member_group, seen_struct, struct_type};
 
 use crate::storage::StorageType;
+use wat_tokens::repeat::{Group, Part, groups, parts};
 use wat_tokens::{Fault, Id, NameAnnotation, Parse, Parser, Result};
 
 /// An array type (WebAssembly Core Specification, Text Format, Types, "Composite Types").
@@ -66,27 +68,41 @@ impl<'a> Parse<'a> for ArrayType<'a> {
     }
 }
 
-/// Fields without labels, up to the end of the group, each put behind those that are there.
-fn read_plain_fields<'a>(parser: &mut Parser<'a>, out: &mut Vec<StructField<'a>>) -> Result<()>
-    ensures exact { Gives false no_items (λ _. seen_members out.new.items) result (after_front (seen_members out.old.items) (plain_members.reads parser.old.left)) parser.new.left }
-    ensures counts { Counted result parser.old parser.new }
-    ensures quiet { Quiet parser.old parser.new }
-    ensures names { Kept parser.old parser.new }
-{
-    'fields: while !parser.is_empty() {
+/// A field without a label.
+struct PlainField;
+
+impl<'a> Part<'a, StructField<'a>> for PlainField {
+    ghost Seen = { MemberTy };
+
+    ghost seen = { seen_member };
+
+    ghost light = { true };
+
+    ghost bare = { λ _. true };
+
+    ghost quiet = { true };
+
+    ghost grammar = { plain_member };
+
+    ghost follows = { more };
+
+    fn follows(parser: &Parser<'a>) -> bool {
+        !parser.is_empty()
+    }
+
+    fn take(parser: &mut Parser<'a>) -> Result<StructField<'a>> {
         let field = ArrayType::parse(parser)?;
-        out.push(StructField {
+        Ok(StructField {
             id: None,
             name: None,
             mutable: field.mutable,
             ty: field.ty,
-        })?;
+        })
     }
-    Ok(())
 }
 
 /// The fields of a group, each put behind those that are there.
-#[tactic(auto, unfolding(crate::specs::Struct::members, crate::specs::Label::label))]
+#[tactic(auto, using(crate::specs::Struct::field_type_eats), unfolding(crate::specs::Struct::members, crate::specs::Struct::plain_members, crate::specs::Label::label))]
 fn read_fields<'a>(parser: &mut Parser<'a>, out: &mut Vec<StructField<'a>>) -> Result<()>
     ensures exact { Gives false no_items (λ _. seen_members out.new.items) result (after_front (seen_members out.old.items) (members.reads parser.old.left)) parser.new.left }
     ensures counts { Counted result parser.old parser.new }
@@ -105,22 +121,35 @@ fn read_fields<'a>(parser: &mut Parser<'a>, out: &mut Vec<StructField<'a>>) -> R
         })?;
         return Ok(());
     }
-    read_plain_fields(parser, out)
+    parts::<_, PlainField>(parser, out)
 }
 
-/// One group of fields, put behind those that are there.
-#[tactic(auto, unfolding(crate::specs::Struct::member_group))]
-fn read_group<'a>(parser: &mut Parser<'a>, out: &mut Vec<StructField<'a>>) -> Result<()>
-    ensures exact { Gives false no_items (λ _. seen_members out.new.items) result (after_front (seen_members out.old.items) (member_group.reads parser.old.left)) parser.new.left }
-    ensures counts { Counted result parser.old parser.new }
-    ensures quiet { Quiet parser.old parser.new }
-    ensures names { Kept parser.old parser.new }
-{
-    parser.open()?;
-    parser.keyword("field")?;
-    read_fields(parser, out)?;
-    parser.close()?;
-    Ok(())
+/// Groups of fields, up to the end of the group they stand in.
+struct FieldGroup;
+
+impl<'a> Group<'a, StructField<'a>> for FieldGroup {
+    ghost Seen = { MemberTy };
+
+    ghost seen = { seen_member };
+
+    ghost quiet = { true };
+
+    ghost grammar = { member_group };
+
+    ghost follows = { more };
+
+    fn follows(parser: &Parser<'a>) -> bool {
+        !parser.is_empty()
+    }
+
+    #[tactic(auto, unfolding(crate::specs::Struct::member_group))]
+    fn take(parser: &mut Parser<'a>, out: &mut Vec<StructField<'a>>) -> Result<()> {
+        parser.open()?;
+        parser.keyword("field")?;
+        read_fields(parser, out)?;
+        parser.close()?;
+        Ok(())
+    }
 }
 
 impl<'a> StructType<'a> {
@@ -152,11 +181,10 @@ impl<'a> Parse<'a> for StructType<'a> {
 
     ghost grammar = { struct_type };
 
+    #[tactic(auto, using(wat_tokens::specs::Joined::joined_reads, crate::specs::Struct::member_group_eats), unfolding(crate::specs::Struct::struct_type))]
     fn parse(parser: &mut Parser<'a>) -> Result<Self> {
         let mut fields = Vec::new(parser.alloc());
-        'groups: while !parser.is_empty() {
-            read_group(parser, &mut fields)?;
-        }
+        groups::<_, FieldGroup>(parser, &mut fields)?;
         Ok(StructType { fields })
     }
 }

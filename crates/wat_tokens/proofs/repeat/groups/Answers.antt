@@ -1,0 +1,28 @@
+use Rattle.std.proofs.Common.{rules, map, sym, ◌∙◌, refl}
+use Rattle.std.proofs.lemmas.Result.{err_from_is_err_and}
+use Rattle.wat_tokens.specs.Joined.{join}
+use Rattle.wat_tokens.specs.Many.{adding_goes_on, adding_ends, adding_fails, adding_takes}
+use Rattle.wat_tokens.proofs.Joined.{joined_not_bare}
+use Rattle.wat_tokens.proofs.repeat.groups.Goals as goal
+
+pub groups-smaller : goal.groups-smaller
+groups-smaller g c = adding_takes join g.G.Group.follows g.G.Group.grammar c.requires (map g.G.Group.seen c.groups.out.items) c.groups.parser.left (map g.G.Group.seen c.take.new.out.items) c.take.new.parser.left c.in_ok-take.ensures.exact
+
+pub groups-preserved : goal.groups-preserved
+groups-preserved g c = record {
+  exact = sym (adding_goes_on join g.G.Group.follows g.G.Group.grammar c.requires (map g.G.Group.seen c.groups.out.items) c.groups.parser.left (map g.G.Group.seen c.take.new.out.items) c.take.new.parser.left (sym c.follows.ensures ∙ c.groups-test.true) c.in_ok-take.ensures.exact) ∙ c.groups.invariant.exact;
+  counts = search rules;
+  turned = search rules;
+  quiet = search rules;
+  names = search rules;
+}
+
+pub returns-clause-exact : goal.returns-clause-exact
+returns-clause-exact g c = sym c.groups.invariant.exact ∙ adding_ends join g.G.Group.follows g.G.Group.grammar c.requires (map g.G.Group.seen c.groups.out.items) c.groups.parser.left (sym c.follows.ensures ∙ c.groups-test.false)
+
+pub returns-in_err-take-clause-exact : goal.returns-in_err-take-clause-exact
+returns-in_err-take-clause-exact g c =
+    let begun = sym c.follows.ensures ∙ c.groups-test.true in
+    let p = err_from_is_err_and c.from_residual.result c.from_residual.ensures.1 in
+    let before = map g.G.Group.seen c.groups.out.items in
+    rw (p.1, p.2) ((λ not. sym c.groups.invariant.exact ∙ adding_fails join g.G.Group.follows g.G.Group.grammar c.requires before c.groups.parser.left begun (c.in_err-take.ensures.exact.0 not)), (λ m. (refl, joined_not_bare g.G.Group.follows g.G.Group.grammar c.requires before c.groups.parser.left _ begun (c.in_err-take.ensures.exact.1 m).1 c.groups.invariant.exact)))

@@ -1,0 +1,192 @@
+//! Parts that stand one behind the other.
+
+ghost use Rattle.std.specs.Prelude.{◌≡◌, ◌≤◌, map, List, Bool, IsTrue, false};
+ghost use Rattle.wat_lexer.specs.Token.{Tok};
+ghost use Rattle.wat_tokens.specs.Counts.{Counted, Quiet, Kept};
+ghost use Rattle.wat_tokens.specs.Joined.{joined_behind};
+ghost use Rattle.wat_tokens.specs.Many.{after_front, many_reads};
+ghost use Rattle.wat_tokens.specs.Parses.{Gives, no_items};
+ghost use Rattle.wat_tokens.specs.Production.{Production};
+ghost use Rattle.wat_tokens.specs.Tests.{more};
+
+use crate::parser::Parser;
+use crate::traits::{Parse, Peek};
+use wat_lexer::fault::Error;
+
+/// How parts are read that stand one behind the other, each as a `V`, and where they end.
+pub trait Part<'a, V> {
+    /// What contracts see of a part.
+    ghost Seen: { Type 0 };
+
+    ghost seen: { V → Seen };
+
+    /// Whether no part holds a vector or a box.
+    ghost light: { Bool };
+
+    /// Whether the part holds no box, and no vector that isn't empty.
+    ghost bare: { Seen → Bool };
+
+    /// Whether no instruction is in it.
+    ghost quiet: { Bool };
+
+    /// Which tokens spell a part, and how it is read.
+    ghost grammar: { Production Seen };
+
+    /// Where one more part has to follow.
+    ghost follows: { List Tok → Bool };
+
+    /// Whether one more part has to follow.
+    fn follows(parser: &Parser<'a>) -> bool
+        ensures { result ≡ follows parser.now.left };
+
+    /// Takes the part that stands in front, or refuses as [`Parse::parse`] does.
+    fn take(parser: &mut Parser<'a>) -> Result<V, Error>
+        ensures exact { Gives light bare seen result (grammar.reads parser.old.left) parser.new.left }
+        ensures counts { Counted result parser.old parser.new }
+        ensures quiet { IsTrue quiet → Quiet parser.old parser.new }
+        ensures names { Kept parser.old parser.new };
+}
+
+/// Takes parts as long as one has to follow, each put behind those that are there.
+pub fn parts<'a, V: Drop, P: Part<'a, V>>(
+    parser: &mut Parser<'a>,
+    out: &mut Vec<V>,
+) -> Result<(), Error>
+    requires { 1 ≤ P.grammar.least }
+    ensures exact { Gives false no_items (λ _. map P.seen out.new.items) result (after_front (map P.seen out.old.items) (many_reads P.follows P.grammar parser.old.left)) parser.new.left }
+    ensures counts { Counted result parser.old parser.new }
+    ensures quiet { IsTrue P.quiet → Quiet parser.old parser.new }
+    ensures names { Kept parser.old parser.new }
+{
+    'parts: while P::follows(parser) {
+        out.push(P::take(parser)?)?;
+    }
+    Ok(())
+}
+
+/// How groups are read that hold any number of parts each, each part as a `V`, and where they end.
+pub trait Group<'a, V> {
+    /// What contracts see of a part.
+    ghost Seen: { Type 0 };
+
+    ghost seen: { V → Seen };
+
+    ghost quiet: { Bool };
+
+    /// Which tokens spell a group, as the list of its parts, and how it is read.
+    ghost grammar: { Production (List Seen) };
+
+    /// Where one more group has to follow.
+    ghost follows: { List Tok → Bool };
+
+    /// Whether one more group has to follow.
+    fn follows(parser: &Parser<'a>) -> bool
+        ensures { result ≡ follows parser.now.left };
+
+    /// Takes the group that stands in front, each part put behind those that are there, or refuses as
+    /// [`Parse::parse`] does.
+    fn take(parser: &mut Parser<'a>, out: &mut Vec<V>) -> Result<(), Error>
+        ensures exact { Gives false no_items (λ _. map seen out.new.items) result (after_front (map seen out.old.items) (grammar.reads parser.old.left)) parser.new.left }
+        ensures counts { Counted result parser.old parser.new }
+        ensures quiet { IsTrue quiet → Quiet parser.old parser.new }
+        ensures names { Kept parser.old parser.new };
+}
+
+/// Takes groups as long as one has to follow, the parts of each put behind those that are there.
+pub fn groups<'a, V: Drop, G: Group<'a, V>>(
+    parser: &mut Parser<'a>,
+    out: &mut Vec<V>,
+) -> Result<(), Error>
+    requires { 1 ≤ G.grammar.least }
+    ensures exact { Gives false no_items (λ _. map G.seen out.new.items) result (joined_behind (map G.seen out.old.items) (many_reads G.follows G.grammar parser.old.left)) parser.new.left }
+    ensures counts { Counted result parser.old parser.new }
+    ensures quiet { IsTrue G.quiet → Quiet parser.old parser.new }
+    ensures names { Kept parser.old parser.new }
+{
+    'groups: while G::follows(parser) {
+        G::take(parser, out)?;
+    }
+    Ok(())
+}
+
+/// Values up to the end of the group.
+struct ToEnd;
+
+impl<'a, T: Parse<'a>> Part<'a, T> for ToEnd {
+    ghost Seen = { T.Seen };
+
+    ghost seen = { T.seen };
+
+    ghost light = { T.light };
+
+    ghost bare = { T.bare };
+
+    ghost quiet = { T.quiet };
+
+    ghost grammar = { T.grammar };
+
+    ghost follows = { more };
+
+    fn follows(parser: &Parser<'a>) -> bool {
+        !parser.is_empty()
+    }
+
+    fn take(parser: &mut Parser<'a>) -> Result<T, Error> {
+        T::parse(parser)
+    }
+}
+
+/// Values as long as one begins.
+struct WhileBegun;
+
+impl<'a, T: Parse<'a> + Peek> Part<'a, T> for WhileBegun {
+    ghost Seen = { T.Seen };
+
+    ghost seen = { T.seen };
+
+    ghost light = { T.light };
+
+    ghost bare = { T.bare };
+
+    ghost quiet = { T.quiet };
+
+    ghost grammar = { T.grammar };
+
+    ghost follows = { T.begins };
+
+    fn follows(parser: &Parser<'a>) -> bool {
+        parser.peek::<T>()
+    }
+
+    fn take(parser: &mut Parser<'a>) -> Result<T, Error> {
+        T::parse(parser)
+    }
+}
+
+/// Takes values up to the end of the group, each put behind those that are there.
+pub fn rest_of_group<'a, T: Parse<'a> + Drop>(
+    parser: &mut Parser<'a>,
+    out: &mut Vec<T>,
+) -> Result<(), Error>
+    requires { 1 ≤ T.grammar.least }
+    ensures exact { Gives false no_items (λ _. map T.seen out.new.items) result (after_front (map T.seen out.old.items) (many_reads more T.grammar parser.old.left)) parser.new.left }
+    ensures counts { Counted result parser.old parser.new }
+    ensures quiet { IsTrue T.quiet → Quiet parser.old parser.new }
+    ensures names { Kept parser.old parser.new }
+{
+    parts::<T, ToEnd>(parser, out)
+}
+
+/// Takes values as long as one begins, each put behind those that are there.
+pub fn while_begun<'a, T: Parse<'a> + Peek + Drop>(
+    parser: &mut Parser<'a>,
+    out: &mut Vec<T>,
+) -> Result<(), Error>
+    requires { 1 ≤ T.grammar.least }
+    ensures exact { Gives false no_items (λ _. map T.seen out.new.items) result (after_front (map T.seen out.old.items) (many_reads T.begins T.grammar parser.old.left)) parser.new.left }
+    ensures counts { Counted result parser.old parser.new }
+    ensures quiet { IsTrue T.quiet → Quiet parser.old parser.new }
+    ensures names { Kept parser.old parser.new }
+{
+    parts::<T, WhileBegun>(parser, out)
+}
