@@ -1,0 +1,61 @@
+-- Types of blocks.
+use Rattle.std.specs.Prelude.{◌≡◌, Bool, Option, Some, None, option_map, refl}
+use Rattle.std.proofs.Common.{ap}
+use Rattle.wat_tokens.specs.Production.{Production}
+use Rattle.wat_tokens.specs.Parts.{seq, made}
+use Rattle.wat_tokens.specs.Parses.{seen_option}
+use Rattle.wat_tokens.specs.Index.{seen_index}
+use Rattle.wat_types.specs.Label.{Label, seen_label, label}
+use Rattle.wat_types.specs.Group.{FuncTy, begins_func}
+use Rattle.wat_types.specs.Function.{seen_function, seen_unnamed, bare_function, function_type_no_names}
+use Rattle.wat_types.specs.Use.{UseTy, use_of, seen_use, bare_use, type_use, with_names, SameFunction, SameUse}
+use Rattle.wat_types.specs.declared.function.FunctionType.{FunctionType}
+use Rattle.wat_types.specs.declared.function.FunctionTypeNoNames.{FunctionTypeNoNames}
+use Rattle.wat_types.specs.declared.type_use.TypeUse.{TypeUse}
+use Rattle.wat_operands.specs.declared.block.BlockType.{BlockType}
+
+-- ---- the type of a block or of a call
+
+abbrev pub seen_signature : TypeUse FunctionType → UseTy FuncTy
+seen_signature u = seen_use seen_function u
+
+-- no inline type with a parameter or a result
+abbrev pub bare_signature : UseTy FuncTy → Bool
+bare_signature u = bare_use bare_function u
+
+-- a type use of a FunctionTypeNoNames
+abbrev pub signature : Production (UseTy FuncTy)
+signature = type_use begins_func function_type_no_names
+
+inline_with_names : (o : Option FunctionTypeNoNames) → seen_option seen_function (option_map (λ t. t.0) o) ≡ seen_option seen_unnamed o
+inline_with_names (Some t) = refl
+inline_with_names None = refl
+
+-- a use without names is seen as the use with names that it is turned into
+pub seen_with_names : (u : TypeUse FunctionTypeNoNames) → seen_signature (with_names u) ≡ seen_use seen_unnamed u
+seen_with_names u = ap (λ (o : Option FuncTy). use_of (seen_option seen_index u.index) o) (inline_with_names u.inline)
+
+-- ---- blocks
+
+-- what a block is, and what names it
+pub record BlockTy : Type 0 where
+  pub label : Label
+  pub ty : UseTy FuncTy
+
+abbrev pub block_of : Label → UseTy FuncTy → BlockTy
+block_of l t = record { label = l; ty = t }
+
+abbrev pub seen_block : BlockType → BlockTy
+seen_block b = block_of (seen_label b.label b.label_name) (seen_signature b.ty)
+
+-- no inline type with a parameter or a result
+abbrev pub bare_block : BlockTy → Bool
+bare_block b = bare_signature b.ty
+
+-- id? name? TypeUse of FunctionTypeNoNames
+unfoldable pub block_type : Production BlockTy
+block_type = made (λ v. block_of v.0 v.1) (seq label signature)
+
+-- the same label and name, and the same type
+abbrev pub SameBlock : BlockType → BlockType → Type 0
+SameBlock a b = (a.label ≡ b.label) × (a.label_name ≡ b.label_name) × SameUse SameFunction a.ty b.ty

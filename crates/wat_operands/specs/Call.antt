@@ -1,0 +1,37 @@
+-- Indirect calls.
+use Rattle.std.specs.Prelude.{◌≡◌, Bool, Option, Some, None}
+use Rattle.wat_tokens.specs.Production.{Production}
+use Rattle.wat_tokens.specs.Parts.{seq, made, opt}
+use Rattle.wat_tokens.specs.Index.{Idx, number, seen_index, index, begins_index}
+use Rattle.wat_types.specs.Group.{FuncTy}
+use Rattle.wat_types.specs.Use.{UseTy, SameFunction, SameUse}
+use Rattle.wat_operands.specs.Block.{seen_signature, bare_signature, signature}
+use Rattle.wat_operands.specs.declared.call.CallIndirect.{CallIndirect}
+
+-- an indirect call, without places
+pub record CallTy : Type 0 where
+  pub table : Idx
+  pub ty : UseTy FuncTy
+
+abbrev pub call_of : Idx → UseTy FuncTy → CallTy
+call_of i t = record { table = i; ty = t }
+
+abbrev pub seen_call : CallIndirect → CallTy
+seen_call c = call_of (seen_index c.table) (seen_signature c.ty)
+
+-- no inline type with a parameter or a result
+abbrev pub bare_call : CallTy → Bool
+bare_call c = bare_signature c.ty
+
+-- the index, or 0
+abbrev pub or_zero : Option Idx → Idx
+or_zero (Some i) = i
+or_zero None = number 0
+
+-- idx? (table, default 0), TypeUse of FunctionTypeNoNames
+unfoldable pub call_indirect : Production CallTy
+call_indirect = made (λ v. call_of (or_zero v.0) v.1) (seq (opt begins_index index) signature)
+
+-- the same table, and the same type
+abbrev pub SameCall : CallIndirect → CallIndirect → Type 0
+SameCall a b = (a.table ≡ b.table) × SameUse SameFunction a.ty b.ty

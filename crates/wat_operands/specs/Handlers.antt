@@ -1,0 +1,101 @@
+-- Tables of handlers.
+use Rattle.std.specs.Prelude.{◌≤◌, Bool, List, codes, Option, Some, None, map}
+use Rattle.std.proofs.Common.{arith}
+use Rattle.wat_tokens.specs.Token.{Tok}
+use Rattle.wat_tokens.specs.Tests.{begins_word, begins_group}
+use Rattle.wat_tokens.specs.Production.{Production}
+use Rattle.wat_tokens.specs.Parts.{seq, made, where_else, word}
+use Rattle.wat_tokens.specs.Many.{many}
+use Rattle.wat_tokens.specs.Groups.{group}
+use Rattle.wat_tokens.specs.Parses.{no_items}
+use Rattle.wat_tokens.specs.Index.{Idx, seen_index, index}
+use Rattle.wat_operands.specs.declared.handlers.Handle.{Handle}
+use Rattle.wat_operands.specs.declared.handlers.Handle.TheVariants as code
+use Rattle.wat_operands.specs.declared.handlers.Resume.{Resume}
+use Rattle.wat_operands.specs.declared.handlers.ResumeTable.{ResumeTable}
+use Rattle.wat_operands.specs.declared.handlers.ResumeThrow.{ResumeThrow}
+use Rattle.wat_operands.specs.declared.handlers.ResumeThrowRef.{ResumeThrowRef}
+
+-- ---- handlers
+
+-- a handler, without places: its tag, and the label where it has one
+pub data HandleTy : Type 0 where
+  on_label : Idx → Idx → HandleTy
+  on_switch : Idx → HandleTy
+
+abbrev pub seen_handle : Handle → HandleTy
+seen_handle (code.OnLabel tag label) = on_label (seen_index tag) (seen_index label)
+seen_handle (code.OnSwitch tag) = on_switch (seen_index tag)
+
+-- `switch`, which is no label, or the index of a label
+unfoldable pub aim : Production (Option Idx)
+aim = where_else (begins_word (codes "switch")) (made (λ _. None) (word (codes "switch"))) (made Some index)
+
+abbrev pub handler_to : Idx → Option Idx → HandleTy
+handler_to tag (Some label) = on_label tag label
+handler_to tag None = on_switch tag
+
+-- ( on idx switch ) | ( on idx idx )
+unfoldable pub handler : Production HandleTy
+handler = group (codes "on") (made (λ v. handler_to v.0 v.1) (seq index aim))
+
+pub handler_eats : 1 ≤ handler.least
+unfolding handler
+handler_eats = omega arith
+
+-- a group that begins with `on`
+abbrev pub begins_handler : List Tok → Bool
+begins_handler t = begins_group (codes "on") t
+
+-- ---- tables of them
+
+abbrev pub seen_table : ResumeTable → List HandleTy
+seen_table t = map seen_handle t.handlers.items
+
+-- a handler wherever a group begins with `on`
+unfoldable pub resume_table : Production (List HandleTy)
+resume_table = many begins_handler handler handler_eats
+
+-- ---- the operands that have one
+
+-- a type and a table, without places
+pub record ResumeTy : Type 0 where
+  pub type_index : Idx
+  pub table : List HandleTy
+
+abbrev pub resume_of : Idx → List HandleTy → ResumeTy
+resume_of i t = record { type_index = i; table = t }
+
+abbrev pub seen_resume : Resume → ResumeTy
+seen_resume r = resume_of (seen_index r.type_index) (seen_table r.table)
+
+abbrev pub seen_resume_throw_ref : ResumeThrowRef → ResumeTy
+seen_resume_throw_ref r = resume_of (seen_index r.type_index) (seen_table r.table)
+
+-- no handler
+abbrev pub bare_resume : ResumeTy → Bool
+bare_resume r = no_items r.table
+
+-- idx ResumeTable
+unfoldable pub resume : Production ResumeTy
+resume = made (λ v. resume_of v.0 v.1) (seq index resume_table)
+
+-- a type, a tag and a table, without places
+pub record ThrowTy : Type 0 where
+  pub type_index : Idx
+  pub tag_index : Idx
+  pub table : List HandleTy
+
+abbrev pub throw_of : Idx → Idx → List HandleTy → ThrowTy
+throw_of i j t = record { type_index = i; tag_index = j; table = t }
+
+abbrev pub seen_resume_throw : ResumeThrow → ThrowTy
+seen_resume_throw r = throw_of (seen_index r.type_index) (seen_index r.tag_index) (seen_table r.table)
+
+-- no handler
+abbrev pub bare_throw : ThrowTy → Bool
+bare_throw r = no_items r.table
+
+-- idx idx ResumeTable
+unfoldable pub resume_throw : Production ThrowTy
+resume_throw = made (λ v. throw_of v.0 v.1.0 v.1.1) (seq index (seq index resume_table))

@@ -1,0 +1,15 @@
+pub use Rattle.wat_tokens.specs.Index
+pub use Rattle.wat_tokens.specs.Lookup
+pub use Rattle.wat_tokens.specs.Production
+pub use Rattle.wat_types.specs.Function
+pub use Rattle.wat_types.specs.Group
+pub use Rattle.wat_types.specs.Label
+pub use Rattle.wat_types.specs.Reference
+pub use Rattle.wat_types.specs.Use
+pub use Rattle.wat_types.specs.Value
+pub mod Block
+pub mod Call
+pub mod Casts
+pub mod Catches
+pub mod Handlers
+pub mod Select

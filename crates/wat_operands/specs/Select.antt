@@ -1,0 +1,49 @@
+-- The types of a select.
+use Rattle.std.specs.Prelude.{◌≡◌, ◌≤◌, Bool, List, codes, Option, Vec, map}
+use Rattle.std.proofs.Common.{arith}
+use Rattle.std.specs.declared.alloc.Global.{Global}
+use Rattle.wat_tokens.specs.Token.{Tok}
+use Rattle.wat_tokens.specs.Tests.{begins_word, second}
+use Rattle.wat_tokens.specs.Production.{Production}
+use Rattle.wat_tokens.specs.Parts.{opt}
+use Rattle.wat_tokens.specs.Joined.{joined}
+use Rattle.wat_tokens.specs.Groups.{group}
+use Rattle.wat_tokens.specs.Parses.{seen_option, bare_option, no_items}
+use Rattle.wat_types.specs.Group.{val_types}
+use Rattle.wat_types.specs.Use.{SameOption}
+use Rattle.wat_types.specs.Value.{ValTy, seen_val}
+use Rattle.wat_types.specs.declared.value.ValType.{ValType}
+use Rattle.wat_operands.specs.declared.select.SelectTypes.{SelectTypes}
+
+-- ---- what contracts see
+
+abbrev pub seen_types : Option (Vec ValType Global) → Option (List ValTy)
+seen_types ts = seen_option (λ v. map seen_val v.items) ts
+
+abbrev pub seen_select : SelectTypes → Option (List ValTy)
+seen_select s = seen_types s.tys
+
+-- no type is written, in a group or without one
+abbrev pub bare_select : Option (List ValTy) → Bool
+bare_select ts = bare_option no_items ts
+
+-- both are there with the same types, or neither is
+abbrev pub SameTypes : Option (Vec ValType Global) → Option (Vec ValType Global) → Type 0
+SameTypes a b = SameOption (λ v w. v.items ≡ w.items) a b
+
+-- ---- the grammar
+
+-- ( result ValType* )
+abbrev pub result_group : Production (List ValTy)
+result_group = group (codes "result") val_types
+
+pub result_group_eats : 1 ≤ result_group.least
+result_group_eats = omega arith
+
+-- one more group has to follow: the second token is `result`, whatever the first is
+abbrev pub result_follows : List Tok → Bool
+result_follows t = second (begins_word (codes "result")) t
+
+-- None where no group has to follow; else groups, to where none has to: the types of all, one behind the other
+unfoldable pub select_types : Production (Option (List ValTy))
+select_types = opt result_follows (joined result_follows result_group result_group_eats)

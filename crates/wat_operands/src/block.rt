@@ -1,0 +1,75 @@
+//! Types of blocks.
+
+ghost use Rattle.std.specs.Prelude.{◌≡◌, true, false, IfOk, IfErr};
+ghost use Rattle.wat_operands.specs.Block.{seen_signature, bare_signature, signature, BlockTy, seen_block, bare_block, block_type, SameBlock};
+ghost use Rattle.wat_tokens.specs.Counts.{Counted, Quiet, Kept};
+ghost use Rattle.wat_tokens.specs.Parses.{Gives};
+
+use wat_tokens::{Fault, Id, NameAnnotation, Parse, Parser, Result};
+use wat_types::{FunctionType, FunctionTypeNoNames, TypeUse};
+
+/// What `block`, `loop`, `if` and `try` say of their block (WebAssembly Core Specification, Text Format, Instructions,
+/// "Control Instructions").
+#[derive(Debug, Drop)]
+pub struct BlockType<'a> {
+    /// The block's label.
+    pub label: Option<Id<'a>>,
+    /// The name that an annotation gives the label.
+    pub label_name: Option<NameAnnotation<'a>>,
+    /// What the block takes and leaves. Its parameters have neither identifiers nor names.
+    pub ty: TypeUse<'a, FunctionType<'a>>,
+}
+
+/// A type use of a [`FunctionTypeNoNames`], as one of a [`FunctionType`].
+#[tactic(auto, using(crate::specs::Block::seen_with_names))]
+pub(crate) fn read_signature<'a>(parser: &mut Parser<'a>) -> Result<TypeUse<'a, FunctionType<'a>>>
+    ensures exact { Gives false bare_signature seen_signature result (signature.reads parser.old.left) parser.new.left }
+    ensures counts { Counted result parser.old parser.new }
+    ensures quiet { Quiet parser.old parser.new }
+    ensures names { Kept parser.old parser.new }
+{
+    let found = TypeUse::<FunctionTypeNoNames>::parse(parser)?;
+    Ok(TypeUse::from(found))
+}
+
+impl<'a> BlockType<'a> {
+    /// The same type once more. Memory may be answered where its inline type has a parameter or a result.
+    pub fn clone(&self) -> Result<BlockType<'a>>
+        ensures same { IfOk result (λ b. SameBlock self.now b) }
+        ensures seen { IfOk result (λ b. seen_block b ≡ seen_block self.now) }
+        ensures memory { IfErr result (λ e. (e.fault ≡ Fault.Memory) × (bare_block (seen_block self.now) ≡ false)) }
+    {
+        Ok(BlockType {
+            label: self.label,
+            label_name: self.label_name,
+            ty: self.ty.clone()?,
+        })
+    }
+}
+
+/// `id? name?`, and a type use of a [`FunctionTypeNoNames`].
+impl<'a> Parse<'a> for BlockType<'a> {
+    ghost Seen = { BlockTy };
+
+    ghost seen = { seen_block };
+
+    ghost light = { false };
+
+    ghost bare = { bare_block };
+
+    ghost quiet = { true };
+
+    ghost grammar = { block_type };
+
+    #[tactic(auto, unfolding(crate::specs::Block::block_type, wat_types::specs::Label::label))]
+    fn parse(parser: &mut Parser<'a>) -> Result<Self> {
+        let label = Option::<Id>::parse(parser)?;
+        let label_name = Option::<NameAnnotation>::parse(parser)?;
+        let ty = read_signature(parser)?;
+        Ok(BlockType {
+            label,
+            label_name,
+            ty,
+        })
+    }
+}

@@ -1,0 +1,58 @@
+//! Indirect calls.
+
+ghost use Rattle.std.specs.Prelude.{◌≡◌, true, false, IfOk, IfErr};
+ghost use Rattle.wat_operands.specs.Call.{CallTy, seen_call, bare_call, call_indirect, SameCall};
+
+use crate::block::read_signature;
+use wat_tokens::{Fault, Index, Parse, Parser, Result};
+use wat_types::{FunctionType, TypeUse};
+
+/// What `call_indirect` and `return_call_indirect` call (WebAssembly Core Specification, Text Format, Instructions,
+/// "Control Instructions").
+#[derive(Debug, Drop)]
+pub struct CallIndirect<'a> {
+    /// The table that holds the function. Where none is written it is table 0, at the token before the operand.
+    pub table: Index<'a>,
+    /// The type that the function must have. Its parameters have neither identifiers nor names.
+    pub ty: TypeUse<'a, FunctionType<'a>>,
+}
+
+impl<'a> CallIndirect<'a> {
+    /// The same operand once more. Memory may be answered where its inline type has a parameter or a result.
+    pub fn clone(&self) -> Result<CallIndirect<'a>>
+        ensures same { IfOk result (λ c. SameCall self.now c) }
+        ensures seen { IfOk result (λ c. seen_call c ≡ seen_call self.now) }
+        ensures memory { IfErr result (λ e. (e.fault ≡ Fault.Memory) × (bare_call (seen_call self.now) ≡ false)) }
+    {
+        Ok(CallIndirect {
+            table: self.table,
+            ty: self.ty.clone()?,
+        })
+    }
+}
+
+/// `idx?`, and a type use of a function type without names.
+impl<'a> Parse<'a> for CallIndirect<'a> {
+    ghost Seen = { CallTy };
+
+    ghost seen = { seen_call };
+
+    ghost light = { false };
+
+    ghost bare = { bare_call };
+
+    ghost quiet = { true };
+
+    ghost grammar = { call_indirect };
+
+    #[tactic(auto, unfolding(crate::specs::Call::call_indirect))]
+    fn parse(parser: &mut Parser<'a>) -> Result<Self> {
+        let before = parser.prev_span();
+        let table = match Option::<Index>::parse(parser)? {
+            Some(table) => table,
+            None => Index::Num(0, before),
+        };
+        let ty = read_signature(parser)?;
+        Ok(CallIndirect { table, ty })
+    }
+}

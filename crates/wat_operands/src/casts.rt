@@ -1,0 +1,245 @@
+//! Casts of references, and branches on them (WebAssembly Core Specification, Text Format, Instructions, "Reference
+//! Instructions" and "Control Instructions").
+
+ghost use Rattle.std.specs.Prelude.{true};
+ghost use Rattle.wat_operands.specs.Casts.{seen_test, seen_cast, seen_cast_desc_eq, BranchTy, seen_branch, seen_branch_fail, seen_branch_desc_eq, seen_branch_desc_eq_fail, cast_branch};
+ghost use Rattle.wat_types.specs.Reference.{RefTy, ref_type};
+
+use wat_tokens::{Index, Parse, Parser, Result};
+use wat_types::RefType;
+
+/// The operand of `ref.test`.
+#[derive(Clone, Debug, Drop)]
+pub struct RefTest<'a> {
+    /// The type that is tested for.
+    pub type_: RefType<'a>,
+}
+
+/// The operand of `ref.cast`.
+#[derive(Clone, Debug, Drop)]
+pub struct RefCast<'a> {
+    /// The type that is cast to.
+    pub type_: RefType<'a>,
+}
+
+/// The operand of `ref.cast_desc_eq`.
+#[derive(Clone, Debug, Drop)]
+pub struct RefCastDescEq<'a> {
+    /// The type that is cast to.
+    pub type_: RefType<'a>,
+}
+
+/// The operand of `br_on_cast`.
+#[derive(Clone, Debug, Drop)]
+pub struct BrOnCast<'a> {
+    /// The label that it branches to.
+    pub label: Index<'a>,
+    /// The type that is cast from.
+    pub from_type: RefType<'a>,
+    /// The type that is cast to.
+    pub to_type: RefType<'a>,
+}
+
+/// The operand of `br_on_cast_fail`.
+#[derive(Clone, Debug, Drop)]
+pub struct BrOnCastFail<'a> {
+    /// The label that it branches to.
+    pub label: Index<'a>,
+    /// The type that is cast from.
+    pub from_type: RefType<'a>,
+    /// The type that is cast to.
+    pub to_type: RefType<'a>,
+}
+
+/// The operand of `br_on_cast_desc_eq`.
+#[derive(Clone, Debug, Drop)]
+pub struct BrOnCastDescEq<'a> {
+    /// The label that it branches to.
+    pub label: Index<'a>,
+    /// The type that is cast from.
+    pub from_type: RefType<'a>,
+    /// The type that is cast to.
+    pub to_type: RefType<'a>,
+}
+
+/// The operand of `br_on_cast_desc_eq_fail`.
+#[derive(Clone, Debug, Drop)]
+pub struct BrOnCastDescEqFail<'a> {
+    /// The label that it branches to.
+    pub label: Index<'a>,
+    /// The type that is cast from.
+    pub from_type: RefType<'a>,
+    /// The type that is cast to.
+    pub to_type: RefType<'a>,
+}
+
+/// A reference type.
+impl<'a> Parse<'a> for RefTest<'a> {
+    ghost Seen = { RefTy };
+
+    ghost seen = { seen_test };
+
+    ghost light = { true };
+
+    ghost bare = { λ _. true };
+
+    ghost quiet = { true };
+
+    ghost grammar = { ref_type };
+
+    fn parse(parser: &mut Parser<'a>) -> Result<Self> {
+        Ok(RefTest {
+            type_: RefType::parse(parser)?,
+        })
+    }
+}
+
+/// A reference type.
+impl<'a> Parse<'a> for RefCast<'a> {
+    ghost Seen = { RefTy };
+
+    ghost seen = { seen_cast };
+
+    ghost light = { true };
+
+    ghost bare = { λ _. true };
+
+    ghost quiet = { true };
+
+    ghost grammar = { ref_type };
+
+    fn parse(parser: &mut Parser<'a>) -> Result<Self> {
+        Ok(RefCast {
+            type_: RefType::parse(parser)?,
+        })
+    }
+}
+
+/// A reference type.
+impl<'a> Parse<'a> for RefCastDescEq<'a> {
+    ghost Seen = { RefTy };
+
+    ghost seen = { seen_cast_desc_eq };
+
+    ghost light = { true };
+
+    ghost bare = { λ _. true };
+
+    ghost quiet = { true };
+
+    ghost grammar = { ref_type };
+
+    fn parse(parser: &mut Parser<'a>) -> Result<Self> {
+        Ok(RefCastDescEq {
+            type_: RefType::parse(parser)?,
+        })
+    }
+}
+
+/// An index, and two reference types: the label, from, to.
+impl<'a> Parse<'a> for BrOnCast<'a> {
+    ghost Seen = { BranchTy };
+
+    ghost seen = { seen_branch };
+
+    ghost light = { true };
+
+    ghost bare = { λ _. true };
+
+    ghost quiet = { true };
+
+    ghost grammar = { cast_branch };
+
+    #[tactic(auto, unfolding(crate::specs::Casts::cast_branch))]
+    fn parse(parser: &mut Parser<'a>) -> Result<Self> {
+        let label = Index::parse(parser)?;
+        let from_type = RefType::parse(parser)?;
+        let to_type = RefType::parse(parser)?;
+        Ok(BrOnCast {
+            label,
+            from_type,
+            to_type,
+        })
+    }
+}
+
+/// An index, and two reference types: the label, from, to.
+impl<'a> Parse<'a> for BrOnCastFail<'a> {
+    ghost Seen = { BranchTy };
+
+    ghost seen = { seen_branch_fail };
+
+    ghost light = { true };
+
+    ghost bare = { λ _. true };
+
+    ghost quiet = { true };
+
+    ghost grammar = { cast_branch };
+
+    #[tactic(auto, unfolding(crate::specs::Casts::cast_branch))]
+    fn parse(parser: &mut Parser<'a>) -> Result<Self> {
+        let label = Index::parse(parser)?;
+        let from_type = RefType::parse(parser)?;
+        let to_type = RefType::parse(parser)?;
+        Ok(BrOnCastFail {
+            label,
+            from_type,
+            to_type,
+        })
+    }
+}
+
+/// An index, and two reference types: the label, from, to.
+impl<'a> Parse<'a> for BrOnCastDescEq<'a> {
+    ghost Seen = { BranchTy };
+
+    ghost seen = { seen_branch_desc_eq };
+
+    ghost light = { true };
+
+    ghost bare = { λ _. true };
+
+    ghost quiet = { true };
+
+    ghost grammar = { cast_branch };
+
+    #[tactic(auto, unfolding(crate::specs::Casts::cast_branch))]
+    fn parse(parser: &mut Parser<'a>) -> Result<Self> {
+        let label = Index::parse(parser)?;
+        let from_type = RefType::parse(parser)?;
+        let to_type = RefType::parse(parser)?;
+        Ok(BrOnCastDescEq {
+            label,
+            from_type,
+            to_type,
+        })
+    }
+}
+
+/// An index, and two reference types: the label, from, to.
+impl<'a> Parse<'a> for BrOnCastDescEqFail<'a> {
+    ghost Seen = { BranchTy };
+
+    ghost seen = { seen_branch_desc_eq_fail };
+
+    ghost light = { true };
+
+    ghost bare = { λ _. true };
+
+    ghost quiet = { true };
+
+    ghost grammar = { cast_branch };
+
+    #[tactic(auto, unfolding(crate::specs::Casts::cast_branch))]
+    fn parse(parser: &mut Parser<'a>) -> Result<Self> {
+        let label = Index::parse(parser)?;
+        let from_type = RefType::parse(parser)?;
+        let to_type = RefType::parse(parser)?;
+        Ok(BrOnCastDescEqFail {
+            label,
+            from_type,
+            to_type,
+        })
+    }
+}

@@ -1,0 +1,170 @@
+//! What a `try_table` catches.
+
+ghost use Rattle.std.specs.Borrow.{sem};
+ghost use Rattle.std.specs.Option.{option_map};
+ghost use Rattle.std.specs.Prelude.{◌≡◌, true, false, IfOk, IfErr};
+ghost use Rattle.wat_operands.specs.Catches.{tag_of, LendsTag, seen_kind, CatchTy, seen_catch, catch_kind, catch_clause, begins_catch, TryTy, seen_try, try_table, SameTry};
+ghost use Rattle.wat_tokens.specs.Counts.{Counted, Quiet, Kept};
+ghost use Rattle.wat_tokens.specs.Index.{seen_index};
+ghost use Rattle.wat_tokens.specs.Lookup.{front};
+ghost use Rattle.wat_tokens.specs.Parses.{Gives};
+
+use crate::block::BlockType;
+use wat_tokens::repeat::while_begun;
+use wat_tokens::{Cursor, Fault, Index, Parse, Parser, Peek, Result};
+
+/// What a clause catches, with its tag as an `I` (WebAssembly Core Specification, Text Format, Instructions, "Control
+/// Instructions").
+#[derive(Clone, Debug, Drop)]
+pub enum CatchKind<I> {
+    /// An exception of the tag, without a reference to it.
+    Catch(I),
+    /// An exception of the tag, and a reference to it.
+    CatchRef(I),
+    /// Any exception, without a reference to it.
+    CatchAll,
+    /// Any exception, and a reference to it.
+    CatchAllRef,
+}
+
+/// What a clause of a `try_table` catches.
+pub type TryTableCatchKind<'a> = CatchKind<Index<'a>>;
+
+impl<I> CatchKind<I> {
+    /// The tag of `Catch` and `CatchRef`, and else None. What is written through it changes the tag alone.
+    pub fn tag_index_mut(&mut self) -> Option<&mut I>
+        ensures* writes_back { sem 𝓛 (LendsTag I.row self.entry result) }
+        ensures value { tag_of self.old ≡ option_map (λ r. r.now) result }
+    {
+        match self {
+            CatchKind::Catch(tag) => Some(tag),
+            CatchKind::CatchRef(tag) => Some(tag),
+            CatchKind::CatchAll => None,
+            CatchKind::CatchAllRef => None,
+        }
+    }
+}
+
+/// A clause of a `try_table` (WebAssembly Core Specification, Text Format, Instructions, "Control Instructions").
+#[derive(Clone, Debug, Drop)]
+pub struct TryTableCatch<'a> {
+    /// What it catches.
+    pub kind: TryTableCatchKind<'a>,
+    /// The label that it branches to.
+    pub label: Index<'a>,
+}
+
+/// The operand of `try_table`: its block, and what it catches (WebAssembly Core Specification, Text Format,
+/// Instructions, "Control Instructions").
+#[derive(Debug, Drop)]
+pub struct TryTable<'a> {
+    /// The block.
+    pub block: Box<BlockType<'a>>,
+    /// What it catches, in order.
+    pub catches: Vec<TryTableCatch<'a>>,
+}
+
+/// The word of a clause, and the tag where it has one.
+#[tactic(auto, unfolding(crate::specs::Catches::catch_kind))]
+fn read_kind<'a>(parser: &mut Parser<'a>) -> Result<TryTableCatchKind<'a>>
+    ensures exact { Gives true (λ _. true) (seen_kind seen_index) result (catch_kind.reads parser.old.left) parser.new.left }
+    ensures counts { Counted result parser.old parser.new }
+    ensures quiet { Quiet parser.old parser.new }
+    ensures names { Kept parser.old parser.new }
+{
+    if parser.next_is("catch") {
+        parser.keyword("catch")?;
+        return Ok(CatchKind::Catch(Index::parse(parser)?));
+    }
+    if parser.next_is("catch_ref") {
+        parser.keyword("catch_ref")?;
+        return Ok(CatchKind::CatchRef(Index::parse(parser)?));
+    }
+    if parser.next_is("catch_all") {
+        parser.keyword("catch_all")?;
+        return Ok(CatchKind::CatchAll);
+    }
+    parser.keyword("catch_all_ref")?;
+    Ok(CatchKind::CatchAllRef)
+}
+
+/// `( catch idx idx )`, `( catch_ref idx idx )`, `( catch_all idx )` or `( catch_all_ref idx )`, with its parentheses:
+/// the tag first, the label last.
+impl<'a> Parse<'a> for TryTableCatch<'a> {
+    ghost Seen = { CatchTy };
+
+    ghost seen = { seen_catch };
+
+    ghost light = { true };
+
+    ghost bare = { λ _. true };
+
+    ghost quiet = { true };
+
+    ghost grammar = { catch_clause };
+
+    #[tactic(auto, unfolding(crate::specs::Catches::catch_clause))]
+    fn parse(parser: &mut Parser<'a>) -> Result<Self> {
+        parser.open()?;
+        let kind = read_kind(parser)?;
+        let label = Index::parse(parser)?;
+        parser.close()?;
+        Ok(TryTableCatch { kind, label })
+    }
+}
+
+/// `(` and `catch`, `catch_ref`, `catch_all` or `catch_all_ref`.
+impl<'p> Peek for TryTableCatch<'p> {
+    ghost begins = { begins_catch };
+
+    fn peek(cursor: Cursor<'_>) -> bool
+        ensures { result ≡ begins_catch (front cursor.entry) }
+    {
+        (cursor.group_is("catch") || cursor.group_is("catch_ref"))
+            || (cursor.group_is("catch_all") || cursor.group_is("catch_all_ref"))
+    }
+
+    fn display() -> &'static str {
+        "catch clause"
+    }
+}
+
+impl<'a> TryTable<'a> {
+    /// The same operand once more. Memory may be answered, since the block is in a box.
+    pub fn clone(&self) -> Result<TryTable<'a>>
+        ensures same { IfOk result (λ t. SameTry self.now t) }
+        ensures seen { IfOk result (λ t. seen_try t ≡ seen_try self.now) }
+        ensures memory { IfErr result (λ e. e.fault ≡ Fault.Memory) }
+    {
+        let alloc = *self.catches.allocator();
+        let block = BlockType::clone(&self.block)?;
+        let block = Box::new(alloc, block)?;
+        let mut catches = Vec::new(alloc);
+        catches.extend_with_clones(&self.catches)?;
+        Ok(TryTable { block, catches })
+    }
+}
+
+/// A [`BlockType`], and then every clause that follows: each group that begins with `catch`, `catch_ref`, `catch_all` or
+/// `catch_all_ref`. Such a group that is no clause, as one without its label, is refused.
+impl<'a> Parse<'a> for TryTable<'a> {
+    ghost Seen = { TryTy };
+
+    ghost seen = { seen_try };
+
+    ghost light = { false };
+
+    ghost bare = { λ _. false };
+
+    ghost quiet = { true };
+
+    ghost grammar = { try_table };
+
+    #[tactic(auto, using(crate::specs::Catches::catch_clause_eats), unfolding(crate::specs::Catches::try_table))]
+    fn parse(parser: &mut Parser<'a>) -> Result<Self> {
+        let block = Box::<BlockType>::parse(parser)?;
+        let mut catches = Vec::new(parser.alloc());
+        while_begun::<TryTableCatch>(parser, &mut catches)?;
+        Ok(TryTable { block, catches })
+    }
+}

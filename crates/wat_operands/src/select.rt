@@ -1,0 +1,89 @@
+//! The types of a `select`.
+
+ghost use Rattle.std.specs.Prelude.{◌≡◌, true, false, List, Option, map, IfOk, IfErr};
+ghost use Rattle.wat_operands.specs.Select.{seen_select, bare_select, result_group, result_follows, select_types, SameTypes};
+ghost use Rattle.wat_types.specs.Value.{ValTy, seen_val};
+
+use wat_tokens::repeat::{Group, groups, rest_of_group};
+use wat_tokens::{Fault, Parse, Parser, Result};
+use wat_types::ValType;
+
+/// The types that a `select` is written with (WebAssembly Core Specification, Text Format, Instructions, "Parametric
+/// Instructions").
+#[derive(Debug, Drop)]
+pub struct SelectTypes<'a> {
+    /// The types of all its groups, in order; None where it has no group.
+    pub tys: Option<Vec<ValType<'a>>>,
+}
+
+/// Groups `( result ValType* )`, to where the second token isn't `result`.
+struct ResultGroup;
+
+impl<'a> Group<'a, ValType<'a>> for ResultGroup {
+    ghost Seen = { ValTy };
+
+    ghost seen = { seen_val };
+
+    ghost quiet = { true };
+
+    ghost grammar = { result_group };
+
+    ghost follows = { result_follows };
+
+    fn follows(parser: &Parser<'a>) -> bool {
+        parser.second_is("result")
+    }
+
+    #[tactic(auto, using(wat_types::specs::Value::val_type_eats), unfolding(wat_types::specs::Group::val_types))]
+    fn take(parser: &mut Parser<'a>, out: &mut Vec<ValType<'a>>) -> Result<()> {
+        parser.open()?;
+        parser.keyword("result")?;
+        rest_of_group::<ValType>(parser, out)?;
+        parser.close()?;
+        Ok(())
+    }
+}
+
+impl<'a> SelectTypes<'a> {
+    /// The same operand once more. Memory may be answered where it has a type.
+    pub fn clone(&self) -> Result<SelectTypes<'a>>
+        ensures same { IfOk result (λ s. SameTypes self.now.tys s.tys) }
+        ensures seen { IfOk result (λ s. seen_select s ≡ seen_select self.now) }
+        ensures memory { IfErr result (λ e. (e.fault ≡ Fault.Memory) × (bare_select (seen_select self.now) ≡ false)) }
+    {
+        match &self.tys {
+            Some(types) => {
+                let mut tys = Vec::new(*types.allocator());
+                tys.extend_from_slice(types)?;
+                Ok(SelectTypes { tys: Some(tys) })
+            }
+            None => Ok(SelectTypes { tys: None }),
+        }
+    }
+}
+
+/// Groups `( result ValType* )`, to where the second token isn't `result`, whatever the first is: None where there is
+/// none, else the types of all.
+impl<'a> Parse<'a> for SelectTypes<'a> {
+    ghost Seen = { Option (List ValTy) };
+
+    ghost seen = { seen_select };
+
+    ghost light = { false };
+
+    ghost bare = { bare_select };
+
+    ghost quiet = { true };
+
+    ghost grammar = { select_types };
+
+    #[tactic(auto, using(wat_tokens::specs::Joined::joined_reads, crate::specs::Select::result_group_eats), unfolding(crate::specs::Select::select_types))]
+    fn parse(parser: &mut Parser<'a>) -> Result<Self> {
+        if !ResultGroup::follows(parser) {
+            return Ok(SelectTypes { tys: None });
+        }
+        let mut tys = Vec::new(parser.alloc());
+        groups::<_, ResultGroup>(parser, &mut tys)?;
+        Ok(SelectTypes { tys: Some(tys) })
+    }
+}
