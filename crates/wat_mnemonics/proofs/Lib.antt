@@ -1,0 +1,4 @@
+mod Halves
+mod Heads
+mod Prefix
+mod Rows

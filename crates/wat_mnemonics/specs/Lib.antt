@@ -1,0 +1,12 @@
+pub mod Access
+pub mod Heads
+pub mod Indexed
+pub mod Opcodes
+pub mod Order
+pub mod Ordered
+pub mod Places
+pub mod Probes
+pub mod Scalar
+pub mod Table
+pub mod Vector
+pub mod Word

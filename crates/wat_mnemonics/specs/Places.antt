@@ -1,0 +1,314 @@
+-- Where in the table each instruction stands, by its row.
+use Rattle.std.proofs.Common.{◌≡◌, ℕ, ◌<◌, List, [], ◌∷◌, length, get_or, refl, sym, ◌∙◌, ap, arith, IsTrue, lit<}
+use Rattle.std.proofs.lemmas.List.{get_or-map}
+use Rattle.wat_mnemonics.specs.Heads.{head_word, head_row}
+use Rattle.wat_mnemonics.specs.Order.{rises, words, first, same_place}
+use Rattle.wat_mnemonics.specs.declared.head.Head.{Head}
+use Rattle.wat_mnemonics.specs.declared.head.Head.TheVariants as h
+use Rattle.wat_mnemonics.specs.Table.{TABLE}
+use Rattle.wat_mnemonics.specs.declared.indexed.BlockOp.{BlockOp}
+use Rattle.wat_mnemonics.specs.declared.indexed.BlockOp.TheVariants as block
+use Rattle.wat_mnemonics.specs.declared.indexed.LabelOp.{LabelOp}
+use Rattle.wat_mnemonics.specs.declared.indexed.LabelOp.TheVariants as label
+use Rattle.wat_mnemonics.specs.declared.scalar.ScalarOp.{ScalarOp}
+use Rattle.wat_mnemonics.specs.declared.scalar.ScalarOp.TheVariants as scalar
+use Rattle.wat_mnemonics.specs.declared.indexed.IndexedOp.{IndexedOp}
+use Rattle.wat_mnemonics.specs.declared.indexed.IndexedOp.TheVariants as indexed
+use Rattle.wat_mnemonics.specs.declared.indexed.CallIndirectOp.{CallIndirectOp}
+use Rattle.wat_mnemonics.specs.declared.indexed.CallIndirectOp.TheVariants as call_indirect
+use Rattle.wat_mnemonics.specs.declared.indexed.TableOp.{TableOp}
+use Rattle.wat_mnemonics.specs.declared.indexed.TableOp.TheVariants as table
+use Rattle.wat_mnemonics.specs.declared.access.AccessOp.{AccessOp}
+use Rattle.wat_mnemonics.specs.declared.access.AccessOp.TheVariants as access
+use Rattle.wat_mnemonics.specs.declared.indexed.MemoryOp.{MemoryOp}
+use Rattle.wat_mnemonics.specs.declared.indexed.MemoryOp.TheVariants as memory
+use Rattle.wat_mnemonics.specs.declared.indexed.StructOp.{StructOp}
+use Rattle.wat_mnemonics.specs.declared.indexed.StructOp.TheVariants as struct
+use Rattle.wat_mnemonics.specs.declared.indexed.ArrayInitOp.{ArrayInitOp}
+use Rattle.wat_mnemonics.specs.declared.indexed.ArrayInitOp.TheVariants as array_init
+use Rattle.wat_mnemonics.specs.declared.access.AtomicAccessOp.{AtomicAccessOp}
+use Rattle.wat_mnemonics.specs.declared.access.AtomicAccessOp.TheVariants as atomic_access
+use Rattle.wat_mnemonics.specs.declared.access.RmwAccessOp.{RmwAccessOp}
+use Rattle.wat_mnemonics.specs.declared.access.RmwAccessOp.TheVariants as rmw_access
+use Rattle.wat_mnemonics.specs.declared.ordered.OrderedIndexOp.{OrderedIndexOp}
+use Rattle.wat_mnemonics.specs.declared.ordered.OrderedIndexOp.TheVariants as ordered_index
+use Rattle.wat_mnemonics.specs.declared.ordered.OrderedTableOp.{OrderedTableOp}
+use Rattle.wat_mnemonics.specs.declared.ordered.OrderedTableOp.TheVariants as ordered_table
+use Rattle.wat_mnemonics.specs.declared.ordered.OrderedStructOp.{OrderedStructOp}
+use Rattle.wat_mnemonics.specs.declared.ordered.OrderedStructOp.TheVariants as ordered_struct
+use Rattle.wat_mnemonics.specs.declared.access.LaneAccessOp.{LaneAccessOp}
+use Rattle.wat_mnemonics.specs.declared.access.LaneAccessOp.TheVariants as lane_access
+use Rattle.wat_mnemonics.specs.declared.indexed.LaneOp.{LaneOp}
+use Rattle.wat_mnemonics.specs.declared.indexed.LaneOp.TheVariants as lane
+use Rattle.wat_mnemonics.specs.declared.vector.VectorOp.{VectorOp}
+use Rattle.wat_mnemonics.specs.declared.vector.VectorOp.TheVariants as vector
+
+-- the place of each row
+abbrev pub PLACES : List ℕ
+PLACES = 27 ∷ 520 ∷ 48 ∷ 524 ∷ 49 ∷ 592 ∷ 534 ∷ 28 ∷ 29 ∷ 36 ∷ 551 ∷ 37 ∷ 38 ∷ 552 ∷ 553 ∷ 39 ∷ 554 ∷ 46 ∷ 555 ∷ 521 ∷ 522 ∷ 523 ∷ 180 ∷ 181 ∷ 583 ∷ 586 ∷ 277 ∷ 415 ∷ 67 ∷ 126 ∷ 280 ∷ 281 ∷ 278 ∷ 279 ∷ 420 ∷ 421 ∷ 416 ∷ 417 ∷ 418 ∷ 419 ∷ 296 ∷ 438 ∷ 77 ∷ 137 ∷ 298 ∷ 297 ∷ 441 ∷ 439 ∷ 440 ∷ 533 ∷ 531 ∷ 532 ∷ 528 ∷ 530 ∷ 529 ∷ 44 ∷ 47 ∷ 585 ∷ 581 ∷ 582 ∷ 587 ∷ 584 ∷ 545 ∷ 544 ∷ 540 ∷ 536 ∷ 35 ∷ 34 ∷ 539 ∷ 570 ∷ 571 ∷ 567 ∷ 568 ∷ 569 ∷ 574 ∷ 20 ∷ 22 ∷ 24 ∷ 21 ∷ 23 ∷ 14 ∷ 15 ∷ 16 ∷ 25 ∷ 19 ∷ 13 ∷ 12 ∷ 17 ∷ 18 ∷ 542 ∷ 231 ∷ 232 ∷ 546 ∷ 537 ∷ 30 ∷ 33 ∷ 0 ∷ 50 ∷ 263 ∷ 398 ∷ 54 ∷ 114 ∷ 262 ∷ 264 ∷ 287 ∷ 233 ∷ 299 ∷ 284 ∷ 265 ∷ 266 ∷ 289 ∷ 290 ∷ 234 ∷ 286 ∷ 309 ∷ 293 ∷ 294 ∷ 295 ∷ 291 ∷ 292 ∷ 397 ∷ 399 ∷ 429 ∷ 358 ∷ 442 ∷ 424 ∷ 400 ∷ 401 ∷ 431 ∷ 432 ∷ 360 ∷ 428 ∷ 452 ∷ 435 ∷ 436 ∷ 437 ∷ 433 ∷ 434 ∷ 51 ∷ 74 ∷ 53 ∷ 63 ∷ 79 ∷ 73 ∷ 76 ∷ 52 ∷ 78 ∷ 71 ∷ 61 ∷ 70 ∷ 69 ∷ 59 ∷ 111 ∷ 133 ∷ 113 ∷ 122 ∷ 139 ∷ 132 ∷ 136 ∷ 112 ∷ 138 ∷ 130 ∷ 120 ∷ 129 ∷ 128 ∷ 119 ∷ 268 ∷ 267 ∷ 285 ∷ 282 ∷ 283 ∷ 273 ∷ 274 ∷ 275 ∷ 276 ∷ 271 ∷ 272 ∷ 403 ∷ 402 ∷ 427 ∷ 422 ∷ 423 ∷ 411 ∷ 412 ∷ 413 ∷ 414 ∷ 409 ∷ 410 ∷ 62 ∷ 72 ∷ 68 ∷ 65 ∷ 66 ∷ 64 ∷ 121 ∷ 131 ∷ 127 ∷ 124 ∷ 125 ∷ 123 ∷ 308 ∷ 300 ∷ 301 ∷ 302 ∷ 303 ∷ 407 ∷ 408 ∷ 444 ∷ 445 ∷ 446 ∷ 447 ∷ 55 ∷ 56 ∷ 57 ∷ 58 ∷ 60 ∷ 115 ∷ 116 ∷ 117 ∷ 118 ∷ 134 ∷ 288 ∷ 430 ∷ 75 ∷ 135 ∷ 304 ∷ 305 ∷ 306 ∷ 307 ∷ 448 ∷ 449 ∷ 450 ∷ 451 ∷ 270 ∷ 269 ∷ 406 ∷ 404 ∷ 405 ∷ 525 ∷ 526 ∷ 527 ∷ 26 ∷ 535 ∷ 235 ∷ 361 ∷ 237 ∷ 236 ∷ 364 ∷ 362 ∷ 363 ∷ 259 ∷ 393 ∷ 261 ∷ 260 ∷ 396 ∷ 394 ∷ 395 ∷ 238 ∷ 365 ∷ 252 ∷ 245 ∷ 386 ∷ 372 ∷ 379 ∷ 242 ∷ 369 ∷ 256 ∷ 249 ∷ 390 ∷ 376 ∷ 383 ∷ 239 ∷ 366 ∷ 253 ∷ 246 ∷ 387 ∷ 373 ∷ 380 ∷ 241 ∷ 368 ∷ 255 ∷ 248 ∷ 389 ∷ 375 ∷ 382 ∷ 244 ∷ 371 ∷ 258 ∷ 251 ∷ 392 ∷ 378 ∷ 385 ∷ 243 ∷ 370 ∷ 257 ∷ 250 ∷ 391 ∷ 377 ∷ 384 ∷ 240 ∷ 367 ∷ 254 ∷ 247 ∷ 388 ∷ 374 ∷ 381 ∷ 171 ∷ 179 ∷ 172 ∷ 176 ∷ 173 ∷ 175 ∷ 178 ∷ 177 ∷ 174 ∷ 577 ∷ 580 ∷ 579 ∷ 578 ∷ 556 ∷ 557 ∷ 558 ∷ 566 ∷ 559 ∷ 563 ∷ 560 ∷ 562 ∷ 565 ∷ 564 ∷ 561 ∷ 1 ∷ 2 ∷ 3 ∷ 11 ∷ 4 ∷ 8 ∷ 5 ∷ 7 ∷ 10 ∷ 9 ∷ 6 ∷ 543 ∷ 598 ∷ 613 ∷ 614 ∷ 601 ∷ 602 ∷ 606 ∷ 607 ∷ 612 ∷ 600 ∷ 604 ∷ 609 ∷ 605 ∷ 610 ∷ 617 ∷ 611 ∷ 599 ∷ 603 ∷ 608 ∷ 621 ∷ 618 ∷ 619 ∷ 620 ∷ 597 ∷ 514 ∷ 489 ∷ 490 ∷ 510 ∷ 200 ∷ 201 ∷ 223 ∷ 326 ∷ 348 ∷ 466 ∷ 475 ∷ 88 ∷ 106 ∷ 147 ∷ 166 ∷ 519 ∷ 515 ∷ 227 ∷ 352 ∷ 479 ∷ 107 ∷ 167 ∷ 488 ∷ 505 ∷ 497 ∷ 498 ∷ 493 ∷ 494 ∷ 495 ∷ 496 ∷ 491 ∷ 492 ∷ 189 ∷ 217 ∷ 208 ∷ 209 ∷ 204 ∷ 205 ∷ 206 ∷ 207 ∷ 202 ∷ 203 ∷ 315 ∷ 340 ∷ 333 ∷ 334 ∷ 329 ∷ 330 ∷ 331 ∷ 332 ∷ 327 ∷ 328 ∷ 457 ∷ 472 ∷ 470 ∷ 468 ∷ 469 ∷ 467 ∷ 87 ∷ 97 ∷ 93 ∷ 91 ∷ 92 ∷ 90 ∷ 146 ∷ 156 ∷ 152 ∷ 150 ∷ 151 ∷ 149 ∷ 615 ∷ 593 ∷ 594 ∷ 616 ∷ 622 ∷ 596 ∷ 595 ∷ 481 ∷ 506 ∷ 507 ∷ 485 ∷ 487 ∷ 503 ∷ 504 ∷ 511 ∷ 512 ∷ 513 ∷ 482 ∷ 483 ∷ 484 ∷ 516 ∷ 517 ∷ 518 ∷ 501 ∷ 502 ∷ 499 ∷ 500 ∷ 486 ∷ 190 ∷ 191 ∷ 182 ∷ 218 ∷ 219 ∷ 186 ∷ 188 ∷ 215 ∷ 216 ∷ 194 ∷ 192 ∷ 195 ∷ 193 ∷ 224 ∷ 225 ∷ 226 ∷ 183 ∷ 184 ∷ 185 ∷ 228 ∷ 229 ∷ 230 ∷ 214 ∷ 212 ∷ 213 ∷ 210 ∷ 211 ∷ 187 ∷ 198 ∷ 196 ∷ 199 ∷ 197 ∷ 316 ∷ 317 ∷ 310 ∷ 341 ∷ 312 ∷ 313 ∷ 320 ∷ 318 ∷ 321 ∷ 319 ∷ 349 ∷ 350 ∷ 351 ∷ 311 ∷ 353 ∷ 339 ∷ 337 ∷ 338 ∷ 335 ∷ 336 ∷ 314 ∷ 324 ∷ 322 ∷ 325 ∷ 323 ∷ 453 ∷ 473 ∷ 455 ∷ 456 ∷ 460 ∷ 458 ∷ 461 ∷ 459 ∷ 476 ∷ 477 ∷ 478 ∷ 454 ∷ 480 ∷ 471 ∷ 464 ∷ 462 ∷ 465 ∷ 463 ∷ 82 ∷ 89 ∷ 110 ∷ 98 ∷ 80 ∷ 99 ∷ 108 ∷ 81 ∷ 109 ∷ 96 ∷ 86 ∷ 95 ∷ 94 ∷ 101 ∷ 100 ∷ 142 ∷ 148 ∷ 170 ∷ 157 ∷ 140 ∷ 158 ∷ 168 ∷ 141 ∷ 169 ∷ 155 ∷ 145 ∷ 154 ∷ 153 ∷ 160 ∷ 159 ∷ 354 ∷ 355 ∷ 83 ∷ 84 ∷ 356 ∷ 357 ∷ 143 ∷ 144 ∷ 85 ∷ 161 ∷ 589 ∷ 591 ∷ 588 ∷ 590 ∷ 40 ∷ 550 ∷ 45 ∷ 41 ∷ 509 ∷ 344 ∷ 345 ∷ 346 ∷ 347 ∷ 102 ∷ 105 ∷ 162 ∷ 165 ∷ 508 ∷ 221 ∷ 343 ∷ 474 ∷ 104 ∷ 103 ∷ 164 ∷ 163 ∷ 222 ∷ 220 ∷ 342 ∷ 43 ∷ 42 ∷ 575 ∷ 547 ∷ 548 ∷ 549 ∷ 576 ∷ 359 ∷ 443 ∷ 425 ∷ 426 ∷ 573 ∷ 572 ∷ 541 ∷ 538 ∷ 31 ∷ 32 ∷ []
+
+abbrev pub place_of_row : ℕ → ℕ
+place_of_row n = get_or PLACES n 0
+
+abbrev pub place : Head → ℕ
+place x = place_of_row (head_row x)
+
+-- the instruction of a row
+abbrev pub head_of_row : ℕ → Head
+head_of_row n = get_or TABLE (place_of_row n) first
+
+-- the words rise strictly
+pub in_order : IsTrue (rises words)
+in_order = refl
+
+pub words_length : length words ≡ 623
+words_length = refl
+
+pub table_length : length TABLE ≡ 623
+table_length = refl
+
+block_there : (x : BlockOp) → get_or TABLE (place (h.Block x)) first ≡ h.Block x
+block_there x = elim x as (λ y. get_or TABLE (place (h.Block y)) first ≡ h.Block y) [ block.block ↦ refl | _ ↦ refl ]
+
+block_below : (x : BlockOp) → place (h.Block x) < 623
+block_below x = elim x as (λ y. place (h.Block y) < 623) [ block.block ↦ lit< tt | _ ↦ lit< tt ]
+
+block_row_below : (x : BlockOp) → head_row (h.Block x) < 623
+block_row_below x = elim x as (λ y. head_row (h.Block y) < 623) [ block.block ↦ lit< tt | _ ↦ lit< tt ]
+
+label_there : (x : LabelOp) → get_or TABLE (place (h.Label x)) first ≡ h.Label x
+label_there x = elim x as (λ y. get_or TABLE (place (h.Label y)) first ≡ h.Label y) [ label.else_ ↦ refl | _ ↦ refl ]
+
+label_below : (x : LabelOp) → place (h.Label x) < 623
+label_below x = elim x as (λ y. place (h.Label y) < 623) [ label.else_ ↦ lit< tt | _ ↦ lit< tt ]
+
+label_row_below : (x : LabelOp) → head_row (h.Label x) < 623
+label_row_below x = elim x as (λ y. head_row (h.Label y) < 623) [ label.else_ ↦ lit< tt | _ ↦ lit< tt ]
+
+scalar_there : (x : ScalarOp) → get_or TABLE (place (h.Scalar x)) first ≡ h.Scalar x
+scalar_there x = elim x as (λ y. get_or TABLE (place (h.Scalar y)) first ≡ h.Scalar y) [ scalar.unreachable ↦ refl | _ ↦ refl ]
+
+scalar_below : (x : ScalarOp) → place (h.Scalar x) < 623
+scalar_below x = elim x as (λ y. place (h.Scalar y) < 623) [ scalar.unreachable ↦ lit< tt | _ ↦ lit< tt ]
+
+scalar_row_below : (x : ScalarOp) → head_row (h.Scalar x) < 623
+scalar_row_below x = elim x as (λ y. head_row (h.Scalar y) < 623) [ scalar.unreachable ↦ lit< tt | _ ↦ lit< tt ]
+
+indexed_there : (x : IndexedOp) → get_or TABLE (place (h.Indexed x)) first ≡ h.Indexed x
+indexed_there x = elim x as (λ y. get_or TABLE (place (h.Indexed y)) first ≡ h.Indexed y) [ indexed.br ↦ refl | _ ↦ refl ]
+
+indexed_below : (x : IndexedOp) → place (h.Indexed x) < 623
+indexed_below x = elim x as (λ y. place (h.Indexed y) < 623) [ indexed.br ↦ lit< tt | _ ↦ lit< tt ]
+
+indexed_row_below : (x : IndexedOp) → head_row (h.Indexed x) < 623
+indexed_row_below x = elim x as (λ y. head_row (h.Indexed y) < 623) [ indexed.br ↦ lit< tt | _ ↦ lit< tt ]
+
+call_indirect_there : (x : CallIndirectOp) → get_or TABLE (place (h.CallIndirect x)) first ≡ h.CallIndirect x
+call_indirect_there x = elim x as (λ y. get_or TABLE (place (h.CallIndirect y)) first ≡ h.CallIndirect y) [ call_indirect.call_indirect ↦ refl | _ ↦ refl ]
+
+call_indirect_below : (x : CallIndirectOp) → place (h.CallIndirect x) < 623
+call_indirect_below x = elim x as (λ y. place (h.CallIndirect y) < 623) [ call_indirect.call_indirect ↦ lit< tt | _ ↦ lit< tt ]
+
+call_indirect_row_below : (x : CallIndirectOp) → head_row (h.CallIndirect x) < 623
+call_indirect_row_below x = elim x as (λ y. head_row (h.CallIndirect y) < 623) [ call_indirect.call_indirect ↦ lit< tt | _ ↦ lit< tt ]
+
+table_there : (x : TableOp) → get_or TABLE (place (h.Table x)) first ≡ h.Table x
+table_there x = elim x as (λ y. get_or TABLE (place (h.Table y)) first ≡ h.Table y) [ table.table_get ↦ refl | _ ↦ refl ]
+
+table_below : (x : TableOp) → place (h.Table x) < 623
+table_below x = elim x as (λ y. place (h.Table y) < 623) [ table.table_get ↦ lit< tt | _ ↦ lit< tt ]
+
+table_row_below : (x : TableOp) → head_row (h.Table x) < 623
+table_row_below x = elim x as (λ y. head_row (h.Table y) < 623) [ table.table_get ↦ lit< tt | _ ↦ lit< tt ]
+
+access_there : (x : AccessOp) → get_or TABLE (place (h.Access x)) first ≡ h.Access x
+access_there x = elim x as (λ y. get_or TABLE (place (h.Access y)) first ≡ h.Access y) [ access.i32_load ↦ refl | _ ↦ refl ]
+
+access_below : (x : AccessOp) → place (h.Access x) < 623
+access_below x = elim x as (λ y. place (h.Access y) < 623) [ access.i32_load ↦ lit< tt | _ ↦ lit< tt ]
+
+access_row_below : (x : AccessOp) → head_row (h.Access x) < 623
+access_row_below x = elim x as (λ y. head_row (h.Access y) < 623) [ access.i32_load ↦ lit< tt | _ ↦ lit< tt ]
+
+memory_there : (x : MemoryOp) → get_or TABLE (place (h.Memory x)) first ≡ h.Memory x
+memory_there x = elim x as (λ y. get_or TABLE (place (h.Memory y)) first ≡ h.Memory y) [ memory.memory_size ↦ refl | _ ↦ refl ]
+
+memory_below : (x : MemoryOp) → place (h.Memory x) < 623
+memory_below x = elim x as (λ y. place (h.Memory y) < 623) [ memory.memory_size ↦ lit< tt | _ ↦ lit< tt ]
+
+memory_row_below : (x : MemoryOp) → head_row (h.Memory x) < 623
+memory_row_below x = elim x as (λ y. head_row (h.Memory y) < 623) [ memory.memory_size ↦ lit< tt | _ ↦ lit< tt ]
+
+struct_there : (x : StructOp) → get_or TABLE (place (h.Struct x)) first ≡ h.Struct x
+struct_there x = elim x as (λ y. get_or TABLE (place (h.Struct y)) first ≡ h.Struct y) [ struct.struct_get ↦ refl | _ ↦ refl ]
+
+struct_below : (x : StructOp) → place (h.Struct x) < 623
+struct_below x = elim x as (λ y. place (h.Struct y) < 623) [ struct.struct_get ↦ lit< tt | _ ↦ lit< tt ]
+
+struct_row_below : (x : StructOp) → head_row (h.Struct x) < 623
+struct_row_below x = elim x as (λ y. head_row (h.Struct y) < 623) [ struct.struct_get ↦ lit< tt | _ ↦ lit< tt ]
+
+array_init_there : (x : ArrayInitOp) → get_or TABLE (place (h.ArrayInit x)) first ≡ h.ArrayInit x
+array_init_there x = elim x as (λ y. get_or TABLE (place (h.ArrayInit y)) first ≡ h.ArrayInit y) [ array_init.array_init_data ↦ refl | _ ↦ refl ]
+
+array_init_below : (x : ArrayInitOp) → place (h.ArrayInit x) < 623
+array_init_below x = elim x as (λ y. place (h.ArrayInit y) < 623) [ array_init.array_init_data ↦ lit< tt | _ ↦ lit< tt ]
+
+array_init_row_below : (x : ArrayInitOp) → head_row (h.ArrayInit x) < 623
+array_init_row_below x = elim x as (λ y. head_row (h.ArrayInit y) < 623) [ array_init.array_init_data ↦ lit< tt | _ ↦ lit< tt ]
+
+atomic_access_there : (x : AtomicAccessOp) → get_or TABLE (place (h.AtomicAccess x)) first ≡ h.AtomicAccess x
+atomic_access_there x = elim x as (λ y. get_or TABLE (place (h.AtomicAccess y)) first ≡ h.AtomicAccess y) [ atomic_access.i32_atomic_load ↦ refl | _ ↦ refl ]
+
+atomic_access_below : (x : AtomicAccessOp) → place (h.AtomicAccess x) < 623
+atomic_access_below x = elim x as (λ y. place (h.AtomicAccess y) < 623) [ atomic_access.i32_atomic_load ↦ lit< tt | _ ↦ lit< tt ]
+
+atomic_access_row_below : (x : AtomicAccessOp) → head_row (h.AtomicAccess x) < 623
+atomic_access_row_below x = elim x as (λ y. head_row (h.AtomicAccess y) < 623) [ atomic_access.i32_atomic_load ↦ lit< tt | _ ↦ lit< tt ]
+
+rmw_access_there : (x : RmwAccessOp) → get_or TABLE (place (h.RmwAccess x)) first ≡ h.RmwAccess x
+rmw_access_there x = elim x as (λ y. get_or TABLE (place (h.RmwAccess y)) first ≡ h.RmwAccess y) [ rmw_access.i32_atomic_rmw_add ↦ refl | _ ↦ refl ]
+
+rmw_access_below : (x : RmwAccessOp) → place (h.RmwAccess x) < 623
+rmw_access_below x = elim x as (λ y. place (h.RmwAccess y) < 623) [ rmw_access.i32_atomic_rmw_add ↦ lit< tt | _ ↦ lit< tt ]
+
+rmw_access_row_below : (x : RmwAccessOp) → head_row (h.RmwAccess x) < 623
+rmw_access_row_below x = elim x as (λ y. head_row (h.RmwAccess y) < 623) [ rmw_access.i32_atomic_rmw_add ↦ lit< tt | _ ↦ lit< tt ]
+
+ordered_index_there : (x : OrderedIndexOp) → get_or TABLE (place (h.OrderedIndex x)) first ≡ h.OrderedIndex x
+ordered_index_there x = elim x as (λ y. get_or TABLE (place (h.OrderedIndex y)) first ≡ h.OrderedIndex y) [ ordered_index.global_atomic_get ↦ refl | _ ↦ refl ]
+
+ordered_index_below : (x : OrderedIndexOp) → place (h.OrderedIndex x) < 623
+ordered_index_below x = elim x as (λ y. place (h.OrderedIndex y) < 623) [ ordered_index.global_atomic_get ↦ lit< tt | _ ↦ lit< tt ]
+
+ordered_index_row_below : (x : OrderedIndexOp) → head_row (h.OrderedIndex x) < 623
+ordered_index_row_below x = elim x as (λ y. head_row (h.OrderedIndex y) < 623) [ ordered_index.global_atomic_get ↦ lit< tt | _ ↦ lit< tt ]
+
+ordered_table_there : (x : OrderedTableOp) → get_or TABLE (place (h.OrderedTable x)) first ≡ h.OrderedTable x
+ordered_table_there x = elim x as (λ y. get_or TABLE (place (h.OrderedTable y)) first ≡ h.OrderedTable y) [ ordered_table.table_atomic_get ↦ refl | _ ↦ refl ]
+
+ordered_table_below : (x : OrderedTableOp) → place (h.OrderedTable x) < 623
+ordered_table_below x = elim x as (λ y. place (h.OrderedTable y) < 623) [ ordered_table.table_atomic_get ↦ lit< tt | _ ↦ lit< tt ]
+
+ordered_table_row_below : (x : OrderedTableOp) → head_row (h.OrderedTable x) < 623
+ordered_table_row_below x = elim x as (λ y. head_row (h.OrderedTable y) < 623) [ ordered_table.table_atomic_get ↦ lit< tt | _ ↦ lit< tt ]
+
+ordered_struct_there : (x : OrderedStructOp) → get_or TABLE (place (h.OrderedStruct x)) first ≡ h.OrderedStruct x
+ordered_struct_there x = elim x as (λ y. get_or TABLE (place (h.OrderedStruct y)) first ≡ h.OrderedStruct y) [ ordered_struct.struct_atomic_get ↦ refl | _ ↦ refl ]
+
+ordered_struct_below : (x : OrderedStructOp) → place (h.OrderedStruct x) < 623
+ordered_struct_below x = elim x as (λ y. place (h.OrderedStruct y) < 623) [ ordered_struct.struct_atomic_get ↦ lit< tt | _ ↦ lit< tt ]
+
+ordered_struct_row_below : (x : OrderedStructOp) → head_row (h.OrderedStruct x) < 623
+ordered_struct_row_below x = elim x as (λ y. head_row (h.OrderedStruct y) < 623) [ ordered_struct.struct_atomic_get ↦ lit< tt | _ ↦ lit< tt ]
+
+lane_access_there : (x : LaneAccessOp) → get_or TABLE (place (h.LaneAccess x)) first ≡ h.LaneAccess x
+lane_access_there x = elim x as (λ y. get_or TABLE (place (h.LaneAccess y)) first ≡ h.LaneAccess y) [ lane_access.v128_load8_lane ↦ refl | _ ↦ refl ]
+
+lane_access_below : (x : LaneAccessOp) → place (h.LaneAccess x) < 623
+lane_access_below x = elim x as (λ y. place (h.LaneAccess y) < 623) [ lane_access.v128_load8_lane ↦ lit< tt | _ ↦ lit< tt ]
+
+lane_access_row_below : (x : LaneAccessOp) → head_row (h.LaneAccess x) < 623
+lane_access_row_below x = elim x as (λ y. head_row (h.LaneAccess y) < 623) [ lane_access.v128_load8_lane ↦ lit< tt | _ ↦ lit< tt ]
+
+lane_there : (x : LaneOp) → get_or TABLE (place (h.Lane x)) first ≡ h.Lane x
+lane_there x = elim x as (λ y. get_or TABLE (place (h.Lane y)) first ≡ h.Lane y) [ lane.i8x16_extract_lane_s ↦ refl | _ ↦ refl ]
+
+lane_below : (x : LaneOp) → place (h.Lane x) < 623
+lane_below x = elim x as (λ y. place (h.Lane y) < 623) [ lane.i8x16_extract_lane_s ↦ lit< tt | _ ↦ lit< tt ]
+
+lane_row_below : (x : LaneOp) → head_row (h.Lane x) < 623
+lane_row_below x = elim x as (λ y. head_row (h.Lane y) < 623) [ lane.i8x16_extract_lane_s ↦ lit< tt | _ ↦ lit< tt ]
+
+vector_there : (x : VectorOp) → get_or TABLE (place (h.Vector x)) first ≡ h.Vector x
+vector_there x = elim x as (λ y. get_or TABLE (place (h.Vector y)) first ≡ h.Vector y) [ vector.i8x16_swizzle ↦ refl | _ ↦ refl ]
+
+vector_below : (x : VectorOp) → place (h.Vector x) < 623
+vector_below x = elim x as (λ y. place (h.Vector y) < 623) [ vector.i8x16_swizzle ↦ lit< tt | _ ↦ lit< tt ]
+
+vector_row_below : (x : VectorOp) → head_row (h.Vector x) < 623
+vector_row_below x = elim x as (λ y. head_row (h.Vector y) < 623) [ vector.i8x16_swizzle ↦ lit< tt | _ ↦ lit< tt ]
+
+-- each instruction stands at its place
+pub there : (x : Head) → get_or TABLE (place x) first ≡ x
+there (h.Block x) = block_there x
+there (h.Label x) = label_there x
+there (h.Scalar x) = scalar_there x
+there (h.Indexed x) = indexed_there x
+there (h.CallIndirect x) = call_indirect_there x
+there (h.Table x) = table_there x
+there (h.Access x) = access_there x
+there (h.Memory x) = memory_there x
+there (h.Struct x) = struct_there x
+there (h.ArrayInit x) = array_init_there x
+there (h.AtomicAccess x) = atomic_access_there x
+there (h.RmwAccess x) = rmw_access_there x
+there (h.OrderedIndex x) = ordered_index_there x
+there (h.OrderedTable x) = ordered_table_there x
+there (h.OrderedStruct x) = ordered_struct_there x
+there (h.LaneAccess x) = lane_access_there x
+there (h.Lane x) = lane_there x
+there (h.Vector x) = vector_there x
+there _ = refl
+
+pub below : (x : Head) → place x < 623
+below (h.Block x) = block_below x
+below (h.Label x) = label_below x
+below (h.Scalar x) = scalar_below x
+below (h.Indexed x) = indexed_below x
+below (h.CallIndirect x) = call_indirect_below x
+below (h.Table x) = table_below x
+below (h.Access x) = access_below x
+below (h.Memory x) = memory_below x
+below (h.Struct x) = struct_below x
+below (h.ArrayInit x) = array_init_below x
+below (h.AtomicAccess x) = atomic_access_below x
+below (h.RmwAccess x) = rmw_access_below x
+below (h.OrderedIndex x) = ordered_index_below x
+below (h.OrderedTable x) = ordered_table_below x
+below (h.OrderedStruct x) = ordered_struct_below x
+below (h.LaneAccess x) = lane_access_below x
+below (h.Lane x) = lane_below x
+below (h.Vector x) = vector_below x
+below _ = lit< tt
+
+pub row_below : (x : Head) → head_row x < 623
+row_below (h.Block x) = block_row_below x
+row_below (h.Label x) = label_row_below x
+row_below (h.Scalar x) = scalar_row_below x
+row_below (h.Indexed x) = indexed_row_below x
+row_below (h.CallIndirect x) = call_indirect_row_below x
+row_below (h.Table x) = table_row_below x
+row_below (h.Access x) = access_row_below x
+row_below (h.Memory x) = memory_row_below x
+row_below (h.Struct x) = struct_row_below x
+row_below (h.ArrayInit x) = array_init_row_below x
+row_below (h.AtomicAccess x) = atomic_access_row_below x
+row_below (h.RmwAccess x) = rmw_access_row_below x
+row_below (h.OrderedIndex x) = ordered_index_row_below x
+row_below (h.OrderedTable x) = ordered_table_row_below x
+row_below (h.OrderedStruct x) = ordered_struct_row_below x
+row_below (h.LaneAccess x) = lane_access_row_below x
+row_below (h.Lane x) = lane_row_below x
+row_below (h.Vector x) = vector_row_below x
+row_below _ = lit< tt
+
+-- the word at a place is that of the instruction there
+pub entry_at : (k : ℕ) → k < 623 → get_or words k [] ≡ head_word (get_or TABLE k first)
+entry_at k l = get_or-map head_word TABLE k first [] (let e = table_length in omega arith)
+
+-- two instructions at one place are one
+pub one_place : (x y : Head) → place x ≡ place y → x ≡ y
+one_place x y e = sym (there x) ∙ ap (λ (k : ℕ). get_or TABLE k first) e ∙ there y
+
+-- two instructions of one row are one
+pub one_row : (x y : Head) → head_row x ≡ head_row y → x ≡ y
+one_row x y e = one_place x y (ap place_of_row e)
+
+-- two instructions of one word are one
+pub one_word : (x y : Head) → head_word x ≡ head_word y → x ≡ y
+one_word x y e = one_place x y (same_place words (place x) (place y) in_order (let l = words_length in let b = below x in omega arith) (let l = words_length in let b = below y in omega arith) (entry_at (place x) (below x) ∙ ap head_word (there x) ∙ e ∙ sym (entry_at (place y) (below y) ∙ ap head_word (there y))))
+
+-- the place where the word of an instruction stands
+pub found_at : (x : Head) → (k : ℕ) × (k < 623) × (get_or words k [] ≡ head_word x)
+found_at x = (place x, below x, entry_at (place x) (below x) ∙ ap head_word (there x))

@@ -1,0 +1,81 @@
+//! The search for a word.
+
+ghost use Rattle.std.specs.Prelude.{◌≡◌, ◌≢◌, ◌<◌, ◌≤◌, ◌+◌, ◌∷◌, ℕ, List, IfSome, IfNone, IfErr, slice_index_or};
+ghost use Rattle.wat_tokens.specs.Token.{Tok, Keyword};
+ghost use Rattle.wat_mnemonics.specs.Heads.{head_word};
+ghost use Rattle.wat_mnemonics.specs.Order.{first};
+ghost use Rattle.wat_mnemonics.specs.Probes.{Stays, AtMostTen};
+ghost use Rattle.wat_mnemonics.specs.Table.{TABLE};
+ghost use Rattle.wat_mnemonics.specs.Word.{mnemonic};
+ghost use Rattle.wat_mnemonics.specs.declared.head.Head.{Head as AnyHead};
+ghost use Rattle.wat_tokens.specs.Counts.{Carries, Counted, Kept};
+ghost use Rattle.wat_tokens.specs.Parses.{Exactly};
+
+use crate::head::Head;
+use crate::table::HEADS;
+use std::cmp::Ordering;
+use wat_tokens::{Error, Fault, Parser, Result};
+
+/// An entry of the table.
+fn head_at(place: usize) -> Head
+    requires { place < 623 }
+    ensures { result ≡ slice_index_or TABLE place first }
+{
+    HEADS[place]
+}
+
+/// The head of a word, or None where the word is no mnemonic. The parser counts each comparison with an entry of the
+/// table, of which there are 1 to 10; it changes in nothing else.
+pub fn find(parser: &mut Parser<'_>, text: &str) -> Option<Head>
+    ensures found { IfSome result (λ h. head_word h ≡ text.now) }
+    ensures missing { IfNone result ((h : AnyHead) → head_word h ≢ text.now) }
+    ensures only { parser.new ≡ record parser.old { probes = parser.new.probes } }
+    ensures counts { Carries parser.old parser.new }
+    ensures probed { parser.old.probes + 1 ≤ parser.new.probes }
+    ensures probes { parser.new.probes ≤ parser.old.probes + 10 }
+{
+    let mut low = 0;
+    let mut high = 623;
+    'halves: while low < high {
+        let middle = low + (high - low) / 2;
+        let head = head_at(middle);
+        parser.probe();
+        match head.mnemonic().cmp(text) {
+            Ordering::Less => low = middle + 1,
+            Ordering::Equal => return Some(head),
+            Ordering::Greater => high = middle,
+        }
+    }
+    None
+}
+
+impl Head {
+    /// Takes the word of an instruction that stands in front.
+    ///
+    /// A word that is no mnemonic, or any other token, is refused with Operator at it.
+    #[tactic(auto, using(crate::specs::Word::reads_other_word, crate::specs::Word::reads_no_word))]
+    pub fn take(parser: &mut Parser<'_>) -> Result<Head>
+        ensures exact { Exactly (λ h. h) result (mnemonic.reads parser.old.left) parser.new.left }
+        ensures counts { Counted result parser.old parser.new }
+        ensures stays { Stays parser.old parser.new }
+        ensures names { Kept parser.old parser.new }
+        ensures probes { AtMostTen parser.old parser.new }
+        ensures probed { (w : List ℕ) (r : List Tok) → parser.old.left ≡ Keyword w ∷ r → parser.old.probes + 1 ≤ parser.new.probes }
+        ensures fault { IfErr result (λ e. e.fault ≡ Fault.Operator) }
+    {
+        let span = parser.cur_span();
+        match parser.take_keyword() {
+            Ok(word) => match find(parser, word) {
+                Some(head) => Ok(head),
+                None => Err(Error {
+                    fault: Fault::Operator,
+                    span,
+                }),
+            },
+            Err(_) => Err(Error {
+                fault: Fault::Operator,
+                span,
+            }),
+        }
+    }
+}
