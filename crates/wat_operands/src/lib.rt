@@ -1,6 +1,7 @@
-//! Operands of instructions that hold types or groups (WebAssembly Core Specification, Text Format, "Instructions").
+//! Operands of instructions (WebAssembly Core Specification, Text Format, "Instructions").
 //!
-//! Each is read from the tokens behind the instruction's word. Indices stay as they are written: nothing is resolved.
+//! Those that hold types or groups stand here; those of indices and numbers alone are `wat_immediates`', and named here
+//! too. Each is read from the tokens behind the instruction's word. Indices stay as they are written: nothing is resolved.
 #![tactic(auto)]
 
 pub mod block;
@@ -24,3 +25,9 @@ pub use casts::{
 pub use catches::{CatchKind, TryTable, TryTableCatch, TryTableCatchKind};
 pub use handlers::{Handle, Resume, ResumeTable, ResumeThrow, ResumeThrowRef};
 pub use select::SelectTypes;
+pub use wat_immediates::{
+    ArrayCopy, ArrayFill, ArrayInit, ArrayNewData, ArrayNewElem, ArrayNewFixed, BrTableIndices,
+    ContBind, I8x16Shuffle, LaneArg, LoadOrStoreLane, MemArg, MemArgOrdering, MemArgTarget,
+    MemoryArg, MemoryCopy, MemoryInit, Ordered, Ordering, StructAccess, Switch, TableArg,
+    TableCopy, TableInit, V128Const,
+};

@@ -1,0 +1,4 @@
+pub mod Again
+pub mod Bytes
+pub mod Fields
+pub mod Labels

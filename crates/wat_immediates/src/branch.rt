@@ -1,0 +1,75 @@
+//! The labels of a table of branches.
+
+ghost use Rattle.std.specs.Prelude.{◌≡◌, ◌≢◌, [], ◌∷◌, ◌++◌, true, false, IfOk, IfErr};
+ghost use Rattle.wat_immediates.specs.Branch.{BrTableTy, seen_br_table, bare_br_table, br_table};
+
+use wat_tokens::repeat::while_begun;
+use wat_tokens::{Fault, Index, Parse, Parser, Result};
+
+/// The labels that `br_table` may branch to (WebAssembly Core Specification, Text Format, Instructions, "Control
+/// Instructions").
+#[derive(Debug, Drop)]
+pub struct BrTableIndices<'a> {
+    /// The labels that a number chooses from.
+    pub labels: Vec<Index<'a>>,
+    /// The label for any greater number.
+    pub default: Index<'a>,
+}
+
+impl<'a> BrTableIndices<'a> {
+    /// The same labels once more. Memory may be answered where there is one beside the default.
+    pub fn clone(&self) -> Result<BrTableIndices<'a>>
+        ensures labels { IfOk result (λ b. b.labels.items ≡ self.now.labels.items) }
+        ensures default { IfOk result (λ b. b.default ≡ self.now.default) }
+        ensures seen { IfOk result (λ b. seen_br_table b ≡ seen_br_table self.now) }
+        ensures memory { IfErr result (λ e. (e.fault ≡ Fault.Memory) × (bare_br_table (seen_br_table self.now) ≡ false)) }
+    {
+        let mut labels = Vec::new(*self.labels.allocator());
+        labels.extend_from_slice(&self.labels)?;
+        Ok(BrTableIndices {
+            labels,
+            default: self.default,
+        })
+    }
+}
+
+/// Takes the last of the indices off.
+fn take_last<'a>(indices: &mut Vec<Index<'a>>) -> Index<'a>
+    requires { indices.old.items ≢ [] }
+    ensures { indices.old.items ≡ indices.new.items ++ result ∷ [] }
+{
+    let last = indices.len() - 1;
+    let index = indices[last];
+    indices.truncate(last);
+    index
+}
+
+/// One or more indices: the last is the default, and the others are the labels.
+impl<'a> Parse<'a> for BrTableIndices<'a> {
+    ghost Seen = { BrTableTy };
+
+    ghost seen = { seen_br_table };
+
+    ghost light = { false };
+
+    ghost bare = { bare_br_table };
+
+    ghost quiet = { true };
+
+    ghost grammar = { br_table };
+
+    fn parse(parser: &mut Parser<'a>) -> Result<Self> {
+        let first = Index::parse(parser)?;
+        let mut labels = Vec::new(parser.alloc());
+        if !parser.peek::<Index>() {
+            return Ok(BrTableIndices {
+                labels,
+                default: first,
+            });
+        }
+        labels.push(first)?;
+        while_begun::<Index>(parser, &mut labels)?;
+        let default = take_last(&mut labels);
+        Ok(BrTableIndices { labels, default })
+    }
+}

@@ -1,0 +1,218 @@
+//! What an access to a memory or an array is given: its target, an offset, an alignment and an ordering.
+
+ghost use Rattle.std.specs.Prelude.{◌≡◌, ◌≢◌, None, Some, true, option_map, MatchResult};
+ghost use Rattle.wat_tokens.specs.Counts.{Counted, Quiet, Kept};
+ghost use Rattle.wat_tokens.specs.Lookup.{front};
+ghost use Rattle.wat_tokens.specs.Number.{unsigned_value};
+ghost use Rattle.wat_tokens.specs.Parses.{Gives};
+ghost use Rattle.wat_immediates.specs.Memory.{seen_target, target, behind, begins_with, field, offset_or_0, align, align_or, seen_mem_arg, mem_arg, atomic_mem_arg};
+
+use crate::ordering::Ordering;
+use crate::tables::index_or_zero;
+use wat_tokens::{Cursor, Error, Fault, Index, Integer, Parse, Parser, Result, Span};
+
+/// What an instruction accesses (WebAssembly Core Specification, Text Format, Instructions, "Memory Instructions"; that
+/// it may be an array is a proposal).
+#[derive(Clone, Debug, Drop)]
+pub enum MemArgTarget<'a> {
+    /// A memory.
+    Memory(Index<'a>),
+    /// An array of the type.
+    Array(Index<'a>),
+}
+
+/// The ordering of an atomic access (WebAssembly Core Specification, Text Format, Instructions, "Memory Instructions",
+/// with the proposals on threads).
+#[derive(Clone, Copy, Debug, PartialEq, Eq, Hash)]
+pub enum MemArgOrdering {
+    /// Of a load or a store.
+    Op(Ordering),
+    /// Of an instruction that reads, changes and writes.
+    Rmw(Ordering),
+}
+
+/// What an access to a memory or an array is given (WebAssembly Core Specification, Text Format, Instructions, "Memory
+/// Instructions").
+#[derive(Clone, Debug, Drop)]
+pub struct MemArg<'a> {
+    /// The alignment in bytes, as it is written: a power of two, and not its exponent.
+    pub align: u64,
+    /// The offset in bytes.
+    pub offset: u64,
+    /// What is accessed.
+    pub target: MemArgTarget<'a>,
+    /// The ordering, where one is written.
+    pub ordering: Option<MemArgOrdering>,
+}
+
+/// What stands behind the front of a text, where the text begins so.
+fn behind<'a>(text: &'a str, front: &str) -> Option<&'a str>
+    ensures { option_map (λ x. x.now) result ≡ behind front.now text.entry.now }
+{
+    text.strip_prefix(front)
+}
+
+/// Whether a keyword that begins so stands there.
+pub fn begins_with(cursor: Cursor<'_>, start: &str) -> bool
+    ensures { result ≡ begins_with start.now (front cursor.entry) }
+{
+    match cursor.keyword() {
+        Some((word, _)) => behind(word, start).is_some(),
+        None => false,
+    }
+}
+
+/// The number that a text reads as without a sign in 64 bits. It is refused with Unexpected where it is no integer, and
+/// with Range where it is too large or a `-` is written, each at the place.
+fn number(text: &str, span: Span) -> Result<u64>
+    ensures { MatchResult result (λ n. unsigned_value 64 text.now ≡ Some n) (λ e. (unsigned_value 64 text.now ≡ None) × (e.fault ≢ Fault.Memory)) }
+{
+    match Integer::of(text) {
+        Some(integer) => match integer.unsigned(64) {
+            Some(number) => Ok(number),
+            None => Err(Error {
+                fault: Fault::Range,
+                span,
+            }),
+        },
+        None => Err(Error {
+            fault: Fault::Unexpected,
+            span,
+        }),
+    }
+}
+
+/// Takes a keyword that begins so, and answers the number behind that.
+#[tactic(auto, unfolding(crate::specs::Memory::field))]
+fn take_field(parser: &mut Parser<'_>, front: &str) -> Result<u64>
+    ensures exact { Gives true (λ _. true) (λ n. n) result ((field front.now).reads parser.old.left) parser.new.left }
+    ensures counts { Counted result parser.old parser.new }
+    ensures quiet { Quiet parser.old parser.new }
+    ensures names { Kept parser.old parser.new }
+{
+    let span = parser.cur_span();
+    let word = parser.take_keyword()?;
+    match behind(word, front) {
+        Some(text) => number(text, span),
+        None => Err(Error {
+            fault: Fault::Unexpected,
+            span,
+        }),
+    }
+}
+
+/// Takes the offset, where one is written, and else answers 0.
+#[tactic(auto, unfolding(crate::specs::Memory::offset_or_0))]
+fn read_offset(parser: &mut Parser<'_>) -> Result<u64>
+    ensures exact { Gives true (λ _. true) (λ n. n) result (offset_or_0.reads parser.old.left) parser.new.left }
+    ensures counts { Counted result parser.old parser.new }
+    ensures quiet { Quiet parser.old parser.new }
+    ensures names { Kept parser.old parser.new }
+{
+    if begins_with(parser.cursor(), "offset=") {
+        take_field(parser, "offset=")
+    } else {
+        Ok(0)
+    }
+}
+
+/// Takes an alignment.
+#[tactic(auto, unfolding(crate::specs::Memory::align))]
+fn take_align(parser: &mut Parser<'_>) -> Result<u64>
+    ensures exact { Gives true (λ _. true) (λ n. n) result (align.reads parser.old.left) parser.new.left }
+    ensures counts { Counted result parser.old parser.new }
+    ensures quiet { Quiet parser.old parser.new }
+    ensures names { Kept parser.old parser.new }
+{
+    let span = parser.cur_span();
+    let align = take_field(parser, "align=")?;
+    if align.is_power_of_two() {
+        Ok(align)
+    } else {
+        Err(Error {
+            fault: Fault::Alignment,
+            span,
+        })
+    }
+}
+
+/// Takes the alignment, where one is written, and else answers the default.
+#[tactic(auto, unfolding(crate::specs::Memory::align_or))]
+fn read_align(parser: &mut Parser<'_>, default: u64) -> Result<u64>
+    ensures exact { Gives true (λ _. true) (λ n. n) result ((align_or default).reads parser.old.left) parser.new.left }
+    ensures counts { Counted result parser.old parser.new }
+    ensures quiet { Quiet parser.old parser.new }
+    ensures names { Kept parser.old parser.new }
+{
+    if begins_with(parser.cursor(), "align=") {
+        take_align(parser)
+    } else {
+        Ok(default)
+    }
+}
+
+/// Takes the target: where the second token is `type`, an array, else a memory, whose default is 0.
+#[tactic(auto, unfolding(crate::specs::Memory::target))]
+fn read_target<'a>(parser: &mut Parser<'a>) -> Result<MemArgTarget<'a>>
+    ensures exact { Gives true (λ _. true) seen_target result (target.reads parser.old.left) parser.new.left }
+    ensures counts { Counted result parser.old parser.new }
+    ensures quiet { Quiet parser.old parser.new }
+    ensures names { Kept parser.old parser.new }
+{
+    if !parser.second_is("type") {
+        return Ok(MemArgTarget::Memory(index_or_zero(parser)?));
+    }
+    parser.open()?;
+    parser.keyword("type")?;
+    let index = Index::parse(parser)?;
+    parser.close()?;
+    Ok(MemArgTarget::Array(index))
+}
+
+impl<'a> MemArg<'a> {
+    /// Takes what an access is given: a target, then an offset, then an alignment; `align` is the alignment that is
+    /// meant where none is written. It takes no memory.
+    ///
+    /// The target is, where the second token is `type`, `( type idx )`, an array; else an index, a memory, or nothing:
+    /// memory 0. The offset is a word such as `offset=8`, by default 0, and the alignment one such as `align=4`. A word
+    /// that begins with `offset=` or `align=` is refused, at the word: with Unexpected where no integer follows the `=`,
+    /// with Range where the integer is too large for 64 bits or has a `-`, and with Alignment where the alignment is no
+    /// power of two. (WebAssembly Core Specification, Text Format, Instructions, "Memory Instructions".)
+    #[tactic(auto, unfolding(crate::specs::Memory::mem_arg))]
+    pub fn read(parser: &mut Parser<'a>, align: u64) -> Result<MemArg<'a>>
+        ensures exact { Gives true (λ _. true) seen_mem_arg result ((mem_arg align).reads parser.old.left) parser.new.left }
+        ensures counts { Counted result parser.old parser.new }
+        ensures quiet { Quiet parser.old parser.new }
+        ensures names { Kept parser.old parser.new }
+    {
+        let target = read_target(parser)?;
+        let offset = read_offset(parser)?;
+        let align = read_align(parser, align)?;
+        Ok(MemArg {
+            align,
+            offset,
+            target,
+            ordering: None,
+        })
+    }
+
+    /// Takes what an atomic access is given: the same, and then an ordering or none. `rmw` says whether the instruction
+    /// reads, changes and writes; the ordering is kept as [`MemArgOrdering::Rmw`] then, and else as
+    /// [`MemArgOrdering::Op`]. (WebAssembly Core Specification, Text Format, Instructions, "Memory Instructions", with
+    /// the proposals on threads.)
+    #[tactic(auto, unfolding(crate::specs::Memory::atomic_mem_arg))]
+    pub fn read_atomic(parser: &mut Parser<'a>, align: u64, rmw: bool) -> Result<MemArg<'a>>
+        ensures exact { Gives true (λ _. true) seen_mem_arg result ((atomic_mem_arg align rmw).reads parser.old.left) parser.new.left }
+        ensures counts { Counted result parser.old parser.new }
+        ensures quiet { Quiet parser.old parser.new }
+        ensures names { Kept parser.old parser.new }
+    {
+        let mut access = MemArg::read(parser, align)?;
+        access.ordering = match Option::<Ordering>::parse(parser)? {
+            Some(ordering) if rmw => Some(MemArgOrdering::Rmw(ordering)),
+            Some(ordering) => Some(MemArgOrdering::Op(ordering)),
+            None => None,
+        };
+        Ok(access)
+    }
+}

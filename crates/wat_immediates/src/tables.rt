@@ -1,0 +1,240 @@
+//! Operands that name tables and memories.
+
+ghost use Rattle.std.specs.Prelude.{◌≡◌, true};
+ghost use Rattle.wat_tokens.specs.Counts.{Counted, Quiet, Kept};
+ghost use Rattle.wat_tokens.specs.Index.{Idx, number, seen_index};
+ghost use Rattle.wat_tokens.specs.Parses.{Gives};
+ghost use Rattle.wat_immediates.specs.Tables.{index_or_0, seen_table_arg, seen_memory_arg, init, seen_table_init, seen_memory_init, copy, seen_table_copy, seen_memory_copy};
+
+use wat_tokens::{Index, Parse, Parser, Result};
+
+/// The table of an instruction that names one (WebAssembly Core Specification, Text Format, Instructions, "Table
+/// Instructions").
+#[derive(Clone, Debug, Drop)]
+pub struct TableArg<'a> {
+    /// The table.
+    pub dst: Index<'a>,
+}
+
+/// The memory of an instruction that names one (WebAssembly Core Specification, Text Format, Instructions, "Memory
+/// Instructions").
+#[derive(Clone, Debug, Drop)]
+pub struct MemoryArg<'a> {
+    /// The memory.
+    pub mem: Index<'a>,
+}
+
+/// The operands of `table.init` (WebAssembly Core Specification, Text Format, Instructions, "Table Instructions").
+#[derive(Clone, Debug, Drop)]
+pub struct TableInit<'a> {
+    /// The table that is written.
+    pub table: Index<'a>,
+    /// The element segment that is read.
+    pub elem: Index<'a>,
+}
+
+/// The operands of `memory.init` (WebAssembly Core Specification, Text Format, Instructions, "Memory Instructions").
+#[derive(Clone, Debug, Drop)]
+pub struct MemoryInit<'a> {
+    /// The data segment that is read.
+    pub data: Index<'a>,
+    /// The memory that is written.
+    pub mem: Index<'a>,
+}
+
+/// The operands of `table.copy` (WebAssembly Core Specification, Text Format, Instructions, "Table Instructions").
+#[derive(Clone, Debug, Drop)]
+pub struct TableCopy<'a> {
+    /// The table that is written.
+    pub dst: Index<'a>,
+    /// The table that is read.
+    pub src: Index<'a>,
+}
+
+/// The operands of `memory.copy` (WebAssembly Core Specification, Text Format, Instructions, "Memory Instructions").
+#[derive(Clone, Debug, Drop)]
+pub struct MemoryCopy<'a> {
+    /// The memory that is read.
+    pub src: Index<'a>,
+    /// The memory that is written.
+    pub dst: Index<'a>,
+}
+
+/// The index 0 that is meant where none is written. It stands at the token that was taken last.
+pub(crate) fn zero<'a>(parser: &Parser<'a>) -> Index<'a>
+    ensures { seen_index result ≡ number 0 }
+{
+    Index::Num(0, parser.prev_span())
+}
+
+/// Takes an index, where one begins in front, and else answers 0.
+#[tactic(auto, unfolding(crate::specs::Tables::index_or_0))]
+pub fn index_or_zero<'a>(parser: &mut Parser<'a>) -> Result<Index<'a>>
+    ensures exact { Gives true (λ _. true) seen_index result (index_or_0.reads parser.old.left) parser.new.left }
+    ensures counts { Counted result parser.old parser.new }
+    ensures quiet { Quiet parser.old parser.new }
+    ensures names { Kept parser.old parser.new }
+{
+    if parser.peek::<Index>() {
+        Index::parse(parser)
+    } else {
+        Ok(zero(parser))
+    }
+}
+
+/// Where the second token is an index, takes a target and a segment; else takes a segment, and the target is 0.
+#[tactic(auto, unfolding(crate::specs::Tables::init, crate::specs::Tables::index_pair))]
+fn target_and_segment<'a>(parser: &mut Parser<'a>) -> Result<(Index<'a>, Index<'a>)>
+    ensures exact { Gives true (λ _. true) (λ p. (seen_index p.0, seen_index p.1)) result (init.reads parser.old.left) parser.new.left }
+    ensures counts { Counted result parser.old parser.new }
+    ensures quiet { Quiet parser.old parser.new }
+    ensures names { Kept parser.old parser.new }
+{
+    let target = if parser.peek2::<Index>() {
+        Index::parse(parser)?
+    } else {
+        zero(parser)
+    };
+    let segment = Index::parse(parser)?;
+    Ok((target, segment))
+}
+
+/// Where an index begins, takes a destination and a source; else both are 0.
+#[tactic(auto, unfolding(crate::specs::Tables::copy, crate::specs::Tables::index_pair))]
+fn destination_and_source<'a>(parser: &mut Parser<'a>) -> Result<(Index<'a>, Index<'a>)>
+    ensures exact { Gives true (λ _. true) (λ p. (seen_index p.0, seen_index p.1)) result (copy.reads parser.old.left) parser.new.left }
+    ensures counts { Counted result parser.old parser.new }
+    ensures quiet { Quiet parser.old parser.new }
+    ensures names { Kept parser.old parser.new }
+{
+    if !parser.peek::<Index>() {
+        return Ok((zero(parser), zero(parser)));
+    }
+    let destination = Index::parse(parser)?;
+    let source = Index::parse(parser)?;
+    Ok((destination, source))
+}
+
+/// An index, or none: table 0.
+impl<'a> Parse<'a> for TableArg<'a> {
+    ghost Seen = { Idx };
+
+    ghost seen = { seen_table_arg };
+
+    ghost light = { true };
+
+    ghost bare = { λ _. true };
+
+    ghost quiet = { true };
+
+    ghost grammar = { index_or_0 };
+
+    fn parse(parser: &mut Parser<'a>) -> Result<Self> {
+        Ok(TableArg {
+            dst: index_or_zero(parser)?,
+        })
+    }
+}
+
+/// An index, or none: memory 0.
+impl<'a> Parse<'a> for MemoryArg<'a> {
+    ghost Seen = { Idx };
+
+    ghost seen = { seen_memory_arg };
+
+    ghost light = { true };
+
+    ghost bare = { λ _. true };
+
+    ghost quiet = { true };
+
+    ghost grammar = { index_or_0 };
+
+    fn parse(parser: &mut Parser<'a>) -> Result<Self> {
+        Ok(MemoryArg {
+            mem: index_or_zero(parser)?,
+        })
+    }
+}
+
+/// Where the second token is an identifier or an integer, a table and an element segment; else an element segment, and
+/// table 0.
+impl<'a> Parse<'a> for TableInit<'a> {
+    ghost Seen = { Idx × Idx };
+
+    ghost seen = { seen_table_init };
+
+    ghost light = { true };
+
+    ghost bare = { λ _. true };
+
+    ghost quiet = { true };
+
+    ghost grammar = { init };
+
+    fn parse(parser: &mut Parser<'a>) -> Result<Self> {
+        let (table, elem) = target_and_segment(parser)?;
+        Ok(TableInit { table, elem })
+    }
+}
+
+/// Where the second token is an identifier or an integer, a memory and a data segment; else a data segment, and
+/// memory 0.
+impl<'a> Parse<'a> for MemoryInit<'a> {
+    ghost Seen = { Idx × Idx };
+
+    ghost seen = { seen_memory_init };
+
+    ghost light = { true };
+
+    ghost bare = { λ _. true };
+
+    ghost quiet = { true };
+
+    ghost grammar = { init };
+
+    fn parse(parser: &mut Parser<'a>) -> Result<Self> {
+        let (mem, data) = target_and_segment(parser)?;
+        Ok(MemoryInit { data, mem })
+    }
+}
+
+/// A destination and a source, or nothing: table 0 for both.
+impl<'a> Parse<'a> for TableCopy<'a> {
+    ghost Seen = { Idx × Idx };
+
+    ghost seen = { seen_table_copy };
+
+    ghost light = { true };
+
+    ghost bare = { λ _. true };
+
+    ghost quiet = { true };
+
+    ghost grammar = { copy };
+
+    fn parse(parser: &mut Parser<'a>) -> Result<Self> {
+        let (dst, src) = destination_and_source(parser)?;
+        Ok(TableCopy { dst, src })
+    }
+}
+
+/// A destination and a source, or nothing: memory 0 for both.
+impl<'a> Parse<'a> for MemoryCopy<'a> {
+    ghost Seen = { Idx × Idx };
+
+    ghost seen = { seen_memory_copy };
+
+    ghost light = { true };
+
+    ghost bare = { λ _. true };
+
+    ghost quiet = { true };
+
+    ghost grammar = { copy };
+
+    fn parse(parser: &mut Parser<'a>) -> Result<Self> {
+        let (dst, src) = destination_and_source(parser)?;
+        Ok(MemoryCopy { src, dst })
+    }
+}
