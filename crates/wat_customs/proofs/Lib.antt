@@ -1,0 +1,4 @@
+pub mod Fields
+pub mod FlagList
+pub mod FlagReads
+pub mod Runs

@@ -1,0 +1,9 @@
+pub use Rattle.wat_tokens.specs.Production
+pub mod Custom
+pub mod Cutting
+pub mod Dylink
+pub mod Entries
+pub mod Flags
+pub mod Place
+pub mod Producers
+pub mod Raw

@@ -1,0 +1,91 @@
+-- The `producers` section.
+use Rattle.std.specs.Prelude.{◌≤◌, ℕ, Bool, true, false, List, [], ◌∷◌, ◌++◌, codes, map, filter, refl}
+use Rattle.std.specs.Borrow.{Bor}
+use Rattle.std.proofs.Common.{lit≤}
+use Rattle.wat_tokens.specs.Tests.{word_in, more}
+use Rattle.wat_tokens.specs.Production.{Production}
+use Rattle.wat_tokens.specs.Parts.{one, seq, made}
+use Rattle.wat_tokens.specs.Groups.{paren}
+use Rattle.wat_tokens.specs.Many.{many}
+use Rattle.wat_tokens.specs.Strings.{text}
+use Rattle.wat_customs.specs.Raw.{annotation}
+use Rattle.wat_customs.specs.declared.producers.Field.{Field}
+use Rattle.wat_customs.specs.declared.producers.Field.TheVariants.{Language, Sdk, ProcessedBy}
+use Rattle.wat_customs.specs.declared.producers.ProducerEntry.{ProducerEntry}
+use Rattle.wat_customs.specs.declared.producers.Producers.{Producers}
+
+-- ---- entries
+
+-- the fields, by their words
+abbrev pub field_words : List (List ℕ × Field)
+field_words = (codes "language", Language) ∷ (codes "sdk", Sdk) ∷ (codes "processed-by", ProcessedBy) ∷ []
+
+abbrev pub word_of : Field → List ℕ
+word_of Language = codes "language"
+word_of Sdk = codes "sdk"
+word_of ProcessedBy = codes "processed-by"
+
+abbrev pub same_field : Field → Field → Bool
+same_field Language Language = true
+same_field Sdk Sdk = true
+same_field ProcessedBy ProcessedBy = true
+same_field _ _ = false
+
+-- a name and a version
+abbrev pub Named : Type 0
+Named = List ℕ × List ℕ
+
+-- the field that it is of, its name and its version
+abbrev pub EntryTy : Type 0
+EntryTy = Field × Named
+
+abbrev pub seen_entry : ProducerEntry → EntryTy
+seen_entry e = (e.field, (e.name.now, e.version.now))
+
+-- the word of a field
+unfoldable pub field_word : Production Field
+field_word = one (word_in field_words) (refl, refl)
+
+-- ( `language` | `sdk` | `processed-by` , name version )
+unfoldable pub producer_entry : Production EntryTy
+producer_entry = paren (seq field_word (seq text text))
+
+pub producer_entry_eats : 1 ≤ producer_entry.least
+unfolding producer_entry field_word
+producer_entry_eats = lit≤ tt
+
+-- entries, to the end
+unfoldable pub producer_entries : Production (List EntryTy)
+producer_entries = many more producer_entry producer_entry_eats
+
+-- ---- fields
+
+-- the entries of the field, in order
+abbrev pub entries_of : Field → List EntryTy → List Named
+entries_of f es = map (λ e. e.1) (filter (λ e. same_field e.0 f) es)
+
+-- a field with its entries, where it has any
+abbrev pub with_entries : List ℕ → List Named → List (List ℕ × List Named)
+with_entries w [] = []
+with_entries w (x ∷ xs) = (w, x ∷ xs) ∷ []
+
+abbrev pub field_of : Field → List EntryTy → List (List ℕ × List Named)
+field_of f es = with_entries (word_of f) (entries_of f es)
+
+-- the three fields in this order, each with its entries; those without any are left out
+abbrev pub fields_of : List EntryTy → List (List ℕ × List Named)
+fields_of es = (field_of Language es ++ field_of Sdk es) ++ field_of ProcessedBy es
+
+-- what contracts see of names with versions
+abbrev pub seen_names : List (Bor (List ℕ) × Bor (List ℕ)) → List Named
+seen_names xs = map (λ x. (x.0.now, x.1.now)) xs
+
+abbrev pub seen_entries : List ProducerEntry → List EntryTy
+seen_entries es = map seen_entry es
+
+abbrev pub seen_producers : Producers → List (List ℕ × List Named)
+seen_producers p = map (λ f. (f.0.now, seen_names f.1.items)) p.fields.items
+
+-- @producers entries
+unfoldable pub producers : Production (List (List ℕ × List Named))
+producers = annotation (codes "producers") (made fields_of producer_entries)

@@ -1,0 +1,56 @@
+-- Custom sections of any name, with their bytes.
+use Rattle.std.specs.Prelude.{ℕ, Bool, true, false, List, ◌∷◌, codes, map, unwrap_or, refl}
+use Rattle.std.proofs.Common.{lit≤}
+use Rattle.wat_tokens.specs.Token.{Tok, LParen}
+use Rattle.wat_tokens.specs.Tests.{annotation_only, more}
+use Rattle.wat_tokens.specs.Production.{Production}
+use Rattle.wat_tokens.specs.Parts.{one, seq, made, opt}
+use Rattle.wat_tokens.specs.Groups.{paren}
+use Rattle.wat_tokens.specs.Many.{many}
+use Rattle.wat_tokens.specs.Parses.{no_items}
+use Rattle.wat_tokens.specs.Strings.{string, text}
+use Rattle.wat_customs.specs.Place.{custom_place}
+use Rattle.wat_customs.specs.declared.place.CustomPlace.{CustomPlace}
+use Rattle.wat_customs.specs.declared.place.CustomPlace.TheVariants.{AfterLast}
+use Rattle.wat_customs.specs.declared.raw.RawCustomSection.{RawCustomSection}
+
+-- a raw custom section, without its place in the text
+pub record RawTy : Type 0 where
+  pub name : List ℕ
+  pub place : CustomPlace
+  pub «data» : List (List ℕ)
+
+abbrev pub raw_of : List ℕ → CustomPlace → List (List ℕ) → RawTy
+raw_of n p d = record { name = n; place = p; «data» = d }
+
+abbrev pub seen_raw : RawCustomSection → RawTy
+seen_raw r = raw_of r.name.now r.place (map (λ s. s.now) r.data.items)
+
+-- no string of bytes
+abbrev pub bare_raw : RawTy → Bool
+bare_raw r = no_items r.data
+
+-- @name
+abbrev pub annotated : List ℕ → Production (Unit {0})
+annotated name = one (annotation_only name) (refl, refl)
+
+-- @name g, the value of g
+abbrev pub annotation : {A : Type 0} → List ℕ → Production A → Production A
+annotation name g = made (λ v. v.1) (seq (annotated name) g)
+
+-- a `(` in front
+abbrev pub begins_lparen : List Tok → Bool
+begins_lparen (LParen ∷ r) = true
+begins_lparen _ = false
+
+-- ( place )?, without it behind the last section
+unfoldable pub raw_place : Production CustomPlace
+raw_place = made (λ p. unwrap_or p AfterLast) (opt begins_lparen (paren custom_place))
+
+-- bytes*, to the end
+unfoldable pub raw_data : Production (List (List ℕ))
+raw_data = many more string (lit≤ tt)
+
+-- @custom name ( place )? bytes*
+unfoldable pub raw_custom : Production RawTy
+raw_custom = annotation (codes "custom") (made (λ v. raw_of v.0 v.1.0 v.1.1) (seq text (seq raw_place raw_data)))

@@ -1,0 +1,162 @@
+//! Where a custom section stands.
+
+ghost use Rattle.std.specs.Prelude.{◌≡◌, true};
+ghost use Rattle.wat_tokens.specs.Counts.{Counted, Quiet, Kept};
+ghost use Rattle.wat_tokens.specs.Parses.{Gives};
+ghost use Rattle.wat_tokens.specs.Tests.{look_up};
+ghost use Rattle.wat_customs.specs.Place.{anchor_words, before, after};
+
+use wat_tokens::{Error, Fault, Parse, Parser, Result};
+
+/// Where among the sections of a binary module a custom section stands (WebAssembly Core Specification, Text Format,
+/// "Custom Annotation").
+#[derive(Clone, Copy, Debug, PartialEq)]
+pub enum CustomPlace {
+    /// `before first`: before the first section.
+    BeforeFirst,
+    /// `before`, and a known section: right before it.
+    Before(CustomPlaceAnchor),
+    /// `after`, and a known section: right behind it.
+    After(CustomPlaceAnchor),
+    /// `after last`: behind the last section.
+    AfterLast,
+}
+
+/// A known section of a binary module (WebAssembly Core Specification, Text Format, "Custom Annotation"). Each variant
+/// has the name of its word.
+#[derive(Clone, Copy, Debug, PartialEq, Eq)]
+pub enum CustomPlaceAnchor {
+    /// `type`
+    Type,
+    /// `import`
+    Import,
+    /// `func`
+    Func,
+    /// `table`
+    Table,
+    /// `memory`
+    Memory,
+    /// `global`
+    Global,
+    /// `export`
+    Export,
+    /// `start`
+    Start,
+    /// `elem`
+    Elem,
+    /// `code`
+    Code,
+    /// `data`
+    Data,
+    /// `tag`
+    Tag,
+}
+
+/// The section that a word names.
+fn anchor_of(word: &str) -> Option<CustomPlaceAnchor>
+    ensures { result ≡ look_up anchor_words word.now }
+{
+    match word {
+        "type" => Some(CustomPlaceAnchor::Type),
+        "import" => Some(CustomPlaceAnchor::Import),
+        "func" => Some(CustomPlaceAnchor::Func),
+        "table" => Some(CustomPlaceAnchor::Table),
+        "memory" => Some(CustomPlaceAnchor::Memory),
+        "global" => Some(CustomPlaceAnchor::Global),
+        "export" => Some(CustomPlaceAnchor::Export),
+        "start" => Some(CustomPlaceAnchor::Start),
+        "elem" => Some(CustomPlaceAnchor::Elem),
+        "code" => Some(CustomPlaceAnchor::Code),
+        "data" => Some(CustomPlaceAnchor::Data),
+        "tag" => Some(CustomPlaceAnchor::Tag),
+        _ => None,
+    }
+}
+
+/// Another word is refused with Unexpected, at the word.
+impl<'a> Parse<'a> for CustomPlaceAnchor {
+    ghost use Rattle.wat_customs.specs.declared.place.CustomPlaceAnchor.{CustomPlaceAnchor};
+    ghost use Rattle.wat_customs.specs.Place.{section};
+
+    ghost Seen = { CustomPlaceAnchor };
+
+    ghost seen = { λ a. a };
+
+    ghost light = { true };
+
+    ghost bare = { λ _. true };
+
+    ghost quiet = { true };
+
+    ghost grammar = { section };
+
+    #[tactic(auto, using(wat_tokens::specs::Begin::reads_table, wat_tokens::specs::Begin::reads_no_table), unfolding(crate::specs::Place::section))]
+    fn parse(parser: &mut Parser<'a>) -> Result<Self> {
+        let span = parser.cur_span();
+        match anchor_of(parser.take_keyword()?) {
+            Some(anchor) => Ok(anchor),
+            None => Err(Error {
+                fault: Fault::Unexpected,
+                span,
+            }),
+        }
+    }
+}
+
+/// `before first` or `before` and a section.
+#[tactic(auto, unfolding(crate::specs::Place::before))]
+fn read_before<'a>(parser: &mut Parser<'a>) -> Result<CustomPlace>
+    ensures exact { Gives true (λ _. true) (λ p. p) result (before.reads parser.old.left) parser.new.left }
+    ensures counts { Counted result parser.old parser.new }
+    ensures quiet { Quiet parser.old parser.new }
+    ensures names { Kept parser.old parser.new }
+{
+    parser.keyword("before")?;
+    if parser.next_is("first") {
+        parser.keyword("first")?;
+        return Ok(CustomPlace::BeforeFirst);
+    }
+    Ok(CustomPlace::Before(CustomPlaceAnchor::parse(parser)?))
+}
+
+/// `after last` or `after` and a section.
+#[tactic(auto, unfolding(crate::specs::Place::after))]
+fn read_after<'a>(parser: &mut Parser<'a>) -> Result<CustomPlace>
+    ensures exact { Gives true (λ _. true) (λ p. p) result (after.reads parser.old.left) parser.new.left }
+    ensures counts { Counted result parser.old parser.new }
+    ensures quiet { Quiet parser.old parser.new }
+    ensures names { Kept parser.old parser.new }
+{
+    parser.keyword("after")?;
+    if parser.next_is("last") {
+        parser.keyword("last")?;
+        return Ok(CustomPlace::AfterLast);
+    }
+    Ok(CustomPlace::After(CustomPlaceAnchor::parse(parser)?))
+}
+
+/// `before first`, `before` and a section, `after last`, or `after` and a section.
+impl<'a> Parse<'a> for CustomPlace {
+    ghost use Rattle.wat_customs.specs.declared.place.CustomPlace.{CustomPlace};
+    ghost use Rattle.wat_customs.specs.Place.{custom_place};
+
+    ghost Seen = { CustomPlace };
+
+    ghost seen = { λ p. p };
+
+    ghost light = { true };
+
+    ghost bare = { λ _. true };
+
+    ghost quiet = { true };
+
+    ghost grammar = { custom_place };
+
+    #[tactic(auto, unfolding(crate::specs::Place::custom_place))]
+    fn parse(parser: &mut Parser<'a>) -> Result<Self> {
+        if parser.next_is("before") {
+            return read_before(parser);
+        }
+        read_after(parser)
+    }
+}

@@ -1,0 +1,210 @@
+//! The `producers` section.
+
+ghost use Rattle.std.specs.Prelude.{◌≡◌, ◌++◌, ℕ, true, false, List, map, IfOk, IfErr};
+ghost use Rattle.wat_tokens.specs.Parses.{no_items};
+ghost use Rattle.wat_tokens.specs.Tests.{look_up};
+ghost use Rattle.wat_customs.specs.Producers.{field_words, word_of, same_field, Named, EntryTy, seen_entry, seen_entries, seen_names, seen_producers, field_word, producer_entry, entries_of, field_of, fields_of, producers};
+
+use std::alloc::Global;
+use wat_tokens::repeat::rest_of_group;
+use wat_tokens::{Error, Fault, Parse, Parser, Result};
+
+/// The `producers` section: by which languages and tools a module was made (WebAssembly Core Specification, Text Format,
+/// "Custom Annotation", and the tool conventions on this section).
+#[derive(Debug, Drop)]
+pub struct Producers<'a> {
+    /// The fields `language`, `sdk` and `processed-by`, in this order, each with its entries in the order of the text:
+    /// a name and a version. A field without an entry is left out.
+    pub fields: Vec<(&'a str, Vec<(&'a str, &'a str)>)>,
+}
+
+/// A field of the section.
+#[derive(Clone, Copy, Debug)]
+enum Field {
+    /// `language`
+    Language,
+    /// `sdk`
+    Sdk,
+    /// `processed-by`
+    ProcessedBy,
+}
+
+/// An entry of the section.
+#[derive(Clone, Copy, Debug)]
+struct ProducerEntry<'a> {
+    field: Field,
+    name: &'a str,
+    version: &'a str,
+}
+
+/// The field that a word names.
+fn field_named(word: &str) -> Option<Field>
+    ensures { result ≡ look_up field_words word.now }
+{
+    match word {
+        "language" => Some(Field::Language),
+        "sdk" => Some(Field::Sdk),
+        "processed-by" => Some(Field::ProcessedBy),
+        _ => None,
+    }
+}
+
+impl Field {
+    /// Its word.
+    fn word(self) -> &'static str
+        ensures { result.now ≡ word_of self }
+    {
+        match self {
+            Field::Language => "language",
+            Field::Sdk => "sdk",
+            Field::ProcessedBy => "processed-by",
+        }
+    }
+
+    /// Whether it is the other one.
+    fn is(self, other: Field) -> bool
+        ensures { result ≡ same_field self other }
+    {
+        match (self, other) {
+            (Field::Language, Field::Language) => true,
+            (Field::Sdk, Field::Sdk) => true,
+            (Field::ProcessedBy, Field::ProcessedBy) => true,
+            _ => false,
+        }
+    }
+}
+
+/// The word of a field.
+impl<'a> Parse<'a> for Field {
+    ghost use Rattle.wat_customs.specs.declared.producers.Field.{Field};
+
+    ghost Seen = { Field };
+
+    ghost seen = { λ f. f };
+
+    ghost light = { true };
+
+    ghost bare = { λ _. true };
+
+    ghost quiet = { true };
+
+    ghost grammar = { field_word };
+
+    #[tactic(auto, using(wat_tokens::specs::Begin::reads_table, wat_tokens::specs::Begin::reads_no_table), unfolding(crate::specs::Producers::field_word))]
+    fn parse(parser: &mut Parser<'a>) -> Result<Self> {
+        let span = parser.cur_span();
+        match field_named(parser.take_keyword()?) {
+            Some(field) => Ok(field),
+            None => Err(Error {
+                fault: Fault::Unexpected,
+                span,
+            }),
+        }
+    }
+}
+
+/// A field's word, a name and a version, in parentheses.
+impl<'a> Parse<'a> for ProducerEntry<'a> {
+    ghost Seen = { EntryTy };
+
+    ghost seen = { seen_entry };
+
+    ghost light = { true };
+
+    ghost bare = { λ _. true };
+
+    ghost quiet = { true };
+
+    ghost grammar = { producer_entry };
+
+    #[tactic(auto, unfolding(crate::specs::Producers::producer_entry))]
+    fn parse(parser: &mut Parser<'a>) -> Result<Self> {
+        parser.open()?;
+        let field = Field::parse(parser)?;
+        let name = <&str as Parse>::parse(parser)?;
+        let version = <&str as Parse>::parse(parser)?;
+        parser.close()?;
+        Ok(ProducerEntry {
+            field,
+            name,
+            version,
+        })
+    }
+}
+
+/// The entries of the field.
+fn entries_of<'a>(
+    alloc: Global,
+    entries: &[ProducerEntry<'a>],
+    field: Field,
+) -> Result<Vec<(&'a str, &'a str)>>
+    ensures ok { IfOk result (λ v. seen_names v.items ≡ entries_of field (seen_entries entries.now)) }
+    ensures memory { IfErr result (λ e. e.fault ≡ Fault.Memory) }
+{
+    let mut found = Vec::new(alloc);
+    'entries: for entry in entries {
+        if entry.field.is(field) {
+            found.push((entry.name, entry.version))?;
+        }
+    }
+    Ok(found)
+}
+
+/// Puts the field, with its entries, behind those that are there, where it has any.
+fn add_field<'a>(
+    fields: &mut Vec<(&'a str, Vec<(&'a str, &'a str)>)>,
+    entries: &[ProducerEntry<'a>],
+    field: Field,
+) -> Result<()>
+    ensures ok { IfOk result (λ _. map (λ f. (f.0.now, seen_names f.1.items)) fields.new.items ≡ map (λ f. (f.0.now, seen_names f.1.items)) fields.old.items ++ field_of field (seen_entries entries.now)) }
+    ensures memory { IfErr result (λ e. e.fault ≡ Fault.Memory) }
+{
+    let found = entries_of(*fields.allocator(), entries, field)?;
+    if !found.is_empty() {
+        fields.push((field.word(), found))?;
+    }
+    Ok(())
+}
+
+/// The fields that the entries make. Memory may be answered where there is an entry.
+fn fields_of<'a>(
+    alloc: Global,
+    entries: &[ProducerEntry<'a>],
+) -> Result<Vec<(&'a str, Vec<(&'a str, &'a str)>)>>
+    ensures ok { IfOk result (λ v. map (λ f. (f.0.now, seen_names f.1.items)) v.items ≡ fields_of (seen_entries entries.now)) }
+    ensures memory { IfErr result (λ e. (e.fault ≡ Fault.Memory) × (no_items (seen_entries entries.now) ≡ false)) }
+{
+    let mut fields = Vec::new(alloc);
+    if entries.is_empty() {
+        return Ok(fields);
+    }
+    add_field(&mut fields, entries, Field::Language)?;
+    add_field(&mut fields, entries, Field::Sdk)?;
+    add_field(&mut fields, entries, Field::ProcessedBy)?;
+    Ok(fields)
+}
+
+/// `@producers`, and entries up to the end of the group. Each is the word of a field, a name and a version, in
+/// parentheses.
+impl<'a> Parse<'a> for Producers<'a> {
+    ghost Seen = { List (List ℕ × List Named) };
+
+    ghost seen = { seen_producers };
+
+    ghost light = { false };
+
+    ghost bare = { no_items };
+
+    ghost quiet = { true };
+
+    ghost grammar = { producers };
+
+    #[tactic(auto, using(crate::specs::Producers::producer_entry_eats, crate::proofs::Fields::fields_not_bare, crate::proofs::Fields::entries_not_bare), unfolding(crate::specs::Producers::producers, crate::specs::Producers::producer_entries))]
+    fn parse(parser: &mut Parser<'a>) -> Result<Self> {
+        parser.take_annotation("producers")?;
+        let mut entries = Vec::new(parser.alloc());
+        rest_of_group::<ProducerEntry>(parser, &mut entries)?;
+        let fields = fields_of(parser.alloc(), &entries)?;
+        Ok(Producers { fields })
+    }
+}

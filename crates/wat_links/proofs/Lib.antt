@@ -1,0 +1,4 @@
+pub mod Ends
+pub mod Lookups
+pub mod Same
+pub mod Sigs

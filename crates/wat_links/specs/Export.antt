@@ -1,0 +1,89 @@
+-- Exports.
+use Rattle.std.specs.Prelude.{◌≤◌, ℕ, Bool, false, List, [], ◌∷◌, codes, map, refl}
+use Rattle.std.specs.Str.{bytes_eq}
+use Rattle.std.proofs.Common.{lit≤}
+use Rattle.wat_tokens.specs.Token.{Tok, LParen, RParen, Keyword, String}
+use Rattle.wat_tokens.specs.Begin.{begins_one_of}
+use Rattle.wat_tokens.specs.Tests.{word_in}
+use Rattle.wat_tokens.specs.Production.{Production}
+use Rattle.wat_tokens.specs.Parts.{one, seq, made}
+use Rattle.wat_tokens.specs.Groups.{paren, group}
+use Rattle.wat_tokens.specs.Many.{many}
+use Rattle.wat_tokens.specs.Index.{Idx, seen_index, index}
+use Rattle.wat_tokens.specs.Strings.{text}
+use Rattle.wat_types.specs.Define.{behind}
+use Rattle.wat_links.specs.Item.{SigTy, seen_sig, bare_sig, item_sig}
+use Rattle.wat_links.specs.declared.export.Export.{Export}
+use Rattle.wat_links.specs.declared.export.ExportKind.{ExportKind}
+use Rattle.wat_links.specs.declared.export.ExportKind.TheVariants as code
+use Rattle.wat_links.specs.declared.export.ExportType.{ExportType}
+use Rattle.wat_links.specs.declared.export.InlineExport.{InlineExport}
+
+-- ---- kinds
+
+abbrev pub kind_words : List (List ℕ × ExportKind)
+kind_words = (codes "func", code.Func) ∷ (codes "table", code.Table) ∷ (codes "memory", code.Memory) ∷ (codes "global", code.Global) ∷ (codes "tag", code.Tag) ∷ []
+
+-- `func` | `table` | `memory` | `global` | `tag`
+unfoldable pub export_kind : Production ExportKind
+export_kind = one (word_in kind_words) (refl, refl)
+
+-- one of the words
+unfoldable pub begins_kind : List Tok → Bool
+begins_kind t = begins_one_of (word_in kind_words) t
+
+-- ---- exports
+
+-- an export, without its places
+pub record ExportTy : Type 0 where
+  pub name : List ℕ
+  pub kind : ExportKind
+  pub item : Idx
+
+abbrev pub export_of : List ℕ → ExportKind → Idx → ExportTy
+export_of n k i = record { name = n; kind = k; item = i }
+
+abbrev pub seen_export : Export → ExportTy
+seen_export e = export_of e.name.now e.kind (seen_index e.item)
+
+-- `export` name ( ExportKind idx )
+unfoldable pub export_ : Production ExportTy
+export_ = behind (codes "export") (made (λ v. export_of v.0 v.1.0 v.1.1) (seq text (paren (seq export_kind index))))
+
+-- ---- types of exports
+
+-- a name, and the signature of what is exported
+abbrev pub ExportTypeTy : Type 0
+ExportTypeTy = List ℕ × SigTy
+
+abbrev pub seen_export_type : ExportType → ExportTypeTy
+seen_export_type e = (e.name.now, seen_sig e.item)
+
+abbrev pub bare_export_type : ExportTypeTy → Bool
+bare_export_type e = bare_sig e.1
+
+-- `export` name ( ItemSig )
+unfoldable pub export_type : Production ExportTypeTy
+export_type = behind (codes "export") (seq text (paren item_sig))
+
+-- ---- exports in line
+
+abbrev pub seen_inline_export : InlineExport → List (List ℕ)
+seen_inline_export e = map (λ n. n.now) e.names.items
+
+-- `(`, `export`, a string, `)`
+abbrev pub begins_inline_export : List Tok → Bool
+begins_inline_export (LParen ∷ Keyword k ∷ String s ∷ RParen ∷ r) = bytes_eq k (codes "export")
+begins_inline_export _ = false
+
+-- ( export name )
+unfoldable pub inline_name : Production (List ℕ)
+inline_name = group (codes "export") text
+
+pub inline_name_eats : 1 ≤ inline_name.least
+unfolding inline_name
+inline_name_eats = lit≤ tt
+
+-- ( export name )*
+unfoldable pub inline_export : Production (List (List ℕ))
+inline_export = many begins_inline_export inline_name inline_name_eats

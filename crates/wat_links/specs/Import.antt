@@ -1,0 +1,185 @@
+-- Imports.
+use Rattle.std.specs.Prelude.{◌≡◌, ◌≤◌, ℕ, Bool, false, ◌&&◌, ◌||◌, List, [], ◌∷◌, codes, map, is_none, replicate, length, ⊤}
+use Rattle.std.specs.Borrow.{Bor}
+use Rattle.std.specs.Str.{bytes_eq}
+use Rattle.std.proofs.Common.{arith, lit≤}
+use Rattle.wat_tokens.specs.Token.{Tok, LParen, RParen, Keyword, String}
+use Rattle.wat_tokens.specs.Tests.{begins_word, second, ends, more}
+use Rattle.wat_tokens.specs.Production.{Production}
+use Rattle.wat_tokens.specs.Parts.{seq, made, made_where, where_else}
+use Rattle.wat_tokens.specs.Groups.{paren, group}
+use Rattle.wat_tokens.specs.Many.{many}
+use Rattle.wat_tokens.specs.Parses.{no_items}
+use Rattle.wat_tokens.specs.Strings.{text}
+use Rattle.wat_customs.specs.Raw.{begins_lparen}
+use Rattle.wat_links.specs.Item.{SigTy, seen_sig, bare_sig, item_sig, SameSig}
+use Rattle.wat_links.specs.declared.item.ItemSig.{ItemSig}
+use Rattle.wat_links.specs.declared.import.ImportGroup1ItemOf.{ImportGroup1ItemOf}
+use Rattle.wat_links.specs.declared.import.ImportGroup2ItemOf.{ImportGroup2ItemOf}
+use Rattle.wat_links.specs.declared.import.ImportItemsOf.{ImportItemsOf}
+use Rattle.wat_links.specs.declared.import.ImportItemsOf.TheVariants.{Single, Group1, Group2}
+use Rattle.wat_links.specs.declared.import.ImportsOf.{ImportsOf}
+use Rattle.wat_links.specs.declared.import.InlineImport.{InlineImport}
+
+-- ---- what contracts see
+
+-- a name and its signature; names, each with its signature; names that share a signature
+pub data ItemsTy : Type 0 where
+  single : List ℕ → SigTy → ItemsTy
+  group1 : List (List ℕ × SigTy) → ItemsTy
+  group2 : SigTy → List (List ℕ) → ItemsTy
+
+-- what is imported, from the module of the name
+pub record ImportsTy : Type 0 where
+  pub from : List ℕ
+  pub items : ItemsTy
+
+abbrev pub imports_of : List ℕ → ItemsTy → ImportsTy
+imports_of m i = record { from = m; items = i }
+
+-- a name, and what holds it
+abbrev pub Name : Type 0
+Name = Bor (List ℕ)
+
+abbrev pub module_of : {N S : Type 0} → ImportItemsOf N S → N
+module_of (Single m n s) = m
+module_of (Group1 m xs) = m
+module_of (Group2 m s xs) = m
+
+abbrev pub seen_typed : ImportGroup1ItemOf Name ItemSig → List ℕ × SigTy
+seen_typed x = (x.name.now, seen_sig x.sig)
+
+abbrev pub seen_named : ImportGroup2ItemOf Name → List ℕ
+seen_named x = x.name.now
+
+abbrev pub seen_items : ImportItemsOf Name ItemSig → ItemsTy
+seen_items (Single m n s) = single n.now (seen_sig s)
+seen_items (Group1 m xs) = group1 (map seen_typed xs.items)
+seen_items (Group2 m s xs) = group2 (seen_sig s) (map seen_named xs.items)
+
+abbrev pub seen_imports : ImportsOf Name ItemSig → ImportsTy
+seen_imports i = imports_of (module_of i.items).now (seen_items i.items)
+
+-- no item in a group, and no parameter and no result in line
+abbrev pub bare_items : ItemsTy → Bool
+bare_items (single n s) = bare_sig s
+bare_items (group1 xs) = no_items xs
+bare_items (group2 s xs) = no_items xs && bare_sig s
+
+abbrev pub bare_imports : ImportsTy → Bool
+bare_imports i = bare_items i.items
+
+-- ---- the grammar
+
+-- ( ItemSig )
+abbrev pub sig_group : Production SigTy
+sig_group = paren item_sig
+
+-- an item has to follow: the second token is `item`, whatever the first is
+abbrev pub item_follows : List Tok → Bool
+item_follows t = second (begins_word (codes "item")) t
+
+-- ( item name ( ItemSig ) )
+unfoldable pub typed_item : Production (List ℕ × SigTy)
+typed_item = group (codes "item") (seq text sig_group)
+
+-- ( item name )
+unfoldable pub named_item : Production (List ℕ)
+named_item = group (codes "item") text
+
+pub typed_item_eats : 1 ≤ typed_item.least
+unfolding typed_item
+typed_item_eats = omega arith
+
+pub named_item_eats : 1 ≤ named_item.least
+unfolding named_item
+named_item_eats = lit≤ tt
+
+-- the signature that a group shares: without an identifier
+unfoldable pub shared_sig : Production SigTy
+shared_sig = paren (made_where (λ s. is_none s.label.id) (λ s. s) item_sig)
+
+-- name ( ItemSig )
+unfoldable pub single_item : Production ItemsTy
+single_item = made (λ v. single v.0 v.1) (seq text sig_group)
+
+-- ( item name ( ItemSig ) )*, as long as an item has to follow
+unfoldable pub typed_list : Production (List (List ℕ × SigTy))
+typed_list = many item_follows typed_item typed_item_eats
+
+-- ( item name )*, as long as an item has to follow
+unfoldable pub named_list : Production (List (List ℕ))
+named_list = many item_follows named_item named_item_eats
+
+unfoldable pub typed_items : Production ItemsTy
+typed_items = made group1 typed_list
+
+-- items without signatures, and the one that they share
+unfoldable pub named_items : Production ItemsTy
+named_items = made (λ v. group2 v.1 v.0) (seq named_list shared_sig)
+
+-- `(`, `item` and a string, and then not what closes the group
+abbrev pub opens_typed : List Tok → Bool
+opens_typed (LParen ∷ Keyword k ∷ String s ∷ r) = bytes_eq k (codes "item") && more r
+opens_typed _ = false
+
+-- nothing is left, or an item with more than a name stands in front
+abbrev pub typed : List Tok → Bool
+typed t = ends t || opens_typed t
+
+-- where nothing is left or an item with more than a name comes next: items with signatures; where another `(` comes next:
+-- items without, and the signature that they share; else a single item
+unfoldable pub import_choice : Production ItemsTy
+import_choice = where_else typed typed_items (where_else begins_lparen named_items single_item)
+
+-- ---- signatures, by number
+
+-- one for each item; a group that shares one repeats it
+abbrev pub item_sigs : {N S : Type 0} → ImportItemsOf N S → List S
+item_sigs (Single m n s) = s ∷ []
+item_sigs (Group1 m xs) = map (λ x. x.sig) xs.items
+item_sigs (Group2 m s xs) = replicate (length xs.items) s
+
+-- how many items there are
+abbrev pub item_count : {N S : Type 0} → ImportItemsOf N S → ℕ
+item_count (Single m n s) = 1
+item_count (Group1 m xs) = length xs.items
+item_count (Group2 m s xs) = length xs.items
+
+-- the signatures that are written, each once
+abbrev pub own_sigs : {N S : Type 0} → ImportItemsOf N S → List S
+own_sigs (Single m n s) = s ∷ []
+own_sigs (Group1 m xs) = map (λ x. x.sig) xs.items
+own_sigs (Group2 m s xs) = s ∷ []
+
+-- ---- imports and their clone
+
+-- the same in each part, places too
+abbrev pub SameTyped : ImportGroup1ItemOf Name ItemSig → ImportGroup1ItemOf Name ItemSig → Type 0
+SameTyped x y = (x.span ≡ y.span) × (x.name ≡ y.name) × SameSig x.sig y.sig
+
+-- the same items, one by one
+abbrev pub SameAll : List (ImportGroup1ItemOf Name ItemSig) → List (ImportGroup1ItemOf Name ItemSig) → Type 0
+SameAll [] [] = ⊤
+SameAll (x ∷ xs) (y ∷ ys) = SameTyped x y × SameAll xs ys
+SameAll _ _ = ⊥
+
+abbrev pub SameItems : ImportItemsOf Name ItemSig → ImportItemsOf Name ItemSig → Type 0
+SameItems (Single m n s) (Single m' n' s') = (m ≡ m') × (n ≡ n') × SameSig s s'
+SameItems (Group1 m xs) (Group1 m' xs') = (m ≡ m') × SameAll xs.items xs'.items
+SameItems (Group2 m s xs) (Group2 m' s' xs') = (m ≡ m') × SameSig s s' × (xs.items ≡ xs'.items)
+SameItems _ _ = ⊥
+
+-- ---- imports in line
+
+abbrev pub seen_inline_import : InlineImport → List ℕ × List ℕ
+seen_inline_import i = (i.module.now, i.field.now)
+
+-- ( import name name )
+unfoldable pub inline_import : Production (List ℕ × List ℕ)
+inline_import = group (codes "import") (seq text text)
+
+-- `(`, `import`, a string, a string, `)`
+abbrev pub begins_inline_import : List Tok → Bool
+begins_inline_import (LParen ∷ Keyword k ∷ String s ∷ String s2 ∷ RParen ∷ r) = bytes_eq k (codes "import")
+begins_inline_import _ = false

@@ -1,0 +1,101 @@
+-- Signatures of items that are imported or exported.
+use Rattle.std.specs.Prelude.{◌≡◌, ℕ, Bool, true, List, codes}
+use Rattle.wat_tokens.specs.Tests.{begins_word, second}
+use Rattle.wat_tokens.specs.Production.{Production}
+use Rattle.wat_tokens.specs.Parts.{seq, made, where_else}
+use Rattle.wat_tokens.specs.Groups.{group}
+use Rattle.wat_types.specs.Define.{behind}
+use Rattle.wat_types.specs.Function.{seen_function, bare_function, function_type}
+use Rattle.wat_types.specs.Group.{FuncTy, begins_func}
+use Rattle.wat_types.specs.Label.{Label, seen_label, label}
+use Rattle.wat_types.specs.Limits.{TableTy, seen_table, table_type, memory_type}
+use Rattle.wat_types.specs.Storage.{GlobalTy, seen_global, global_type}
+use Rattle.wat_types.specs.Tag.{seen_tag, tag_type, SameTag}
+use Rattle.wat_types.specs.Use.{UseTy, seen_use, bare_use, type_use, SameFunction, SameUse}
+use Rattle.wat_types.specs.declared.limits.MemoryType.{MemoryType}
+use Rattle.wat_links.specs.declared.item.ItemKind.{ItemKind}
+use Rattle.wat_links.specs.declared.item.ItemKind.TheVariants as code
+use Rattle.wat_links.specs.declared.item.ItemSig.{ItemSig}
+
+-- ---- what contracts see
+
+pub data KindTy : Type 0 where
+  func : UseTy FuncTy → KindTy
+  table : TableTy → KindTy
+  memory : MemoryType → KindTy
+  global : GlobalTy → KindTy
+  tag : UseTy FuncTy → KindTy
+  exact_func : UseTy FuncTy → KindTy
+
+-- a signature, and what names the item
+pub record SigTy : Type 0 where
+  pub label : Label
+  pub kind : KindTy
+
+abbrev pub sig_of : Label → KindTy → SigTy
+sig_of l k = record { label = l; kind = k }
+
+abbrev pub seen_kind : ItemKind → KindTy
+seen_kind (code.Func u) = func (seen_use seen_function u)
+seen_kind (code.Table t) = table (seen_table t)
+seen_kind (code.Memory m) = memory m
+seen_kind (code.Global g) = global (seen_global g)
+seen_kind (code.Tag t) = tag (seen_tag t)
+seen_kind (code.FuncExact u) = exact_func (seen_use seen_function u)
+
+abbrev pub seen_sig : ItemSig → SigTy
+seen_sig s = sig_of (seen_label s.id s.name) (seen_kind s.kind)
+
+-- no parameter and no result in line
+abbrev pub bare_kind : KindTy → Bool
+bare_kind (func u) = bare_use bare_function u
+bare_kind (table t) = true
+bare_kind (memory m) = true
+bare_kind (global g) = true
+bare_kind (tag u) = bare_use bare_function u
+bare_kind (exact_func u) = bare_use bare_function u
+
+abbrev pub bare_sig : SigTy → Bool
+bare_sig s = bare_kind s.kind
+
+-- ---- the grammar
+
+-- a type use of a function type
+abbrev pub func_use : Production (UseTy FuncTy)
+func_use = type_use begins_func function_type
+
+-- where the second token is `exact`, ( exact TypeUse ); else TypeUse
+unfoldable pub func_kind : Production KindTy
+func_kind = where_else (second (begins_word (codes "exact"))) (made exact_func (group (codes "exact") func_use)) (made func func_use)
+
+-- the word, id? name?, and then k
+abbrev pub labelled : List ℕ → Production KindTy → Production SigTy
+labelled w k = made (λ v. sig_of v.0 v.1) (behind w (seq label k))
+
+-- `global id? name?` GlobalType | `tag id? name?` TagType
+unfoldable pub global_or_tag : Production SigTy
+global_or_tag = where_else (begins_word (codes "global")) (labelled (codes "global") (made global global_type)) (labelled (codes "tag") (made tag tag_type))
+
+-- `func id? name?`, and a function by func_kind | `table id? name?` TableType | `memory id? name?` MemoryType | global or tag
+unfoldable pub item_sig : Production SigTy
+item_sig =
+    where_else (begins_word (codes "func")) (labelled (codes "func") func_kind)
+    (where_else (begins_word (codes "table")) (labelled (codes "table") (made table table_type))
+    (where_else (begins_word (codes "memory")) (labelled (codes "memory") (made memory memory_type))
+    global_or_tag))
+
+-- ---- one signature and its clone
+
+-- the same variant, with the same type in it
+abbrev pub SameKind : ItemKind → ItemKind → Type 0
+SameKind (code.Func u) (code.Func v) = SameUse SameFunction u v
+SameKind (code.Table t) (code.Table s) = t ≡ s
+SameKind (code.Memory m) (code.Memory n) = m ≡ n
+SameKind (code.Global g) (code.Global h) = g ≡ h
+SameKind (code.Tag t) (code.Tag s) = SameTag t s
+SameKind (code.FuncExact u) (code.FuncExact v) = SameUse SameFunction u v
+SameKind _ _ = ⊥
+
+-- the same in each part, places too
+abbrev pub SameSig : ItemSig → ItemSig → Type 0
+SameSig s t = (s.span ≡ t.span) × (s.id ≡ t.id) × (s.name ≡ t.name) × SameKind s.kind t.kind

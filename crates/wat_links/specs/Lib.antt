@@ -1,0 +1,6 @@
+pub use Rattle.wat_types.specs.Production
+pub mod Export
+pub mod Forms
+pub mod Import
+pub mod Item
+pub mod Lend

@@ -1,0 +1,334 @@
+//! Exports.
+
+ghost use Rattle.std.specs.Prelude.{◌≡◌, ℕ, [], true, false, List, map, IfOk, IfErr};
+ghost use Rattle.wat_tokens.specs.Lookup.{front};
+ghost use Rattle.wat_tokens.specs.Parses.{no_items};
+ghost use Rattle.wat_tokens.specs.Tests.{look_up};
+ghost use Rattle.wat_links.specs.Item.{SameSig};
+ghost use Rattle.wat_links.specs.Export.{kind_words, export_kind, begins_kind, ExportTy, seen_export, export_, ExportTypeTy, seen_export_type, bare_export_type, export_type, seen_inline_export, begins_inline_export, inline_name, inline_export};
+
+use crate::item::ItemSig;
+use std::alloc::Global;
+use wat_tokens::repeat::{Part, parts};
+use wat_tokens::{Cursor, Error, Fault, Index, Parse, Parser, Peek, Result, Span, kw};
+
+/// An export of a module (WebAssembly Core Specification, Text Format, Modules, "Exports").
+#[derive(Debug, Drop)]
+pub struct Export<'a> {
+    /// Where the word `export` begins.
+    pub span: Span,
+    /// The name under which it is exported.
+    pub name: &'a str,
+    /// What kind of item is exported.
+    pub kind: ExportKind,
+    /// Which item is exported.
+    pub item: Index<'a>,
+}
+
+/// A kind of item that can be exported (WebAssembly Core Specification, Text Format, Modules, "Exports"). Each variant has
+/// the name of its word.
+#[derive(Clone, Copy, Debug, PartialEq, Eq, Hash)]
+pub enum ExportKind {
+    /// `func`
+    Func,
+    /// `table`
+    Table,
+    /// `memory`
+    Memory,
+    /// `global`
+    Global,
+    /// `tag`
+    Tag,
+}
+
+/// The type of an export: its name, and the signature of what is exported.
+#[derive(Debug, Drop)]
+pub struct ExportType<'a> {
+    /// Where the word `export` begins.
+    pub span: Span,
+    /// The name under which it is exported.
+    pub name: &'a str,
+    /// The signature of the item.
+    pub item: ItemSig<'a>,
+}
+
+/// The exports that are written in line with an item (WebAssembly Core Specification, Text Format, Modules, "Exports",
+/// Abbreviations).
+#[derive(Debug, Drop)]
+pub struct InlineExport<'a> {
+    /// The names under which the item is exported.
+    pub names: Vec<&'a str>,
+}
+
+/// The kind that a word names.
+fn kind_of(word: &str) -> Option<ExportKind>
+    ensures { result ≡ look_up kind_words word.now }
+{
+    match word {
+        "func" => Some(ExportKind::Func),
+        "table" => Some(ExportKind::Table),
+        "memory" => Some(ExportKind::Memory),
+        "global" => Some(ExportKind::Global),
+        "tag" => Some(ExportKind::Tag),
+        _ => None,
+    }
+}
+
+/// Another token than one of the words is refused with Unexpected, at the token.
+impl<'a> Parse<'a> for ExportKind {
+    ghost use Rattle.wat_links.specs.declared.export.ExportKind.{ExportKind};
+    ghost use Rattle.wat_links.specs.Export.{export_kind};
+
+    ghost Seen = { ExportKind };
+
+    ghost seen = { λ k. k };
+
+    ghost light = { true };
+
+    ghost bare = { λ _. true };
+
+    ghost quiet = { true };
+
+    ghost grammar = { export_kind };
+
+    #[tactic(auto, using(wat_tokens::specs::Begin::reads_table, wat_tokens::specs::Begin::reads_no_table), unfolding(crate::specs::Export::export_kind))]
+    fn parse(parser: &mut Parser<'a>) -> Result<Self> {
+        let span = parser.cur_span();
+        match kind_of(parser.take_keyword()?) {
+            Some(kind) => Ok(kind),
+            None => Err(Error {
+                fault: Fault::Unexpected,
+                span,
+            }),
+        }
+    }
+}
+
+/// One of the words.
+impl Peek for ExportKind {
+    ghost begins = { begins_kind };
+
+    #[tactic(auto, using(wat_tokens::specs::Begin::begins_table, wat_tokens::specs::Begin::begins_no_table), unfolding(crate::specs::Export::begins_kind))]
+    fn peek(cursor: Cursor<'_>) -> bool {
+        match cursor.keyword() {
+            Some((word, _)) => kind_of(word).is_some(),
+            None => false,
+        }
+    }
+
+    fn display() -> &'static str {
+        "export kind"
+    }
+}
+
+impl From<kw::func> for ExportKind {
+    ghost use Rattle.wat_links.specs.declared.export.ExportKind.TheVariants.{Func};
+
+    ghost from_gives = { λ _ kind. kind ≡ Func };
+
+    fn from(_: kw::func) -> ExportKind {
+        ExportKind::Func
+    }
+}
+
+impl From<kw::table> for ExportKind {
+    ghost use Rattle.wat_links.specs.declared.export.ExportKind.TheVariants.{Table};
+
+    ghost from_gives = { λ _ kind. kind ≡ Table };
+
+    fn from(_: kw::table) -> ExportKind {
+        ExportKind::Table
+    }
+}
+
+impl From<kw::memory> for ExportKind {
+    ghost use Rattle.wat_links.specs.declared.export.ExportKind.TheVariants.{Memory};
+
+    ghost from_gives = { λ _ kind. kind ≡ Memory };
+
+    fn from(_: kw::memory) -> ExportKind {
+        ExportKind::Memory
+    }
+}
+
+impl From<kw::global> for ExportKind {
+    ghost use Rattle.wat_links.specs.declared.export.ExportKind.TheVariants.{Global};
+
+    ghost from_gives = { λ _ kind. kind ≡ Global };
+
+    fn from(_: kw::global) -> ExportKind {
+        ExportKind::Global
+    }
+}
+
+impl From<kw::tag> for ExportKind {
+    ghost use Rattle.wat_links.specs.declared.export.ExportKind.TheVariants.{Tag};
+
+    ghost from_gives = { λ _ kind. kind ≡ Tag };
+
+    fn from(_: kw::tag) -> ExportKind {
+        ExportKind::Tag
+    }
+}
+
+/// `export`, a name, and a kind and an index in parentheses.
+impl<'a> Parse<'a> for Export<'a> {
+    ghost Seen = { ExportTy };
+
+    ghost seen = { seen_export };
+
+    ghost light = { true };
+
+    ghost bare = { λ _. true };
+
+    ghost quiet = { true };
+
+    ghost grammar = { export_ };
+
+    #[tactic(auto, unfolding(crate::specs::Export::export_))]
+    fn parse(parser: &mut Parser<'a>) -> Result<Self> {
+        let span = parser.keyword("export")?;
+        let name = <&str as Parse>::parse(parser)?;
+        parser.open()?;
+        let kind = ExportKind::parse(parser)?;
+        let item = Index::parse(parser)?;
+        parser.close()?;
+        Ok(Export {
+            span,
+            name,
+            kind,
+            item,
+        })
+    }
+}
+
+impl<'a> ExportType<'a> {
+    /// The same once more. Memory may be answered where a type in it has a parameter or a result in line.
+    pub fn clone(&self) -> Result<ExportType<'a>>
+        ensures span { IfOk result (λ e. e.span ≡ self.now.span) }
+        ensures name { IfOk result (λ e. e.name ≡ self.now.name) }
+        ensures item { IfOk result (λ e. SameSig self.now.item e.item) }
+        ensures seen { IfOk result (λ e. seen_export_type e ≡ seen_export_type self.now) }
+        ensures memory { IfErr result (λ e. (e.fault ≡ Fault.Memory) × (bare_export_type (seen_export_type self.now) ≡ false)) }
+    {
+        Ok(ExportType {
+            span: self.span,
+            name: self.name,
+            item: self.item.clone()?,
+        })
+    }
+}
+
+/// `export`, a name, and the signature in parentheses.
+impl<'a> Parse<'a> for ExportType<'a> {
+    ghost Seen = { ExportTypeTy };
+
+    ghost seen = { seen_export_type };
+
+    ghost light = { false };
+
+    ghost bare = { bare_export_type };
+
+    ghost quiet = { true };
+
+    ghost grammar = { export_type };
+
+    #[tactic(auto, unfolding(crate::specs::Export::export_type))]
+    fn parse(parser: &mut Parser<'a>) -> Result<Self> {
+        let span = parser.keyword("export")?;
+        let name = <&str as Parse>::parse(parser)?;
+        parser.open()?;
+        let item = ItemSig::parse(parser)?;
+        parser.close()?;
+        Ok(ExportType { span, name, item })
+    }
+}
+
+impl<'a> InlineExport<'a> {
+    /// No names.
+    pub fn empty(alloc: Global) -> InlineExport<'a>
+        ensures { result.names.items ≡ [] }
+    {
+        InlineExport {
+            names: Vec::new(alloc),
+        }
+    }
+}
+
+/// `( export name )`, as long as `(`, `export`, a string and `)` stand in front.
+struct InlineName;
+
+impl<'a> Part<'a, &'a str> for InlineName {
+    ghost Seen = { List ℕ };
+
+    ghost seen = { λ n. n.now };
+
+    ghost light = { true };
+
+    ghost bare = { λ _. true };
+
+    ghost quiet = { true };
+
+    ghost grammar = { inline_name };
+
+    ghost follows = { begins_inline_export };
+
+    fn follows(parser: &Parser<'a>) -> bool {
+        parser.peek::<InlineExport>()
+    }
+
+    #[tactic(auto, unfolding(crate::specs::Export::inline_name))]
+    fn take(parser: &mut Parser<'a>) -> Result<&'a str> {
+        parser.open()?;
+        parser.keyword("export")?;
+        let name = <&str as Parse>::parse(parser)?;
+        parser.close()?;
+        Ok(name)
+    }
+}
+
+/// `( export name )`, as long as `(`, `export`, a string and `)` stand in front.
+impl<'a> Parse<'a> for InlineExport<'a> {
+    ghost Seen = { List (List ℕ) };
+
+    ghost seen = { seen_inline_export };
+
+    ghost light = { false };
+
+    ghost bare = { no_items };
+
+    ghost quiet = { true };
+
+    ghost grammar = { inline_export };
+
+    #[tactic(auto, using(crate::specs::Export::inline_name_eats), unfolding(crate::specs::Export::inline_export))]
+    fn parse(parser: &mut Parser<'a>) -> Result<Self> {
+        let mut names = Vec::new(parser.alloc());
+        parts::<_, InlineName>(parser, &mut names)?;
+        Ok(InlineExport { names })
+    }
+}
+
+/// `(`, `export`, a string and `)`.
+impl<'p> Peek for InlineExport<'p> {
+    ghost begins = { begins_inline_export };
+
+    fn peek(cursor: Cursor<'_>) -> bool
+        ensures { result ≡ begins_inline_export (front cursor.entry) }
+    {
+        let Some(inside) = cursor.lparen() else {
+            return false;
+        };
+        let Some((word, rest)) = inside.keyword() else {
+            return false;
+        };
+        match rest.string() {
+            Some((_, rest)) => word == "export" && rest.rparen().is_some(),
+            None => false,
+        }
+    }
+
+    fn display() -> &'static str {
+        "inline export"
+    }
+}

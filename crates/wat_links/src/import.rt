@@ -1,0 +1,580 @@
+//! Imports.
+
+ghost use Rattle.std.specs.Prelude.{◌≡◌, ◌&&◌, ℕ, true, false, List, map, length, replicate, slice_get, ◌<◌, IfOk, IfErr};
+ghost use Rattle.std.specs.Borrow.{sem};
+ghost use Rattle.std.specs.Option.{option_map};
+ghost use Rattle.wat_tokens.specs.Counts.{Counted, Quiet, Kept};
+ghost use Rattle.wat_tokens.specs.Lookup.{front};
+ghost use Rattle.wat_tokens.specs.Parses.{Gives, no_items};
+ghost use Rattle.wat_customs.specs.Raw.{begins_lparen};
+ghost use Rattle.wat_links.specs.Item.{SigTy, seen_sig, bare_sig, SameSig};
+ghost use Rattle.wat_links.specs.Forms.{import_items, imports};
+ghost use Rattle.wat_links.specs.Import.{ItemsTy, ImportsTy, module_of, seen_typed, seen_named, seen_items, seen_imports, bare_items, bare_imports, sig_group, item_follows, typed_item, named_item, shared_sig, single_item, typed_items, named_items, opens_typed, typed, item_sigs, item_count, own_sigs, SameTyped, SameAll, SameItems, seen_inline_import, inline_import, begins_inline_import};
+ghost use Rattle.wat_links.specs.Lend.{typed_sig_at, sig_at, LendsTyped, LendsItems, LendsImports};
+
+use crate::item::ItemSig;
+use std::alloc::Global;
+use wat_tokens::repeat::{Part, parts};
+use wat_tokens::{Cursor, Error, Fault, Parse, Parser, Peek, Result, Span};
+
+/// An import (WebAssembly Core Specification, Text Format, Modules, "Imports", with the compact forms of the proposal
+/// "Compact Import Section"), with its names as an N and its signatures as an S: see [`Imports`].
+#[derive(Debug, Drop)]
+pub struct ImportsOf<N, S> {
+    /// Where the word `import` begins.
+    pub span: Span,
+    /// What is imported.
+    pub items: ImportItemsOf<N, S>,
+}
+
+/// What is imported: see [`ImportItems`].
+#[derive(Debug, Drop)]
+pub enum ImportItemsOf<N, S> {
+    /// One item: `(import "m" "a" (func))`.
+    Single {
+        /// The name of the module.
+        module: N,
+        /// The name of the item in it.
+        name: N,
+        /// The signature of the item.
+        sig: S,
+    },
+    /// Items, each with its signature: `(import "m" (item "a" (func)) (item "b" (func)))`.
+    Group1 {
+        /// The name of the module.
+        module: N,
+        /// The items.
+        items: Vec<ImportGroup1ItemOf<N, S>>,
+    },
+    /// Items that share a signature: `(import "m" (item "a") (item "b") (func))`.
+    Group2 {
+        /// The name of the module.
+        module: N,
+        /// The signature of each item.
+        sig: S,
+        /// The items.
+        items: Vec<ImportGroup2ItemOf<N>>,
+    },
+}
+
+/// An item with its signature: see [`ImportGroup1Item`].
+#[derive(Debug, Drop)]
+pub struct ImportGroup1ItemOf<N, S> {
+    /// Where the word `item` begins.
+    pub span: Span,
+    /// The name of the item in the module.
+    pub name: N,
+    /// The signature of the item.
+    pub sig: S,
+}
+
+/// An item that shares its signature: see [`ImportGroup2Item`].
+#[derive(Clone, Copy, Debug)]
+pub struct ImportGroup2ItemOf<N> {
+    /// Where the word `item` begins.
+    pub span: Span,
+    /// The name of the item in the module.
+    pub name: N,
+}
+
+/// An import (WebAssembly Core Specification, Text Format, Modules, "Imports", with the compact forms of the proposal
+/// "Compact Import Section").
+pub type Imports<'a> = ImportsOf<&'a str, ItemSig<'a>>;
+
+/// What is imported.
+pub type ImportItems<'a> = ImportItemsOf<&'a str, ItemSig<'a>>;
+
+/// An item with its signature: `(item "a" (func))`.
+pub type ImportGroup1Item<'a> = ImportGroup1ItemOf<&'a str, ItemSig<'a>>;
+
+/// An item that shares its signature with others: `(item "a")`.
+pub type ImportGroup2Item<'a> = ImportGroup2ItemOf<&'a str>;
+
+/// The import that is written in line with an item (WebAssembly Core Specification, Text Format, Modules, "Imports",
+/// Abbreviations).
+#[derive(Clone, Copy, Debug)]
+pub struct InlineImport<'a> {
+    /// The name of the module.
+    pub module: &'a str,
+    /// The name of the item in it.
+    pub field: &'a str,
+}
+
+/// The signature of the item number i.
+fn typed_sig_mut<N, S>(items: &mut Vec<ImportGroup1ItemOf<N, S>>, i: usize) -> Option<&mut S>
+    ensures* writes_back { sem 𝓛 (LendsTyped N.row S.row i items.entry result) }
+    ensures value { typed_sig_at i items.old.items ≡ option_map (λ r. r.now) result }
+{
+    match items.get_mut(i) {
+        Some(item) => Some(&mut item.sig),
+        None => None,
+    }
+}
+
+impl<N, S> ImportItemsOf<N, S> {
+    /// The signature number i.
+    fn sig_mut(&mut self, i: usize) -> Option<&mut S>
+        ensures* writes_back { sem 𝓛 (LendsItems N.row S.row i self.entry result) }
+        ensures value { sig_at i self.old ≡ option_map (λ r. r.now) result }
+    {
+        match self {
+            ImportItemsOf::Single { sig, .. } => { if i == 0 { Some(sig) } else { None } }
+            ImportItemsOf::Group1 { items, .. } => typed_sig_mut(items, i),
+            ImportItemsOf::Group2 { sig, .. } => { if i == 0 { Some(sig) } else { None } }
+        }
+    }
+}
+
+/// The signatures of the items.
+fn typed_sigs<'s, N, S>(
+    alloc: Global,
+    items: &'s Vec<ImportGroup1ItemOf<N, S>>,
+) -> Result<Vec<&'s S>>
+    ensures sigs { IfOk result (λ v. map (λ r. r.now) v.items ≡ map (λ x. x.sig) items.now.items) }
+    ensures memory { IfErr result (λ e. (e.fault ≡ Fault.Memory) × (0 < length items.now.items)) }
+{
+    let mut sigs = Vec::new(alloc);
+    'items: for item in items {
+        sigs.push(&item.sig)?;
+    }
+    Ok(sigs)
+}
+
+/// The signature, so many times.
+#[tactic(auto, using(crate::proofs::Sigs::one_more_copy))]
+fn repeated_sig<'s, S>(alloc: Global, sig: &'s S, count: usize) -> Result<Vec<&'s S>>
+    ensures sigs { IfOk result (λ v. map (λ r. r.now) v.items ≡ replicate count sig.now) }
+    ensures memory { IfErr result (λ e. (e.fault ≡ Fault.Memory) × (0 < count)) }
+{
+    let mut sigs = Vec::new(alloc);
+    'copies: for _ in 0..count {
+        sigs.push(sig)?;
+    }
+    Ok(sigs)
+}
+
+impl<N, S> ImportsOf<N, S> {
+    /// The import of one item.
+    pub fn single(span: Span, module: N, name: N, sig: S) -> ImportsOf<N, S>
+        ensures span { result.span ≡ span }
+        ensures items { result.items ≡ ImportItemsOf.Single «module» name sig }
+    {
+        ImportsOf {
+            span,
+            items: ImportItemsOf::Single { module, name, sig },
+        }
+    }
+
+    /// How many items are imported.
+    pub fn num_items(&self) -> usize
+        ensures { result ≡ item_count self.now.items }
+    {
+        match &self.items {
+            ImportItemsOf::Single { .. } => 1,
+            ImportItemsOf::Group1 { items, .. } => items.len(),
+            ImportItemsOf::Group2 { items, .. } => items.len(),
+        }
+    }
+
+    /// How many signatures are written: one for each item, and one alone where the items share it.
+    pub fn num_sigs(&self) -> usize
+        ensures { result ≡ length (own_sigs self.now.items) }
+    {
+        match &self.items {
+            ImportItemsOf::Group1 { items, .. } => items.len(),
+            _ => 1,
+        }
+    }
+
+    /// The signature of each item, in order; one that items share is there as often as there are items. Memory may be
+    /// answered where there is an item.
+    #[tactic(auto, using(crate::proofs::Sigs::one_each))]
+    pub fn item_sigs(&self, alloc: Global) -> Result<Vec<&S>>
+        ensures sigs { IfOk result (λ v. map (λ r. r.now) v.items ≡ item_sigs self.now.items) }
+        ensures count { IfOk result (λ v. length v.items ≡ item_count self.now.items) }
+        ensures memory { IfErr result (λ e. (e.fault ≡ Fault.Memory) × (0 < item_count self.now.items)) }
+    {
+        match &self.items {
+            ImportItemsOf::Single { sig, .. } => repeated_sig(alloc, sig, 1),
+            ImportItemsOf::Group1 { items, .. } => typed_sigs(alloc, items),
+            ImportItemsOf::Group2 { sig, items, .. } => repeated_sig(alloc, sig, items.len()),
+        }
+    }
+
+    /// The signature number i of those that are written, to be changed; None from [`num_sigs`](ImportsOf::num_sigs) on.
+    /// What is written to it changes that signature alone.
+    #[tactic(auto, using(crate::proofs::Sigs::sig_is_own))]
+    pub fn sig_mut(&mut self, i: usize) -> Option<&mut S>
+        ensures* writes_back { sem 𝓛 (LendsImports N.row S.row i self.entry result) }
+        ensures value { slice_get (own_sigs self.old.items) i ≡ option_map (λ r. r.now) result }
+    {
+        self.items.sig_mut(i)
+    }
+}
+
+impl<'a> ImportGroup1Item<'a> {
+    /// The same once more. Memory may be answered where a type in it has a parameter or a result in line.
+    pub fn clone(&self) -> Result<ImportGroup1Item<'a>>
+        ensures same { IfOk result (λ x. SameTyped self.now x) }
+        ensures seen { IfOk result (λ x. seen_typed x ≡ seen_typed self.now) }
+        ensures memory { IfErr result (λ e. (e.fault ≡ Fault.Memory) × (bare_sig (seen_sig self.now.sig) ≡ false)) }
+    {
+        Ok(ImportGroup1ItemOf {
+            span: self.span,
+            name: self.name,
+            sig: self.sig.clone()?,
+        })
+    }
+}
+
+/// The same items once more. Memory may be answered where there is an item.
+#[tactic(auto, using(crate::proofs::Same::same_next, crate::proofs::Same::seen_next, crate::proofs::Same::some_items))]
+fn clone_items<'a>(items: &Vec<ImportGroup1Item<'a>>) -> Result<Vec<ImportGroup1Item<'a>>>
+    ensures same { IfOk result (λ v. SameAll items.now.items v.items) }
+    ensures seen { IfOk result (λ v. map seen_typed v.items ≡ map seen_typed items.now.items) }
+    ensures memory { IfErr result (λ e. (e.fault ≡ Fault.Memory) × (no_items (map seen_typed items.now.items) ≡ false)) }
+{
+    let mut copies = Vec::new(*items.allocator());
+    'items: for item in items {
+        copies.push(item.clone()?)?;
+    }
+    Ok(copies)
+}
+
+impl<'a> ImportItems<'a> {
+    /// The same once more. Memory may be answered where there is an item in a group, or where a type has a parameter or a
+    /// result in line.
+    pub fn clone(&self) -> Result<ImportItems<'a>>
+        ensures same { IfOk result (λ i. SameItems self.now i) }
+        ensures seen { IfOk result (λ i. seen_items i ≡ seen_items self.now) }
+        ensures memory { IfErr result (λ e. (e.fault ≡ Fault.Memory) × (bare_items (seen_items self.now) ≡ false)) }
+    {
+        match self {
+            ImportItemsOf::Single { module, name, sig } => Ok(ImportItemsOf::Single {
+                module: *module,
+                name: *name,
+                sig: sig.clone()?,
+            }),
+            ImportItemsOf::Group1 { module, items } => Ok(ImportItemsOf::Group1 {
+                module: *module,
+                items: clone_items(items)?,
+            }),
+            ImportItemsOf::Group2 { module, sig, items } => {
+                let mut copies = Vec::new(*items.allocator());
+                copies.extend_from_slice(items)?;
+                Ok(ImportItemsOf::Group2 {
+                    module: *module,
+                    sig: sig.clone()?,
+                    items: copies,
+                })
+            }
+        }
+    }
+}
+
+impl<'a> Imports<'a> {
+    /// The same once more. Memory may be answered where there is an item in a group, or where a type has a parameter or a
+    /// result in line.
+    pub fn clone(&self) -> Result<Imports<'a>>
+        ensures span { IfOk result (λ i. i.span ≡ self.now.span) }
+        ensures same { IfOk result (λ i. SameItems self.now.items i.items) }
+        ensures seen { IfOk result (λ i. seen_imports i ≡ seen_imports self.now) }
+        ensures memory { IfErr result (λ e. (e.fault ≡ Fault.Memory) × (bare_imports (seen_imports self.now) ≡ false)) }
+    {
+        Ok(ImportsOf {
+            span: self.span,
+            items: self.items.clone()?,
+        })
+    }
+}
+
+/// `( ItemSig )`
+fn read_sig<'a>(parser: &mut Parser<'a>) -> Result<ItemSig<'a>>
+    ensures exact { Gives false bare_sig seen_sig result (sig_group.reads parser.old.left) parser.new.left }
+    ensures counts { Counted result parser.old parser.new }
+    ensures quiet { Quiet parser.old parser.new }
+    ensures names { Kept parser.old parser.new }
+{
+    parser.open()?;
+    let sig = ItemSig::parse(parser)?;
+    parser.close()?;
+    Ok(sig)
+}
+
+/// `( item name ( ItemSig ) )`, where the second token is `item`.
+struct TypedItem;
+
+impl<'a> Part<'a, ImportGroup1Item<'a>> for TypedItem {
+    ghost Seen = { List ℕ × SigTy };
+
+    ghost seen = { seen_typed };
+
+    ghost light = { false };
+
+    ghost bare = { λ x. bare_sig x.1 };
+
+    ghost quiet = { true };
+
+    ghost grammar = { typed_item };
+
+    ghost follows = { item_follows };
+
+    fn follows(parser: &Parser<'a>) -> bool {
+        parser.second_is("item")
+    }
+
+    #[tactic(auto, using(crate::proofs::Ends::opens_none), unfolding(crate::specs::Import::typed_item))]
+    fn take(parser: &mut Parser<'a>) -> Result<ImportGroup1Item<'a>> {
+        parser.open()?;
+        let span = parser.keyword("item")?;
+        let name = <&str as Parse>::parse(parser)?;
+        if parser.is_empty() {
+            parser.close()?;
+            return Err(mixed(span));
+        }
+        let sig = read_sig(parser)?;
+        parser.close()?;
+        Ok(ImportGroup1ItemOf { span, name, sig })
+    }
+}
+
+/// The fault ImportMixed, at the word `item`.
+fn mixed(span: Span) -> Error
+    ensures { result.fault ≡ Fault.ImportMixed }
+{
+    Error {
+        fault: Fault::ImportMixed,
+        span,
+    }
+}
+
+/// `( item name )`, where the second token is `item`.
+struct NamedItem;
+
+impl<'a> Part<'a, ImportGroup2Item<'a>> for NamedItem {
+    ghost Seen = { List ℕ };
+
+    ghost seen = { seen_named };
+
+    ghost light = { false };
+
+    ghost bare = { λ _. true };
+
+    ghost quiet = { true };
+
+    ghost grammar = { named_item };
+
+    ghost follows = { item_follows };
+
+    fn follows(parser: &Parser<'a>) -> bool {
+        parser.second_is("item")
+    }
+
+    #[tactic(auto, using(crate::proofs::Ends::closes_none), unfolding(crate::specs::Import::named_item))]
+    fn take(parser: &mut Parser<'a>) -> Result<ImportGroup2Item<'a>> {
+        parser.open()?;
+        let span = parser.keyword("item")?;
+        let name = <&str as Parse>::parse(parser)?;
+        if !parser.is_empty() {
+            read_sig(parser)?;
+            parser.close()?;
+            return Err(mixed(span));
+        }
+        parser.close()?;
+        Ok(ImportGroup2ItemOf { span, name })
+    }
+}
+
+/// `( ItemSig )` without an identifier, which is refused with ImportId, at the identifier: where the signature ends there,
+/// or the text.
+#[tactic(auto, using(crate::proofs::Ends::closes_none), unfolding(crate::specs::Import::shared_sig))]
+fn read_shared_sig<'a>(parser: &mut Parser<'a>) -> Result<ItemSig<'a>>
+    ensures exact { Gives false bare_sig seen_sig result (shared_sig.reads parser.old.left) parser.new.left }
+    ensures counts { Counted result parser.old parser.new }
+    ensures quiet { Quiet parser.old parser.new }
+    ensures names { Kept parser.old parser.new }
+{
+    parser.open()?;
+    let sig = ItemSig::parse(parser)?;
+    if let Some(id) = sig.id {
+        if parser.is_empty() {
+            return Err(Error {
+                fault: Fault::ImportId,
+                span: id.span(),
+            });
+        }
+        return Err(parser.unexpected());
+    }
+    parser.close()?;
+    Ok(sig)
+}
+
+/// Whether a `(` stands in front.
+fn lparen_next(parser: &Parser<'_>) -> bool
+    ensures { result ≡ begins_lparen parser.now.left }
+{
+    parser.cursor().lparen().is_some()
+}
+
+/// Whether `(`, `item` and a string stand there, and then not what closes the group.
+fn opens_typed(cursor: Cursor<'_>) -> bool
+    ensures { result ≡ opens_typed (front cursor.entry) }
+{
+    let Some(inside) = cursor.lparen() else {
+        return false;
+    };
+    let Some((word, rest)) = inside.keyword() else {
+        return false;
+    };
+    match rest.string() {
+        Some((_, rest)) => word == "item" && rest.any().is_some() && rest.rparen().is_none(),
+        None => false,
+    }
+}
+
+/// Whether nothing is left, or an item with more than a name stands in front.
+fn typed_next(parser: &Parser<'_>) -> bool
+    ensures { result ≡ typed parser.now.left }
+{
+    parser.is_empty() || opens_typed(parser.cursor())
+}
+
+/// A single item.
+#[tactic(auto, unfolding(crate::specs::Import::single_item))]
+fn read_single<'a>(parser: &mut Parser<'a>, module: &'a str) -> Result<ImportItems<'a>>
+    ensures exact { Gives false bare_items seen_items result (single_item.reads parser.old.left) parser.new.left }
+    ensures module { IfOk result (λ i. (module_of i).now ≡ «module».now) }
+    ensures counts { Counted result parser.old parser.new }
+    ensures quiet { Quiet parser.old parser.new }
+    ensures names { Kept parser.old parser.new }
+{
+    let name = <&str as Parse>::parse(parser)?;
+    let sig = read_sig(parser)?;
+    Ok(ImportItemsOf::Single { module, name, sig })
+}
+
+/// Items with signatures.
+#[tactic(auto, using(crate::specs::Import::typed_item_eats), unfolding(crate::specs::Import::typed_items, crate::specs::Import::typed_list))]
+fn read_typed<'a>(parser: &mut Parser<'a>, module: &'a str) -> Result<ImportItems<'a>>
+    ensures exact { Gives false bare_items seen_items result (typed_items.reads parser.old.left) parser.new.left }
+    ensures module { IfOk result (λ i. (module_of i).now ≡ «module».now) }
+    ensures counts { Counted result parser.old parser.new }
+    ensures quiet { Quiet parser.old parser.new }
+    ensures names { Kept parser.old parser.new }
+{
+    let mut items = Vec::new(parser.alloc());
+    parts::<_, TypedItem>(parser, &mut items)?;
+    Ok(ImportItemsOf::Group1 { module, items })
+}
+
+/// Items without signatures, and the one that they share.
+#[tactic(auto, using(crate::specs::Import::named_item_eats), unfolding(crate::specs::Import::named_items, crate::specs::Import::named_list))]
+fn read_named<'a>(parser: &mut Parser<'a>, module: &'a str) -> Result<ImportItems<'a>>
+    ensures exact { Gives false bare_items seen_items result (named_items.reads parser.old.left) parser.new.left }
+    ensures module { IfOk result (λ i. (module_of i).now ≡ «module».now) }
+    ensures counts { Counted result parser.old parser.new }
+    ensures quiet { Quiet parser.old parser.new }
+    ensures names { Kept parser.old parser.new }
+{
+    let mut items = Vec::new(parser.alloc());
+    parts::<_, NamedItem>(parser, &mut items)?;
+    let sig = read_shared_sig(parser)?;
+    Ok(ImportItemsOf::Group2 { module, sig, items })
+}
+
+/// What is imported from the module.
+#[tactic(auto, unfolding(crate::specs::Forms::import_items, crate::specs::Import::import_choice))]
+fn read_items<'a>(parser: &mut Parser<'a>, module: &'a str) -> Result<ImportItems<'a>>
+    ensures exact { Gives false bare_items seen_items result (import_items.reads parser.old.left) parser.new.left }
+    ensures module { IfOk result (λ i. (module_of i).now ≡ «module».now) }
+    ensures counts { Counted result parser.old parser.new }
+    ensures quiet { Quiet parser.old parser.new }
+    ensures names { Kept parser.old parser.new }
+{
+    if typed_next(parser) {
+        return read_typed(parser, module);
+    }
+    if lparen_next(parser) {
+        return read_named(parser, module);
+    }
+    read_single(parser, module)
+}
+
+/// `import`, the name of a module, and then one of three: a name and `( ItemSig )`; nothing, or `( item name ( ItemSig ) )`
+/// as long as the second token is `item`; or, where a `(` comes next, `( item name )` as long as the second token is `item`,
+/// and then `( ItemSig )` without an identifier. Where an item has a signature and the first has none, or the other way
+/// round, it is refused with ImportMixed, at its word `item`; an identifier of the signature that items share with ImportId,
+/// at the identifier.
+impl<'a> Parse<'a> for Imports<'a> {
+    ghost Seen = { ImportsTy };
+
+    ghost seen = { seen_imports };
+
+    ghost light = { false };
+
+    ghost bare = { bare_imports };
+
+    ghost quiet = { true };
+
+    ghost grammar = { imports };
+
+    #[tactic(auto, unfolding(crate::specs::Forms::imports))]
+    fn parse(parser: &mut Parser<'a>) -> Result<Self> {
+        let span = parser.keyword("import")?;
+        let module = <&str as Parse>::parse(parser)?;
+        let items = read_items(parser, module)?;
+        Ok(ImportsOf { span, items })
+    }
+}
+
+/// `( import name name )`
+impl<'a> Parse<'a> for InlineImport<'a> {
+    ghost Seen = { List ℕ × List ℕ };
+
+    ghost seen = { seen_inline_import };
+
+    ghost light = { true };
+
+    ghost bare = { λ _. true };
+
+    ghost quiet = { true };
+
+    ghost grammar = { inline_import };
+
+    #[tactic(auto, unfolding(crate::specs::Import::inline_import))]
+    fn parse(parser: &mut Parser<'a>) -> Result<Self> {
+        parser.open()?;
+        parser.keyword("import")?;
+        let module = <&str as Parse>::parse(parser)?;
+        let field = <&str as Parse>::parse(parser)?;
+        parser.close()?;
+        Ok(InlineImport { module, field })
+    }
+}
+
+/// `(`, `import`, a string, a string and `)`.
+impl<'p> Peek for InlineImport<'p> {
+    ghost begins = { begins_inline_import };
+
+    fn peek(cursor: Cursor<'_>) -> bool
+        ensures { result ≡ begins_inline_import (front cursor.entry) }
+    {
+        let Some(inside) = cursor.lparen() else {
+            return false;
+        };
+        let Some((word, rest)) = inside.keyword() else {
+            return false;
+        };
+        let Some((_, rest)) = rest.string() else {
+            return false;
+        };
+        match rest.string() {
+            Some((_, rest)) => word == "import" && rest.rparen().is_some(),
+            None => false,
+        }
+    }
+
+    fn display() -> &'static str {
+        "inline import"
+    }
+}

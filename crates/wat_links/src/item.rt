@@ -1,0 +1,192 @@
+//! Signatures of items that are imported or exported.
+
+ghost use Rattle.std.specs.Prelude.{◌≡◌, true, false, IfOk, IfErr};
+ghost use Rattle.wat_tokens.specs.Counts.{Counted, Quiet, Kept};
+ghost use Rattle.wat_tokens.specs.Parses.{Gives};
+ghost use Rattle.wat_types.specs.Label.{seen_label, label};
+ghost use Rattle.wat_links.specs.Item.{seen_kind, bare_kind, SigTy, seen_sig, bare_sig, func_kind, global_or_tag, item_sig, SameKind, SameSig};
+
+use wat_tokens::{Fault, Id, NameAnnotation, Parse, Parser, Result, Span};
+use wat_types::{FunctionType, GlobalType, MemoryType, TableType, TagType, TypeUse};
+
+/// What an item is, that is imported or exported: its kind and its type (WebAssembly Core Specification, Text Format,
+/// Types, "External Types").
+#[derive(Debug, Drop)]
+pub enum ItemKind<'a> {
+    /// A function.
+    Func(TypeUse<'a, FunctionType<'a>>),
+    /// A table.
+    Table(TableType<'a>),
+    /// A memory.
+    Memory(MemoryType),
+    /// A global.
+    Global(GlobalType<'a>),
+    /// A tag.
+    Tag(TagType<'a>),
+    /// A function of the type itself, and not of one below it: `(exact ..)`.
+    FuncExact(TypeUse<'a, FunctionType<'a>>),
+}
+
+/// The signature of an item that is imported or exported (WebAssembly Core Specification, Text Format, Types, "External
+/// Types").
+#[derive(Debug, Drop)]
+pub struct ItemSig<'a> {
+    /// Where the word of its kind begins.
+    pub span: Span,
+    /// Its identifier.
+    pub id: Option<Id<'a>>,
+    /// The name that an annotation gives.
+    pub name: Option<NameAnnotation<'a>>,
+    /// Its kind and its type.
+    pub kind: ItemKind<'a>,
+}
+
+impl<'a> ItemKind<'a> {
+    /// The same once more. Memory may be answered where a type in it has a parameter or a result in line.
+    pub fn clone(&self) -> Result<ItemKind<'a>>
+        ensures same { IfOk result (λ k. SameKind self.now k) }
+        ensures seen { IfOk result (λ k. seen_kind k ≡ seen_kind self.now) }
+        ensures memory { IfErr result (λ e. (e.fault ≡ Fault.Memory) × (bare_kind (seen_kind self.now) ≡ false)) }
+    {
+        match self {
+            ItemKind::Func(ty) => Ok(ItemKind::Func(ty.clone()?)),
+            ItemKind::Table(ty) => Ok(ItemKind::Table(*ty)),
+            ItemKind::Memory(ty) => Ok(ItemKind::Memory(*ty)),
+            ItemKind::Global(ty) => Ok(ItemKind::Global(*ty)),
+            ItemKind::Tag(ty) => Ok(ItemKind::Tag(ty.clone()?)),
+            ItemKind::FuncExact(ty) => Ok(ItemKind::FuncExact(ty.clone()?)),
+        }
+    }
+}
+
+impl<'a> ItemSig<'a> {
+    /// The same signature once more. Memory may be answered where a type in it has a parameter or a result in line.
+    pub fn clone(&self) -> Result<ItemSig<'a>>
+        ensures same { IfOk result (λ s. SameSig self.now s) }
+        ensures seen { IfOk result (λ s. seen_sig s ≡ seen_sig self.now) }
+        ensures memory { IfErr result (λ e. (e.fault ≡ Fault.Memory) × (bare_sig (seen_sig self.now) ≡ false)) }
+    {
+        Ok(ItemSig {
+            span: self.span,
+            id: self.id,
+            name: self.name,
+            kind: self.kind.clone()?,
+        })
+    }
+}
+
+/// An identifier and a name, each there or not.
+#[tactic(auto, unfolding(wat_types::specs::Label::label))]
+fn read_label<'a>(parser: &mut Parser<'a>) -> Result<(Option<Id<'a>>, Option<NameAnnotation<'a>>)>
+    ensures exact { Gives true (λ _. true) (λ l. seen_label l.0 l.1) result (label.reads parser.old.left) parser.new.left }
+    ensures counts { Counted result parser.old parser.new }
+    ensures quiet { Quiet parser.old parser.new }
+    ensures names { Kept parser.old parser.new }
+{
+    let id = Option::<Id>::parse(parser)?;
+    let name = Option::<NameAnnotation>::parse(parser)?;
+    Ok((id, name))
+}
+
+/// Where the second token is `exact`, a type use in `( exact .. )`, else a type use.
+#[tactic(auto, unfolding(crate::specs::Item::func_kind))]
+fn read_func_kind<'a>(parser: &mut Parser<'a>) -> Result<ItemKind<'a>>
+    ensures exact { Gives false bare_kind seen_kind result (func_kind.reads parser.old.left) parser.new.left }
+    ensures counts { Counted result parser.old parser.new }
+    ensures quiet { Quiet parser.old parser.new }
+    ensures names { Kept parser.old parser.new }
+{
+    if !parser.second_is("exact") {
+        return Ok(ItemKind::Func(TypeUse::parse(parser)?));
+    }
+    parser.open()?;
+    parser.keyword("exact")?;
+    let ty = TypeUse::parse(parser)?;
+    parser.close()?;
+    Ok(ItemKind::FuncExact(ty))
+}
+
+/// `global` or `tag`, a label, and a type.
+#[tactic(auto, unfolding(crate::specs::Item::global_or_tag))]
+fn read_global_or_tag<'a>(parser: &mut Parser<'a>) -> Result<ItemSig<'a>>
+    ensures exact { Gives false bare_sig seen_sig result (global_or_tag.reads parser.old.left) parser.new.left }
+    ensures counts { Counted result parser.old parser.new }
+    ensures quiet { Quiet parser.old parser.new }
+    ensures names { Kept parser.old parser.new }
+{
+    if parser.next_is("global") {
+        let span = parser.keyword("global")?;
+        let (id, name) = read_label(parser)?;
+        let kind = ItemKind::Global(GlobalType::parse(parser)?);
+        return Ok(ItemSig {
+            span,
+            id,
+            name,
+            kind,
+        });
+    }
+    let span = parser.keyword("tag")?;
+    let (id, name) = read_label(parser)?;
+    let kind = ItemKind::Tag(TagType::parse(parser)?);
+    Ok(ItemSig {
+        span,
+        id,
+        name,
+        kind,
+    })
+}
+
+/// `func`, `table`, `memory`, `global` or `tag`, an identifier or none, a name or none, and the type: that of a function
+/// is a type use, in `( exact .. )` where the second token behind the label is `exact`. Another token in front is refused
+/// with Unexpected, at the token.
+impl<'a> Parse<'a> for ItemSig<'a> {
+    ghost Seen = { SigTy };
+
+    ghost seen = { seen_sig };
+
+    ghost light = { false };
+
+    ghost bare = { bare_sig };
+
+    ghost quiet = { true };
+
+    ghost grammar = { item_sig };
+
+    #[tactic(auto, unfolding(crate::specs::Item::item_sig))]
+    fn parse(parser: &mut Parser<'a>) -> Result<Self> {
+        if parser.next_is("func") {
+            let span = parser.keyword("func")?;
+            let (id, name) = read_label(parser)?;
+            let kind = read_func_kind(parser)?;
+            return Ok(ItemSig {
+                span,
+                id,
+                name,
+                kind,
+            });
+        }
+        if parser.next_is("table") {
+            let span = parser.keyword("table")?;
+            let (id, name) = read_label(parser)?;
+            let kind = ItemKind::Table(TableType::parse(parser)?);
+            return Ok(ItemSig {
+                span,
+                id,
+                name,
+                kind,
+            });
+        }
+        if parser.next_is("memory") {
+            let span = parser.keyword("memory")?;
+            let (id, name) = read_label(parser)?;
+            let kind = ItemKind::Memory(MemoryType::parse(parser)?);
+            return Ok(ItemSig {
+                span,
+                id,
+                name,
+                kind,
+            });
+        }
+        read_global_or_tag(parser)
+    }
+}

@@ -1,0 +1,288 @@
+//! Imports and exports as they are read, counted, changed and cloned, and their faults with the offset.
+
+use crate::{
+    Export, ExportKind, ExportType, ImportItems, Imports, InlineExport, InlineImport, ItemKind,
+    ItemSig,
+};
+use bumpalo::Bump;
+use std::alloc::Global;
+use std::test::Fail;
+use wat_tokens::{Error, Fault, Parse, Parser, Peek, Span, kw};
+
+/// Reads a value from the front of a text; the standard annotations are known.
+fn read<'a, T: Parse<'a>>(alloc: Global, text: &'a str, arena: &'a Bump) -> Result<T, Error> {
+    let mut parser = Parser::new(alloc, text, arena)?;
+    parser.with_standard_annotations(true);
+    parser.parse::<T>()
+}
+
+/// What a text is refused with, and where.
+fn fault_of<'a, T: Parse<'a> + Drop>(
+    alloc: Global,
+    text: &'a str,
+    arena: &'a Bump,
+) -> Option<(Fault, usize)> {
+    match read::<T>(alloc, text, arena) {
+        Ok(_) => None,
+        Err(e) => Some((e.fault, e.span.offset())),
+    }
+}
+
+/// The word of a signature's kind.
+fn word_of(sig: &ItemSig<'_>) -> &'static str {
+    match sig.kind {
+        ItemKind::Func(_) => "func",
+        ItemKind::Table(_) => "table",
+        ItemKind::Memory(_) => "memory",
+        ItemKind::Global(_) => "global",
+        ItemKind::Tag(_) => "tag",
+        ItemKind::FuncExact(_) => "func exact",
+    }
+}
+
+/// Which of the three forms the import has.
+fn form_of(imports: &Imports<'_>) -> &'static str {
+    match imports.items {
+        ImportItems::Single { .. } => "single",
+        ImportItems::Group1 { .. } => "group1",
+        ImportItems::Group2 { .. } => "group2",
+    }
+}
+
+#[test]
+fn three_forms(rt: HostRuntime) -> Result<(), Fail> {
+    let alloc = rt.alloc();
+    let arena = Bump::new(alloc);
+    for (text, form, items, sigs) in [
+        ("import \"m\" \"a\" (func)", "single", 1, 1),
+        ("import \"m\"", "group1", 0, 0),
+        ("import \"m\" (item \"a\" (func))", "group1", 1, 1),
+        (
+            "import \"m\" (item \"a\" (func)) (item \"b\" (memory 1))",
+            "group1",
+            2,
+            2,
+        ),
+        ("import \"m\" (func) (func)", "group2", 0, 1),
+        ("import \"m\" (item \"a\") (global i32)", "group2", 1, 1),
+        (
+            "import \"m\" (item \"a\") (item \"b\") (func)",
+            "group2",
+            2,
+            1,
+        ),
+    ] {
+        let mut found = read::<Imports>(alloc, text, &arena)?;
+        assert_eq!(rt; form_of(&found), form, "at {text}");
+        assert_eq!(rt;
+            (found.num_items(), found.num_sigs()),
+            (items, sigs),
+            "at {text}"
+        );
+        assert_eq!(rt; found.item_sigs(alloc)?.len(), items, "at {text}");
+        assert!(rt; found.sig_mut(sigs).is_none(), "at {text}");
+        let copy = found.clone()?;
+        assert_eq!(rt; form_of(&copy), form, "at {text}");
+        assert_eq!(rt;
+            (copy.num_items(), copy.num_sigs()),
+            (items, sigs),
+            "at {text}"
+        );
+    }
+    let text = "import \"m\" (item \"a\") (item \"b\") (tag)";
+    let found = read::<Imports>(alloc, text, &arena)?;
+    for sig in found.item_sigs(alloc)? {
+        assert_eq!(rt; (word_of(sig), sig.span.offset()), ("tag", 34));
+    }
+    Ok(())
+}
+
+#[test]
+fn a_signature_is_changed(rt: HostRuntime) -> Result<(), Fail> {
+    let alloc = rt.alloc();
+    let arena = Bump::new(alloc);
+    let text = "import \"m\" (item \"a\" (func)) (item \"b\" (memory 1))";
+    let mut found = read::<Imports>(alloc, text, &arena)?;
+    if let Some(sig) = found.sig_mut(1) {
+        sig.span = Span::from_offset(5);
+    }
+    let sigs = found.item_sigs(alloc)?;
+    assert_eq!(rt; (word_of(sigs[0]), sigs[0].span.offset()), ("func", 22));
+    assert_eq!(rt; (word_of(sigs[1]), sigs[1].span.offset()), ("memory", 5));
+    let sig = read::<ItemSig>(alloc, "table 1 funcref", &arena)?;
+    let single = Imports::single(Span::from_offset(3), "m", "n", sig);
+    assert_eq!(rt; (form_of(&single), single.span.offset()), ("single", 3));
+    Ok(())
+}
+
+#[test]
+fn a_thousand_items(rt: HostRuntime) -> Result<(), Fail> {
+    let alloc = rt.alloc();
+    let arena = Bump::new(alloc);
+    for (part, last, form) in [
+        (" (item \"a\" (func))", "", "group1"),
+        (" (item \"a\")", " (func)", "group2"),
+    ] {
+        let mut text = String::from_str(alloc, "import \"m\"")?;
+        for _ in 0..1000 {
+            text.push_str(part)?;
+        }
+        text.push_str(last)?;
+        let found = read::<Imports>(alloc, &text, &arena)?.clone()?;
+        assert_eq!(rt; (form_of(&found), found.num_items()), (form, 1000));
+        assert_eq!(rt; found.item_sigs(alloc)?.len(), 1000);
+    }
+    let mut text = String::new(alloc);
+    for _ in 0..1000 {
+        text.push_str("(export \"a\")")?;
+    }
+    assert_eq!(rt;
+        read::<InlineExport>(alloc, &text, &arena)?.names.len(),
+        1000
+    );
+    Ok(())
+}
+
+#[test]
+fn signatures(rt: HostRuntime) -> Result<(), Fail> {
+    let alloc = rt.alloc();
+    let arena = Bump::new(alloc);
+    for (text, word, id, name) in [
+        ("func", "func", None, None),
+        (
+            "func $f (@name \"g\") (param i32)",
+            "func",
+            Some("f"),
+            Some("g"),
+        ),
+        (
+            "func (exact (type 0) (param i32))",
+            "func exact",
+            None,
+            None,
+        ),
+        ("func $f (type 0)", "func", Some("f"), None),
+        ("table $t 1 funcref", "table", Some("t"), None),
+        (
+            "memory (@name \"n\") i64 1 2 shared",
+            "memory",
+            None,
+            Some("n"),
+        ),
+        ("global $g (mut i32)", "global", Some("g"), None),
+        ("tag (param i32)", "tag", None, None),
+    ] {
+        let found = read::<ItemSig>(alloc, text, &arena)?.clone()?;
+        assert_eq!(rt; word_of(&found), word, "at {text}");
+        assert_eq!(rt; found.id.map(|id| id.name()), id, "at {text}");
+        assert_eq!(rt; found.name.map(|name| name.name), name, "at {text}");
+        assert_eq!(rt; found.span.offset(), 0, "at {text}");
+    }
+    Ok(())
+}
+
+#[test]
+fn exports(rt: HostRuntime) -> Result<(), Fail> {
+    let alloc = rt.alloc();
+    let arena = Bump::new(alloc);
+    for (text, kind) in [
+        ("export \"e\" (func 0)", ExportKind::Func),
+        ("export \"e\" (table $t)", ExportKind::Table),
+        ("export \"e\" (memory 0)", ExportKind::Memory),
+        ("export \"e\" (global 0)", ExportKind::Global),
+        ("export \"e\" (tag 0)", ExportKind::Tag),
+    ] {
+        let found = read::<Export>(alloc, text, &arena)?;
+        assert_eq!(rt; (found.name, found.kind), ("e", kind), "at {text}");
+    }
+    let found = read::<ExportType>(alloc, "export \"e\" (tag)", &arena)?.clone()?;
+    assert_eq!(rt; (found.name, word_of(&found.item)), ("e", "tag"));
+    assert_eq!(rt; ExportKind::from(kw::func::default()), ExportKind::Func);
+    assert_eq!(rt; ExportKind::from(kw::table::default()), ExportKind::Table);
+    assert_eq!(rt; ExportKind::from(kw::memory::default()), ExportKind::Memory);
+    assert_eq!(rt; ExportKind::from(kw::global::default()), ExportKind::Global);
+    assert_eq!(rt; ExportKind::from(kw::tag::default()), ExportKind::Tag);
+    Ok(())
+}
+
+#[test]
+fn in_line(rt: HostRuntime) -> Result<(), Fail> {
+    let alloc = rt.alloc();
+    let arena = Bump::new(alloc);
+    let text = "(export \"a\") (export \"b\") (export 1)";
+    let mut parser = Parser::new(alloc, text, &arena)?;
+    assert!(rt; parser.peek::<InlineExport>() && !parser.peek::<InlineImport>());
+    let found = parser.parse::<InlineExport>()?;
+    assert_eq!(rt; found.names.as_slice(), ["a", "b"].as_slice());
+    assert!(rt; parser.group_is("export") && !parser.peek::<InlineExport>());
+    assert!(rt;
+        read::<InlineExport>(alloc, "(import \"a\")", &arena)?
+            .names
+            .is_empty()
+    );
+    assert!(rt; InlineExport::empty(alloc).names.is_empty());
+    let mut parser = Parser::new(alloc, "(import \"a\" \"b\") (import \"a\") tag", &arena)?;
+    assert!(rt; parser.peek::<InlineImport>());
+    let found = parser.parse::<InlineImport>()?;
+    assert_eq!(rt; (found.module, found.field), ("a", "b"));
+    assert!(rt; !parser.peek::<InlineImport>() && !parser.peek::<ExportKind>());
+    assert_eq!(rt; InlineExport::display(), "inline export");
+    assert_eq!(rt; InlineImport::display(), "inline import");
+    assert_eq!(rt; ExportKind::display(), "export kind");
+    let parser = Parser::new(alloc, "tag", &arena)?;
+    assert!(rt; parser.peek::<ExportKind>());
+    Ok(())
+}
+
+#[test]
+fn faults_of_imports(rt: HostRuntime) {
+    let alloc = rt.alloc();
+    let arena = Bump::new(alloc);
+    for (text, fault, offset) in [
+        ("import \"m\" (func $f)", Fault::ImportId, 17),
+        ("import \"m\" (func $f", Fault::ImportId, 17),
+        ("import \"m\" (func $f x)", Fault::Unexpected, 20),
+        ("import \"m\" (item \"a\") (tag $t)", Fault::ImportId, 27),
+        (
+            "import \"m\" (item \"a\" (func)) (item \"b\") (func)",
+            Fault::ImportMixed,
+            30,
+        ),
+        (
+            "import \"m\" (item \"a\") (item \"b\" (func)) (func)",
+            Fault::ImportMixed,
+            23,
+        ),
+        (
+            "import \"m\" (item \"a\") (item \"b\" (foo)) (func)",
+            Fault::Unexpected,
+            33,
+        ),
+        (
+            "import \"m\" (item \"a\" (func)) (item \"b\" x)",
+            Fault::Unexpected,
+            39,
+        ),
+        ("import \"m\" (item \"a\"", Fault::Unexpected, 20),
+        ("import \"m\" (item \"a\")", Fault::Unexpected, 21),
+        ("import \"m\" (item 5)", Fault::Unexpected, 17),
+        ("import \"m\" \"a\"", Fault::Unexpected, 14),
+        ("import \"m\" a", Fault::Unexpected, 11),
+        ("import \"m\" ) item", Fault::Unexpected, 11),
+        ("import (func)", Fault::Unexpected, 7),
+        ("import \"\\ff\"", Fault::Utf8, 7),
+        ("import \"m\" (foo)", Fault::Unexpected, 12),
+        ("import \"m\" (global (mut))", Fault::Unexpected, 23),
+    ] {
+        let found = fault_of::<Imports>(alloc, text, &arena);
+        assert_eq!(rt; found, Some((fault, offset)), "at {text}");
+    }
+    for (text, offset) in [
+        ("export \"e\" (elem 0)", 12),
+        ("export \"e\" (func)", 16),
+        ("export e", 7),
+    ] {
+        let found = fault_of::<Export>(alloc, text, &arena);
+        assert_eq!(rt; found, Some((Fault::Unexpected, offset)), "at {text}");
+    }
+}
