@@ -3,7 +3,7 @@
 use crate::reading::{fault_of, name_of, number_of, read, repeated};
 use crate::{
     BlockType, CallIndirect, CatchKind, Handle, Resume, ResumeTable, ResumeThrow, ResumeThrowRef,
-    TryTable, TryTableCatch,
+    TryTable, TryTableCatch, TryTableCatchKind,
 };
 use bumpalo::Bump;
 use std::test::Fail;
@@ -152,24 +152,26 @@ fn catches(rt: HostRuntime) -> Result<(), Fail> {
     Ok(())
 }
 
+/// Writes 9 as the tag, where there is one.
+fn retag<'a>(kind: &mut TryTableCatchKind<'a>) {
+    if let Some(tag) = kind.tag_index_mut() {
+        *tag = Index::Num(9, Span::from_offset(0));
+    }
+}
+
 #[test]
 fn tags_are_lent(rt: HostRuntime) -> Result<(), Fail> {
     let alloc = rt.alloc();
     let arena = Bump::new(alloc);
-    let text = "(catch 0 1) (catch_ref 2 3) (catch_all 4) (catch_all_ref 5)";
-    let mut found = read::<TryTable>(alloc, text, &arena)?;
-    for clause in found.catches.iter_mut() {
-        if let Some(tag) = clause.kind.tag_index_mut() {
-            *tag = Index::Num(9, Span::from_offset(0));
-        }
-    }
-    for (at, wanted) in [
-        (0, (0, Some(9), Some(1))),
-        (1, (1, Some(9), Some(3))),
-        (2, (2, None, Some(4))),
-        (3, (3, None, Some(5))),
+    for (text, wanted) in [
+        ("(catch 0 1)", (0, Some(9), Some(1))),
+        ("(catch_ref 2 3)", (1, Some(9), Some(3))),
+        ("(catch_all 4)", (2, None, Some(4))),
+        ("(catch_all_ref 5)", (3, None, Some(5))),
     ] {
-        assert_eq!(rt; caught(&found.catches[at]), wanted);
+        let mut clause = read::<TryTableCatch>(alloc, text, &arena)?;
+        retag(&mut clause.kind);
+        assert_eq!(rt; caught(&clause), wanted, "at {text}");
     }
     Ok(())
 }
