@@ -49,10 +49,36 @@ fn form_of(imports: &Imports<'_>) -> &'static str {
     }
 }
 
+/// What an import tells of itself.
+#[derive(Clone, Copy, Debug, PartialEq)]
+struct Told {
+    form: &'static str,
+    items: usize,
+    sigs: usize,
+    given: usize,
+}
+
+/// What an import tells of itself.
+fn tell(alloc: Global, imports: &Imports<'_>) -> Result<Told, Error> {
+    let given = imports.item_sigs(alloc)?;
+    Ok(Told {
+        form: form_of(imports),
+        items: imports.num_items(),
+        sigs: imports.num_sigs(),
+        given: given.len(),
+    })
+}
+
+/// What the clone of an import that is read tells of itself.
+fn tell_of_clone(alloc: Global, text: &str) -> Result<Told, Error> {
+    let arena = Bump::new(alloc);
+    let found = read::<Imports>(alloc, text, &arena)?;
+    tell(alloc, &found.clone()?)
+}
+
 #[test]
 fn three_forms(rt: HostRuntime) -> Result<(), Fail> {
     let alloc = rt.alloc();
-    let arena = Bump::new(alloc);
     for (text, form, items, sigs) in [
         ("import \"m\" \"a\" (func)", "single", 1, 1),
         ("import \"m\"", "group1", 0, 0),
@@ -72,29 +98,53 @@ fn three_forms(rt: HostRuntime) -> Result<(), Fail> {
             1,
         ),
     ] {
-        let mut found = read::<Imports>(alloc, text, &arena)?;
-        assert_eq!(rt; form_of(&found), form, "at {text}");
-        assert_eq!(rt;
-            (found.num_items(), found.num_sigs()),
-            (items, sigs),
-            "at {text}"
-        );
-        assert_eq!(rt; found.item_sigs(alloc)?.len(), items, "at {text}");
-        assert!(rt; found.sig_mut(sigs).is_none(), "at {text}");
-        let copy = found.clone()?;
-        assert_eq!(rt; form_of(&copy), form, "at {text}");
-        assert_eq!(rt;
-            (copy.num_items(), copy.num_sigs()),
-            (items, sigs),
-            "at {text}"
-        );
-    }
-    let text = "import \"m\" (item \"a\") (item \"b\") (tag)";
-    let found = read::<Imports>(alloc, text, &arena)?;
-    for sig in found.item_sigs(alloc)? {
-        assert_eq!(rt; (word_of(sig), sig.span.offset()), ("tag", 34));
+        let given = items;
+        let wanted = Told {
+            form,
+            items,
+            sigs,
+            given,
+        };
+        assert_eq!(rt; tell_of_clone(alloc, text)?, wanted, "at {text}");
     }
     Ok(())
+}
+
+/// The word and the place of the signature number i.
+fn sig_of(
+    alloc: Global,
+    imports: &Imports<'_>,
+    i: usize,
+) -> Result<Option<(&'static str, usize)>, Error> {
+    let sigs = imports.item_sigs(alloc)?;
+    if i < sigs.len() {
+        let sig = sigs[i];
+        return Ok(Some((word_of(sig), sig.span.offset())));
+    }
+    Ok(None)
+}
+
+#[test]
+fn a_signature_is_shared(rt: HostRuntime) -> Result<(), Fail> {
+    let alloc = rt.alloc();
+    let arena = Bump::new(alloc);
+    let text = "import \"m\" (item \"a\") (item \"b\") (tag)";
+    let found = read::<Imports>(alloc, text, &arena)?;
+    assert_eq!(rt; sig_of(alloc, &found, 0)?, Some(("tag", 34)));
+    assert_eq!(rt; sig_of(alloc, &found, 1)?, Some(("tag", 34)));
+    assert_eq!(rt; sig_of(alloc, &found, 2)?, None);
+    Ok(())
+}
+
+/// Moves the signature number i, and answers whether there is one.
+fn moves(imports: &mut Imports<'_>, i: usize, place: usize) -> bool {
+    match imports.sig_mut(i) {
+        Some(sig) => {
+            sig.span = Span::from_offset(place);
+            true
+        }
+        None => false,
+    }
 }
 
 #[test]
@@ -103,39 +153,57 @@ fn a_signature_is_changed(rt: HostRuntime) -> Result<(), Fail> {
     let arena = Bump::new(alloc);
     let text = "import \"m\" (item \"a\" (func)) (item \"b\" (memory 1))";
     let mut found = read::<Imports>(alloc, text, &arena)?;
-    if let Some(sig) = found.sig_mut(1) {
-        sig.span = Span::from_offset(5);
-    }
-    let sigs = found.item_sigs(alloc)?;
-    assert_eq!(rt; (word_of(sigs[0]), sigs[0].span.offset()), ("func", 22));
-    assert_eq!(rt; (word_of(sigs[1]), sigs[1].span.offset()), ("memory", 5));
-    let sig = read::<ItemSig>(alloc, "table 1 funcref", &arena)?;
-    let single = Imports::single(Span::from_offset(3), "m", "n", sig);
-    assert_eq!(rt; (form_of(&single), single.span.offset()), ("single", 3));
+    assert!(rt; moves(&mut found, 1, 5) && !moves(&mut found, 2, 6));
+    assert_eq!(rt; sig_of(alloc, &found, 0)?, Some(("func", 22)));
+    assert_eq!(rt; sig_of(alloc, &found, 1)?, Some(("memory", 5)));
+    let mut empty = read::<Imports>(alloc, "import \"m\"", &arena)?;
+    assert!(rt; !moves(&mut empty, 0, 7));
     Ok(())
+}
+
+#[test]
+fn single_is_made(rt: HostRuntime) -> Result<(), Fail> {
+    let alloc = rt.alloc();
+    let arena = Bump::new(alloc);
+    let sig = read::<ItemSig>(alloc, "table 1 funcref", &arena)?;
+    let mut single = Imports::single(Span::from_offset(3), "m", "n", sig);
+    assert_eq!(rt; (form_of(&single), single.span.offset()), ("single", 3));
+    assert!(rt; moves(&mut single, 0, 8) && !moves(&mut single, 1, 9));
+    assert_eq!(rt; sig_of(alloc, &single, 0)?, Some(("table", 8)));
+    Ok(())
+}
+
+/// A text that holds another a thousand times.
+fn thousand(alloc: Global, begin: &str, part: &str, end: &str) -> Result<String, Fail> {
+    let mut text = String::from_str(alloc, begin)?;
+    for _ in 0..1000 {
+        text.push_str(part)?;
+    }
+    text.push_str(end)?;
+    Ok(text)
 }
 
 #[test]
 fn a_thousand_items(rt: HostRuntime) -> Result<(), Fail> {
     let alloc = rt.alloc();
+    let text = thousand(alloc, "import \"m\"", " (item \"a\" (func))", "")?;
+    let wanted = Told {
+        form: "group1",
+        items: 1000,
+        sigs: 1000,
+        given: 1000,
+    };
+    assert_eq!(rt; tell_of_clone(alloc, &text)?, wanted);
+    let text = thousand(alloc, "import \"m\"", " (item \"a\")", " (func)")?;
+    let wanted = Told {
+        form: "group2",
+        items: 1000,
+        sigs: 1,
+        given: 1000,
+    };
+    assert_eq!(rt; tell_of_clone(alloc, &text)?, wanted);
+    let text = thousand(alloc, "", "(export \"a\")", "")?;
     let arena = Bump::new(alloc);
-    for (part, last, form) in [
-        (" (item \"a\" (func))", "", "group1"),
-        (" (item \"a\")", " (func)", "group2"),
-    ] {
-        let mut text = String::from_str(alloc, "import \"m\"")?;
-        for _ in 0..1000 {
-            text.push_str(part)?;
-        }
-        text.push_str(last)?;
-        let found = read::<Imports>(alloc, &text, &arena)?.clone()?;
-        assert_eq!(rt; (form_of(&found), found.num_items()), (form, 1000));
-        assert_eq!(rt; found.item_sigs(alloc)?.len(), 1000);
-    }
-    let mut text = String::new(alloc);
-    for _ in 0..1000 {
-        text.push_str("(export \"a\")")?;
-    }
     assert_eq!(rt;
         read::<InlineExport>(alloc, &text, &arena)?.names.len(),
         1000
@@ -173,10 +241,13 @@ fn signatures(rt: HostRuntime) -> Result<(), Fail> {
         ("tag (param i32)", "tag", None, None),
     ] {
         let found = read::<ItemSig>(alloc, text, &arena)?.clone()?;
-        assert_eq!(rt; word_of(&found), word, "at {text}");
-        assert_eq!(rt; found.id.map(|id| id.name()), id, "at {text}");
-        assert_eq!(rt; found.name.map(|name| name.name), name, "at {text}");
-        assert_eq!(rt; found.span.offset(), 0, "at {text}");
+        let id_found = found.id.map(|id| id.name());
+        let name_found = found.name.map(|name| name.name);
+        assert_eq!(rt;
+            (word_of(&found), id_found, name_found),
+            (word, id, name),
+            "at {text}"
+        );
     }
     Ok(())
 }
@@ -197,16 +268,23 @@ fn exports(rt: HostRuntime) -> Result<(), Fail> {
     }
     let found = read::<ExportType>(alloc, "export \"e\" (tag)", &arena)?.clone()?;
     assert_eq!(rt; (found.name, word_of(&found.item)), ("e", "tag"));
+    Ok(())
+}
+
+#[test]
+fn kinds_of_words(rt: HostRuntime) {
     assert_eq!(rt; ExportKind::from(kw::func::default()), ExportKind::Func);
     assert_eq!(rt; ExportKind::from(kw::table::default()), ExportKind::Table);
     assert_eq!(rt; ExportKind::from(kw::memory::default()), ExportKind::Memory);
     assert_eq!(rt; ExportKind::from(kw::global::default()), ExportKind::Global);
     assert_eq!(rt; ExportKind::from(kw::tag::default()), ExportKind::Tag);
-    Ok(())
+    assert_eq!(rt; ExportKind::display(), "export kind");
+    assert_eq!(rt; InlineExport::display(), "inline export");
+    assert_eq!(rt; InlineImport::display(), "inline import");
 }
 
 #[test]
-fn in_line(rt: HostRuntime) -> Result<(), Fail> {
+fn exports_in_line(rt: HostRuntime) -> Result<(), Fail> {
     let alloc = rt.alloc();
     let arena = Bump::new(alloc);
     let text = "(export \"a\") (export \"b\") (export 1)";
@@ -221,14 +299,18 @@ fn in_line(rt: HostRuntime) -> Result<(), Fail> {
             .is_empty()
     );
     assert!(rt; InlineExport::empty(alloc).names.is_empty());
+    Ok(())
+}
+
+#[test]
+fn imports_in_line(rt: HostRuntime) -> Result<(), Fail> {
+    let alloc = rt.alloc();
+    let arena = Bump::new(alloc);
     let mut parser = Parser::new(alloc, "(import \"a\" \"b\") (import \"a\") tag", &arena)?;
     assert!(rt; parser.peek::<InlineImport>());
     let found = parser.parse::<InlineImport>()?;
     assert_eq!(rt; (found.module, found.field), ("a", "b"));
     assert!(rt; !parser.peek::<InlineImport>() && !parser.peek::<ExportKind>());
-    assert_eq!(rt; InlineExport::display(), "inline export");
-    assert_eq!(rt; InlineImport::display(), "inline import");
-    assert_eq!(rt; ExportKind::display(), "export kind");
     let parser = Parser::new(alloc, "tag", &arena)?;
     assert!(rt; parser.peek::<ExportKind>());
     Ok(())
@@ -263,6 +345,17 @@ fn faults_of_imports(rt: HostRuntime) {
             Fault::Unexpected,
             39,
         ),
+    ] {
+        let found = fault_of::<Imports>(alloc, text, &arena);
+        assert_eq!(rt; found, Some((fault, offset)), "at {text}");
+    }
+}
+
+#[test]
+fn tokens_that_no_import_has(rt: HostRuntime) {
+    let alloc = rt.alloc();
+    let arena = Bump::new(alloc);
+    for (text, fault, offset) in [
         ("import \"m\" (item \"a\"", Fault::Unexpected, 20),
         ("import \"m\" (item \"a\")", Fault::Unexpected, 21),
         ("import \"m\" (item 5)", Fault::Unexpected, 17),
@@ -277,6 +370,12 @@ fn faults_of_imports(rt: HostRuntime) {
         let found = fault_of::<Imports>(alloc, text, &arena);
         assert_eq!(rt; found, Some((fault, offset)), "at {text}");
     }
+}
+
+#[test]
+fn faults_of_exports(rt: HostRuntime) {
+    let alloc = rt.alloc();
+    let arena = Bump::new(alloc);
     for (text, offset) in [
         ("export \"e\" (elem 0)", 12),
         ("export \"e\" (func)", 16),
