@@ -1,10 +1,11 @@
 -- Numbers and their bytes.
-use Rattle.std.proofs.Common.{◌≡◌, ℕ, suc, ℤ, ◌<◌, ◌%◌, ◌^◌, List, [], ◌∷◌, ◌++◌, map, flat_map, length, get_or, arith, refl, ap, sym, ◌∙◌, All, length-append}
+use Rattle.std.proofs.Common.{◌≡◌, ℕ, zero, suc, ℤ, ◌+◌, ◌*◌, ◌/◌, ◌<◌, ◌%◌, ◌^◌, List, [], ◌∷◌, ◌++◌, map, flat_map, length, get_or, arith, refl, ap, sym, ◌∙◌, length-append, lit<}
 use Rattle.std.proofs.lemmas.List.Concat.{flat_map-append}
-use Rattle.std.proofs.lemmas.Nat.{from_le_bytes-to_le_bytes_2, from_le_bytes-to_le_bytes_4, from_le_bytes-to_le_bytes_8}
+use Rattle.std.proofs.Math.Arith.{mod-mul}
+use Rattle.std.proofs.Math.Nat.{div-div-eq-div-mul}
 use Rattle.std.specs.Array.{IsMapOf}
-use Rattle.std.specs.Int.{w8, w16, w32, w64, cast_unsigned, to_le_bytes, from_le_bytes}
-use Rattle.wat_immediates.specs.Vector.{bytes_of, lane_bits, InRange, SameShape}
+use Rattle.std.specs.Int.{w8, w16, w32, w64, byte_at, bytes_low_first, cast_unsigned, to_le_bytes}
+use Rattle.wat_immediates.specs.Vector.{bytes_of, lane_bits, SameShape}
 use Rattle.wat_immediates.specs.declared.vector.V128Const.{V128Const}
 use Rattle.wat_immediates.specs.declared.vector.V128Const.TheVariants.{I8x16, I16x8, I32x4, I64x2, F32x4, F64x2}
 use Rattle.wat_immediates.proofs.Again.{eight_items}
@@ -57,37 +58,69 @@ fronts (x ∷ a) (y ∷ b) c d l e =
     let same : a ≡ b = p.0 in
     (cc, p.1)
 
-rest_below : (n x : ℕ) (xs : List ℕ) → All (λ m. m < n) (x ∷ xs) → All (λ m. m < n) xs
-rest_below n x xs h k d lt = h (suc k) d (omega (arith, lt))
+-- ---- the bytes of a number tell its bits
 
-module _ (f : ℕ → List ℕ) (n k : ℕ) (long : (m : ℕ) → length (f m) ≡ suc k) (one : (l m : ℕ) → l < n → m < n → f l ≡ f m → l ≡ m) where
-  same_numbers : (xs ys : List ℕ) → All (λ m. m < n) xs → All (λ m. m < n) ys → flat_map f xs ≡ flat_map f ys → xs ≡ ys
-  same_numbers [] [] p q e = refl
-  same_numbers [] (y ∷ ys) p q e = absurd (omega (arith, ap length e, length-append (f y) (flat_map f ys), long y))
-  same_numbers (x ∷ xs) [] p q e = absurd (omega (arith, ap length e, length-append (f x) (flat_map f xs), long x))
-  same_numbers (x ∷ xs) (y ∷ ys) p q e =
+no_shift : (n : ℕ) → n / 256 ^ 0 ≡ n
+no_shift n = omega arith
+
+byte_is : (i n : ℕ) → byte_at i n ≡ n / 256 ^ i % 256
+byte_is zero n = ap (λ (m : ℕ). m % 256) (sym (no_shift n))
+byte_is (suc i) n = refl
+
+shifts : (n i : ℕ) → n / 256 ^ i / 256 ≡ n / 256 ^ suc i
+shifts n i = div-div-eq-div-mul n (256 ^ i) 256 ∙ ap (λ (p : ℕ). n / p) (omega arith)
+
+power_above : (k : ℕ) → 0 < 256 ^ k
+power_above zero = omega arith
+power_above (suc k) = omega (arith, power_above k)
+
+-- the lowest byte of what is left behind i bytes, and the k bytes above it
+digits : (n i k : ℕ) → n / 256 ^ i % 256 ^ suc k ≡ (n / 256 ^ suc i % 256 ^ k) * 256 + byte_at i n
+digits n i k =
+    ap (λ (p : ℕ). n / 256 ^ i % p) (omega arith) ∙ mod-mul (n / 256 ^ i) {m = 256 ^ k} {c = 256} (power_above k) (lit< tt)
+    ∙ ap (λ (q : ℕ). (q % 256 ^ k) * 256 + n / 256 ^ i % 256) (shifts n i)
+    ∙ ap (λ (b : ℕ). (n / 256 ^ suc i % 256 ^ k) * 256 + b) (sym (byte_is i n))
+
+-- k bytes from byte i upward tell what stands in them
+bytes_tell : (k i n m : ℕ) → bytes_low_first i k n ≡ bytes_low_first i k m → n / 256 ^ i % 256 ^ k ≡ m / 256 ^ i % 256 ^ k
+bytes_tell zero i n m e = omega arith
+bytes_tell (suc k) i n m e =
+    let lowest : byte_at i n ≡ byte_at i m = cc in
+    let others : bytes_low_first (suc i) k n ≡ bytes_low_first (suc i) k m = cc in
+    let above = bytes_tell k (suc i) n m others in
+    rw (digits n i k, digits m i k, lowest, above) refl
+
+low_bytes : (k n m : ℕ) → bytes_low_first 0 k n ≡ bytes_low_first 0 k m → n % 256 ^ k ≡ m % 256 ^ k
+low_bytes k n m e = rw (no_shift n, no_shift m) at (bytes_tell k 0 n m e)
+
+module _ (f : ℕ → List ℕ) (low : ℕ → ℕ) (k : ℕ) (long : (m : ℕ) → length (f m) ≡ suc k) (one : (l m : ℕ) → f l ≡ f m → low l ≡ low m) where
+  same_numbers : (xs ys : List ℕ) → flat_map f xs ≡ flat_map f ys → map low xs ≡ map low ys
+  same_numbers [] [] e = refl
+  same_numbers [] (y ∷ ys) e = absurd (omega (arith, ap length e, length-append (f y) (flat_map f ys), long y))
+  same_numbers (x ∷ xs) [] e = absurd (omega (arith, ap length e, length-append (f x) (flat_map f xs), long x))
+  same_numbers (x ∷ xs) (y ∷ ys) e =
       let s = fronts (f x) (f y) (flat_map f xs) (flat_map f ys) (long x ∙ sym (long y)) e in
-      let first : x ≡ y = one x y (p 0 x (omega arith)) (q 0 y (omega arith)) s.0 in
-      let rest : xs ≡ ys = same_numbers xs ys (rest_below n x xs p) (rest_below n y ys q) s.1 in
+      let first : low x ≡ low y = one x y s.0 in
+      let rest : map low xs ≡ map low ys = same_numbers xs ys s.1 in
       cc
 
-one_of_8 : (l m : ℕ) → l < 2 ^ 8 → m < 2 ^ 8 → to_le_bytes w8 l ≡ to_le_bytes w8 m → l ≡ m
-one_of_8 l m p q e = let low : l % 256 ≡ m % 256 = cc in omega (arith, low, p, q)
+same_8 : (xs ys : List ℕ) → flat_map (to_le_bytes w8) xs ≡ flat_map (to_le_bytes w8) ys → map (λ n. n % 2 ^ 8) xs ≡ map (λ n. n % 2 ^ 8) ys
+same_8 = same_numbers (to_le_bytes w8) (λ n. n % 2 ^ 8) 0 (λ m. refl) (low_bytes 1)
 
-one_of_16 : (l m : ℕ) → l < 2 ^ 16 → m < 2 ^ 16 → to_le_bytes w16 l ≡ to_le_bytes w16 m → l ≡ m
-one_of_16 l m p q e = sym (from_le_bytes-to_le_bytes_2 l p) ∙ ap (from_le_bytes w16) e ∙ from_le_bytes-to_le_bytes_2 m q
+same_16 : (xs ys : List ℕ) → flat_map (to_le_bytes w16) xs ≡ flat_map (to_le_bytes w16) ys → map (λ n. n % 2 ^ 16) xs ≡ map (λ n. n % 2 ^ 16) ys
+same_16 = same_numbers (to_le_bytes w16) (λ n. n % 2 ^ 16) 1 (λ m. refl) (low_bytes 2)
 
-one_of_32 : (l m : ℕ) → l < 2 ^ 32 → m < 2 ^ 32 → to_le_bytes w32 l ≡ to_le_bytes w32 m → l ≡ m
-one_of_32 l m p q e = sym (from_le_bytes-to_le_bytes_4 l p) ∙ ap (from_le_bytes w32) e ∙ from_le_bytes-to_le_bytes_4 m q
+same_32 : (xs ys : List ℕ) → flat_map (to_le_bytes w32) xs ≡ flat_map (to_le_bytes w32) ys → map (λ n. n % 2 ^ 32) xs ≡ map (λ n. n % 2 ^ 32) ys
+same_32 = same_numbers (to_le_bytes w32) (λ n. n % 2 ^ 32) 3 (λ m. refl) (low_bytes 4)
 
-one_of_64 : (l m : ℕ) → l < 2 ^ 64 → m < 2 ^ 64 → to_le_bytes w64 l ≡ to_le_bytes w64 m → l ≡ m
-one_of_64 l m p q e = sym (from_le_bytes-to_le_bytes_8 l p) ∙ ap (from_le_bytes w64) e ∙ from_le_bytes-to_le_bytes_8 m q
+same_64 : (xs ys : List ℕ) → flat_map (to_le_bytes w64) xs ≡ flat_map (to_le_bytes w64) ys → map (λ n. n % 2 ^ 64) xs ≡ map (λ n. n % 2 ^ 64) ys
+same_64 = same_numbers (to_le_bytes w64) (λ n. n % 2 ^ 64) 7 (λ m. refl) (low_bytes 8)
 
-pub same_bits : (v w : V128Const) → SameShape v w → InRange v → InRange w → bytes_of v ≡ bytes_of w → lane_bits v ≡ lane_bits w
-same_bits (I8x16 xs) (I8x16 ys) s p q e = same_numbers (to_le_bytes w8) (2 ^ 8) 0 (λ m. refl) one_of_8 _ _ p q e
-same_bits (I16x8 xs) (I16x8 ys) s p q e = same_numbers (to_le_bytes w16) (2 ^ 16) 1 (λ m. refl) one_of_16 _ _ p q e
-same_bits (I32x4 xs) (I32x4 ys) s p q e = same_numbers (to_le_bytes w32) (2 ^ 32) 3 (λ m. refl) one_of_32 _ _ p q e
-same_bits (I64x2 xs) (I64x2 ys) s p q e = same_numbers (to_le_bytes w64) (2 ^ 64) 7 (λ m. refl) one_of_64 _ _ p q e
-same_bits (F32x4 xs) (F32x4 ys) s p q e = same_numbers (to_le_bytes w32) (2 ^ 32) 3 (λ m. refl) one_of_32 _ _ p q e
-same_bits (F64x2 xs) (F64x2 ys) s p q e = same_numbers (to_le_bytes w64) (2 ^ 64) 7 (λ m. refl) one_of_64 _ _ p q e
-same_bits _ _ s p q e = absurd s
+pub same_bits : (v w : V128Const) → SameShape v w → bytes_of v ≡ bytes_of w → lane_bits v ≡ lane_bits w
+same_bits (I8x16 xs) (I8x16 ys) s e = same_8 _ _ e
+same_bits (I16x8 xs) (I16x8 ys) s e = same_16 _ _ e
+same_bits (I32x4 xs) (I32x4 ys) s e = same_32 _ _ e
+same_bits (I64x2 xs) (I64x2 ys) s e = same_64 _ _ e
+same_bits (F32x4 xs) (F32x4 ys) s e = same_32 _ _ e
+same_bits (F64x2 xs) (F64x2 ys) s e = same_64 _ _ e
+same_bits _ _ s e = absurd s

@@ -1,3 +1,6 @@
+pub use Rattle.wat_tokens.specs.Index
+pub use Rattle.wat_tokens.specs.Lookup
+pub use Rattle.wat_tokens.specs.Production
 pub mod Aggregates
 pub mod Branch
 pub mod Lanes

@@ -1,5 +1,5 @@
 -- Constants of 128 bits, and lanes that are shuffled.
-use Rattle.std.specs.Prelude.{ℕ, ◌<◌, ◌^◌, Bool, true, ◌&&◌, List, [], ◌∷◌, ◌++◌, codes, map, flat_map, All, ⊤}
+use Rattle.std.specs.Prelude.{ℕ, ◌%◌, ◌^◌, Bool, true, ◌&&◌, List, [], ◌∷◌, ◌++◌, codes, map, flat_map, ⊤}
 use Rattle.std.specs.Int.{Width, w8, w16, w32, w64, cast_unsigned, to_le_bytes}
 use Rattle.wat_tokens.specs.Tests.{begins_word}
 use Rattle.wat_tokens.specs.Production.{Production}
@@ -79,14 +79,14 @@ v128_const =
 
 -- ---- bytes
 
--- the bits of the lanes, each as a number
-abbrev pub lane_bits : V128Const → List ℕ
-lane_bits (I8x16 lanes) = map (cast_unsigned w8) lanes
-lane_bits (I16x8 lanes) = map (cast_unsigned w16) lanes
-lane_bits (I32x4 lanes) = map (cast_unsigned w32) lanes
-lane_bits (I64x2 lanes) = map (cast_unsigned w64) lanes
-lane_bits (F32x4 lanes) = map (λ x. x.bits) lanes
-lane_bits (F64x2 lanes) = map (λ x. x.bits) lanes
+-- the lanes as unsigned numbers: a negative one by two's complement, one of floating point by its bits
+abbrev pub lane_numbers : V128Const → List ℕ
+lane_numbers (I8x16 lanes) = map (cast_unsigned w8) lanes
+lane_numbers (I16x8 lanes) = map (cast_unsigned w16) lanes
+lane_numbers (I32x4 lanes) = map (cast_unsigned w32) lanes
+lane_numbers (I64x2 lanes) = map (cast_unsigned w64) lanes
+lane_numbers (F32x4 lanes) = map (λ x. x.bits) lanes
+lane_numbers (F64x2 lanes) = map (λ x. x.bits) lanes
 
 -- the type of a lane
 abbrev pub lane_width : V128Const → Width
@@ -99,7 +99,7 @@ lane_width (F64x2 lanes) = w64
 
 -- the lanes in order, each little-endian
 abbrev pub bytes_of : V128Const → List ℕ
-bytes_of v = flat_map (to_le_bytes (lane_width v)) (lane_bits v)
+bytes_of v = flat_map (to_le_bytes (lane_width v)) (lane_numbers v)
 
 -- of how many bits a lane is
 abbrev pub lane_size : V128Const → ℕ
@@ -110,9 +110,9 @@ lane_size (I64x2 lanes) = 64
 lane_size (F32x4 lanes) = 32
 lane_size (F64x2 lanes) = 64
 
--- each lane's bits fit the lane
-abbrev pub InRange : V128Const → Type 0
-InRange v = All (λ n. n < 2 ^ lane_size v) (lane_bits v)
+-- the bits of each lane
+abbrev pub lane_bits : V128Const → List ℕ
+lane_bits v = map (λ n. n % 2 ^ lane_size v) (lane_numbers v)
 
 -- as many lanes, of one kind
 abbrev pub SameShape : V128Const → V128Const → Type 0

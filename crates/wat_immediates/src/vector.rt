@@ -4,7 +4,7 @@ ghost use Rattle.std.specs.Prelude.{◌≡◌, ◌%◌, [], ◌∷◌, ◌++◌,
 ghost use Rattle.std.specs.Int.{w16, w32, w64, to_le_bytes};
 ghost use Rattle.wat_tokens.specs.Counts.{Counted, Quiet, Kept};
 ghost use Rattle.wat_tokens.specs.Parses.{Gives};
-ghost use Rattle.wat_immediates.specs.Vector.{two, four, eight, sixteen, all_bare, float_const, wide_const, v128_const, bytes_of, lane_bits, SameShape, InRange, shuffle};
+ghost use Rattle.wat_immediates.specs.Vector.{two, four, eight, sixteen, all_bare, float_const, wide_const, v128_const, bytes_of, lane_bits, SameShape, shuffle};
 ghost use Rattle.wat_immediates.specs.declared.vector.V128Const.{V128Const};
 
 use wat_tokens::{F32, F64, Parse, Parser, Result};
@@ -304,8 +304,8 @@ impl V128Const {
     }
 }
 
-/// Two constants of one shape, whose lanes are in range, have equal bytes only where their lanes have equal bits.
+/// Two constants of one shape have equal bytes only where their lanes have equal bits.
 #[tactic(auto, using(crate::proofs::Bytes::same_bits))]
 pub fn equal_bytes()
-    ensures { (v w : V128Const) → SameShape v w → InRange v → InRange w → bytes_of v ≡ bytes_of w → lane_bits v ≡ lane_bits w }
+    ensures { (v w : V128Const) → SameShape v w → bytes_of v ≡ bytes_of w → lane_bits v ≡ lane_bits w }
 {}
