@@ -76,13 +76,13 @@ fn words_that_are_none(rt: HostRuntime) -> Result<(), Fail> {
 #[test]
 fn opcodes(rt: HostRuntime) -> Result<(), Fail> {
     let alloc = rt.alloc();
-    let mut count = 0usize;
+    let mut found = Vec::new(alloc);
     for i in 0..HEADS.len() {
-        if bytes_of(alloc, HEADS[i])?.is_some() {
-            count += 1;
+        if let Some(bytes) = bytes_of(alloc, HEADS[i])? {
+            found.push(bytes)?;
         }
     }
-    assert_eq!(rt; count, 339);
+    assert_eq!(rt; found.len(), 339);
     let add = bytes_of(alloc, Head::Scalar(ScalarOp::i32_add))?;
     assert_eq!(rt; add.as_deref(), Some(&[0x6a][..]));
     Ok(())
