@@ -1,17 +1,13 @@
 -- Lanes seen as they are.
 use Rattle.std.proofs.lemmas.List.{map-append}
-use Rattle.std.proofs.Common.{◌≡◌, ℕ, ℤ, List, [], ◌∷◌, ◌++◌, map, length, get_or, arith, refl, ap, ◌∙◌}
+use Rattle.std.proofs.Common.{◌≡◌, List, [], ◌∷◌, ◌++◌, map, length, get_or, arith, refl, ap, ◌∙◌}
 use Rattle.wat_tokens.specs.declared.floats.F32.{F32}
 use Rattle.wat_tokens.specs.declared.floats.F64.{F64}
 use Rattle.wat_immediates.specs.Vector.{f32_of, f64_of}
 
-pub ints_again : (xs : List ℤ) → map (λ n. n) xs ≡ xs
-ints_again [] = refl
-ints_again (x ∷ xs) = ap (λ (u : List ℤ). x ∷ u) (ints_again xs)
-
-pub nats_again : (xs : List ℕ) → map (λ n. n) xs ≡ xs
-nats_again [] = refl
-nats_again (x ∷ xs) = ap (λ (u : List ℕ). x ∷ u) (nats_again xs)
+pub items_again : {A : Type 0} (xs : List A) → map (λ n. n) xs ≡ xs
+items_again [] = refl
+items_again {A} (x ∷ xs) = ap (λ (u : List A). x ∷ u) (items_again xs)
 
 pub f32s_again : (xs : List F32) → map f32_of (map (λ x. x.bits) xs) ≡ xs
 f32s_again [] = refl

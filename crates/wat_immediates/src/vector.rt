@@ -133,7 +133,7 @@ fn read_floats<'a>(parser: &mut Parser<'a>) -> Result<V128Const>
 }
 
 /// Takes a constant whose lanes have 32 or 64 bits.
-#[tactic(auto, using(crate::proofs::Again::ints_again), unfolding(crate::specs::Vector::wide_const))]
+#[tactic(auto, using(crate::proofs::Again::items_again), unfolding(crate::specs::Vector::wide_const))]
 fn read_wide<'a>(parser: &mut Parser<'a>) -> Result<V128Const>
     ensures exact { Gives true (λ _. true) (λ v. v) result (wide_const.reads parser.old.left) parser.new.left }
     ensures counts { Counted result parser.old parser.new }
@@ -169,7 +169,7 @@ impl<'a> Parse<'a> for V128Const {
 
     ghost grammar = { v128_const };
 
-    #[tactic(auto, using(crate::proofs::Again::ints_again), unfolding(crate::specs::Vector::v128_const))]
+    #[tactic(auto, using(crate::proofs::Again::items_again), unfolding(crate::specs::Vector::v128_const))]
     fn parse(parser: &mut Parser<'a>) -> Result<Self> {
         if parser.next_is("i8x16") {
             parser.keyword("i8x16")?;
@@ -200,7 +200,7 @@ impl<'a> Parse<'a> for I8x16Shuffle {
 
     ghost grammar = { shuffle };
 
-    #[tactic(auto, using(crate::proofs::Again::nats_again), unfolding(crate::specs::Vector::shuffle))]
+    #[tactic(auto, using(crate::proofs::Again::items_again), unfolding(crate::specs::Vector::shuffle))]
     fn parse(parser: &mut Parser<'a>) -> Result<Self> {
         let lanes = sixteen::<u8>(parser)?;
         Ok(I8x16Shuffle { lanes })
