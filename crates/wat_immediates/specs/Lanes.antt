@@ -8,7 +8,8 @@ use Rattle.wat_tokens.specs.Parts.{one, seq, made, where_else}
 use Rattle.wat_tokens.specs.Index.{number}
 use Rattle.wat_immediates.specs.Memory.{MemArgTy, memory, mem_arg_of, mem_arg, seen_mem_arg, begins_with}
 use Rattle.wat_immediates.specs.declared.lanes.LaneArg.{LaneArg}
-use Rattle.wat_immediates.specs.declared.lanes.LoadOrStoreLane.{LoadOrStoreLane}
+use Rattle.wat_immediates.specs.declared.lanes.LaneOf.{LaneOf}
+use Rattle.wat_immediates.specs.declared.memory.MemArg.{MemArg}
 
 -- ---- lanes
 
@@ -31,7 +32,7 @@ pub record LaneAccessTy : Type 0 where
   pub memarg : MemArgTy
   pub lane : LaneArg
 
-abbrev pub seen_lane_access : LoadOrStoreLane → LaneAccessTy
+abbrev pub seen_lane_access : LaneOf MemArg → LaneAccessTy
 seen_lane_access l = record { memarg = seen_mem_arg l.memarg; lane = l.lane }
 
 abbrev pub access_of : MemArgTy × LaneArg → LaneAccessTy

@@ -11,21 +11,24 @@ use crate::tables::zero;
 use wat_tokens::{Cursor, Error, Fault, Parse, Parser, Result};
 
 /// A lane of a vector (WebAssembly Core Specification, Text Format, Instructions, "Vector Instructions").
-#[derive(Clone, Debug, Drop)]
+#[derive(Clone, Copy, Debug)]
 pub struct LaneArg {
     /// Its number.
     pub lane: u8,
 }
 
-/// The operands of an instruction that loads or stores one lane (WebAssembly Core Specification, Text Format,
-/// Instructions, "Memory Instructions").
-#[derive(Clone, Debug, Drop)]
-pub struct LoadOrStoreLane<'a> {
+/// The operands of an instruction that loads or stores one lane, with what is accessed as an `M` (WebAssembly Core
+/// Specification, Text Format, Instructions, "Memory Instructions").
+#[derive(Clone, Copy, Debug)]
+pub struct LaneOf<M> {
     /// What is accessed.
-    pub memarg: MemArg<'a>,
+    pub memarg: M,
     /// The lane.
     pub lane: LaneArg,
 }
+
+/// The operands of an instruction that loads or stores one lane.
+pub type LoadOrStoreLane<'a> = LaneOf<MemArg<'a>>;
 
 /// An integer without a sign, 0 to 255. One that has a sign is refused with Unexpected, and one that is too large with
 /// Range, each at the integer.
@@ -107,6 +110,6 @@ impl<'a> LoadOrStoreLane<'a> {
             MemArg::read(parser, align)?
         };
         let lane = LaneArg::parse(parser)?;
-        Ok(LoadOrStoreLane { memarg, lane })
+        Ok(LaneOf { memarg, lane })
     }
 }

@@ -22,7 +22,7 @@ pub use aggregates::{
     StructAccess, Switch,
 };
 pub use branch::BrTableIndices;
-pub use lanes::{LaneArg, LoadOrStoreLane};
+pub use lanes::{LaneArg, LaneOf, LoadOrStoreLane};
 pub use memory::{MemArg, MemArgOrdering, MemArgTarget};
 pub use ordering::{Ordered, Ordering};
 pub use tables::{MemoryArg, MemoryCopy, MemoryInit, TableArg, TableCopy, TableInit};

@@ -10,7 +10,7 @@ use wat_tokens::{Index, Parse, Parser, Result};
 
 /// The table of an instruction that names one (WebAssembly Core Specification, Text Format, Instructions, "Table
 /// Instructions").
-#[derive(Clone, Debug, Drop)]
+#[derive(Clone, Copy, Debug)]
 pub struct TableArg<'a> {
     /// The table.
     pub dst: Index<'a>,
@@ -18,14 +18,14 @@ pub struct TableArg<'a> {
 
 /// The memory of an instruction that names one (WebAssembly Core Specification, Text Format, Instructions, "Memory
 /// Instructions").
-#[derive(Clone, Debug, Drop)]
+#[derive(Clone, Copy, Debug)]
 pub struct MemoryArg<'a> {
     /// The memory.
     pub mem: Index<'a>,
 }
 
 /// The operands of `table.init` (WebAssembly Core Specification, Text Format, Instructions, "Table Instructions").
-#[derive(Clone, Debug, Drop)]
+#[derive(Clone, Copy, Debug)]
 pub struct TableInit<'a> {
     /// The table that is written.
     pub table: Index<'a>,
@@ -34,7 +34,7 @@ pub struct TableInit<'a> {
 }
 
 /// The operands of `memory.init` (WebAssembly Core Specification, Text Format, Instructions, "Memory Instructions").
-#[derive(Clone, Debug, Drop)]
+#[derive(Clone, Copy, Debug)]
 pub struct MemoryInit<'a> {
     /// The data segment that is read.
     pub data: Index<'a>,
@@ -43,7 +43,7 @@ pub struct MemoryInit<'a> {
 }
 
 /// The operands of `table.copy` (WebAssembly Core Specification, Text Format, Instructions, "Table Instructions").
-#[derive(Clone, Debug, Drop)]
+#[derive(Clone, Copy, Debug)]
 pub struct TableCopy<'a> {
     /// The table that is written.
     pub dst: Index<'a>,
@@ -52,7 +52,7 @@ pub struct TableCopy<'a> {
 }
 
 /// The operands of `memory.copy` (WebAssembly Core Specification, Text Format, Instructions, "Memory Instructions").
-#[derive(Clone, Debug, Drop)]
+#[derive(Clone, Copy, Debug)]
 pub struct MemoryCopy<'a> {
     /// The memory that is read.
     pub src: Index<'a>,

@@ -11,7 +11,7 @@ use wat_tokens::{F32, F64, Parse, Parser, Result};
 
 /// A constant of 128 bits, as lanes of a shape (WebAssembly Core Specification, Text Format, Instructions, "Vector
 /// Instructions").
-#[derive(Clone, Debug, Drop)]
+#[derive(Clone, Copy, Debug)]
 pub enum V128Const {
     /// 16 integers of 8 bits.
     I8x16([i8; 16]),
@@ -29,7 +29,7 @@ pub enum V128Const {
 
 /// The lanes that `i8x16.shuffle` takes (WebAssembly Core Specification, Text Format, Instructions, "Vector
 /// Instructions").
-#[derive(Clone, Debug, Drop)]
+#[derive(Clone, Copy, Debug)]
 pub struct I8x16Shuffle {
     /// For each lane of the result, the number of the lane that it takes.
     pub lanes: [u8; 16],

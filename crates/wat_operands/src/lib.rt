@@ -27,7 +27,7 @@ pub use handlers::{Handle, Resume, ResumeTable, ResumeThrow, ResumeThrowRef};
 pub use select::SelectTypes;
 pub use wat_immediates::{
     ArrayCopy, ArrayFill, ArrayInit, ArrayNewData, ArrayNewElem, ArrayNewFixed, BrTableIndices,
-    ContBind, I8x16Shuffle, LaneArg, LoadOrStoreLane, MemArg, MemArgOrdering, MemArgTarget,
+    ContBind, I8x16Shuffle, LaneArg, LaneOf, LoadOrStoreLane, MemArg, MemArgOrdering, MemArgTarget,
     MemoryArg, MemoryCopy, MemoryInit, Ordered, Ordering, StructAccess, Switch, TableArg,
     TableCopy, TableInit, V128Const,
 };

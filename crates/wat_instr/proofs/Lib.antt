@@ -1,0 +1,7 @@
+pub mod Immediates
+pub mod Operands
+pub mod Rests
+pub mod Stands
+pub mod Steady
+pub mod Types
+pub mod Words

@@ -1,0 +1,93 @@
+-- Two rests that an instruction's tests don't tell apart: one front, and then anything in the one, and in the other a word that may follow.
+use Rattle.std.proofs.Common.{◌≡◌, ℕ, ◌+◌, ◌≤◌, true, false, is_some, List, [], ◌∷◌, ◌++◌, length, codes, refl, bytes_eq, ap, sym, ◌∙◌, append_assoc, arith, length-append, Bool}
+use Rattle.wat_tokens.specs.Token.{Tok, RParen, Keyword}
+use Rattle.wat_tokens.specs.Parens.{opens, closes, Level, opens-append, closes-append}
+use Rattle.wat_immediates.specs.Memory.{behind}
+use Rattle.wat_instr.specs.Follows.{BeginsNoType}
+
+-- a word that no part of an instruction is asked to begin with
+pub record IsPlain (w : List ℕ) : Type 0 where
+  pub not_type : bytes_eq w (codes "type") ≡ false
+  pub not_param : bytes_eq w (codes "param") ≡ false
+  pub not_result : bytes_eq w (codes "result") ≡ false
+  pub not_seqcst : bytes_eq w (codes "seqcst") ≡ false
+  pub not_acqrel : bytes_eq w (codes "acqrel") ≡ false
+  pub no_offset : is_some (behind (codes "offset=") w) ≡ false
+  pub no_align : is_some (behind (codes "align=") w) ≡ false
+
+-- t begins with such a word, and behind it stands none of the words `type`, `param` and `result`
+pub record Follows (t : List Tok) : Type 0 where
+  pub word : List ℕ
+  pub rest : List Tok
+  pub is : t ≡ Keyword word ∷ rest
+  pub plain : IsPlain word
+  pub then : BeginsNoType rest
+
+-- t and u have a front in common, of n tokens or more, which opens no group that it leaves open; behind it, u goes on with what may follow
+pub record Alike (n : ℕ) (t u : List Tok) : Type 0 where
+  pub front : List Tok
+  pub old : List Tok
+  pub new : List Tok
+  pub old_is : t ≡ front ++ old
+  pub new_is : u ≡ front ++ new
+  pub long : n ≤ length front
+  pub shut : opens front ≤ closes front
+  pub follows : Follows new
+
+-- nothing in front
+pub alike_at_once : (t u : List Tok) → Follows u → Alike 0 t u
+alike_at_once t u f = record {
+  front = [];
+  old = t;
+  new = u;
+  old_is = refl;
+  new_is = refl;
+  long = omega arith;
+  shut = omega arith;
+  follows = f;
+}
+
+pub alike_fewer : (m n : ℕ) {t u : List Tok} → m ≤ n → Alike n t u → Alike m t u
+alike_fewer m n le a = record {
+  front = a.front;
+  old = a.old;
+  new = a.new;
+  old_is = a.old_is;
+  new_is = a.new_is;
+  long = omega (arith, le, a.long);
+  shut = a.shut;
+  follows = a.follows;
+}
+
+-- behind k tokens more
+pub alike_behind : (c t u : List Tok) (k n : ℕ) → k ≤ length c → Level c → Alike n t u → Alike (k + n) (c ++ t) (c ++ u)
+alike_behind c t u k n le level a = record {
+  front = c ++ a.front;
+  old = a.old;
+  new = a.new;
+  old_is = ap (λ (x : List Tok). c ++ x) a.old_is ∙ sym (append_assoc c a.front a.old);
+  new_is = ap (λ (x : List Tok). c ++ x) a.new_is ∙ sym (append_assoc c a.front a.new);
+  long = omega (arith, length-append c a.front, le, a.long);
+  shut = omega (arith, opens-append c a.front, closes-append c a.front, level, a.shut);
+  follows = a.follows;
+}
+
+-- behind what closes a group
+pub alike_shut : (t u : List Tok) (n : ℕ) → Alike n t u → Alike (1 + n) (RParen ∷ t) (RParen ∷ u)
+alike_shut t u n a = record {
+  front = RParen ∷ a.front;
+  old = a.old;
+  new = a.new;
+  old_is = ap (λ (x : List Tok). RParen ∷ x) a.old_is;
+  new_is = ap (λ (x : List Tok). RParen ∷ x) a.new_is;
+  long = omega (arith, a.long);
+  shut = omega (arith, a.shut);
+  follows = a.follows;
+}
+
+-- ---- tests
+
+-- the test answers the same before a rest that is alike: where it holds, at a front of i tokens or more; where it fails, of j or more
+pub record Steady (i j : ℕ) (test : List Tok → Bool) : Type 0 where
+  pub holds : (t u : List Tok) → Alike i t u → test t ≡ true → test u ≡ true
+  pub fails : (t u : List Tok) → Alike j t u → test t ≡ false → test u ≡ false

@@ -1,0 +1,50 @@
+-- No mnemonic is a word that a part of an instruction is asked to begin with.
+use Rattle.std.proofs.Common.{◌≡◌, ℕ, zero, suc, ◌<◌, Bool, false, ◌||◌, is_some, List, [], ◌∷◌, length, get_or, codes, bytes_eq, refl, subst, arith}
+use Rattle.std.proofs.lemmas.Bool.{or_parts}
+use Rattle.wat_tokens.specs.Token.{Tok}
+use Rattle.wat_immediates.specs.Memory.{behind}
+use Rattle.wat_mnemonics.specs.Heads.{head_word}
+use Rattle.wat_mnemonics.specs.Order.{first}
+use Rattle.wat_mnemonics.specs.Places.{place, there, below, table_length}
+use Rattle.wat_mnemonics.specs.Table.{TABLE}
+use Rattle.wat_mnemonics.specs.declared.head.Head.{Head}
+use Rattle.wat_instr.specs.Follows.{MayFollow}
+use Rattle.wat_instr.proofs.Rests.{IsPlain, Follows}
+
+-- the word is one that a part of an instruction may be asked to begin with
+abbrev asked : List ℕ → Bool
+asked w =
+    bytes_eq w (codes "type") || (bytes_eq w (codes "param") || (bytes_eq w (codes "result") || (bytes_eq w (codes "seqcst") || (bytes_eq w (codes "acqrel")
+    || (is_some (behind (codes "offset=") w) || is_some (behind (codes "align=") w))))))
+
+not_asked : (w : List ℕ) → asked w ≡ false → IsPlain w
+not_asked w e =
+    let a = or_parts _ _ e in
+    let b = or_parts _ _ a.1 in
+    let c = or_parts _ _ b.1 in
+    let d = or_parts _ _ c.1 in
+    let f = or_parts _ _ d.1 in
+    let g = or_parts _ _ f.1 in
+    record { not_type = a.0; not_param = b.0; not_result = c.0; not_seqcst = d.0; not_acqrel = f.0; no_offset = g.0; no_align = g.1 }
+
+-- one of the words is
+abbrev any_asked : List Head → Bool
+any_asked [] = false
+any_asked (x ∷ xs) = asked (head_word x) || any_asked xs
+
+none_asked : any_asked TABLE ≡ false
+unfolding behind
+none_asked = refl
+
+asked_at : (xs : List Head) (k : ℕ) → any_asked xs ≡ false → k < length xs → asked (head_word (get_or xs k first)) ≡ false
+asked_at [] k e l = absurd (omega (arith, l))
+asked_at (x ∷ xs) zero e l = (or_parts (asked (head_word x)) (any_asked xs) e).0
+asked_at (x ∷ xs) (suc k) e l = asked_at xs k ((or_parts (asked (head_word x)) (any_asked xs) e).1) (omega (arith, l))
+
+pub mnemonic_is_plain : (x : Head) → IsPlain (head_word x)
+mnemonic_is_plain x =
+    let e = asked_at TABLE (place x) none_asked (let l = table_length in let b = below x in omega arith) in
+    not_asked (head_word x) (subst (λ (y : Head). asked (head_word y) ≡ false) (there x) e)
+
+pub may_follow : (s : List Tok) → MayFollow s → Follows s
+may_follow s m = record { word = head_word m.0; rest = m.1; is = m.2; plain = mnemonic_is_plain m.0; then = m.3 }

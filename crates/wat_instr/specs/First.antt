@@ -1,0 +1,35 @@
+-- What an instruction begins with.
+use Rattle.std.specs.Prelude.{◌≡◌, ℕ, ◌≤◌, List, [], ◌∷◌, ◌++◌, codes, Some, None, refl}
+use Rattle.std.proofs.Common.{ap, ◌∙◌, arith}
+use Rattle.wat_tokens.specs.Token.{Tok, Keyword}
+use Rattle.wat_tokens.specs.Production.{bind_some}
+use Rattle.wat_mnemonics.specs.Heads.{head_word}
+use Rattle.wat_mnemonics.specs.Word.{head_of, mnemonic_reads, mnemonic_sound}
+use Rattle.wat_instr.specs.Instruction.{Instr, behind_word, instruction}
+
+-- nothing is read from no tokens
+pub instruction_none : instruction.reads [] ≡ None
+unfolding instruction
+instruction_none = refl
+
+-- at least one token is taken
+pub instruction_eats : 1 ≤ instruction.least
+unfolding instruction
+instruction_eats = omega arith
+
+-- the first token is a word
+pub instruction_first : (t : List Tok) (x : Instr × List Tok) → instruction.reads t ≡ Some x → (w : List ℕ) × (r : List Tok) × (t ≡ Keyword w ∷ r)
+unfolding instruction
+instruction_first t x e =
+    let p = bind_some (mnemonic_reads t) (λ h u. (behind_word h).reads u) x e in
+    let y = mnemonic_sound t p.0 p.1 in
+    (head_word p.0.0, p.0.1, y.1 ∙ ap (λ (u : List Tok). u ++ p.0.1) y.2)
+
+then_is_none : head_of (codes "then") ≡ None
+unfolding head_of
+then_is_none = refl
+
+-- no instruction's word is `then`
+pub instruction_not_then : (t : List Tok) → instruction.reads (Keyword (codes "then") ∷ t) ≡ None
+unfolding instruction
+instruction_not_then t = rw then_is_none refl

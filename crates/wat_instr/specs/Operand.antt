@@ -1,0 +1,167 @@
+-- What follows the word of an instruction.
+use Rattle.std.specs.Prelude.{ℕ, ℤ, Bool, true, false, List, Option}
+use Rattle.wat_tokens.specs.Production.{Production}
+use Rattle.wat_tokens.specs.Parts.{made, opt}
+use Rattle.wat_tokens.specs.Index.{Idx, identifier, index}
+use Rattle.wat_tokens.specs.Tests.{begins_id}
+use Rattle.wat_tokens.specs.Integers.{signed}
+use Rattle.wat_tokens.specs.Floats.{none}
+use Rattle.wat_types.specs.Heap.{HeapTy, heap_type}
+use Rattle.wat_types.specs.Reference.{RefTy, ref_type}
+use Rattle.wat_types.specs.Value.{ValTy}
+use Rattle.wat_immediates.specs.Aggregates.{array_of_length}
+use Rattle.wat_immediates.specs.Branch.{BrTableTy, bare_br_table, br_table}
+use Rattle.wat_immediates.specs.Lanes.{LaneAccessTy, lane_arg}
+use Rattle.wat_immediates.specs.Lanes as lanes
+use Rattle.wat_immediates.specs.Memory.{MemArgTy, mem_arg, atomic_mem_arg}
+use Rattle.wat_immediates.specs.Ordering.{ordering, begins_ordering, ordered}
+use Rattle.wat_immediates.specs.Tables.{index_or_0, index_pair, init, copy}
+use Rattle.wat_immediates.specs.Vector.{v128_const, shuffle}
+use Rattle.wat_immediates.specs.declared.lanes.LaneArg.{LaneArg}
+use Rattle.wat_immediates.specs.declared.ordering.Ordering.{Ordering}
+use Rattle.wat_immediates.specs.declared.vector.I8x16Shuffle.{I8x16Shuffle}
+use Rattle.wat_immediates.specs.declared.vector.V128Const.{V128Const}
+use Rattle.wat_operands.specs.Block.{BlockTy, block_type}
+use Rattle.wat_operands.specs.Call.{CallTy, call_indirect}
+use Rattle.wat_operands.specs.Casts.{BranchTy, cast_branch}
+use Rattle.wat_operands.specs.Catches.{TryTy, try_table}
+use Rattle.wat_operands.specs.Handlers.{ResumeTy, bare_resume, resume, ThrowTy, bare_throw, resume_throw}
+use Rattle.wat_operands.specs.Select.{bare_select, select_types}
+use Rattle.wat_mnemonics.specs.Access.{access_align, atomic_access_align, rmw_access_align, lane_access_align}
+use Rattle.wat_mnemonics.specs.declared.head.Head.{Head}
+use Rattle.wat_mnemonics.specs.declared.head.Head.TheVariants as head
+use Rattle.wat_instr.specs.Followed.{blank}
+
+-- an operand, without places; boxes by what they hold, vectors by their items
+pub data Operand : Type 0 where
+  -- no operand
+  nothing : Operand
+  -- of a block
+  block : BlockTy → Operand
+  -- the label that may stand at `else` and `end`
+  label : Option (List ℕ) → Operand
+  -- an index, also of a table or a memory
+  one_index : Idx → Operand
+  -- two indices
+  two_indices : Idx × Idx → Operand
+  -- the labels of a `br_table`
+  branches : BrTableTy → Operand
+  -- of an indirect call
+  call : CallTy → Operand
+  -- the types of a `select`
+  chosen : Option (List ValTy) → Operand
+  -- of an access to a memory
+  access : MemArgTy → Operand
+  -- an index, of an atomic access
+  ordered_index : Ordering × Idx → Operand
+  -- two indices, of an atomic access
+  ordered_indices : Ordering × (Idx × Idx) → Operand
+  -- of an access to one lane
+  lane_access : LaneAccessTy → Operand
+  -- a lane
+  lane : LaneArg → Operand
+  -- a heap type
+  heap : HeapTy → Operand
+  -- a type and a length
+  sized : Idx × ℕ → Operand
+  -- a reference type
+  reference : RefTy → Operand
+  -- of a branch on a cast
+  cast : BranchTy → Operand
+  -- an integer
+  integer : ℤ → Operand
+  -- a floating-point number, as its bits
+  float : ℕ → Operand
+  -- the ordering of a fence, where one is written
+  fence : Option Ordering → Operand
+  -- a vector
+  vector : V128Const → Operand
+  -- the lanes of a shuffle
+  shuffled : I8x16Shuffle → Operand
+  -- of a `try_table`
+  caught : TryTy → Operand
+  -- a type and handlers
+  resumed : ResumeTy → Operand
+  -- a type, a tag and handlers
+  thrown : ThrowTy → Operand
+
+-- it holds no memory: no box, and no vector that has an item
+abbrev pub bare_operand : Operand → Bool
+bare_operand nothing = true
+bare_operand (block x) = false
+bare_operand (label x) = true
+bare_operand (one_index x) = true
+bare_operand (two_indices x) = true
+bare_operand (branches x) = bare_br_table x
+bare_operand (call x) = false
+bare_operand (chosen x) = bare_select x
+bare_operand (access x) = true
+bare_operand (ordered_index x) = true
+bare_operand (ordered_indices x) = true
+bare_operand (lane_access x) = true
+bare_operand (lane x) = true
+bare_operand (heap x) = true
+bare_operand (sized x) = true
+bare_operand (reference x) = true
+bare_operand (cast x) = false
+bare_operand (integer x) = true
+bare_operand (float x) = true
+bare_operand (fence x) = true
+bare_operand (vector x) = true
+bare_operand (shuffled x) = true
+bare_operand (caught x) = false
+bare_operand (resumed x) = bare_resume x
+bare_operand (thrown x) = bare_throw x
+
+-- what follows the word of the instruction, as 50 cases
+unfoldable pub operand : Head → Production Operand
+operand (head.Block op) = made block block_type
+operand (head.Label op) = made label (opt begins_id identifier)
+operand (head.Scalar op) = blank nothing
+operand (head.Indexed op) = made one_index index
+operand (head.CallIndirect op) = made call call_indirect
+operand (head.Table op) = made one_index index_or_0
+operand (head.Access op) = made access (mem_arg (access_align op))
+operand (head.Memory op) = made one_index index_or_0
+operand (head.Struct op) = made two_indices index_pair
+operand (head.ArrayInit op) = made two_indices index_pair
+operand (head.AtomicAccess op) = made access (atomic_mem_arg (atomic_access_align op) false)
+operand (head.RmwAccess op) = made access (atomic_mem_arg (rmw_access_align op) true)
+operand (head.OrderedIndex op) = made ordered_index (ordered index)
+operand (head.OrderedTable op) = made ordered_index (ordered index_or_0)
+operand (head.OrderedStruct op) = made ordered_indices (ordered index_pair)
+operand (head.LaneAccess op) = made lane_access (lanes.lane_access (lane_access_align op))
+operand (head.Lane op) = made lane lane_arg
+operand (head.Vector op) = blank nothing
+operand head.br_table = made branches br_table
+operand head.select = made chosen select_types
+operand head.memory_init = made two_indices init
+operand head.memory_copy = made two_indices copy
+operand head.table_init = made two_indices init
+operand head.table_copy = made two_indices copy
+operand head.ref_null = made heap heap_type
+operand head.array_new_fixed = made sized array_of_length
+operand head.array_new_data = made two_indices index_pair
+operand head.array_new_elem = made two_indices index_pair
+operand head.array_fill = made one_index index
+operand head.array_copy = made two_indices index_pair
+operand head.ref_test = made reference ref_type
+operand head.ref_cast = made reference ref_type
+operand head.br_on_cast = made cast cast_branch
+operand head.br_on_cast_fail = made cast cast_branch
+operand head.i32_const = made integer (signed 32)
+operand head.i64_const = made integer (signed 64)
+operand head.f32_const = made float none
+operand head.f64_const = made float none
+operand head.atomic_fence = made fence (opt begins_ordering ordering)
+operand head.v128_const = made vector v128_const
+operand head.i8x16_shuffle = made shuffled shuffle
+operand head.try_table = made caught try_table
+operand head.cont_bind = made two_indices index_pair
+operand head.resume = made resumed resume
+operand head.resume_throw = made thrown resume_throw
+operand head.resume_throw_ref = made resumed resume
+operand head.switch = made two_indices index_pair
+operand head.ref_cast_desc_eq = made reference ref_type
+operand head.br_on_cast_desc_eq = made cast cast_branch
+operand head.br_on_cast_desc_eq_fail = made cast cast_branch

@@ -1,0 +1,16 @@
+-- What a call that reads an operand does.
+use Rattle.std.specs.Prelude.{Result, false}
+use Rattle.wat_tokens.specs.Error.{Error}
+use Rattle.wat_tokens.specs.State.{State}
+use Rattle.wat_tokens.specs.Counts.{Counted, Quiet, Kept}
+use Rattle.wat_tokens.specs.Parses.{Gives}
+use Rattle.wat_mnemonics.specs.declared.head.Head.{Head}
+use Rattle.wat_instr.specs.Instruction.{Instruction, seen_instruction, bare_instruction, behind_word}
+
+-- it answers the instruction whose word was taken, with the operand that stands in front
+unfoldable pub ReadsOperand : Head → Result Instruction Error → State → State → Type 0
+ReadsOperand h r a b =
+    Gives false bare_instruction seen_instruction r ((behind_word h).reads a.left) b.left
+    × Counted r a b
+    × Quiet a b
+    × Kept a b

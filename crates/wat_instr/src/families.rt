@@ -1,0 +1,184 @@
+//! The operands of instructions that share their kind of operand.
+
+ghost use Rattle.wat_instr.specs.Reading.{ReadsOperand};
+ghost use Rattle.wat_mnemonics.specs.declared.head.Head.TheVariants as head;
+
+use crate::instruction::Instruction;
+use wat_mnemonics::{
+    AccessOp, ArrayInitOp, AtomicAccessOp, BlockOp, CallIndirectOp, IndexedOp, LabelOp,
+    LaneAccessOp, LaneOp, MemoryOp, OrderedIndexOp, OrderedStructOp, OrderedTableOp, RmwAccessOp,
+    ScalarOp, StructOp, TableOp, VectorOp,
+};
+use wat_operands::{
+    ArrayInit, BlockType, CallIndirect, LaneArg, LoadOrStoreLane, MemArg, MemoryArg, Ordered,
+    StructAccess, TableArg,
+};
+use wat_tokens::{Id, Index, Parse, Parser, Result};
+
+/// `block`, `loop`, `if` or `try`, and the type of the block.
+#[tactic(auto, unfolding(crate::specs::Reading::ReadsOperand, crate::specs::Operand::operand))]
+pub(crate) fn read_block<'a>(op: BlockOp, parser: &mut Parser<'a>) -> Result<Instruction<'a>>
+    ensures { ReadsOperand (head.Block op) result parser.old parser.new }
+{
+    Ok(Instruction::Block(op, Box::<BlockType>::parse(parser)?))
+}
+
+/// `else` or `end`, and the label that may follow.
+#[tactic(auto, unfolding(crate::specs::Reading::ReadsOperand, crate::specs::Operand::operand))]
+pub(crate) fn read_label<'a>(op: LabelOp, parser: &mut Parser<'a>) -> Result<Instruction<'a>>
+    ensures { ReadsOperand (head.Label op) result parser.old parser.new }
+{
+    Ok(Instruction::Label(op, Option::<Id>::parse(parser)?))
+}
+
+/// An instruction with an index.
+#[tactic(auto, unfolding(crate::specs::Reading::ReadsOperand, crate::specs::Operand::operand))]
+pub(crate) fn read_indexed<'a>(op: IndexedOp, parser: &mut Parser<'a>) -> Result<Instruction<'a>>
+    ensures { ReadsOperand (head.Indexed op) result parser.old parser.new }
+{
+    Ok(Instruction::Indexed(op, Index::parse(parser)?))
+}
+
+/// An indirect call.
+#[tactic(auto, unfolding(crate::specs::Reading::ReadsOperand, crate::specs::Operand::operand))]
+pub(crate) fn read_call_indirect<'a>(
+    op: CallIndirectOp,
+    parser: &mut Parser<'a>,
+) -> Result<Instruction<'a>>
+    ensures { ReadsOperand (head.CallIndirect op) result parser.old parser.new }
+{
+    Ok(Instruction::CallIndirect(op, Box::<CallIndirect>::parse(parser)?))
+}
+
+/// An instruction with a table.
+#[tactic(auto, unfolding(crate::specs::Reading::ReadsOperand, crate::specs::Operand::operand))]
+pub(crate) fn read_table<'a>(op: TableOp, parser: &mut Parser<'a>) -> Result<Instruction<'a>>
+    ensures { ReadsOperand (head.Table op) result parser.old parser.new }
+{
+    Ok(Instruction::Table(op, TableArg::parse(parser)?))
+}
+
+/// A load, a store or a wait.
+#[tactic(auto, unfolding(crate::specs::Reading::ReadsOperand, crate::specs::Operand::operand))]
+pub(crate) fn read_access<'a>(op: AccessOp, parser: &mut Parser<'a>) -> Result<Instruction<'a>>
+    ensures { ReadsOperand (head.Access op) result parser.old parser.new }
+{
+    Ok(Instruction::Access(op, MemArg::read(parser, op.align())?))
+}
+
+/// An instruction with a memory.
+#[tactic(auto, unfolding(crate::specs::Reading::ReadsOperand, crate::specs::Operand::operand))]
+pub(crate) fn read_memory<'a>(op: MemoryOp, parser: &mut Parser<'a>) -> Result<Instruction<'a>>
+    ensures { ReadsOperand (head.Memory op) result parser.old parser.new }
+{
+    Ok(Instruction::Memory(op, MemoryArg::parse(parser)?))
+}
+
+/// A field of a structure.
+#[tactic(auto, unfolding(crate::specs::Reading::ReadsOperand, crate::specs::Operand::operand))]
+pub(crate) fn read_struct<'a>(op: StructOp, parser: &mut Parser<'a>) -> Result<Instruction<'a>>
+    ensures { ReadsOperand (head.Struct op) result parser.old parser.new }
+{
+    Ok(Instruction::Struct(op, StructAccess::parse(parser)?))
+}
+
+/// An array, and the segment that it is filled from.
+#[tactic(auto, unfolding(crate::specs::Reading::ReadsOperand, crate::specs::Operand::operand))]
+pub(crate) fn read_array_init<'a>(
+    op: ArrayInitOp,
+    parser: &mut Parser<'a>,
+) -> Result<Instruction<'a>>
+    ensures { ReadsOperand (head.ArrayInit op) result parser.old parser.new }
+{
+    Ok(Instruction::ArrayInit(op, ArrayInit::parse(parser)?))
+}
+
+/// An atomic load or store.
+#[tactic(auto, unfolding(crate::specs::Reading::ReadsOperand, crate::specs::Operand::operand))]
+pub(crate) fn read_atomic_access<'a>(
+    op: AtomicAccessOp,
+    parser: &mut Parser<'a>,
+) -> Result<Instruction<'a>>
+    ensures { ReadsOperand (head.AtomicAccess op) result parser.old parser.new }
+{
+    Ok(Instruction::AtomicAccess(op, MemArg::read_atomic(parser, op.align(), false)?))
+}
+
+/// An atomic read, change and write.
+#[tactic(auto, unfolding(crate::specs::Reading::ReadsOperand, crate::specs::Operand::operand))]
+pub(crate) fn read_rmw_access<'a>(
+    op: RmwAccessOp,
+    parser: &mut Parser<'a>,
+) -> Result<Instruction<'a>>
+    ensures { ReadsOperand (head.RmwAccess op) result parser.old parser.new }
+{
+    Ok(Instruction::RmwAccess(op, MemArg::read_atomic(parser, op.align(), true)?))
+}
+
+/// An atomic access to what an index names.
+#[tactic(auto, unfolding(crate::specs::Reading::ReadsOperand, crate::specs::Operand::operand))]
+pub(crate) fn read_ordered_index<'a>(
+    op: OrderedIndexOp,
+    parser: &mut Parser<'a>,
+) -> Result<Instruction<'a>>
+    ensures { ReadsOperand (head.OrderedIndex op) result parser.old parser.new }
+{
+    Ok(Instruction::OrderedIndex(op, Ordered::<Index>::parse(parser)?))
+}
+
+/// An atomic access to a table.
+#[tactic(auto, unfolding(crate::specs::Reading::ReadsOperand, crate::specs::Operand::operand))]
+pub(crate) fn read_ordered_table<'a>(
+    op: OrderedTableOp,
+    parser: &mut Parser<'a>,
+) -> Result<Instruction<'a>>
+    ensures { ReadsOperand (head.OrderedTable op) result parser.old parser.new }
+{
+    Ok(Instruction::OrderedTable(op, Ordered::<TableArg>::parse(parser)?))
+}
+
+/// An atomic access to a field of a structure.
+#[tactic(auto, unfolding(crate::specs::Reading::ReadsOperand, crate::specs::Operand::operand))]
+pub(crate) fn read_ordered_struct<'a>(
+    op: OrderedStructOp,
+    parser: &mut Parser<'a>,
+) -> Result<Instruction<'a>>
+    ensures { ReadsOperand (head.OrderedStruct op) result parser.old parser.new }
+{
+    Ok(Instruction::OrderedStruct(op, Ordered::<StructAccess>::parse(parser)?))
+}
+
+/// A load or store of one lane.
+#[tactic(auto, unfolding(crate::specs::Reading::ReadsOperand, crate::specs::Operand::operand))]
+pub(crate) fn read_lane_access<'a>(
+    op: LaneAccessOp,
+    parser: &mut Parser<'a>,
+) -> Result<Instruction<'a>>
+    ensures { ReadsOperand (head.LaneAccess op) result parser.old parser.new }
+{
+    Ok(Instruction::LaneAccess(op, LoadOrStoreLane::read(parser, op.align())?))
+}
+
+/// A lane that is taken out or replaced.
+#[tactic(auto, unfolding(crate::specs::Reading::ReadsOperand, crate::specs::Operand::operand))]
+pub(crate) fn read_lane<'a>(op: LaneOp, parser: &mut Parser<'a>) -> Result<Instruction<'a>>
+    ensures { ReadsOperand (head.Lane op) result parser.old parser.new }
+{
+    Ok(Instruction::Lane(op, LaneArg::parse(parser)?))
+}
+
+/// An instruction without an operand, none of vectors.
+#[tactic(auto, unfolding(crate::specs::Reading::ReadsOperand, crate::specs::Operand::operand))]
+pub(crate) fn bare_scalar<'a>(op: ScalarOp, parser: &mut Parser<'a>) -> Result<Instruction<'a>>
+    ensures { ReadsOperand (head.Scalar op) result parser.old parser.new }
+{
+    Ok(Instruction::Scalar(op))
+}
+
+/// An instruction without an operand, of vectors.
+#[tactic(auto, unfolding(crate::specs::Reading::ReadsOperand, crate::specs::Operand::operand))]
+pub(crate) fn bare_vector<'a>(op: VectorOp, parser: &mut Parser<'a>) -> Result<Instruction<'a>>
+    ensures { ReadsOperand (head.Vector op) result parser.old parser.new }
+{
+    Ok(Instruction::Vector(op))
+}

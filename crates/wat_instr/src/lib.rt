@@ -1,0 +1,19 @@
+//! The instructions of the WebAssembly text format.
+#![tactic(auto)]
+
+mod copy;
+mod families;
+mod heads;
+pub mod instruction;
+pub mod laws;
+mod parse;
+mod singles;
+#[cfg(test)]
+mod tests;
+
+pub use instruction::{Instruction, InstructionOf, Payloads, Text};
+pub use wat_mnemonics::{
+    AccessOp, ArrayInitOp, AtomicAccessOp, BlockOp, CallIndirectOp, Head, IndexedOp, LabelOp,
+    LaneAccessOp, LaneOp, MemoryOp, Opcode, OrderedIndexOp, OrderedStructOp, OrderedTableOp,
+    RmwAccessOp, ScalarOp, StructOp, TableOp, VectorOp,
+};
