@@ -28,7 +28,6 @@ use Rattle.wat_instr.specs.Operand.{Operand, bare_operand, operand}
 use Rattle.wat_instr.specs.Operand as operands
 use Rattle.wat_instr.specs.declared.instruction.InstructionOf.{InstructionOf}
 use Rattle.wat_instr.specs.declared.instruction.InstructionOf.TheVariants as code
-use Rattle.wat_instr.specs.declared.instruction.Text.{Text}
 use Rattle.wat_operands.specs.declared.block.BlockType.{BlockType}
 use Rattle.wat_tokens.specs.declared.index.Id.{Id}
 use Rattle.wat_tokens.specs.declared.index.Index.{Index}
@@ -66,12 +65,12 @@ use Rattle.wat_operands.specs.declared.casts.BrOnCastDescEqFail.{BrOnCastDescEqF
 
 -- the instruction of a text
 abbrev pub Instruction : Type 0
-Instruction = InstructionOf Text BlockType Id Index CallIndirect TableArg MemArg MemoryArg StructAccess ArrayInit BrTableIndices SelectTypes MemoryInit MemoryCopy TableInit TableCopy HeapType ArrayNewFixed ArrayNewData ArrayNewElem ArrayFill ArrayCopy RefTest RefCast BrOnCast BrOnCastFail TryTable ContBind Resume ResumeThrow ResumeThrowRef Switch RefCastDescEq BrOnCastDescEq BrOnCastDescEqFail
+Instruction = InstructionOf BlockType Id Index CallIndirect TableArg MemArg MemoryArg StructAccess ArrayInit BrTableIndices SelectTypes MemoryInit MemoryCopy TableInit TableCopy HeapType ArrayNewFixed ArrayNewData ArrayNewElem ArrayFill ArrayCopy RefTest RefCast BrOnCast BrOnCastFail TryTable ContBind Resume ResumeThrow ResumeThrowRef Switch RefCastDescEq BrOnCastDescEq BrOnCastDescEqFail
 
 -- ---- what contracts see
 
 -- the instruction without its operand
-abbrev pub head_in : Instruction → Head
+abbrev pub head_in : {BlockType Id Index CallIndirect TableArg MemArg MemoryArg StructAccess ArrayInit BrTableIndices SelectTypes MemoryInit MemoryCopy TableInit TableCopy HeapType ArrayNewFixed ArrayNewData ArrayNewElem ArrayFill ArrayCopy RefTest RefCast BrOnCast BrOnCastFail TryTable ContBind Resume ResumeThrow ResumeThrowRef Switch RefCastDescEq BrOnCastDescEq BrOnCastDescEqFail : Type 0} → InstructionOf BlockType Id Index CallIndirect TableArg MemArg MemoryArg StructAccess ArrayInit BrTableIndices SelectTypes MemoryInit MemoryCopy TableInit TableCopy HeapType ArrayNewFixed ArrayNewData ArrayNewElem ArrayFill ArrayCopy RefTest RefCast BrOnCast BrOnCastFail TryTable ContBind Resume ResumeThrow ResumeThrowRef Switch RefCastDescEq BrOnCastDescEq BrOnCastDescEqFail → Head
 head_in (code.Block op x) = head.Block op
 head_in (code.Label op x) = head.Label op
 head_in (code.Scalar op) = head.Scalar op

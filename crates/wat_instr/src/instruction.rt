@@ -5,155 +5,10 @@ ghost use Rattle.std.specs.Option.{option_map};
 ghost use Rattle.std.specs.Prelude.{◌≡◌};
 ghost use Rattle.wat_instr.specs.MemoryAccess.{access_in, LendsAccess};
 
-use std::marker::PhantomData;
 use wat_mnemonics::*;
 use wat_operands::*;
 use wat_tokens::{F32, F64, Id, Index};
 use wat_types::HeapType;
-
-/// The operands that hold a part of a text, as one bundle.
-pub trait Payloads {
-    type BlockType;
-
-    type Id;
-
-    type Index;
-
-    type CallIndirect;
-
-    type TableArg;
-
-    type MemArg;
-
-    type MemoryArg;
-
-    type StructAccess;
-
-    type ArrayInit;
-
-    type BrTableIndices;
-
-    type SelectTypes;
-
-    type MemoryInit;
-
-    type MemoryCopy;
-
-    type TableInit;
-
-    type TableCopy;
-
-    type HeapType;
-
-    type ArrayNewFixed;
-
-    type ArrayNewData;
-
-    type ArrayNewElem;
-
-    type ArrayFill;
-
-    type ArrayCopy;
-
-    type RefTest;
-
-    type RefCast;
-
-    type BrOnCast;
-
-    type BrOnCastFail;
-
-    type TryTable;
-
-    type ContBind;
-
-    type Resume;
-
-    type ResumeThrow;
-
-    type ResumeThrowRef;
-
-    type Switch;
-
-    type RefCastDescEq;
-
-    type BrOnCastDescEq;
-
-    type BrOnCastDescEqFail;
-}
-
-/// The operands of an instruction of a text that lives for `'a`.
-pub struct Text<'a>(PhantomData<&'a ()>);
-
-impl<'a> Payloads for Text<'a> {
-    type BlockType = BlockType<'a>;
-
-    type Id = Id<'a>;
-
-    type Index = Index<'a>;
-
-    type CallIndirect = CallIndirect<'a>;
-
-    type TableArg = TableArg<'a>;
-
-    type MemArg = MemArg<'a>;
-
-    type MemoryArg = MemoryArg<'a>;
-
-    type StructAccess = StructAccess<'a>;
-
-    type ArrayInit = ArrayInit<'a>;
-
-    type BrTableIndices = BrTableIndices<'a>;
-
-    type SelectTypes = SelectTypes<'a>;
-
-    type MemoryInit = MemoryInit<'a>;
-
-    type MemoryCopy = MemoryCopy<'a>;
-
-    type TableInit = TableInit<'a>;
-
-    type TableCopy = TableCopy<'a>;
-
-    type HeapType = HeapType<'a>;
-
-    type ArrayNewFixed = ArrayNewFixed<'a>;
-
-    type ArrayNewData = ArrayNewData<'a>;
-
-    type ArrayNewElem = ArrayNewElem<'a>;
-
-    type ArrayFill = ArrayFill<'a>;
-
-    type ArrayCopy = ArrayCopy<'a>;
-
-    type RefTest = RefTest<'a>;
-
-    type RefCast = RefCast<'a>;
-
-    type BrOnCast = BrOnCast<'a>;
-
-    type BrOnCastFail = BrOnCastFail<'a>;
-
-    type TryTable = TryTable<'a>;
-
-    type ContBind = ContBind<'a>;
-
-    type Resume = Resume<'a>;
-
-    type ResumeThrow = ResumeThrow<'a>;
-
-    type ResumeThrowRef = ResumeThrowRef<'a>;
-
-    type Switch = Switch<'a>;
-
-    type RefCastDescEq = RefCastDescEq<'a>;
-
-    type BrOnCastDescEq = BrOnCastDescEq<'a>;
-
-    type BrOnCastDescEqFail = BrOnCastDescEqFail<'a>;
-}
 
 /// An instruction (WebAssembly Core Specification, Text Format, "Instructions").
 ///
@@ -161,75 +16,110 @@ impl<'a> Payloads for Text<'a> {
 /// that is alone in its kind has its own variant. Words are written with `_` for `.`.
 #[derive(Drop)]
 #[allow(non_camel_case_types)]
-pub enum InstructionOf<P: Payloads> {
+pub enum InstructionOf<
+    BlockType,
+    Id,
+    Index,
+    CallIndirect,
+    TableArg,
+    MemArg,
+    MemoryArg,
+    StructAccess,
+    ArrayInit,
+    BrTableIndices,
+    SelectTypes,
+    MemoryInit,
+    MemoryCopy,
+    TableInit,
+    TableCopy,
+    HeapType,
+    ArrayNewFixed,
+    ArrayNewData,
+    ArrayNewElem,
+    ArrayFill,
+    ArrayCopy,
+    RefTest,
+    RefCast,
+    BrOnCast,
+    BrOnCastFail,
+    TryTable,
+    ContBind,
+    Resume,
+    ResumeThrow,
+    ResumeThrowRef,
+    Switch,
+    RefCastDescEq,
+    BrOnCastDescEq,
+    BrOnCastDescEqFail,
+> {
     /// `block`, `loop`, `if` or `try`, and the type of the block.
-    Block(BlockOp, Box<P::BlockType>),
+    Block(BlockOp, Box<BlockType>),
     /// `else` or `end`, and the label that may follow.
-    Label(LabelOp, Option<P::Id>),
+    Label(LabelOp, Option<Id>),
     /// An instruction without an operand that is none of vectors.
     Scalar(ScalarOp),
     /// An instruction with an index.
-    Indexed(IndexedOp, P::Index),
+    Indexed(IndexedOp, Index),
     /// An indirect call.
-    CallIndirect(CallIndirectOp, Box<P::CallIndirect>),
+    CallIndirect(CallIndirectOp, Box<CallIndirect>),
     /// An instruction with a table.
-    Table(TableOp, P::TableArg),
+    Table(TableOp, TableArg),
     /// A load, a store or a wait.
-    Access(AccessOp, P::MemArg),
+    Access(AccessOp, MemArg),
     /// An instruction with a memory.
-    Memory(MemoryOp, P::MemoryArg),
+    Memory(MemoryOp, MemoryArg),
     /// A field of a structure.
-    Struct(StructOp, P::StructAccess),
+    Struct(StructOp, StructAccess),
     /// An array, and the segment that it is filled from.
-    ArrayInit(ArrayInitOp, P::ArrayInit),
+    ArrayInit(ArrayInitOp, ArrayInit),
     /// An atomic load or store.
-    AtomicAccess(AtomicAccessOp, P::MemArg),
+    AtomicAccess(AtomicAccessOp, MemArg),
     /// An atomic read, change and write.
-    RmwAccess(RmwAccessOp, P::MemArg),
+    RmwAccess(RmwAccessOp, MemArg),
     /// An atomic access to what an index names.
-    OrderedIndex(OrderedIndexOp, Ordered<P::Index>),
+    OrderedIndex(OrderedIndexOp, Ordered<Index>),
     /// An atomic access to a table.
-    OrderedTable(OrderedTableOp, Ordered<P::TableArg>),
+    OrderedTable(OrderedTableOp, Ordered<TableArg>),
     /// An atomic access to a field of a structure.
-    OrderedStruct(OrderedStructOp, Ordered<P::StructAccess>),
+    OrderedStruct(OrderedStructOp, Ordered<StructAccess>),
     /// A load or store of one lane.
-    LaneAccess(LaneAccessOp, LaneOf<P::MemArg>),
+    LaneAccess(LaneAccessOp, LaneOf<MemArg>),
     /// A lane that is taken out or replaced.
     Lane(LaneOp, LaneArg),
     /// An instruction of vectors without an operand.
     Vector(VectorOp),
     /// `br_table`.
-    br_table(P::BrTableIndices),
+    br_table(BrTableIndices),
     /// `select`.
-    select(P::SelectTypes),
+    select(SelectTypes),
     /// `memory.init`.
-    memory_init(P::MemoryInit),
+    memory_init(MemoryInit),
     /// `memory.copy`.
-    memory_copy(P::MemoryCopy),
+    memory_copy(MemoryCopy),
     /// `table.init`.
-    table_init(P::TableInit),
+    table_init(TableInit),
     /// `table.copy`.
-    table_copy(P::TableCopy),
+    table_copy(TableCopy),
     /// `ref.null`.
-    ref_null(P::HeapType),
+    ref_null(HeapType),
     /// `array.new_fixed`.
-    array_new_fixed(P::ArrayNewFixed),
+    array_new_fixed(ArrayNewFixed),
     /// `array.new_data`.
-    array_new_data(P::ArrayNewData),
+    array_new_data(ArrayNewData),
     /// `array.new_elem`.
-    array_new_elem(P::ArrayNewElem),
+    array_new_elem(ArrayNewElem),
     /// `array.fill`.
-    array_fill(P::ArrayFill),
+    array_fill(ArrayFill),
     /// `array.copy`.
-    array_copy(P::ArrayCopy),
+    array_copy(ArrayCopy),
     /// `ref.test`.
-    ref_test(P::RefTest),
+    ref_test(RefTest),
     /// `ref.cast`.
-    ref_cast(P::RefCast),
+    ref_cast(RefCast),
     /// `br_on_cast`.
-    br_on_cast(Box<P::BrOnCast>),
+    br_on_cast(Box<BrOnCast>),
     /// `br_on_cast_fail`.
-    br_on_cast_fail(Box<P::BrOnCastFail>),
+    br_on_cast_fail(Box<BrOnCastFail>),
     /// `i32.const`.
     i32_const(i32),
     /// `i64.const`.
@@ -245,33 +135,138 @@ pub enum InstructionOf<P: Payloads> {
     /// `i8x16.shuffle`.
     i8x16_shuffle(I8x16Shuffle),
     /// `try_table`.
-    try_table(P::TryTable),
+    try_table(TryTable),
     /// `cont.bind`.
-    cont_bind(P::ContBind),
+    cont_bind(ContBind),
     /// `resume`.
-    resume(P::Resume),
+    resume(Resume),
     /// `resume_throw`.
-    resume_throw(P::ResumeThrow),
+    resume_throw(ResumeThrow),
     /// `resume_throw_ref`.
-    resume_throw_ref(P::ResumeThrowRef),
+    resume_throw_ref(ResumeThrowRef),
     /// `switch`.
-    switch(P::Switch),
+    switch(Switch),
     /// `ref.cast_desc_eq`.
-    ref_cast_desc_eq(P::RefCastDescEq),
+    ref_cast_desc_eq(RefCastDescEq),
     /// `br_on_cast_desc_eq`.
-    br_on_cast_desc_eq(Box<P::BrOnCastDescEq>),
+    br_on_cast_desc_eq(Box<BrOnCastDescEq>),
     /// `br_on_cast_desc_eq_fail`.
-    br_on_cast_desc_eq_fail(Box<P::BrOnCastDescEqFail>),
+    br_on_cast_desc_eq_fail(Box<BrOnCastDescEqFail>),
 }
 
 /// An instruction of a text.
-pub type Instruction<'a> = InstructionOf<Text<'a>>;
+pub type Instruction<'a> = InstructionOf<
+    BlockType<'a>,
+    Id<'a>,
+    Index<'a>,
+    CallIndirect<'a>,
+    TableArg<'a>,
+    MemArg<'a>,
+    MemoryArg<'a>,
+    StructAccess<'a>,
+    ArrayInit<'a>,
+    BrTableIndices<'a>,
+    SelectTypes<'a>,
+    MemoryInit<'a>,
+    MemoryCopy<'a>,
+    TableInit<'a>,
+    TableCopy<'a>,
+    HeapType<'a>,
+    ArrayNewFixed<'a>,
+    ArrayNewData<'a>,
+    ArrayNewElem<'a>,
+    ArrayFill<'a>,
+    ArrayCopy<'a>,
+    RefTest<'a>,
+    RefCast<'a>,
+    BrOnCast<'a>,
+    BrOnCastFail<'a>,
+    TryTable<'a>,
+    ContBind<'a>,
+    Resume<'a>,
+    ResumeThrow<'a>,
+    ResumeThrowRef<'a>,
+    Switch<'a>,
+    RefCastDescEq<'a>,
+    BrOnCastDescEq<'a>,
+    BrOnCastDescEqFail<'a>,
+>;
 
-impl<P: Payloads> InstructionOf<P> {
+impl<
+    BlockType,
+    Id,
+    Index,
+    CallIndirect,
+    TableArg,
+    MemArg,
+    MemoryArg,
+    StructAccess,
+    ArrayInit,
+    BrTableIndices,
+    SelectTypes,
+    MemoryInit,
+    MemoryCopy,
+    TableInit,
+    TableCopy,
+    HeapType,
+    ArrayNewFixed,
+    ArrayNewData,
+    ArrayNewElem,
+    ArrayFill,
+    ArrayCopy,
+    RefTest,
+    RefCast,
+    BrOnCast,
+    BrOnCastFail,
+    TryTable,
+    ContBind,
+    Resume,
+    ResumeThrow,
+    ResumeThrowRef,
+    Switch,
+    RefCastDescEq,
+    BrOnCastDescEq,
+    BrOnCastDescEqFail,
+> InstructionOf<
+    BlockType,
+    Id,
+    Index,
+    CallIndirect,
+    TableArg,
+    MemArg,
+    MemoryArg,
+    StructAccess,
+    ArrayInit,
+    BrTableIndices,
+    SelectTypes,
+    MemoryInit,
+    MemoryCopy,
+    TableInit,
+    TableCopy,
+    HeapType,
+    ArrayNewFixed,
+    ArrayNewData,
+    ArrayNewElem,
+    ArrayFill,
+    ArrayCopy,
+    RefTest,
+    RefCast,
+    BrOnCast,
+    BrOnCastFail,
+    TryTable,
+    ContBind,
+    Resume,
+    ResumeThrow,
+    ResumeThrowRef,
+    Switch,
+    RefCastDescEq,
+    BrOnCastDescEq,
+    BrOnCastDescEqFail,
+> {
     /// The access of an instruction that accesses a memory, also of one to a lane, and else None. What is written through
     /// it changes the access alone.
-    pub fn memarg_mut(&mut self) -> Option<&mut P::MemArg>
-        ensures* writes_back { sem 𝓛 (LendsAccess P.row P.BlockType.row P.Id.row P.Index.row P.CallIndirect.row P.TableArg.row P.MemArg.row P.MemoryArg.row P.StructAccess.row P.ArrayInit.row P.BrTableIndices.row P.SelectTypes.row P.MemoryInit.row P.MemoryCopy.row P.TableInit.row P.TableCopy.row P.HeapType.row P.ArrayNewFixed.row P.ArrayNewData.row P.ArrayNewElem.row P.ArrayFill.row P.ArrayCopy.row P.RefTest.row P.RefCast.row P.BrOnCast.row P.BrOnCastFail.row P.TryTable.row P.ContBind.row P.Resume.row P.ResumeThrow.row P.ResumeThrowRef.row P.Switch.row P.RefCastDescEq.row P.BrOnCastDescEq.row P.BrOnCastDescEqFail.row self.entry result) }
+    pub fn memarg_mut(&mut self) -> Option<&mut MemArg>
+        ensures* writes_back { sem 𝓛 (LendsAccess BlockType.row Id.row Index.row CallIndirect.row TableArg.row MemArg.row MemoryArg.row StructAccess.row ArrayInit.row BrTableIndices.row SelectTypes.row MemoryInit.row MemoryCopy.row TableInit.row TableCopy.row HeapType.row ArrayNewFixed.row ArrayNewData.row ArrayNewElem.row ArrayFill.row ArrayCopy.row RefTest.row RefCast.row BrOnCast.row BrOnCastFail.row TryTable.row ContBind.row Resume.row ResumeThrow.row ResumeThrowRef.row Switch.row RefCastDescEq.row BrOnCastDescEq.row BrOnCastDescEqFail.row self.entry result) }
         ensures value { access_in self.old ≡ option_map (λ r. r.now) result }
     {
         match self {

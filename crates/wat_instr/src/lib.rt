@@ -11,7 +11,7 @@ mod singles;
 #[cfg(test)]
 mod tests;
 
-pub use instruction::{Instruction, InstructionOf, Payloads, Text};
+pub use instruction::{Instruction, InstructionOf};
 pub use wat_mnemonics::{
     AccessOp, ArrayInitOp, AtomicAccessOp, BlockOp, CallIndirectOp, Head, IndexedOp, LabelOp,
     LaneAccessOp, LaneOp, MemoryOp, Opcode, OrderedIndexOp, OrderedStructOp, OrderedTableOp,
