@@ -1,0 +1,38 @@
+-- Heights of a stack, and tokens that are taken.
+use Rattle.std.specs.Prelude.{max, length}
+use Rattle.std.proofs.Common.{◌≡◌, ℕ, ◌+◌, ◌≤◌, ◌<◌, List, [], ◌∷◌, ap, arith}
+use Rattle.wat_tokens.specs.Token.{Tok, LParen, RParen}
+use Rattle.wat_tokens.specs.Parens.{opens, closes, rise, nest, opens-append, closes-append}
+use Rattle.wat_tokens.specs.State.{State}
+use Rattle.wat_tokens.specs.Counts.{Counts, Carries, carried, carries_of, counts_within}
+
+-- how many more `(` than `)` there are is at most how the tokens rise, and nest
+rises : (c : List Tok) → opens c ≤ closes c + rise c
+rises [] = omega arith
+rises (LParen ∷ c) = omega (arith, rises c)
+rises (RParen ∷ c) = omega (arith, rises c)
+rises (_ ∷ c) = rises c
+
+nests : (c : List Tok) → rise c ≤ nest c
+nests [] = omega arith
+nests (x ∷ c) = omega arith
+
+-- A height that is the excess of `(` over `)` in what was taken may be noted.
+pub carries_height : (a b e : State) (k : ℕ) → Carries a b → k + closes a.left + opens b.left ≡ opens a.left + closes b.left → e ≡ record b { peak = max b.peak k } → Carries a e
+unfolding Counts
+carries_height a b e k f l q =
+    let p = carried a b f in
+    let o = ap opens p.left in
+    let s = ap closes p.left in
+    let n : k ≤ nest p.front = omega (arith, l, o, s, opens-append p.front b.left, closes-append p.front b.left, rises p.front, nests p.front) in
+    let c : Counts a (record b { peak = max b.peak k }) = record { front = p.front; left = p.left; taken = p.taken; more = p.more; peak = omega (arith, p.peak, n) } in
+    rw q (carries_of a (record b { peak = max b.peak k }) c)
+
+-- what was taken stays taken
+pub taken_more : (a b : State) → Carries a b → a.taken ≤ b.taken
+unfolding Counts
+taken_more a b f = let p = carried a b f in omega (arith, p.taken)
+
+-- where less is left, more was taken
+pub taken_one : (a b : State) → Carries a b → length b.left < length a.left → a.taken + 1 ≤ b.taken
+taken_one a b f l = let p = counts_within a b f in omega (arith, p, l)

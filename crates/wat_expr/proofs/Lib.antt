@@ -1,0 +1,13 @@
+pub mod Bounds
+pub mod Cases
+pub mod Flatten
+pub mod FoldedLoop
+pub mod FoldedReads
+pub mod Folding
+pub mod Heights
+pub mod Levels
+pub mod OneReading
+pub mod Steps
+pub mod Stuck
+pub mod Turns
+pub mod Whole

@@ -1,0 +1,66 @@
+use Rattle.std.proofs.Common.{rules, None, refl, ap, ◌∙◌}
+use Rattle.std.proofs.lemmas.Result.{err_from_is_err_and}
+use Rattle.wat_expr.specs.Flat.{no_output}
+use Rattle.wat_expr.specs.Folded.{folded_instruction}
+use Rattle.wat_expr.proofs.FoldedLoop.{is_some, is_none, going_begins, going_on, going_smaller, going_halts, going_ends, going_reads, refused_first, refused_later}
+use Rattle.wat_expr.proofs.FoldedReads.{begun, not_begun, no_word, read_not_bare}
+use Rattle.wat_expr.proofs.expression.Expression.parse_folded_instruction.Goals as goal
+
+pub returns-in_err-open-clause-exact : goal.returns-in_err-open-clause-exact
+unfolding folded_instruction
+returns-in_err-open-clause-exact c =
+    let p = err_from_is_err_and c.from_residual.result c.from_residual.ensures.1 in
+    rw (p.1, p.2) ((λ not. not_begun _ c.in_err-open.ensures.exact.0), (λ m. absurd (c.in_err-open.ensures.exact.1 m)))
+
+pub returns-in_err-instr-clause-exact : goal.returns-in_err-instr-clause-exact
+unfolding folded_instruction
+returns-in_err-instr-clause-exact c =
+    let p = err_from_is_err_and c.from_residual-in_err-instr.result c.from_residual-in_err-instr.ensures.1 in
+    rw (p.1, p.2) ((λ not. no_word _ _ (begun _ _ _ c.in_ok-open.ensures.exact) (c.in_err-instr.ensures.exact not)), (λ m. (refl, read_not_bare c.args.parser.now.left)))
+
+pub returns-in_err-instr-clause-counts : goal.returns-in_err-instr-clause-counts
+returns-in_err-instr-clause-counts c =
+    let p = err_from_is_err_and c.from_residual-in_err-instr.result c.from_residual-in_err-instr.ensures.1 in
+    (search rules, rw p.1 (refused_first c.args.parser.now c.open.new.self c.take_instr.new.parser c.in_ok-open.ensures.counts.0 c.in_ok-open.ensures.quiet.0 c.in_err-instr.ensures.counts c.in_err-instr.ensures.stays.0))
+
+pub returns-in_err-push-clause-exact : goal.returns-in_err-push-clause-exact
+unfolding folded_instruction
+returns-in_err-push-clause-exact c =
+    let p = err_from_is_err_and c.from_residual-in_err-push.result c.from_residual-in_err-push.ensures.1 in
+    rw (p.1, p.2) ((λ not. absurd (not c.in_err-push.ensures)), (λ m. (refl, read_not_bare c.args.parser.now.left)))
+
+pub returns-in_err-push-clause-counts : goal.returns-in_err-push-clause-counts
+returns-in_err-push-clause-counts c =
+    let p = err_from_is_err_and c.from_residual-in_err-push.result c.from_residual-in_err-push.ensures.1 in
+    (search rules, rw p.1 (refused_first c.args.parser.now c.open.new.self c.take_instr.new.parser c.in_ok-open.ensures.counts.0 c.in_ok-open.ensures.quiet.0 c.in_ok-instr.ensures.counts c.in_ok-instr.ensures.stays.0))
+
+pub returns-in_err-turn-clause-exact : goal.returns-in_err-turn-clause-exact
+unfolding folded_instruction
+returns-in_err-turn-clause-exact c =
+    let p = err_from_is_err_and c.from_residual-in_err-turn.result c.from_residual-in_err-turn.ensures.1 in
+    rw (p.1, p.2) ((λ not. going_halts _ _ _ _ _ c.groups.invariant (is_some _ _ c.is_empty.ensures c.groups-test.true) c.tick.ensures.only (c.in_err-turn.ensures.turned not)), (λ m. (refl, read_not_bare c.args.parser.now.left)))
+
+pub returns-in_err-turn-clause-counts : goal.returns-in_err-turn-clause-counts
+returns-in_err-turn-clause-counts c =
+    let p = err_from_is_err_and c.from_residual-in_err-turn.result c.from_residual-in_err-turn.ensures.1 in
+    let g = c.groups.invariant in
+    ((λ s n. c.in_err-turn.ensures.counts s (c.tick.ensures.counts s (g.counts s n))), rw p.1 (refused_later c.args.parser.now c.groups.parser c.tick.new.self c.turn.new.parser g.turned c.tick.ensures.only c.in_err-turn.ensures.counts c.in_err-turn.ensures.stays.0))
+
+pub groups-init : goal.groups-init
+groups-init c =
+    going_begins _ _ _ _ _ _ None _ _ _ _ (begun _ _ _ c.in_ok-open.ensures.exact) c.in_ok-open.ensures.counts.0 c.in_ok-open.ensures.quiet c.in_ok-open.ensures.names c.in_ok-instr.ensures.exact c.in_ok-instr.ensures.counts c.in_ok-instr.ensures.stays c.in_ok-instr.ensures.names (rw c.new-levels.ensures at c.in_ok-push.ensures) (c.empty-out.ensures ∙ ap no_output c.tracks.ensures) c.height.ensures c.note_height.ensures c.held.ensures c.note_held.ensures.only c.note_held.ensures.counts
+
+pub groups-smaller : goal.groups-smaller
+groups-smaller c =
+    going_smaller _ _ _ _ _ _ _ _ _ _ _ (is_some _ _ c.is_empty.ensures c.groups-test.true) c.tick.ensures.only c.in_ok-turn.ensures.turned c.note_height-in-groups.ensures c.note_held-in-groups.ensures.only
+
+pub groups-preserved : goal.groups-preserved
+groups-preserved c =
+    going_on _ _ _ _ _ _ _ _ _ _ _ _ c.groups.invariant (is_some _ _ c.is_empty.ensures c.groups-test.true) c.tick.ensures.only c.tick.ensures.counts c.in_ok-turn.ensures.turned c.in_ok-turn.ensures.counts c.in_ok-turn.ensures.stays c.in_ok-turn.ensures.names c.height-in-groups.ensures c.note_height-in-groups.ensures c.held-in-groups.ensures c.note_held-in-groups.ensures.only c.note_held-in-groups.ensures.counts
+
+pub returns-clause-exact : goal.returns-clause-exact
+unfolding folded_instruction
+returns-clause-exact c = going_reads _ _ _ c.groups.out c.groups.invariant (is_none _ _ c.is_empty.ensures c.groups-test.false)
+
+pub returns-clause-listed : goal.returns-clause-listed
+returns-clause-listed c = going_ends _ _ _ c.groups.out c.groups.invariant (is_none _ _ c.is_empty.ensures c.groups-test.false)

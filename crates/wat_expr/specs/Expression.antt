@@ -1,0 +1,29 @@
+-- An expression as contracts see it.
+use Rattle.std.specs.Prelude.{◌≡◌, ℕ, Bool, true, false, List, length, map, Some, None}
+use Rattle.wat_tokens.specs.Parses.{no_items}
+use Rattle.wat_instr.specs.Instruction.{Instr, seen_instruction}
+use Rattle.wat_expr.specs.declared.expression.BranchHint.{BranchHint}
+use Rattle.wat_expr.specs.declared.expression.Expression.{Expression}
+use Rattle.wat_expr.specs.Items.{Items, unfolded, hints}
+
+-- its instructions, and each hint as an index and a value
+pub record Expr : Type 0 where
+  pub instrs : List Instr
+  pub hints : List (ℕ × ℕ)
+
+abbrev pub seen_hint : BranchHint → ℕ × ℕ
+seen_hint h = (h.instr_index, h.value)
+
+abbrev pub seen_expression : Expression → Expr
+seen_expression e = record { instrs = map seen_instruction e.instrs.items; hints = map seen_hint e.branch_hints.items }
+
+abbrev pub bare_expression : Expr → Bool
+bare_expression e = no_items e.instrs
+
+-- what items are as an expression
+abbrev pub value_of : Items → Expr
+value_of xs = record { instrs = unfolded xs; hints = hints xs 0 }
+
+-- as many spans as instructions where they are kept, and else none
+abbrev pub SpansAre : Bool → Expression → Type 0
+SpansAre keeps e = elim e.instr_spans [ Some v ↦ (keeps ≡ true) × (length v.items ≡ length e.instrs.items) | None ↦ keeps ≡ false ]

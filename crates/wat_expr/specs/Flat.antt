@@ -1,0 +1,37 @@
+-- What a loop has put out.
+use Rattle.std.specs.Prelude.{ℕ, suc, Bool, List, [], ◌∷◌, ◌++◌, length, map, Option, Some, None, Vec, if◌then◌else◌}
+use Rattle.std.specs.declared.alloc.Global.{Global}
+use Rattle.wat_instr.specs.Instruction.{Instr, seen_instruction}
+use Rattle.wat_expr.specs.declared.expression.Expression.{Expression}
+use Rattle.wat_expr.specs.Expression.{seen_hint}
+use Rattle.wat_expr.specs.Items.{mark}
+
+-- the instructions, the hints, and how many spans are kept, where they are
+pub record Flat : Type 0 where
+  pub instrs : List Instr
+  pub hints : List (ℕ × ℕ)
+  pub spans : Option ℕ
+
+-- how many spans are kept, where they are
+abbrev pub number_of : {S : Type 0} → Option (Vec S Global) → Option ℕ
+number_of (Some v) = Some (length v.items)
+number_of None = None
+
+abbrev pub flat : Expression → Flat
+flat e = record {
+  instrs = map seen_instruction e.instrs.items;
+  hints = map seen_hint e.branch_hints.items;
+  spans = number_of e.instr_spans;
+}
+
+-- nothing yet
+abbrev pub no_output : Bool → Flat
+no_output keeps = record { instrs = []; hints = []; spans = if keeps then Some 0 else None }
+
+abbrev pub one_more : Option ℕ → Option ℕ
+one_more (Some n) = Some (suc n)
+one_more None = None
+
+-- an instruction at the end, with the hint that stands directly before its item
+abbrev pub push : Option ℕ → Instr → Flat → Flat
+push p i f = record { instrs = f.instrs ++ i ∷ []; hints = f.hints ++ mark p (length f.instrs); spans = one_more f.spans }

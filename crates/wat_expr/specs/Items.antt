@@ -1,0 +1,169 @@
+-- Expressions: items, the tokens that list them, and what they unfold to.
+use Rattle.std.specs.Prelude.{◌≡◌, ℕ, suc, ◌+◌, ◌<◌, max, Bool, true, false, List, [], ◌∷◌, ◌++◌, length, Option, Some, None, codes}
+use Rattle.wat_tokens.specs.Token.{Tok, LParen, RParen, Keyword, Annotation, String}
+use Rattle.wat_instr.specs.Instruction.{Instr, instruction, is_block, is_if, else_instr, end_instr}
+
+-- what stands behind an instruction in its group
+pub data Sort : Type 0 where
+  IsBlock : Sort
+  IsIf : Sort
+  IsOther : Sort
+
+abbrev pub sort_of : Bool → Bool → Sort
+sort_of true _ = IsBlock
+sort_of false true = IsIf
+sort_of false false = IsOther
+
+-- a block's instruction, an `if`, or any other
+abbrev pub sort : Instr → Sort
+sort i = sort_of (is_block i.row) (is_if i.row)
+
+-- From the tokens ts the instruction is read, and r is left.
+abbrev pub reads : Instr → List Tok → List Tok → Type 0
+reads i ts r = instruction.reads ts ≡ Some (i, r)
+
+-- A list of items: its first item, and last the items after it. A hint stands in front of the items after it.
+pub data Items : Type 0 where
+  Nil : Items
+  Plain : Instr → Items → Items
+  Folded : Instr → Items → Items → Items
+  Block : Instr → Items → Items → Items
+  IfThen : Instr → Items → Items → Items → Items
+  IfElse : Instr → Items → Items → Items → Items → Items
+  Hinted : ℕ → Items → Items
+
+-- P holds where the list has a Plain item, and G where it has any other
+abbrev pub Only : Type 0 → Type 0 → Items → Type 0
+Only P G Nil = Unit {0}
+Only P G (Plain i xs) = P × Only P G xs
+Only P G (Folded i ys xs) = G × Only P G xs
+Only P G (Block i ys xs) = G × Only P G xs
+Only P G (IfThen i ops th xs) = G × Only P G xs
+Only P G (IfElse i ops th el xs) = G × Only P G xs
+Only P G (Hinted v xs) = G × Only P G xs
+
+-- groups and hints alone
+abbrev pub AreGroups : Items → Type 0
+AreGroups xs = Only ⊥ (Unit {0}) xs
+
+-- the first item exists and isn't a hint
+abbrev pub BeginsWithInstr : Items → Type 0
+BeginsWithInstr Nil = ⊥
+BeginsWithInstr (Plain i xs) = Unit {0}
+BeginsWithInstr (Folded i ys xs) = Unit {0}
+BeginsWithInstr (Block i ys xs) = Unit {0}
+BeginsWithInstr (IfThen i ops th xs) = Unit {0}
+BeginsWithInstr (IfElse i ops th el xs) = Unit {0}
+BeginsWithInstr (Hinted v xs) = ⊥
+
+-- the tokens of a word and of a hint's annotation
+abbrev pub word : List ℕ → Tok
+word w = Keyword w
+
+abbrev pub hint_name : Tok
+hint_name = Annotation (codes "metadata.code.branch_hint")
+
+-- The tokens ts list the items, in front of the rest r.
+abbrev pub lists : Items → List Tok → List Tok → Type 0
+-- nothing
+lists Nil ts r = ts ≡ r
+-- i
+lists (Plain i xs) ts r = (m : List Tok) × reads i ts m × lists xs m r
+-- ( i items )
+lists (Folded i ys xs) ts r =
+    (a b d : List Tok) × (ts ≡ LParen ∷ a) × (sort i ≡ IsOther) × reads i a b × lists ys b (RParen ∷ d) × lists xs d r
+-- ( i items ), of a block
+lists (Block i ys xs) ts r =
+    (a b d : List Tok) × (ts ≡ LParen ∷ a) × (sort i ≡ IsBlock) × reads i a b × lists ys b (RParen ∷ d) × lists xs d r
+-- ( if groups ( then items ) )
+lists (IfThen i ops th xs) ts r =
+    (a b d e : List Tok) × (ts ≡ LParen ∷ a) × (sort i ≡ IsIf) × reads i a b × AreGroups ops × lists ops b (LParen ∷ word (codes "then") ∷ d) × lists th d (RParen ∷ RParen ∷ e) × lists xs e r
+-- ( if groups ( then items ) ( else items ) )
+lists (IfElse i ops th el xs) ts r =
+    (a b d e f : List Tok) × (ts ≡ LParen ∷ a) × (sort i ≡ IsIf) × reads i a b × AreGroups ops × lists ops b (LParen ∷ word (codes "then") ∷ d) × lists th d (RParen ∷ LParen ∷ word (codes "else") ∷ e) × lists el e (RParen ∷ RParen ∷ f) × lists xs f r
+-- ( @metadata.code.branch_hint "v" ), v the byte 0 or 1, and an item that isn't a hint
+lists (Hinted v xs) ts r =
+    (d : List Tok) × (ts ≡ LParen ∷ hint_name ∷ String (v ∷ []) ∷ RParen ∷ d) × (v < 2) × BeginsWithInstr xs × lists xs d r
+
+-- The instructions in the order of a flat list: a folded one behind its operands, a block's and an `if`'s in front of
+-- what it holds, with `else` and `end` added.
+abbrev pub unfolded : Items → List Instr
+unfolded Nil = []
+unfolded (Plain i xs) = i ∷ unfolded xs
+unfolded (Folded i ys xs) = (unfolded ys ++ i ∷ []) ++ unfolded xs
+unfolded (Block i ys xs) = (i ∷ (unfolded ys ++ end_instr ∷ [])) ++ unfolded xs
+unfolded (IfThen i ops th xs) = (unfolded ops ++ (i ∷ (unfolded th ++ end_instr ∷ []))) ++ unfolded xs
+unfolded (IfElse i ops th el xs) =
+    (unfolded ops ++ (i ∷ (unfolded th ++ (else_instr ∷ (unfolded el ++ end_instr ∷ []))))) ++ unfolded xs
+unfolded (Hinted v xs) = unfolded xs
+
+-- the pair of an instruction's index and the hint directly before its item, where one stands there
+abbrev pub mark : Option ℕ → ℕ → List (ℕ × ℕ)
+mark None head = []
+mark (Some v) head = (head, v) ∷ []
+
+-- The hints of items that unfold from the index b on, where p is the hint that stands directly before the first.
+abbrev pub hints_behind : Option ℕ → Items → ℕ → List (ℕ × ℕ)
+hints_behind p Nil b = []
+hints_behind p (Plain i xs) b = mark p b ++ hints_behind None xs (b + 1)
+hints_behind p (Folded i ys xs) b =
+    let head = b + length (unfolded ys) in
+    (hints_behind None ys b ++ mark p head) ++ hints_behind None xs (head + 1)
+hints_behind p (Block i ys xs) b =
+    (mark p b ++ hints_behind None ys (b + 1)) ++ hints_behind None xs (b + 1 + length (unfolded ys) + 1)
+hints_behind p (IfThen i ops th xs) b =
+    let head = b + length (unfolded ops) in
+    (hints_behind None ops b ++ (mark p head ++ hints_behind None th (head + 1))) ++ hints_behind None xs (head + 1 + length (unfolded th) + 1)
+hints_behind p (IfElse i ops th el xs) b =
+    let head = b + length (unfolded ops) in
+    let other = head + 1 + length (unfolded th) + 1 in
+    (hints_behind None ops b ++ (mark p head ++ (hints_behind None th (head + 1) ++ hints_behind None el other))) ++ hints_behind None xs (other + length (unfolded el) + 1)
+hints_behind p (Hinted v xs) b = hints_behind (Some v) xs b
+
+-- Each hint of the items, with the index of the instruction of the item that it stands before; the items unfold from
+-- the index b on.
+abbrev pub hints : Items → ℕ → List (ℕ × ℕ)
+hints xs b = hints_behind None xs b
+
+-- ---- how many items, and how deep
+
+-- the items at all depths
+abbrev pub count : Items → ℕ
+count Nil = 0
+count (Plain i xs) = suc (count xs)
+count (Folded i ys xs) = suc (count ys + count xs)
+count (Block i ys xs) = suc (count ys + count xs)
+count (IfThen i ops th xs) = suc (count ops + count th + count xs)
+count (IfElse i ops th el xs) = suc (count ops + count th + count el + count xs)
+count (Hinted v xs) = suc (count xs)
+
+-- the hints among them
+abbrev pub count_hints : Items → ℕ
+count_hints Nil = 0
+count_hints (Plain i xs) = count_hints xs
+count_hints (Folded i ys xs) = count_hints ys + count_hints xs
+count_hints (Block i ys xs) = count_hints ys + count_hints xs
+count_hints (IfThen i ops th xs) = count_hints ops + count_hints th + count_hints xs
+count_hints (IfElse i ops th el xs) = count_hints ops + count_hints th + count_hints el + count_hints xs
+count_hints (Hinted v xs) = suc (count_hints xs)
+
+-- how deep groups stand in groups: 0 for instructions alone and hints
+abbrev pub depth : Items → ℕ
+depth Nil = 0
+depth (Plain i xs) = depth xs
+depth (Folded i ys xs) = max (suc (depth ys)) (depth xs)
+depth (Block i ys xs) = max (suc (depth ys)) (depth xs)
+depth (IfThen i ops th xs) = max (suc (max (depth ops) (depth th))) (depth xs)
+depth (IfElse i ops th el xs) = max (suc (max (depth ops) (max (depth th) (depth el)))) (depth xs)
+depth (Hinted v xs) = depth xs
+
+-- how many instructions wait at once for the end of their operands: those of folded groups, and of an `if` for its
+-- operands alone
+abbrev pub deep : Items → ℕ
+deep Nil = 0
+deep (Plain i xs) = deep xs
+deep (Folded i ys xs) = max (suc (deep ys)) (deep xs)
+deep (Block i ys xs) = max (deep ys) (deep xs)
+deep (IfThen i ops th xs) = max (max (suc (deep ops)) (deep th)) (deep xs)
+deep (IfElse i ops th el xs) = max (max (suc (deep ops)) (max (deep th) (deep el))) (deep xs)
+deep (Hinted v xs) = deep xs

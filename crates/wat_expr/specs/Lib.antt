@@ -1,0 +1,14 @@
+pub use Rattle.wat_instr.specs.Instruction
+pub mod Items
+pub mod Facts
+pub mod Expression
+pub mod Reading
+pub mod Folded
+pub mod Flat
+pub mod Levels
+pub mod Taken
+pub mod Listed
+pub mod Progress
+pub mod Turned
+pub mod GroupTurn
+pub mod Rising

@@ -1,0 +1,15 @@
+-- Where the reader stands.
+use Rattle.std.specs.Prelude.{◌≡◌, ◌<◌, List, [], ◌∷◌, Option, Some, None, ℕ}
+use Rattle.wat_tokens.specs.Token.{Tok}
+use Rattle.wat_expr.specs.declared.reader.Reader.{Reader}
+use Rattle.wat_expr.specs.Flat.{flat}
+use Rattle.wat_expr.specs.Progress.{Stand}
+
+-- in front of the tokens
+abbrev pub stand : Reader → List Tok → Stand
+stand r ts = record { levels = r.levels; pending = r.pending; left = ts; out = flat r.out }
+
+-- the byte that a hint's string is, 0 or 1
+abbrev pub IsHintByte : Option ℕ → List ℕ → Type 0
+IsHintByte (Some v) s = (v < 2) × (s ≡ v ∷ [])
+IsHintByte None s = (v : ℕ) → v < 2 → s ≡ v ∷ [] → ⊥

@@ -1,0 +1,174 @@
+//! Expressions.
+
+ghost use Rattle.std.specs.Prelude.{◌≡◌, [], ◌∷◌, ◌++◌, List, map, None, true, false, IsTrue, IfOk, IfErr, MatchResult};
+ghost use Rattle.wat_expr.specs.Expression.{Expr, seen_hint, seen_expression, bare_expression, value_of, SpansAre};
+ghost use Rattle.wat_expr.specs.Flat.{number_of, flat, no_output, one_more, push};
+ghost use Rattle.wat_expr.specs.Items.{Items, lists, mark};
+ghost use Rattle.wat_expr.specs.Listed.{IsListed};
+ghost use Rattle.wat_expr.specs.Reading.{expression};
+ghost use Rattle.wat_instr.specs.Instruction.{seen_instruction, end_instr};
+ghost use Rattle.wat_tokens.specs.Counts.{Counted, Quiet, Kept};
+ghost use Rattle.wat_tokens.specs.Parses.{Gives, Accepts};
+ghost use Rattle.wat_tokens.specs.Tests.{ends};
+ghost use Rattle.wat_tokens.specs.Token.{Tok};
+
+use crate::reader::Reader;
+use std::alloc::Global;
+use wat_instr::{Instruction, LabelOp};
+use wat_tokens::{Error, Fault, Parse, Parser, Result, Span};
+
+/// A hint whether a branch is likely to be taken (Branch Hinting, Custom Annotation
+/// `@metadata.code.branch_hint`).
+#[derive(Debug, Drop)]
+pub struct BranchHint {
+    /// The index of its instruction in the expression.
+    pub instr_index: usize,
+    /// 1 where the branch is likely, and else 0.
+    pub value: u32,
+}
+
+/// Instructions as one flat list (WebAssembly Core Specification, Text Format, Instructions, "Expressions").
+///
+/// Folded instructions stand behind their operands, and a block that was written as a group is followed by `end`
+/// (Text Format, "Folded Instructions").
+#[derive(Debug, Drop)]
+pub struct Expression<'a> {
+    /// The instructions, in order.
+    pub instrs: Vec<Instruction<'a>>,
+    /// The hints, in rising order of their instructions.
+    pub branch_hints: Vec<BranchHint>,
+    /// Where each instruction's word begins, where the parser was told to keep it. An `end` that was added begins at the
+    /// `)` of its group.
+    pub instr_spans: Option<Vec<Span>>,
+}
+
+/// Puts a hint behind the others, where there is one; `index` is that of its instruction. Memory refuses it.
+fn add_hint(hints: &mut Vec<BranchHint>, hint: Option<u32>, index: usize) -> Result<()>
+    ensures { MatchResult result (λ _. map seen_hint hints.new.items ≡ map seen_hint hints.old.items ++ mark hint index) (λ e. e.fault ≡ Fault.Memory) }
+{
+    match hint {
+        Some(value) => {
+            hints.push(BranchHint {
+                instr_index: index,
+                value,
+            })?;
+            Ok(())
+        }
+        None => Ok(()),
+    }
+}
+
+/// Puts a span behind the others, where they are kept. Memory refuses it.
+fn add_span(spans: &mut Option<Vec<Span>>, span: Span) -> Result<()>
+    ensures { MatchResult result (λ _. number_of spans.new ≡ one_more (number_of spans.old)) (λ e. e.fault ≡ Fault.Memory) }
+{
+    match spans {
+        Some(kept) => {
+            kept.push(span)?;
+            Ok(())
+        }
+        None => Ok(()),
+    }
+}
+
+impl<'a> Expression<'a> {
+    /// An expression of one instruction, without hints and spans. Memory may be answered.
+    pub fn one(alloc: Global, instr: Instruction<'a>) -> Result<Expression<'a>>
+        ensures value { IfOk result (λ e. e.instrs.items ≡ instr.entry ∷ []) }
+        ensures hints { IfOk result (λ e. e.branch_hints.items ≡ []) }
+        ensures spans { IfOk result (λ e. e.instr_spans ≡ None) }
+        ensures memory { IfErr result (λ e. e.fault ≡ Fault.Memory) }
+    {
+        let mut instrs = Vec::new(alloc);
+        instrs.push(instr)?;
+        Ok(Expression {
+            instrs,
+            branch_hints: Vec::new(alloc),
+            instr_spans: None,
+        })
+    }
+
+    /// No instructions; spans are kept where `tracks` says so.
+    pub(crate) fn empty(alloc: Global, tracks: bool) -> Expression<'a>
+        ensures { flat result ≡ no_output tracks }
+    {
+        Expression {
+            instrs: Vec::new(alloc),
+            branch_hints: Vec::new(alloc),
+            instr_spans: if tracks { Some(Vec::new(alloc)) } else { None },
+        }
+    }
+
+    /// Puts an instruction behind the others, with the hint that stands directly before its item. Memory refuses it.
+    pub(crate) fn push(
+        &mut self,
+        hint: Option<u32>,
+        instr: Instruction<'a>,
+        span: Span,
+    ) -> Result<()>
+        ensures { MatchResult result (λ _. flat self.new ≡ push hint (seen_instruction instr.entry) (flat self.old)) (λ e. e.fault ≡ Fault.Memory) }
+    {
+        add_hint(&mut self.branch_hints, hint, self.instrs.len())?;
+        add_span(&mut self.instr_spans, span)?;
+        self.instrs.push(instr)?;
+        Ok(())
+    }
+
+    /// Puts an `end` behind the others; `span` is where the `)` stands that it is added for. Memory refuses it.
+    pub(crate) fn push_end(&mut self, span: Span) -> Result<()>
+        ensures { MatchResult result (λ _. flat self.new ≡ push None end_instr (flat self.old)) (λ e. e.fault ≡ Fault.Memory) }
+    {
+        self.push(None, Instruction::Label(LabelOp::end, None), span)
+    }
+}
+
+/// Items up to the end of the group (WebAssembly Core Specification, Text Format, Instructions, "Expressions").
+///
+/// An item is an instruction alone, or a group `(`, an instruction, items, `)`: a block, `if` with its groups, `( then`
+/// items `)` and `( else` items `)`, or a folded instruction. Where the standard annotations are known, an item may have a
+/// branch hint `(@metadata.code.branch_hint "v")` before it, `v` being the byte 0 or 1.
+///
+/// Refused are, at the token in front: what is no instruction's word where one is needed, with Operator; an `if` that closes
+/// without `( then`, with IfWithoutThen; a group behind its `( else .. )`, with IfTooMany; the string of a hint that isn't
+/// such a byte, with HintValue, or that has a hint directly before it, with HintTwice; a hint with no item behind it, with
+/// HintPlace; anything else, with Unexpected.
+impl<'a> Parse<'a> for Expression<'a> {
+    ghost Seen = { Expr };
+
+    ghost seen = { seen_expression };
+
+    ghost light = { false };
+
+    ghost bare = { bare_expression };
+
+    ghost quiet = { false };
+
+    ghost grammar = { expression };
+
+    fn parse(parser: &mut Parser<'a>) -> Result<Self>
+        ensures exact { Gives false bare_expression seen_expression result (expression.reads parser.old.left) parser.new.left }
+        // The tokens that were taken list items, and these are their unfolding, their hints and their counts.
+        ensures listed { IfOk result (λ e. IsListed parser.old parser.new e) }
+        // Where tokens in front list items, to the end, these are answered, unless memory ran out.
+        ensures only { (xs : Items) (r : List Tok) → lists xs parser.old.left r → ends r ≡ true → Accepts seen_expression bare_expression result (value_of xs) parser.new.left r }
+        ensures spans { IfOk result (λ e. SpansAre parser.old.tracks e) }
+        ensures counts { Counted result parser.old parser.new }
+        ensures quiet { IsTrue false → Quiet parser.old parser.new }
+        ensures names { Kept parser.old parser.new }
+    {
+        let mut reader = Reader::new(parser.alloc(), parser.tracks());
+        'turns: while !reader.is_done(parser) {
+            parser.tick();
+            reader.turn(parser)?;
+            parser.note_height(reader.levels.height());
+            parser.note_held(reader.levels.held());
+        }
+        match reader.pending {
+            Some(_) => Err(Error {
+                fault: Fault::HintPlace,
+                span: parser.cur_span(),
+            }),
+            None => Ok(reader.out),
+        }
+    }
+}

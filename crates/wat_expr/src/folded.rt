@@ -1,0 +1,83 @@
+//! Folded instructions of any kind, as element segments and inline tables have them.
+
+ghost use Rattle.std.specs.Prelude.{◌≡◌, false, IfOk};
+ghost use Rattle.wat_expr.specs.Expression.{seen_expression, bare_expression, SpansAre};
+ghost use Rattle.wat_expr.specs.Flat.{flat};
+ghost use Rattle.wat_expr.specs.Folded.{folded_instruction};
+ghost use Rattle.wat_expr.specs.GroupTurn.{GroupTurn, spot};
+ghost use Rattle.wat_expr.specs.Listed.{IsFolded};
+ghost use Rattle.wat_mnemonics.specs.Probes.{Stays};
+ghost use Rattle.wat_tokens.specs.Counts.{Carries, Counted, Kept};
+ghost use Rattle.wat_tokens.specs.Parses.{Gives};
+
+use crate::expression::Expression;
+use crate::level::{Head, Level, Levels};
+use crate::take::{take_close, take_instr, take_open};
+use wat_tokens::{Parser, Result};
+
+/// One turn: a group opens, or the innermost one closes and its instruction is put behind the others.
+fn turn<'a>(
+    levels: &mut Levels<'a>,
+    out: &mut Expression<'a>,
+    parser: &mut Parser<'a>,
+) -> Result<()>
+    ensures turned { GroupTurn result (spot levels.old parser.old.left (flat out.old)) (spot levels.new parser.new.left (flat out.new)) }
+    ensures counts { Carries parser.old parser.new }
+    ensures stays { Stays parser.old parser.new }
+    ensures names { Kept parser.old parser.new }
+{
+    if take_open(parser) {
+        let span = parser.cur_span();
+        let instr = take_instr(parser)?;
+        return levels.push(Level::Folded(Head {
+            instr,
+            span,
+            hint: None,
+        }));
+    }
+    if !take_close(parser) {
+        return Err(parser.unexpected());
+    }
+    match levels.pop() {
+        Some(Level::Folded(head)) => out.push(None, head.instr, head.span),
+        _ => Err(parser.unexpected()),
+    }
+}
+
+impl<'a> Expression<'a> {
+    /// Reads one folded instruction: `(`, an instruction of any kind, folded instructions, and `)` (WebAssembly Core
+    /// Specification, Text Format, "Folded Instructions", as the elements of a segment are abbreviated).
+    ///
+    /// Each instruction stands behind those of its group; a block gets no `end`, and there are no hints. Where anything but
+    /// a `(` or a `)` stands between, it is refused with Unexpected at it; where an instruction's word is needed, with
+    /// Operator.
+    pub fn parse_folded_instruction(parser: &mut Parser<'a>) -> Result<Expression<'a>>
+        // What tokens in front spell is answered, and leaves what is behind them; memory alone may refuse it.
+        ensures exact { Gives false bare_expression seen_expression result (folded_instruction.reads parser.old.left) parser.new.left }
+        // What was read is one group, and these are its counts.
+        ensures listed { IfOk result (λ e. IsFolded parser.old parser.new e) }
+        ensures spans { IfOk result (λ e. SpansAre parser.old.tracks e) }
+        ensures counts { Counted result parser.old parser.new }
+        ensures names { Kept parser.old parser.new }
+    {
+        let mut levels = Levels::new(parser.alloc());
+        let mut out = Expression::empty(parser.alloc(), parser.tracks());
+        parser.open()?;
+        let span = parser.cur_span();
+        let instr = take_instr(parser)?;
+        levels.push(Level::Folded(Head {
+            instr,
+            span,
+            hint: None,
+        }))?;
+        parser.note_height(levels.height());
+        parser.note_held(levels.held());
+        'groups: while !levels.is_empty() {
+            parser.tick();
+            turn(&mut levels, &mut out, parser)?;
+            parser.note_height(levels.height());
+            parser.note_held(levels.held());
+        }
+        Ok(out)
+    }
+}

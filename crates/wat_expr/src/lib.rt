@@ -1,0 +1,13 @@
+//! Expressions of the WebAssembly text format: their instructions as one flat list, with branch hints.
+#![tactic(auto)]
+
+pub mod expression;
+mod folded;
+pub mod laws;
+mod level;
+mod reader;
+mod take;
+#[cfg(test)]
+mod tests;
+
+pub use expression::{BranchHint, Expression};

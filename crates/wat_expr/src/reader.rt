@@ -1,0 +1,254 @@
+//! The loop over the tokens of an expression, turn by turn.
+
+ghost use Rattle.std.specs.Prelude.{◌≡◌, ◌∷◌, [], List, ℕ, Option, None, true, codes, MatchBool};
+ghost use Rattle.wat_expr.specs.Flat.{flat, no_output};
+ghost use Rattle.wat_expr.specs.Items.{word, hint_name};
+ghost use Rattle.wat_expr.specs.Levels.{Level as Open, InIf, AfterThen};
+ghost use Rattle.wat_expr.specs.Progress.{IsOpen, Turned};
+ghost use Rattle.wat_expr.specs.Turned.{stand, IsHintByte};
+ghost use Rattle.wat_instr.specs.Instruction.{Instr};
+ghost use Rattle.wat_mnemonics.specs.Probes.{Stays};
+ghost use Rattle.wat_tokens.specs.Counts.{Carries, Kept};
+ghost use Rattle.wat_tokens.specs.Tests.{ends};
+ghost use Rattle.wat_tokens.specs.Token.{Tok, LParen, RParen};
+
+use crate::expression::Expression;
+use crate::level::{Head, Kind, Level, Levels};
+use crate::take::{take_close, take_hint_name, take_instr, take_open, take_string, take_word};
+use std::alloc::Global;
+use wat_instr::{Instruction, LabelOp};
+use wat_tokens::{Error, Fault, Parser, Result, Span};
+
+/// What the loop keeps from turn to turn.
+#[derive(Drop)]
+pub struct Reader<'a> {
+    pub levels: Levels<'a>,
+    pub out: Expression<'a>,
+    /// The hint that waits for the item behind it.
+    pub pending: Option<u32>,
+}
+
+/// The value of a hint's string: one byte, 0 or 1.
+fn hint_byte(bytes: &[u8]) -> Option<u32>
+    ensures { IsHintByte result bytes.now }
+{
+    match bytes {
+        [byte] if *byte < 2 => Some(u32::from(*byte)),
+        _ => None,
+    }
+}
+
+impl<'a> Reader<'a> {
+    /// In front of the first token; spans are kept where `tracks` says so.
+    pub fn new(alloc: Global, tracks: bool) -> Reader<'a>
+        ensures levels { result.levels ≡ [] }
+        ensures out { flat result.out ≡ no_output tracks }
+        ensures pending { result.pending ≡ None }
+    {
+        Reader {
+            levels: Levels::new(alloc),
+            out: Expression::empty(alloc, tracks),
+            pending: None,
+        }
+    }
+
+    /// Whether no group is open and nothing follows, or what closes a group does.
+    pub fn is_done(&self, parser: &Parser<'a>) -> bool
+        ensures { MatchBool result ((self.now.levels ≡ []) × (ends parser.now.left ≡ true)) (self.now.levels ≡ [] → ends parser.now.left ≡ true → ⊥) }
+    {
+        parser.is_empty() && self.levels.is_empty()
+    }
+
+    /// One turn: it decides by the token in front.
+    pub fn turn(&mut self, parser: &mut Parser<'a>) -> Result<()>
+        requires { self.old.levels ≡ [] → ends parser.old.left ≡ true → ⊥ }
+        ensures turned { Turned result (stand self.old parser.old.left) (stand self.new parser.new.left) }
+        ensures counts { Carries parser.old parser.new }
+        ensures stays { Stays parser.old parser.new }
+        ensures names { Kept parser.old parser.new }
+    {
+        if take_open(parser) {
+            return self.open(parser);
+        }
+        if !self.levels.is_empty() && take_close(parser) {
+            return self.close(parser.prev_span());
+        }
+        self.plain(parser)
+    }
+
+    /// A turn at an instruction alone.
+    fn plain(&mut self, parser: &mut Parser<'a>) -> Result<()>
+        requires no_group { (ts : List Tok) → parser.old.left ≡ LParen ∷ ts → ⊥ }
+        requires no_close { (self.old.levels ≡ [] → ⊥) → (ts : List Tok) → parser.old.left ≡ RParen ∷ ts → ⊥ }
+        requires no_end { self.old.levels ≡ [] → ends parser.old.left ≡ true → ⊥ }
+        ensures turned { Turned result (stand self.old parser.old.left) (stand self.new parser.new.left) }
+        ensures counts { Carries parser.old parser.new }
+        ensures stays { Stays parser.old parser.new }
+        ensures names { Kept parser.old parser.new }
+    {
+        if !self.levels.takes_plain() {
+            return Err(parser.unexpected());
+        }
+        let span = parser.cur_span();
+        let instr = take_instr(parser)?;
+        let hint = self.pending.take();
+        self.out.push(hint, instr, span)
+    }
+
+    /// A turn at a closing parenthesis, which was taken; `span` is where it stands.
+    fn close(&mut self, span: Span) -> Result<()>
+        requires { self.old.levels ≡ [] → ⊥ }
+        ensures { (m : List Tok) → Turned result (stand self.old (RParen ∷ m)) (stand self.new m) }
+    {
+        if let Some(_) = self.pending {
+            return Err(Error {
+                fault: Fault::HintPlace,
+                span,
+            });
+        }
+        match self.levels.pop() {
+            Some(Level::Folded(head)) => self.out.push(head.hint, head.instr, head.span),
+            Some(Level::Block) => self.out.push_end(span),
+            Some(Level::AfterThen) => self.out.push_end(span),
+            Some(Level::AfterElse) => self.out.push_end(span),
+            Some(Level::Arm) => Ok(()),
+            Some(Level::If(_)) => Err(Error {
+                fault: Fault::IfWithoutThen,
+                span,
+            }),
+            None => Err(Error {
+                fault: Fault::Unexpected,
+                span,
+            }),
+        }
+    }
+
+    /// A turn at an opening parenthesis, which was taken.
+    fn open(&mut self, parser: &mut Parser<'a>) -> Result<()>
+        ensures turned { Turned result (stand self.old (LParen ∷ parser.old.left)) (stand self.new parser.new.left) }
+        ensures counts { Carries parser.old parser.new }
+        ensures stays { Stays parser.old parser.new }
+        ensures names { Kept parser.old parser.new }
+    {
+        match self.levels.top() {
+            Some(Kind::If) => {
+                if take_word(parser, "then") {
+                    return self.open_then(parser.prev_span());
+                }
+                self.open_item(parser)
+            }
+            Some(Kind::AfterThen) => self.open_else(parser),
+            Some(Kind::AfterElse) => Err(Error {
+                fault: Fault::IfTooMany,
+                span: parser.cur_span(),
+            }),
+            _ => self.open_item(parser),
+        }
+    }
+
+    /// A turn at `( then`, which was taken; `span` is where the word stands.
+    fn open_then(&mut self, span: Span) -> Result<()>
+        requires { (i : Instr) × (h : Option ℕ) × (s : List Open) × (self.old.levels ≡ InIf i h ∷ s) }
+        ensures { (m : List Tok) → Turned result (stand self.old (LParen ∷ word (codes "then") ∷ m)) (stand self.new m) }
+    {
+        if let Some(_) = self.pending {
+            return Err(Error {
+                fault: Fault::HintPlace,
+                span,
+            });
+        }
+        match self.levels.pop() {
+            Some(Level::If(head)) => {
+                self.levels.push(Level::AfterThen)?;
+                self.levels.push(Level::Arm)?;
+                self.out.push(head.hint, head.instr, head.span)
+            }
+            _ => Err(Error {
+                fault: Fault::Unexpected,
+                span,
+            }),
+        }
+    }
+
+    /// A turn at `(` behind `( then .. )`.
+    fn open_else(&mut self, parser: &mut Parser<'a>) -> Result<()>
+        requires { (s : List Open) × (self.old.levels ≡ AfterThen ∷ s) }
+        ensures turned { Turned result (stand self.old (LParen ∷ parser.old.left)) (stand self.new parser.new.left) }
+        ensures counts { Carries parser.old parser.new }
+        ensures stays { Stays parser.old parser.new }
+        ensures names { Kept parser.old parser.new }
+    {
+        if !take_word(parser, "else") {
+            return Err(parser.unexpected());
+        }
+        let span = parser.prev_span();
+        if let Some(_) = self.pending {
+            return Err(Error {
+                fault: Fault::HintPlace,
+                span,
+            });
+        }
+        let _ = self.levels.pop();
+        self.levels.push(Level::AfterElse)?;
+        self.levels.push(Level::Arm)?;
+        self.out
+            .push(None, Instruction::Label(LabelOp::else_, None), span)
+    }
+
+    /// A turn at a group or a hint.
+    fn open_item(&mut self, parser: &mut Parser<'a>) -> Result<()>
+        requires place { IsOpen self.old.levels }
+        requires no_then { (ts : List Tok) → parser.old.left ≡ word (codes "then") ∷ ts → (i : Instr) (h : Option ℕ) (s : List Open) → self.old.levels ≡ InIf i h ∷ s → ⊥ }
+        ensures turned { Turned result (stand self.old (LParen ∷ parser.old.left)) (stand self.new parser.new.left) }
+        ensures counts { Carries parser.old parser.new }
+        ensures stays { Stays parser.old parser.new }
+        ensures names { Kept parser.old parser.new }
+    {
+        if take_hint_name(parser) {
+            return self.hint(parser);
+        }
+        let span = parser.cur_span();
+        let instr = take_instr(parser)?;
+        let hint = self.pending.take();
+        if instr.is_block() {
+            self.levels.push(Level::Block)?;
+            return self.out.push(hint, instr, span);
+        }
+        let is_if = instr.is_if();
+        let head = Head { instr, span, hint };
+        if is_if {
+            self.levels.push(Level::If(head))
+        } else {
+            self.levels.push(Level::Folded(head))
+        }
+    }
+
+    /// A turn at a hint, whose `(` and annotation were taken.
+    fn hint(&mut self, parser: &mut Parser<'a>) -> Result<()>
+        requires { IsOpen self.old.levels }
+        ensures turned { Turned result (stand self.old (LParen ∷ hint_name ∷ parser.old.left)) (stand self.new parser.new.left) }
+        ensures counts { Carries parser.old parser.new }
+        ensures stays { Stays parser.old parser.new }
+        ensures names { Kept parser.old parser.new }
+    {
+        let span = parser.cur_span();
+        let bytes = take_string(parser)?;
+        let Some(value) = hint_byte(bytes) else {
+            return Err(Error {
+                fault: Fault::HintValue,
+                span,
+            });
+        };
+        if let Some(_) = self.pending {
+            return Err(Error {
+                fault: Fault::HintTwice,
+                span,
+            });
+        }
+        if !take_close(parser) {
+            return Err(parser.unexpected());
+        }
+        self.pending = Some(value);
+        Ok(())
+    }
+}

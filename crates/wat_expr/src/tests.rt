@@ -1,0 +1,364 @@
+//! Expressions as they are read, with their hints and spans, and their faults with the offset.
+
+use crate::Expression;
+use bumpalo::Bump;
+use std::alloc::Global;
+use std::test::Fail;
+use wat_instr::{Instruction, LabelOp};
+use wat_tokens::{Error, Fault, Parse, Parser};
+
+/// How a text is read.
+#[derive(Clone, Copy)]
+enum Mode {
+    WrittenOut,
+    Folded,
+}
+
+/// The text, where `#` stands for a hint of 1, `%` for one of 0, and `!` for one of 2. Each is 34 bytes long.
+fn with_hints(alloc: Global, text: &str) -> Result<String, Fail> {
+    let mut out = String::new(alloc);
+    for c in text.chars() {
+        match c {
+            '#' => out.push_str(r#"(@metadata.code.branch_hint "\01")"#)?,
+            '%' => out.push_str(r#"(@metadata.code.branch_hint "\00")"#)?,
+            '!' => out.push_str(r#"(@metadata.code.branch_hint "\02")"#)?,
+            other => out.push(other)?,
+        }
+    }
+    Ok(out)
+}
+
+/// Reads a whole text; the standard annotations are known and spans are kept. What is left over is refused.
+fn read<'a>(
+    alloc: Global,
+    mode: Mode,
+    text: &'a str,
+    arena: &'a Bump,
+) -> Result<Expression<'a>, Error> {
+    let mut parser = Parser::new(alloc, text, arena)?;
+    parser.with_standard_annotations(true);
+    parser.track_instr_spans(true);
+    let found = match mode {
+        Mode::WrittenOut => Expression::parse(&mut parser)?,
+        Mode::Folded => Expression::parse_folded_instruction(&mut parser)?,
+    };
+    if parser.at_end() {
+        Ok(found)
+    } else {
+        Err(parser.unexpected())
+    }
+}
+
+/// The instructions' words, with each hint behind its own.
+fn listing(alloc: Global, found: &Expression<'_>) -> Result<String, Fail> {
+    let mut out = String::new(alloc);
+    for (index, instr) in found.instrs.iter().enumerate() {
+        if index > 0 {
+            out.push(' ')?;
+        }
+        out.push_str(instr.mnemonic())?;
+        for hint in &found.branch_hints {
+            if hint.instr_index == index {
+                out.push_str(if hint.value == 0 {
+                    " hint 0"
+                } else {
+                    " hint 1"
+                })?;
+            }
+        }
+    }
+    Ok(out)
+}
+
+/// What a text is refused with, and where.
+fn fault_of(alloc: Global, mode: Mode, text: &str) -> Option<(Fault, usize)> {
+    let arena = Bump::new(alloc);
+    match read(alloc, mode, text, &arena) {
+        Ok(_) => None,
+        Err(e) => Some((e.fault, e.span.offset())),
+    }
+}
+
+/// So many times the first part, and then so many times the second.
+fn repeated(
+    alloc: Global,
+    first: &str,
+    times: usize,
+    second: &str,
+    more: usize,
+) -> Result<String, Fail> {
+    let mut text = String::new(alloc);
+    for _ in 0..times {
+        text.push_str(first)?;
+    }
+    for _ in 0..more {
+        text.push_str(second)?;
+    }
+    Ok(text)
+}
+
+#[test]
+fn written_out(rt: HostRuntime) -> Result<(), Fail> {
+    let alloc = rt.alloc();
+    for (text, wanted) in [
+        ("", ""),
+        ("nop", "nop"),
+        ("block nop end", "block nop end"),
+        (
+            "(i32.add (i32.const 1) (i32.const 2))",
+            "i32.const i32.const i32.add",
+        ),
+        ("(i32.add nop)", "nop i32.add"),
+        ("(block (nop))", "block nop end"),
+        (
+            "(block (loop (br 0) nop) unreachable)",
+            "block loop br nop end unreachable end",
+        ),
+        ("(try nop)", "nop try"),
+        ("(block (catch_all))", "block catch_all end"),
+        ("(if (then))", "if end"),
+        ("(else)", "else"),
+        ("if end", "if end"),
+        (
+            "(if (i32.const 1) (then (nop)) (else (unreachable)))",
+            "i32.const if nop else unreachable end",
+        ),
+        (
+            "(if (nop) (drop) (then nop (if (then) (else))) (else)) nop",
+            "nop drop if nop if else end else end nop",
+        ),
+        ("(if (if (then)) (then))", "if end if end"),
+    ] {
+        let arena = Bump::new(alloc);
+        let found = read(alloc, Mode::WrittenOut, text, &arena)?;
+        assert_eq!(rt; listing(alloc, &found)?.as_str(), wanted, "at {text}");
+        assert!(rt; found.branch_hints.is_empty(), "at {text}");
+    }
+    Ok(())
+}
+
+#[test]
+fn refused(rt: HostRuntime) -> Result<(), Fail> {
+    let alloc = rt.alloc();
+    for (text, fault, offset) in [
+        ("(then)", Fault::Operator, 1),
+        (")", Fault::Unexpected, 0),
+        ("(if nop (then))", Fault::Unexpected, 4),
+        ("(if (nop))", Fault::IfWithoutThen, 9),
+        ("(if (then) (nop))", Fault::Unexpected, 12),
+        ("(if (then) nop)", Fault::Unexpected, 11),
+        ("(if (then) (else) (nop))", Fault::IfTooMany, 19),
+        ("(if (then) (else) nop)", Fault::Unexpected, 18),
+        ("(if (then", Fault::Operator, 9),
+        ("(if (then)", Fault::Unexpected, 10),
+        ("nop zzz", Fault::Operator, 4),
+        (r#"nop "x""#, Fault::Operator, 4),
+        ("(i32.add", Fault::Operator, 8),
+        ("()", Fault::Operator, 1),
+        ("(((", Fault::Operator, 1),
+    ] {
+        let found = fault_of(alloc, Mode::WrittenOut, text);
+        assert_eq!(rt; found, Some((fault, offset)), "at {text}");
+    }
+    Ok(())
+}
+
+#[test]
+fn hints(rt: HostRuntime) -> Result<(), Fail> {
+    let alloc = rt.alloc();
+    for (text, wanted) in [
+        ("# (br_if 0 (local.get 0))", "local.get br_if hint 1"),
+        (
+            "(block % (if (nop) (then # br_if 0)))",
+            "block nop if hint 0 br_if hint 1 end end",
+        ),
+        ("(i32.add # (br_if 0) nop)", "br_if hint 1 nop i32.add"),
+        ("# (block (nop))", "block hint 1 nop end"),
+        ("# nop % nop", "nop hint 1 nop hint 0"),
+        (
+            "(if # (nop) (then) (else % (nop)))",
+            "nop hint 1 if else nop hint 0 end",
+        ),
+        ("# (if % (nop) (then))", "nop hint 0 if hint 1 end"),
+        ("(@x ) # (@y \"\") nop", "nop hint 1"),
+    ] {
+        let text = with_hints(alloc, text)?;
+        let arena = Bump::new(alloc);
+        let found = read(alloc, Mode::WrittenOut, &text, &arena)?;
+        assert_eq!(rt; listing(alloc, &found)?.as_str(), wanted, "at {text}");
+    }
+    Ok(())
+}
+
+#[test]
+fn refused_hints(rt: HostRuntime) -> Result<(), Fail> {
+    let alloc = rt.alloc();
+    for (text, fault, offset) in [
+        ("# # nop", Fault::HintTwice, 63),
+        ("# ! nop", Fault::HintValue, 63),
+        ("! nop", Fault::HintValue, 28),
+        (
+            "(@metadata.code.branch_hint \"ab\") nop",
+            Fault::HintValue,
+            28,
+        ),
+        (
+            "(@metadata.code.branch_hint \"\") nop",
+            Fault::HintValue,
+            28,
+        ),
+        ("nop #", Fault::HintPlace, 38),
+        ("#", Fault::HintPlace, 34),
+        ("(block #)", Fault::HintPlace, 41),
+        ("(block #", Fault::Operator, 41),
+        ("(if (nop) # (then))", Fault::HintPlace, 46),
+        ("(if #)", Fault::HintPlace, 38),
+        ("(if (then) # (else))", Fault::Unexpected, 12),
+        ("(if (then) (else) #)", Fault::IfTooMany, 19),
+        (
+            "(@metadata.code.branch_hint \"\\01\" nop) nop",
+            Fault::Unexpected,
+            34,
+        ),
+        (
+            "(@metadata.code.branch_hint nop) nop",
+            Fault::Unexpected,
+            28,
+        ),
+        ("(@metadata.code.branch_hint) nop", Fault::Unexpected, 27),
+        ("nop (@name \"x\")", Fault::Operator, 5),
+    ] {
+        let text = with_hints(alloc, text)?;
+        let found = fault_of(alloc, Mode::WrittenOut, &text);
+        assert_eq!(rt; found, Some((fault, offset)), "at {text}");
+    }
+    Ok(())
+}
+
+#[test]
+fn unknown_hints_are_not_seen(rt: HostRuntime) -> Result<(), Fail> {
+    let alloc = rt.alloc();
+    let arena = Bump::new(alloc);
+    let text = with_hints(alloc, "# # nop !")?;
+    let mut parser = Parser::new(alloc, &text, &arena)?;
+    let found = Expression::parse(&mut parser)?;
+    assert_eq!(rt; listing(alloc, &found)?.as_str(), "nop");
+    assert!(rt; found.instr_spans.is_none());
+    Ok(())
+}
+
+#[test]
+fn spans(rt: HostRuntime) -> Result<(), Fail> {
+    let alloc = rt.alloc();
+    for (mode, text, wanted) in [
+        (
+            Mode::WrittenOut,
+            "(i32.add (i32.const 1) nop)",
+            [10, 23, 1].as_slice(),
+        ),
+        (Mode::WrittenOut, "(block nop)", [1, 7, 10].as_slice()),
+        (
+            Mode::WrittenOut,
+            "(if (nop) (then) (else))",
+            [5, 1, 18, 23].as_slice(),
+        ),
+        (Mode::WrittenOut, "(if (then nop))", [1, 10, 14].as_slice()),
+        (Mode::WrittenOut, "", [].as_slice()),
+        (
+            Mode::Folded,
+            "(i32.add (block (nop)))",
+            [17, 10, 1].as_slice(),
+        ),
+    ] {
+        let arena = Bump::new(alloc);
+        let found = read(alloc, mode, text, &arena)?;
+        let mut offsets = Vec::new(alloc);
+        for span in found.instr_spans.as_ref().ok_or("no spans")? {
+            offsets.push(span.offset())?;
+        }
+        assert!(rt; offsets.as_slice() == wanted, "at {text}");
+    }
+    Ok(())
+}
+
+#[test]
+fn folded(rt: HostRuntime) -> Result<(), Fail> {
+    let alloc = rt.alloc();
+    for (text, wanted) in [
+        ("(block (nop))", "nop block"),
+        ("(block (nop) (br 0))", "nop br block"),
+        ("(if (nop))", "nop if"),
+        (
+            "(i32.add (i32.const 1) (i32.add (nop) (drop)))",
+            "i32.const nop drop i32.add i32.add",
+        ),
+    ] {
+        let arena = Bump::new(alloc);
+        let found = read(alloc, Mode::Folded, text, &arena)?;
+        assert_eq!(rt; listing(alloc, &found)?.as_str(), wanted, "at {text}");
+        assert!(rt; found.branch_hints.is_empty(), "at {text}");
+    }
+    for (text, fault, offset) in [
+        ("", Fault::Unexpected, 0),
+        ("nop", Fault::Unexpected, 0),
+        ("(nop) nop", Fault::Unexpected, 6),
+        ("(i32.add nop)", Fault::Unexpected, 9),
+        ("(if (nop) (then))", Fault::Operator, 11),
+        ("(i32.add #)", Fault::Operator, 10),
+        ("(nop", Fault::Unexpected, 4),
+        ("()", Fault::Operator, 1),
+    ] {
+        let text = with_hints(alloc, text)?;
+        let found = fault_of(alloc, Mode::Folded, &text);
+        assert_eq!(rt; found, Some((fault, offset)), "at {text}");
+    }
+    Ok(())
+}
+
+#[test]
+fn one_instruction(rt: HostRuntime) -> Result<(), Fail> {
+    let alloc = rt.alloc();
+    let found = Expression::one(alloc, Instruction::Label(LabelOp::end, None))?;
+    assert_eq!(rt; listing(alloc, &found)?.as_str(), "end");
+    assert!(rt; found.branch_hints.is_empty() && found.instr_spans.is_none());
+    Ok(())
+}
+
+#[test]
+fn the_rest_is_left(rt: HostRuntime) -> Result<(), Fail> {
+    let alloc = rt.alloc();
+    let arena = Bump::new(alloc);
+    let mut parser = Parser::new(alloc, "nop (block) ) nop", &arena)?;
+    let found = Expression::parse(&mut parser)?;
+    assert_eq!(rt; listing(alloc, &found)?.as_str(), "nop block end");
+    assert_eq!(rt; parser.cur_span().offset(), 12);
+    Ok(())
+}
+
+#[test]
+fn deep(rt: HostRuntime) -> Result<(), Fail> {
+    let alloc = rt.alloc();
+    let times = 100_000;
+    let arena = Bump::new(alloc);
+    for (mode, first, second, each) in [
+        (Mode::WrittenOut, "(block", ")", 2),
+        (Mode::WrittenOut, "(nop ", ")", 1),
+        (Mode::WrittenOut, "(if", "(then))", 2),
+        (Mode::WrittenOut, "(if (then", "))", 2),
+        (Mode::Folded, "(nop", ")", 1),
+    ] {
+        let text = repeated(alloc, first, times, second, times)?;
+        let found = read(alloc, mode, &text, &arena)?;
+        assert_eq!(rt; found.instrs.len(), each * times, "at {first}");
+    }
+    let short = repeated(alloc, "(block", times, ")", times - 1)?;
+    let found = fault_of(alloc, Mode::WrittenOut, &short);
+    assert_eq!(rt; found, Some((Fault::Operator, 699_999)));
+    let folds = repeated(alloc, "(nop", times, ")", times - 1)?;
+    let found = fault_of(alloc, Mode::Folded, &folds);
+    assert_eq!(rt; found, Some((Fault::Unexpected, 499_999)));
+    let ifs = repeated(alloc, "(if", times, ")", 1)?;
+    let found = fault_of(alloc, Mode::WrittenOut, &ifs);
+    assert_eq!(rt; found, Some((Fault::IfWithoutThen, 300_000)));
+    Ok(())
+}
