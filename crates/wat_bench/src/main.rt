@@ -1,7 +1,9 @@
-//! Measures the cut of standard input into tokens, and a lookup in front of them.
+//! Measures the cut of standard input into tokens, a lookup in front of them, and what reads instructions.
 //!
 //! With no argument it prints the number of tokens. With a number of rounds it cuts the text as often, and also prints the
-//! nanoseconds of the fastest round, the bytes that a token takes, and the nanoseconds of a million lookups.
+//! nanoseconds of the fastest round, the bytes that a token takes, the nanoseconds of a million lookups, the number of
+//! mnemonics that stand in front one behind the other and the nanoseconds of taking them, and the number of instructions and
+//! the nanoseconds of reading the text as an expression.
 #![tactic(auto)]
 
 use bumpalo::Bump;
@@ -10,9 +12,11 @@ use std::io::Read;
 use std::rt::Clock;
 use std::time::Instant;
 use std::{env, io};
+use wat_expr::Expression;
 use wat_lexer::cut::cut;
 use wat_lexer::token::Lexeme;
-use wat_tokens::Parser;
+use wat_mnemonics::Head;
+use wat_tokens::{Parse, Parser};
 
 /// How many tokens the text has, or `None` where it isn't cut.
 fn tokens_of(alloc: Global, text: &str) -> Option<usize> {
@@ -52,6 +56,39 @@ fn lookups(rt: &impl Clock, alloc: Global, text: &str) -> io::Result<u128> {
     Ok(start.elapsed(rt)?.as_nanos())
 }
 
+/// Takes the mnemonics that stand in front one behind the other, at most so many: how many, and the nanoseconds.
+fn words(rt: &impl Clock, alloc: Global, text: &str, most: usize) -> io::Result<(usize, u128)> {
+    let arena = Bump::new(alloc);
+    let mut count = 0usize;
+    let mut taken = 0;
+    if let Ok(mut parser) = Parser::new(alloc, text, &arena) {
+        let start = Instant::now(rt)?;
+        for _ in 0..most {
+            if Head::take(&mut parser).is_err() {
+                break;
+            }
+            count = count.wrapping_add(1);
+        }
+        taken = start.elapsed(rt)?.as_nanos();
+    }
+    Ok((count, taken))
+}
+
+/// Reads the text as an expression: how many instructions it has, and the nanoseconds without those of the cut.
+fn expression(rt: &impl Clock, alloc: Global, text: &str) -> io::Result<(usize, u128)> {
+    let arena = Bump::new(alloc);
+    let mut count = 0;
+    let mut taken = 0;
+    if let Ok(mut parser) = Parser::new(alloc, text, &arena) {
+        let start = Instant::now(rt)?;
+        if let Ok(expression) = Expression::parse(&mut parser) {
+            taken = start.elapsed(rt)?.as_nanos();
+            count = expression.instrs.len();
+        }
+    }
+    Ok((count, taken))
+}
+
 fn main(rt: HostRuntime) -> io::Result<()> {
     let alloc = rt.alloc();
     let mut bytes = Vec::new(alloc);
@@ -76,6 +113,12 @@ fn main(rt: HostRuntime) -> io::Result<()> {
         println!(rt; "token {size}")?;
         let nanoseconds = lookups(&rt, alloc, text)?;
         println!(rt; "lookups {nanoseconds}")?;
+        let (count, nanoseconds) = words(&rt, alloc, text, tokens)?;
+        println!(rt; "words {count}")?;
+        println!(rt; "taking {nanoseconds}")?;
+        let (count, nanoseconds) = expression(&rt, alloc, text)?;
+        println!(rt; "instructions {count}")?;
+        println!(rt; "reading {nanoseconds}")?;
     }
     Ok(())
 }

