@@ -1,3 +1,5 @@
+pub mod Expressions
+pub mod Instructions
 pub mod Listing
 pub mod Modes
 pub mod Shown

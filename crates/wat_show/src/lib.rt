@@ -2,7 +2,12 @@
 #![tactic(auto)]
 
 pub mod error;
+#[cfg(test)]
+mod expression_tests;
+pub mod expressions;
+pub mod folded;
 pub mod input;
+pub mod instructions;
 pub mod listing;
 pub mod mode;
 pub mod output;

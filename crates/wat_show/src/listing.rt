@@ -12,7 +12,7 @@ use std::alloc::AllocError;
 use wat_tokens::{Id, Index, NameAnnotation};
 use wat_types::{AbstractHeapType, FunctionType, HeapType, RefType, ValType};
 
-fn add_index(out: &mut Vec<u8>, index: &Index) -> Result<(), AllocError>
+pub fn add_index(out: &mut Vec<u8>, index: &Index) -> Result<(), AllocError>
     ensures { OnOk result (out.new.items ≡ out.old.items ++ index_text (seen_index index.now)) }
 {
     match index {

@@ -2,13 +2,18 @@
 
 ghost use Rattle.std.specs.Prelude.{◌≡◌, ◌↔◌, ◌⊎◌, ℕ, List, IsTrue, IsFalse, IfOk, IsErrOf};
 ghost use Rattle.std.specs.Io.KnownBytes.{Appends};
-ghost use Rattle.wat_show.specs.Modes.{mode_of, Shown};
+ghost use Rattle.wat_expr.specs.Folded.{folded_instruction};
+ghost use Rattle.wat_expr.specs.Reading.{expression};
+ghost use Rattle.wat_show.specs.Expressions.{expression_text};
+ghost use Rattle.wat_show.specs.Listing.{function_text};
+ghost use Rattle.wat_show.specs.Modes.{mode_of, Shown, ShownText};
 ghost use Rattle.wat_show.specs.Shown.{ShowsText};
 ghost use Rattle.wat_show.specs.Streams.{ReadsAll, ReadsOn, AppendsBeginning};
-ghost use Rattle.wat_show.specs.Listing.{function_text};
 ghost use Rattle.wat_types.specs.Function.{function_type};
 
 use crate::error::RunError;
+use crate::expressions::add_expression;
+use crate::folded::FoldedInstruction;
 use crate::listing::add_function;
 use crate::show::{Shows, run_shows};
 use crate::shown::refused;
@@ -17,6 +22,7 @@ use crate::whole::read_whole;
 use bumpalo::Bump;
 use std::alloc::{AllocError, Global};
 use std::io::{Read, Write};
+use wat_expr::Expression;
 use wat_tokens::{Error, Fault, Span};
 use wat_types::FunctionType;
 
@@ -25,15 +31,21 @@ use wat_types::FunctionType;
 pub enum Mode {
     /// A function type.
     FuncType,
+    /// An expression.
+    Expr,
+    /// One folded instruction of any kind.
+    Folded,
 }
 
 impl Mode {
-    /// The mode that a word names: `functype`.
+    /// The mode that a word names: `functype`, `expr` or `folded`.
     pub fn of(word: &str) -> Option<Mode>
         ensures { result ≡ mode_of word.now }
     {
         match word {
             "functype" => Some(Mode::FuncType),
+            "expr" => Some(Mode::Expr),
+            "folded" => Some(Mode::Folded),
             _ => None,
         }
     }
@@ -54,6 +66,47 @@ fn show_function(alloc: Global, text: &str) -> Result<(Vec<u8>, u8), AllocError>
     }
 }
 
+/// What is shown of a text that is to be an expression.
+fn show_expression(alloc: Global, text: &str) -> Result<(Vec<u8>, u8), AllocError>
+    ensures { IfOk result (λ made. ShowsText expression expression_text text.now made.0.items made.1) }
+{
+    let arena = Bump::new(alloc);
+    match read_whole::<Expression>(alloc, text, &arena) {
+        Ok(expression) => {
+            let mut out = Vec::new(alloc);
+            add_expression(&mut out, &expression)?;
+            Ok((out, 0))
+        }
+        Err(error) => refused(alloc, error),
+    }
+}
+
+/// What is shown of a text that is to be one folded instruction.
+fn show_folded(alloc: Global, text: &str) -> Result<(Vec<u8>, u8), AllocError>
+    ensures { IfOk result (λ made. ShowsText folded_instruction expression_text text.now made.0.items made.1) }
+{
+    let arena = Bump::new(alloc);
+    match read_whole::<FoldedInstruction>(alloc, text, &arena) {
+        Ok(folded) => {
+            let mut out = Vec::new(alloc);
+            add_expression(&mut out, &folded.0)?;
+            Ok((out, 0))
+        }
+        Err(error) => refused(alloc, error),
+    }
+}
+
+/// What is shown of a text in a mode.
+fn show_in(mode: Mode, alloc: Global, text: &str) -> Result<(Vec<u8>, u8), AllocError>
+    ensures { IfOk result (λ made. ShownText mode text.now made.0.items made.1) }
+{
+    match mode {
+        Mode::FuncType => show_function(alloc, text),
+        Mode::Expr => show_expression(alloc, text),
+        Mode::Folded => show_folded(alloc, text),
+    }
+}
+
 impl Shows for Mode {
     ghost shown = { Shown };
 
@@ -68,9 +121,7 @@ impl Shows for Mode {
                 return refused(alloc, error);
             }
         };
-        match *self {
-            Mode::FuncType => show_function(alloc, text),
-        }
+        show_in(*self, alloc, text)
     }
 }
 

@@ -1,6 +1,7 @@
 //! Adding to an output.
 
 ghost use Rattle.std.specs.Prelude.{◌≡◌, ◌++◌, OnOk, decimal};
+ghost use Rattle.std.specs.Fmt.{signed_decimal};
 
 use std::alloc::AllocError;
 
@@ -14,6 +15,14 @@ pub fn add(out: &mut Vec<u8>, text: &str) -> Result<(), AllocError>
 /// Adds a number in decimal digits.
 pub fn add_number(out: &mut Vec<u8>, number: usize) -> Result<(), AllocError>
     ensures { OnOk result (out.new.items ≡ out.old.items ++ decimal number) }
+{
+    let digits = format!(in *out.allocator(); "{number}")?;
+    add(out, digits.as_str())
+}
+
+/// Adds a number with its sign, in decimal digits.
+pub fn add_signed(out: &mut Vec<u8>, number: i64) -> Result<(), AllocError>
+    ensures { OnOk result (out.new.items ≡ out.old.items ++ signed_decimal number) }
 {
     let digits = format!(in *out.allocator(); "{number}")?;
     add(out, digits.as_str())
