@@ -14,6 +14,8 @@ use wat_types::HeapType;
 ///
 /// An instruction that shares its kind of operand with others is a value of an enumeration of words and the operand; one
 /// that is alone in its kind has its own variant. Words are written with `_` for `.`.
+///
+/// It is generic in the types of the operands that hold a part of a text; [`Instruction`] is that of a text.
 #[derive(Drop)]
 #[allow(non_camel_case_types)]
 pub enum InstructionOf<
@@ -154,7 +156,7 @@ pub enum InstructionOf<
     br_on_cast_desc_eq_fail(Box<BrOnCastDescEqFail>),
 }
 
-/// An instruction of a text.
+/// An instruction of a text that lives for `'a` (WebAssembly Core Specification, Text Format, "Instructions").
 pub type Instruction<'a> = InstructionOf<
     BlockType<'a>,
     Id<'a>,
