@@ -2,11 +2,10 @@
 use Rattle.std.proofs.Common.{◌≡◌, suc, List, [], ◌∷◌, length, Some, refl, ap, ◌∙◌, arith}
 use Rattle.std.proofs.lemmas.List.{length-reverse, reverse-append}
 use Rattle.std.specs.Prelude.{◌++◌, reverse}
-use Rattle.wat_instr.specs.Instruction.{seen_instruction}
 use Rattle.wat_expr.specs.declared.level.Head.{Head}
 use Rattle.wat_expr.specs.declared.level.Kind.{Kind}
 use Rattle.wat_expr.specs.declared.level.Kind.TheVariants as kind
-use Rattle.wat_expr.specs.Levels.{Level, InFolded, InIf, heads_in, waiting, levels, TopIs}
+use Rattle.wat_expr.specs.Levels.{Level, heads_in, waiting, levels, TopIs}
 
 pub as_high : (ks : List Kind) (hs : List Head) → waiting ks ≡ length hs → length (levels ks hs) ≡ length ks
 as_high [] hs e = refl
@@ -50,32 +49,32 @@ top_some kind.Arm s t e = let f = t.1 in cc
 last_first : {A : Type 0} (xs : List A) (x : A) → reverse (xs ++ x ∷ []) ≡ x ∷ reverse xs
 last_first xs x = reverse-append xs (x ∷ [])
 
-folded_first : (ks : List Kind) (hs : List Head) (h : Head) → levels (reverse (ks ++ kind.Folded ∷ [])) (reverse (hs ++ h ∷ [])) ≡ InFolded (seen_instruction h.instr) h.hint ∷ levels (reverse ks) (reverse hs)
-folded_first ks hs h = rw (last_first ks kind.Folded, last_first hs h) refl
+-- a kind that holds an instruction takes the head in front
+takes_head : (k : Kind) (ks : List Kind) (hs : List Head) (h : Head) → waiting (k ∷ []) ≡ 1 → levels (k ∷ ks) (h ∷ hs) ≡ levels (k ∷ []) (h ∷ []) ++ levels ks hs
+takes_head kind.Folded ks hs h e = refl
+takes_head kind.If ks hs h e = refl
+takes_head kind.Block ks hs h e = absurd (omega (arith, e))
+takes_head kind.AfterThen ks hs h e = absurd (omega (arith, e))
+takes_head kind.AfterElse ks hs h e = absurd (omega (arith, e))
+takes_head kind.Arm ks hs h e = absurd (omega (arith, e))
 
-folded_fewer : (ks : List Kind) (hs : List Head) (h : Head) → waiting (reverse (ks ++ kind.Folded ∷ [])) ≡ length (reverse (hs ++ h ∷ [])) → waiting (reverse ks) ≡ length (reverse hs)
-folded_fewer ks hs h e =
-    let p : suc (waiting (reverse ks)) ≡ suc (length (reverse hs)) = rw (last_first ks kind.Folded, last_first hs h) at e in
-    omega (arith, p)
+one_waits : (k : Kind) (ks : List Kind) → waiting (k ∷ []) ≡ 1 → waiting (k ∷ ks) ≡ suc (waiting ks)
+one_waits kind.Folded ks e = refl
+one_waits kind.If ks e = refl
+one_waits kind.Block ks e = absurd (omega (arith, e))
+one_waits kind.AfterThen ks e = absurd (omega (arith, e))
+one_waits kind.AfterElse ks e = absurd (omega (arith, e))
+one_waits kind.Arm ks e = absurd (omega (arith, e))
 
-module _ (all ks : List Kind) (k : Kind) (heads hs : List Head) (h : Head) (kinds_are : all ≡ ks ++ k ∷ []) (is : k ≡ kind.Folded) (heads_are : heads ≡ hs ++ h ∷ []) where
-  pub folded_leaves : waiting (reverse all) ≡ length (reverse heads) → waiting (reverse ks) ≡ length (reverse hs)
-  folded_leaves e = folded_fewer ks hs h cc
+module _ (all ks : List Kind) (last k : Kind) (heads hs : List Head) (h : Head) (kinds_are : all ≡ ks ++ last ∷ []) (is : last ≡ k) (heads_are : heads ≡ hs ++ h ∷ []) (holds : waiting (k ∷ []) ≡ 1) where
+  kinds_reversed : reverse all ≡ k ∷ reverse ks
+  kinds_reversed = ap reverse kinds_are ∙ last_first ks last ∙ ap (λ (x : Kind). x ∷ reverse ks) is
 
-  pub folded_popped : (s : List Level) → levels (reverse all) (reverse heads) ≡ s → s ≡ InFolded (seen_instruction h.instr) h.hint ∷ levels (reverse ks) (reverse hs)
-  folded_popped s e = let l = folded_first ks hs h in cc
+  heads_reversed : reverse heads ≡ h ∷ reverse hs
+  heads_reversed = ap reverse heads_are ∙ last_first hs h
 
-if_first : (ks : List Kind) (hs : List Head) (h : Head) → levels (reverse (ks ++ kind.If ∷ [])) (reverse (hs ++ h ∷ [])) ≡ InIf (seen_instruction h.instr) h.hint ∷ levels (reverse ks) (reverse hs)
-if_first ks hs h = rw (last_first ks kind.If, last_first hs h) refl
+  pub leaves : waiting (reverse all) ≡ length (reverse heads) → waiting (reverse ks) ≡ length (reverse hs)
+  leaves e = omega (arith, e, ap waiting kinds_reversed, one_waits k (reverse ks) holds, ap length heads_reversed)
 
-if_fewer : (ks : List Kind) (hs : List Head) (h : Head) → waiting (reverse (ks ++ kind.If ∷ [])) ≡ length (reverse (hs ++ h ∷ [])) → waiting (reverse ks) ≡ length (reverse hs)
-if_fewer ks hs h e =
-    let p : suc (waiting (reverse ks)) ≡ suc (length (reverse hs)) = rw (last_first ks kind.If, last_first hs h) at e in
-    omega (arith, p)
-
-module _ (all ks : List Kind) (k : Kind) (heads hs : List Head) (h : Head) (kinds_are : all ≡ ks ++ k ∷ []) (is : k ≡ kind.If) (heads_are : heads ≡ hs ++ h ∷ []) where
-  pub if_leaves : waiting (reverse all) ≡ length (reverse heads) → waiting (reverse ks) ≡ length (reverse hs)
-  if_leaves e = if_fewer ks hs h cc
-
-  pub if_popped : (s : List Level) → levels (reverse all) (reverse heads) ≡ s → s ≡ InIf (seen_instruction h.instr) h.hint ∷ levels (reverse ks) (reverse hs)
-  if_popped s e = let l = if_first ks hs h in cc
+  pub popped : (s : List Level) → levels (reverse all) (reverse heads) ≡ s → s ≡ levels (k ∷ []) (h ∷ []) ++ levels (reverse ks) (reverse hs)
+  popped s e = let l = takes_head k (reverse ks) (reverse hs) h holds in let a = kinds_reversed in let b = heads_reversed in cc
