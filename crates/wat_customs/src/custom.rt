@@ -1,6 +1,6 @@
 //! Custom sections.
 
-ghost use Rattle.std.specs.Prelude.{◌≡◌, true, false};
+ghost use Rattle.std.specs.Prelude.{◌≡◌, false};
 ghost use Rattle.wat_customs.specs.Custom.{CustomTy, seen_custom, bare_custom, place_of, name_of, begins_annotated, custom};
 
 use crate::dylink::Dylink0;
@@ -64,8 +64,6 @@ impl<'a> Parse<'a> for Custom<'a> {
     ghost light = { false };
 
     ghost bare = { bare_custom };
-
-    ghost quiet = { true };
 
     ghost grammar = { custom };
 

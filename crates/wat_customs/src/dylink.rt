@@ -1,8 +1,8 @@
 //! The `dylink.0` section.
 
 ghost use Rattle.std.specs.Prelude.{◌≡◌, ℕ, codes, true, false, List, map};
-ghost use Rattle.wat_tokens.specs.Counts.{Counted, Quiet, Kept};
-ghost use Rattle.wat_tokens.specs.Parses.{Gives, no_items};
+ghost use Rattle.wat_tokens.specs.Parses.{no_items};
+ghost use Rattle.wat_tokens.specs.Reads.{Reads, ReadsLight};
 ghost use Rattle.wat_tokens.specs.Tests.{more};
 ghost use Rattle.wat_customs.specs.Dylink.{SubsectionTy, seen_export, seen_import, seen_subsection, seen_dylink, bare_subsection, id_of, sizes, mem_info_entry, names_entry, lone_entry, begins_export, begins_import, export_entry, import_entry, run, export_entry_eats, import_entry_eats, subsection};
 ghost use Rattle.wat_customs.specs.Cutting.{dylink};
@@ -65,10 +65,7 @@ impl Dylink0Subsection<'_> {
 /// `( word size alignment )`, where the second token is the word; else 0 and 0.
 #[tactic(auto, unfolding(crate::specs::Dylink::sizes))]
 fn read_sizes<'a>(parser: &mut Parser<'a>, word: &str) -> Result<(u32, u32)>
-    ensures exact { Gives true (λ _. true) (λ s. s) result ((sizes word.now).reads parser.old.left) parser.new.left }
-    ensures counts { Counted result parser.old parser.new }
-    ensures quiet { Quiet parser.old parser.new }
-    ensures names { Kept parser.old parser.new }
+    ensures reads { ReadsLight (λ s. s) result ((sizes word.now).reads parser.old.left) parser.old parser.new }
 {
     if !parser.second_is(word) {
         return Ok((0, 0));
@@ -84,10 +81,7 @@ fn read_sizes<'a>(parser: &mut Parser<'a>, word: &str) -> Result<(u32, u32)>
 /// `( mem-info ( memory u32 u32 ) ( table u32 u32 ) )`, the inner groups there or not.
 #[tactic(auto, unfolding(crate::specs::Dylink::mem_info_entry))]
 fn read_mem_info<'a>(parser: &mut Parser<'a>) -> Result<Dylink0Subsection<'a>>
-    ensures exact { Gives true bare_subsection seen_subsection result (mem_info_entry.reads parser.old.left) parser.new.left }
-    ensures counts { Counted result parser.old parser.new }
-    ensures quiet { Quiet parser.old parser.new }
-    ensures names { Kept parser.old parser.new }
+    ensures reads { ReadsLight seen_subsection result (mem_info_entry.reads parser.old.left) parser.old parser.new }
 {
     parser.open()?;
     parser.keyword("mem-info")?;
@@ -105,10 +99,7 @@ fn read_mem_info<'a>(parser: &mut Parser<'a>) -> Result<Dylink0Subsection<'a>>
 /// The word and names, in parentheses.
 #[tactic(auto, unfolding(crate::specs::Dylink::names_entry))]
 fn read_names<'a>(parser: &mut Parser<'a>, word: &str) -> Result<Vec<&'a str>>
-    ensures exact { Gives false no_items (λ v. map (λ x. x.now) v.items) result ((names_entry word.now).reads parser.old.left) parser.new.left }
-    ensures counts { Counted result parser.old parser.new }
-    ensures quiet { Quiet parser.old parser.new }
-    ensures names { Kept parser.old parser.new }
+    ensures reads { Reads no_items (λ v. map (λ x. x.now) v.items) result ((names_entry word.now).reads parser.old.left) parser.old parser.new }
 {
     parser.open()?;
     parser.keyword(word)?;
@@ -121,10 +112,7 @@ fn read_names<'a>(parser: &mut Parser<'a>, word: &str) -> Result<Vec<&'a str>>
 /// An entry that is no export or import entry.
 #[tactic(auto, unfolding(crate::specs::Dylink::lone_entry))]
 fn read_lone<'a>(parser: &mut Parser<'a>) -> Result<Dylink0Subsection<'a>>
-    ensures exact { Gives false bare_subsection seen_subsection result (lone_entry.reads parser.old.left) parser.new.left }
-    ensures counts { Counted result parser.old parser.new }
-    ensures quiet { Quiet parser.old parser.new }
-    ensures names { Kept parser.old parser.new }
+    ensures reads { Reads bare_subsection seen_subsection result (lone_entry.reads parser.old.left) parser.old parser.new }
 {
     if parser.group_is("mem-info") {
         return read_mem_info(parser);
@@ -150,11 +138,7 @@ impl<'a> Part<'a, (&'a str, u32)> for ExportEntry {
 
     ghost seen = { seen_export };
 
-    ghost light = { true };
-
     ghost bare = { λ _. true };
-
-    ghost quiet = { true };
 
     ghost grammar = { export_entry };
 
@@ -183,11 +167,7 @@ impl<'a> Part<'a, (&'a str, &'a str, u32)> for ImportEntry {
 
     ghost seen = { seen_import };
 
-    ghost light = { true };
-
     ghost bare = { λ _. true };
-
-    ghost quiet = { true };
 
     ghost grammar = { import_entry };
 
@@ -212,10 +192,7 @@ impl<'a> Part<'a, (&'a str, &'a str, u32)> for ImportEntry {
 /// An export entry, and all that stand behind it.
 #[tactic(auto, using(crate::specs::Dylink::export_entry_eats, crate::proofs::Runs::run_not_bare))]
 fn read_exports<'a>(parser: &mut Parser<'a>) -> Result<Vec<(&'a str, u32)>>
-    ensures exact { Gives false no_items (λ v. map seen_export v.items) result ((run begins_export export_entry export_entry_eats).reads parser.old.left) parser.new.left }
-    ensures counts { Counted result parser.old parser.new }
-    ensures quiet { Quiet parser.old parser.new }
-    ensures names { Kept parser.old parser.new }
+    ensures reads { Reads no_items (λ v. map seen_export v.items) result ((run begins_export export_entry export_entry_eats).reads parser.old.left) parser.old parser.new }
 {
     let mut entries = Vec::new(parser.alloc());
     entries.push(ExportEntry::take(parser)?)?;
@@ -226,10 +203,7 @@ fn read_exports<'a>(parser: &mut Parser<'a>) -> Result<Vec<(&'a str, u32)>>
 /// An import entry, and all that stand behind it.
 #[tactic(auto, using(crate::specs::Dylink::import_entry_eats, crate::proofs::Runs::run_not_bare))]
 fn read_imports<'a>(parser: &mut Parser<'a>) -> Result<Vec<(&'a str, &'a str, u32)>>
-    ensures exact { Gives false no_items (λ v. map seen_import v.items) result ((run begins_import import_entry import_entry_eats).reads parser.old.left) parser.new.left }
-    ensures counts { Counted result parser.old parser.new }
-    ensures quiet { Quiet parser.old parser.new }
-    ensures names { Kept parser.old parser.new }
+    ensures reads { Reads no_items (λ v. map seen_import v.items) result ((run begins_import import_entry import_entry_eats).reads parser.old.left) parser.old parser.new }
 {
     let mut entries = Vec::new(parser.alloc());
     entries.push(ImportEntry::take(parser)?)?;
@@ -248,8 +222,6 @@ impl<'a> Part<'a, Dylink0Subsection<'a>> for Subsection {
     ghost light = { false };
 
     ghost bare = { bare_subsection };
-
-    ghost quiet = { true };
 
     ghost grammar = { subsection };
 
@@ -283,8 +255,6 @@ impl<'a> Parse<'a> for Dylink0<'a> {
     ghost light = { false };
 
     ghost bare = { no_items };
-
-    ghost quiet = { true };
 
     ghost grammar = { dylink };
 

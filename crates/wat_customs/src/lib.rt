@@ -10,8 +10,6 @@ pub mod flags;
 pub mod place;
 pub mod producers;
 pub mod raw;
-#[cfg(test)]
-mod tests;
 
 pub use custom::Custom;
 pub use dylink::{Dylink0, Dylink0Subsection};

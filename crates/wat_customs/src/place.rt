@@ -1,8 +1,7 @@
 //! Where a custom section stands.
 
 ghost use Rattle.std.specs.Prelude.{◌≡◌, true};
-ghost use Rattle.wat_tokens.specs.Counts.{Counted, Quiet, Kept};
-ghost use Rattle.wat_tokens.specs.Parses.{Gives};
+ghost use Rattle.wat_tokens.specs.Reads.{ReadsLight};
 ghost use Rattle.wat_tokens.specs.Tests.{look_up};
 ghost use Rattle.wat_customs.specs.Place.{anchor_words, before, after};
 
@@ -82,11 +81,7 @@ impl<'a> Parse<'a> for CustomPlaceAnchor {
 
     ghost seen = { λ a. a };
 
-    ghost light = { true };
-
     ghost bare = { λ _. true };
-
-    ghost quiet = { true };
 
     ghost grammar = { section };
 
@@ -106,10 +101,7 @@ impl<'a> Parse<'a> for CustomPlaceAnchor {
 /// `before first` or `before` and a section.
 #[tactic(auto, unfolding(crate::specs::Place::before))]
 fn read_before<'a>(parser: &mut Parser<'a>) -> Result<CustomPlace>
-    ensures exact { Gives true (λ _. true) (λ p. p) result (before.reads parser.old.left) parser.new.left }
-    ensures counts { Counted result parser.old parser.new }
-    ensures quiet { Quiet parser.old parser.new }
-    ensures names { Kept parser.old parser.new }
+    ensures reads { ReadsLight (λ p. p) result (before.reads parser.old.left) parser.old parser.new }
 {
     parser.keyword("before")?;
     if parser.next_is("first") {
@@ -122,10 +114,7 @@ fn read_before<'a>(parser: &mut Parser<'a>) -> Result<CustomPlace>
 /// `after last` or `after` and a section.
 #[tactic(auto, unfolding(crate::specs::Place::after))]
 fn read_after<'a>(parser: &mut Parser<'a>) -> Result<CustomPlace>
-    ensures exact { Gives true (λ _. true) (λ p. p) result (after.reads parser.old.left) parser.new.left }
-    ensures counts { Counted result parser.old parser.new }
-    ensures quiet { Quiet parser.old parser.new }
-    ensures names { Kept parser.old parser.new }
+    ensures reads { ReadsLight (λ p. p) result (after.reads parser.old.left) parser.old parser.new }
 {
     parser.keyword("after")?;
     if parser.next_is("last") {
@@ -144,11 +133,7 @@ impl<'a> Parse<'a> for CustomPlace {
 
     ghost seen = { λ p. p };
 
-    ghost light = { true };
-
     ghost bare = { λ _. true };
-
-    ghost quiet = { true };
 
     ghost grammar = { custom_place };
 

@@ -82,11 +82,7 @@ impl<'a> Parse<'a> for Field {
 
     ghost seen = { λ f. f };
 
-    ghost light = { true };
-
     ghost bare = { λ _. true };
-
-    ghost quiet = { true };
 
     ghost grammar = { field_word };
 
@@ -109,11 +105,7 @@ impl<'a> Parse<'a> for ProducerEntry<'a> {
 
     ghost seen = { seen_entry };
 
-    ghost light = { true };
-
     ghost bare = { λ _. true };
-
-    ghost quiet = { true };
 
     ghost grammar = { producer_entry };
 
@@ -194,8 +186,6 @@ impl<'a> Parse<'a> for Producers<'a> {
     ghost light = { false };
 
     ghost bare = { no_items };
-
-    ghost quiet = { true };
 
     ghost grammar = { producers };
 

@@ -1,8 +1,7 @@
 //! Custom sections of any name, with their bytes.
 
-ghost use Rattle.std.specs.Prelude.{◌≡◌, true, false};
-ghost use Rattle.wat_tokens.specs.Counts.{Counted, Quiet, Kept};
-ghost use Rattle.wat_tokens.specs.Parses.{Gives};
+ghost use Rattle.std.specs.Prelude.{◌≡◌, false};
+ghost use Rattle.wat_tokens.specs.Reads.{ReadsLight};
 ghost use Rattle.wat_customs.specs.Raw.{RawTy, seen_raw, bare_raw, begins_lparen, raw_place, raw_custom};
 
 use crate::place::CustomPlace;
@@ -32,10 +31,7 @@ fn lparen_next(parser: &Parser<'_>) -> bool
 /// `( place )`, where a `(` stands in front; else behind the last section.
 #[tactic(auto, unfolding(crate::specs::Raw::raw_place))]
 fn read_place<'a>(parser: &mut Parser<'a>) -> Result<CustomPlace>
-    ensures exact { Gives true (λ _. true) (λ p. p) result (raw_place.reads parser.old.left) parser.new.left }
-    ensures counts { Counted result parser.old parser.new }
-    ensures quiet { Quiet parser.old parser.new }
-    ensures names { Kept parser.old parser.new }
+    ensures reads { ReadsLight (λ p. p) result (raw_place.reads parser.old.left) parser.old parser.new }
 {
     if !lparen_next(parser) {
         return Ok(CustomPlace::AfterLast);
@@ -55,8 +51,6 @@ impl<'a> Parse<'a> for RawCustomSection<'a> {
     ghost light = { false };
 
     ghost bare = { bare_raw };
-
-    ghost quiet = { true };
 
     ghost grammar = { raw_custom };
 

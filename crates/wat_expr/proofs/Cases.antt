@@ -48,8 +48,8 @@ module _ (levels s : List Level) (p : Option ℕ) (m : List Tok) (f : Flat) (non
   pub turn_if_close : (i : Instr) (h : Option ℕ) → levels ≡ InIf i h ∷ s → Stuck (at levels p (RParen ∷ m) f)
   turn_if_close i h e = by_parts (InIf i h) (RParen ∷ m) (λ s t. Stuck s) (λ p. at s p m f) e (if_close s i h m f)
 
-  pub turn_then : (A : Type 0) (res : Result A Error) (new : List Level) (i : Instr) (h : Option ℕ) (g : Flat) → levels ≡ InIf i h ∷ s → new ≡ InArm ∷ AfterThen ∷ s → MatchResult res (λ _. g ≡ push h i f) (λ e. e.fault ≡ Memory) → Turned res (at levels p (LParen ∷ word (codes "then") ∷ m) f) (at new p m g)
-  turn_then A res new i h g e n r = subst (λ (n : List Level). Turned res (at levels p (LParen ∷ word (codes "then") ∷ m) f) (at n p m g)) (sym n) (by_parts (InIf i h) (LParen ∷ word (codes "then") ∷ m) (Turned res) (λ p. at (InArm ∷ AfterThen ∷ s) p m g) e (pushed res _ _ None h i m f g r (turn_then_is s i h m f)))
+  pub turn_then : (A : Type 0) (res : Result A Error) (new mid : List Level) (i : Instr) (h : Option ℕ) (g : Flat) → levels ≡ InIf i h ∷ s → g ≡ push h i f → mid ≡ AfterThen ∷ s → MatchResult res (λ _. new ≡ InArm ∷ mid) (λ e. e.fault ≡ Memory) → Turned res (at levels p (LParen ∷ word (codes "then") ∷ m) f) (at new p m g)
+  turn_then A res new mid i h g e q k r = by_parts (InIf i h) (LParen ∷ word (codes "then") ∷ m) (Turned res) (λ p. at new p m g) e (subst (λ (g : Flat). Turned res (at (InIf i h ∷ s) None (LParen ∷ word (codes "then") ∷ m) f) (at new None m g)) (sym q) (levelled res _ (AfterThen ∷ s) new None InArm m (push h i f) (subst (λ (x : List Level). MatchResult res (λ _. new ≡ InArm ∷ x) (λ e. e.fault ≡ Memory)) k r) (turn_then_is s i h m f)))
 
   pub turn_else : (A : Type 0) (res : Result A Error) (ts : List Tok) (new : List Level) (g : Flat) → levels ≡ AfterThen ∷ s → ts ≡ word (codes "else") ∷ m → new ≡ InArm ∷ AfterElse ∷ s → MatchResult res (λ _. g ≡ push None else_instr f) (λ e. e.fault ≡ Memory) → Turned res (at levels p (LParen ∷ ts) f) (at new p m g)
   turn_else A res ts new g e t n r = subst (λ (n : List Level). Turned res (at levels p (LParen ∷ ts) f) (at n p m g)) (sym n) (subst (λ (t : List Tok). Turned res (at levels p (LParen ∷ t) f) (at (InArm ∷ AfterElse ∷ s) p m g)) (sym t) (by_parts AfterThen (LParen ∷ word (codes "else") ∷ m) (Turned res) (λ p. at (InArm ∷ AfterElse ∷ s) p m g) e (pushed res _ _ None None else_instr m f g r (turn_else_is s m f))))
@@ -59,8 +59,8 @@ module _ (levels s : List Level) (p : Option ℕ) (m : List Tok) (f : Flat) (non
 pub turn_plain : (A : Type 0) (res : Result A Error) (s : List Level) (p after : Option ℕ) (i : Instr) (ts m : List Tok) (f g : Flat) → TakesPlain s → reads i ts m → after ≡ None → MatchResult res (λ _. g ≡ push p i f) (λ e. e.fault ≡ Memory) → Turned res (at s p ts f) (at s after m g)
 turn_plain A res s p after i ts m f g a h n r = subst (λ (q : Option ℕ). Turned res (at s p ts f) (at s q m g)) (sym n) (pushed res _ s None p i m f g r (turn_plain_is s p i ts m f a h))
 
-pub turn_block : (A : Type 0) (res : Result A Error) (s new : List Level) (p after : Option ℕ) (i : Instr) (ts m : List Tok) (f g : Flat) → IsOpen s → reads i ts m → sort i ≡ IsBlock → after ≡ None → new ≡ InBlock ∷ s → MatchResult res (λ _. g ≡ push p i f) (λ e. e.fault ≡ Memory) → Turned res (at s p (LParen ∷ ts) f) (at new after m g)
-turn_block A res s new p after i ts m f g a h k n l r = subst (λ (q : Option ℕ). Turned res (at s p (LParen ∷ ts) f) (at new q m g)) (sym n) (subst (λ (q : List Level). Turned res (at s p (LParen ∷ ts) f) (at q None m g)) (sym l) (pushed res _ _ None p i m f g r (turn_block_is s p i ts m f a h k)))
+pub turn_block : (A : Type 0) (res : Result A Error) (s new : List Level) (p after : Option ℕ) (i : Instr) (ts m : List Tok) (f g : Flat) → IsOpen s → reads i ts m → sort i ≡ IsBlock → after ≡ None → g ≡ push p i f → MatchResult res (λ _. new ≡ InBlock ∷ s) (λ e. e.fault ≡ Memory) → Turned res (at s p (LParen ∷ ts) f) (at new after m g)
+turn_block A res s new p after i ts m f g a h k n l r = subst (λ (q : Option ℕ). Turned res (at s p (LParen ∷ ts) f) (at new q m g)) (sym n) (subst (λ (q : Flat). Turned res (at s p (LParen ∷ ts) f) (at new None m q)) (sym l) (levelled res _ s new None InBlock m (push p i f) r (turn_block_is s p i ts m f a h k)))
 
 pub turn_folded : (A : Type 0) (res : Result A Error) (s new : List Level) (p after : Option ℕ) (i : Instr) (ts m : List Tok) (f : Flat) → IsOpen s → reads i ts m → sort i ≡ IsOther → after ≡ None → MatchResult res (λ _. new ≡ InFolded i p ∷ s) (λ e. e.fault ≡ Memory) → Turned res (at s p (LParen ∷ ts) f) (at new after m f)
 turn_folded A res s new p after i ts m f a h k n r = subst (λ (q : Option ℕ). Turned res (at s p (LParen ∷ ts) f) (at new q m f)) (sym n) (levelled res _ s new None (InFolded i p) m f r (turn_folded_is s p i ts m f a h k))

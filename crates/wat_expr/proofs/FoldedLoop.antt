@@ -7,7 +7,7 @@ use Rattle.wat_tokens.specs.Parens.{opens, closes}
 use Rattle.wat_tokens.specs.Production.{some_of}
 use Rattle.wat_tokens.specs.State.{State}
 use Rattle.wat_tokens.specs.Token.{Tok, LParen, RParen}
-use Rattle.wat_mnemonics.specs.Probes.{Stays}
+use Rattle.wat_tokens.specs.Counts.{Stays}
 use Rattle.wat_instr.specs.Instruction.{Instr}
 use Rattle.wat_expr.specs.Facts.{reads_level, reads_shorter}
 use Rattle.wat_expr.specs.Flat.{Flat, flat, no_output, one_more, push}

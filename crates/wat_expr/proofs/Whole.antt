@@ -9,7 +9,7 @@ use Rattle.wat_tokens.specs.Production.{Read, by_read, some_is}
 use Rattle.wat_tokens.specs.State.{State}
 use Rattle.wat_tokens.specs.Tests.{ends}
 use Rattle.wat_tokens.specs.Token.{Tok}
-use Rattle.wat_mnemonics.specs.Probes.{Stays}
+use Rattle.wat_tokens.specs.Counts.{Stays}
 use Rattle.wat_instr.specs.Instruction.{Instr, seen_instruction}
 use Rattle.wat_expr.specs.declared.expression.Expression.{Expression}
 use Rattle.wat_expr.specs.declared.reader.Reader.{Reader}

@@ -7,7 +7,7 @@ ghost use Rattle.wat_expr.specs.Items.{Items, lists, mark};
 ghost use Rattle.wat_expr.specs.Listed.{IsListed};
 ghost use Rattle.wat_expr.specs.Reading.{expression};
 ghost use Rattle.wat_instr.specs.Instruction.{seen_instruction, end_instr};
-ghost use Rattle.wat_tokens.specs.Counts.{Counted, Quiet, Kept};
+ghost use Rattle.wat_tokens.specs.Counts.{Counted, Quiet, Stays, Kept};
 ghost use Rattle.wat_tokens.specs.Parses.{Gives, Accepts};
 ghost use Rattle.wat_tokens.specs.Tests.{ends};
 ghost use Rattle.wat_tokens.specs.Token.{Tok};
@@ -15,6 +15,7 @@ ghost use Rattle.wat_tokens.specs.Token.{Tok};
 use crate::reader::Reader;
 use std::alloc::Global;
 use wat_instr::{Instruction, LabelOp};
+use wat_tokens::hand::put;
 use wat_tokens::{Error, Fault, Parse, Parser, Result, Span};
 
 /// A hint whether a branch is likely to be taken (Branch Hinting, Custom Annotation
@@ -80,7 +81,7 @@ impl<'a> Expression<'a> {
         ensures memory { IfErr result (λ e. e.fault ≡ Fault.Memory) }
     {
         let mut instrs = Vec::new(alloc);
-        instrs.push(instr)?;
+        put(&mut instrs, instr)?;
         Ok(Expression {
             instrs,
             branch_hints: Vec::new(alloc),
@@ -108,9 +109,10 @@ impl<'a> Expression<'a> {
     ) -> Result<()>
         ensures { MatchResult result (λ _. flat self.new ≡ push hint (seen_instruction instr.entry) (flat self.old)) (λ e. e.fault ≡ Fault.Memory) }
     {
-        add_hint(&mut self.branch_hints, hint, self.instrs.len())?;
+        let index = self.instrs.len();
+        put(&mut self.instrs, instr)?;
+        add_hint(&mut self.branch_hints, hint, index)?;
         add_span(&mut self.instr_spans, span)?;
-        self.instrs.push(instr)?;
         Ok(())
     }
 
@@ -143,6 +145,8 @@ impl<'a> Parse<'a> for Expression<'a> {
 
     ghost quiet = { false };
 
+    ghost stays = { false };
+
     ghost grammar = { expression };
 
     fn parse(parser: &mut Parser<'a>) -> Result<Self>
@@ -154,6 +158,7 @@ impl<'a> Parse<'a> for Expression<'a> {
         ensures spans { IfOk result (λ e. SpansAre parser.old.tracks e) }
         ensures counts { Counted result parser.old parser.new }
         ensures quiet { IsTrue false → Quiet parser.old parser.new }
+        ensures stays { IsTrue false → Stays parser.old parser.new }
         ensures names { Kept parser.old parser.new }
     {
         let mut reader = Reader::new(parser.alloc(), parser.tracks());

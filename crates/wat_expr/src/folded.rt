@@ -6,13 +6,14 @@ ghost use Rattle.wat_expr.specs.Flat.{flat};
 ghost use Rattle.wat_expr.specs.Folded.{folded_instruction};
 ghost use Rattle.wat_expr.specs.GroupTurn.{GroupTurn, spot};
 ghost use Rattle.wat_expr.specs.Listed.{IsFolded};
-ghost use Rattle.wat_mnemonics.specs.Probes.{Stays};
-ghost use Rattle.wat_tokens.specs.Counts.{Carries, Counted, Kept};
+ghost use Rattle.wat_tokens.specs.Counts.{Counted, Kept};
 ghost use Rattle.wat_tokens.specs.Parses.{Gives};
+ghost use Rattle.wat_tokens.specs.Steady.{Steady};
 
 use crate::expression::Expression;
 use crate::level::{Head, Level, Levels};
 use crate::take::{take_close, take_instr, take_open};
+use wat_tokens::hand::let_go;
 use wat_tokens::{Parser, Result};
 
 /// One turn: a group opens, or the innermost one closes and its instruction is put behind the others.
@@ -22,9 +23,7 @@ fn turn<'a>(
     parser: &mut Parser<'a>,
 ) -> Result<()>
     ensures turned { GroupTurn result (spot levels.old parser.old.left (flat out.old)) (spot levels.new parser.new.left (flat out.new)) }
-    ensures counts { Carries parser.old parser.new }
-    ensures stays { Stays parser.old parser.new }
-    ensures names { Kept parser.old parser.new }
+    ensures steady { Steady parser.old parser.new }
 {
     if take_open(parser) {
         let span = parser.cur_span();
@@ -40,7 +39,10 @@ fn turn<'a>(
     }
     match levels.pop() {
         Some(Level::Folded(head)) => out.push(None, head.instr, head.span),
-        _ => Err(parser.unexpected()),
+        other => {
+            let_go(other);
+            Err(parser.unexpected())
+        }
     }
 }
 

@@ -7,6 +7,7 @@ ghost use Rattle.wat_expr.specs.Progress.{TakesPlain};
 use std::alloc::Global;
 use std::marker::Model;
 use wat_instr::Instruction;
+use wat_tokens::hand::{let_go, put};
 use wat_tokens::{Fault, Result, Span};
 
 /// What kind of group is open.
@@ -151,12 +152,12 @@ impl<'a> Levels<'a> {
         requires { waiting (kind ∷ []) ≡ 1 }
         ensures { MatchResult result (λ _. self.new ≡ levels (kind ∷ []) (head.entry ∷ []) ++ self.old) (λ e. e.fault ≡ Fault.Memory) }
     {
-        self.kinds.push(kind)?;
-        match self.heads.push(head) {
+        put(&mut self.heads, head)?;
+        match put(&mut self.kinds, kind) {
             Ok(()) => Ok(()),
             Err(refused) => {
-                let _ = self.kinds.pop();
-                Err(refused.into())
+                let_go(self.heads.pop());
+                Err(refused)
             }
         }
     }

@@ -7,7 +7,5 @@ pub mod laws;
 mod level;
 mod reader;
 mod take;
-#[cfg(test)]
-mod tests;
 
 pub use expression::{BranchHint, Expression};

@@ -7,8 +7,7 @@ ghost use Rattle.wat_expr.specs.Levels.{Level as Open, InIf, AfterThen};
 ghost use Rattle.wat_expr.specs.Progress.{IsOpen, Turned};
 ghost use Rattle.wat_expr.specs.Turned.{stand, IsHintByte};
 ghost use Rattle.wat_instr.specs.Instruction.{Instr};
-ghost use Rattle.wat_mnemonics.specs.Probes.{Stays};
-ghost use Rattle.wat_tokens.specs.Counts.{Carries, Kept};
+ghost use Rattle.wat_tokens.specs.Steady.{Steady};
 ghost use Rattle.wat_tokens.specs.Tests.{ends};
 ghost use Rattle.wat_tokens.specs.Token.{Tok, LParen, RParen};
 
@@ -17,6 +16,7 @@ use crate::level::{Head, Kind, Level, Levels};
 use crate::take::{take_close, take_hint_name, take_instr, take_open, take_string, take_word};
 use std::alloc::Global;
 use wat_instr::{Instruction, LabelOp};
+use wat_tokens::hand::let_go;
 use wat_tokens::{Error, Fault, Parser, Result, Span};
 
 /// What the loop keeps from turn to turn.
@@ -63,9 +63,7 @@ impl<'a> Reader<'a> {
     pub fn turn(&mut self, parser: &mut Parser<'a>) -> Result<()>
         requires { self.old.levels ≡ [] → ends parser.old.left ≡ true → ⊥ }
         ensures turned { Turned result (stand self.old parser.old.left) (stand self.new parser.new.left) }
-        ensures counts { Carries parser.old parser.new }
-        ensures stays { Stays parser.old parser.new }
-        ensures names { Kept parser.old parser.new }
+        ensures steady { Steady parser.old parser.new }
     {
         if take_open(parser) {
             return self.open(parser);
@@ -82,9 +80,7 @@ impl<'a> Reader<'a> {
         requires no_close { (self.old.levels ≡ [] → ⊥) → (ts : List Tok) → parser.old.left ≡ RParen ∷ ts → ⊥ }
         requires no_end { self.old.levels ≡ [] → ends parser.old.left ≡ true → ⊥ }
         ensures turned { Turned result (stand self.old parser.old.left) (stand self.new parser.new.left) }
-        ensures counts { Carries parser.old parser.new }
-        ensures stays { Stays parser.old parser.new }
-        ensures names { Kept parser.old parser.new }
+        ensures steady { Steady parser.old parser.new }
     {
         if !self.levels.takes_plain() {
             return Err(parser.unexpected());
@@ -112,10 +108,13 @@ impl<'a> Reader<'a> {
             Some(Level::AfterThen) => self.out.push_end(span),
             Some(Level::AfterElse) => self.out.push_end(span),
             Some(Level::Arm) => Ok(()),
-            Some(Level::If(_)) => Err(Error {
-                fault: Fault::IfWithoutThen,
-                span,
-            }),
+            Some(Level::If(head)) => {
+                let_go(head);
+                Err(Error {
+                    fault: Fault::IfWithoutThen,
+                    span,
+                })
+            }
             None => Err(Error {
                 fault: Fault::Unexpected,
                 span,
@@ -126,9 +125,7 @@ impl<'a> Reader<'a> {
     /// A turn at an opening parenthesis, which was taken.
     fn open(&mut self, parser: &mut Parser<'a>) -> Result<()>
         ensures turned { Turned result (stand self.old (LParen ∷ parser.old.left)) (stand self.new parser.new.left) }
-        ensures counts { Carries parser.old parser.new }
-        ensures stays { Stays parser.old parser.new }
-        ensures names { Kept parser.old parser.new }
+        ensures steady { Steady parser.old parser.new }
     {
         match self.levels.top() {
             Some(Kind::If) => {
@@ -159,14 +156,17 @@ impl<'a> Reader<'a> {
         }
         match self.levels.pop() {
             Some(Level::If(head)) => {
+                self.out.push(head.hint, head.instr, head.span)?;
                 self.levels.push(Level::AfterThen)?;
-                self.levels.push(Level::Arm)?;
-                self.out.push(head.hint, head.instr, head.span)
+                self.levels.push(Level::Arm)
             }
-            _ => Err(Error {
-                fault: Fault::Unexpected,
-                span,
-            }),
+            other => {
+                let_go(other);
+                Err(Error {
+                    fault: Fault::Unexpected,
+                    span,
+                })
+            }
         }
     }
 
@@ -174,9 +174,7 @@ impl<'a> Reader<'a> {
     fn open_else(&mut self, parser: &mut Parser<'a>) -> Result<()>
         requires { (s : List Open) × (self.old.levels ≡ AfterThen ∷ s) }
         ensures turned { Turned result (stand self.old (LParen ∷ parser.old.left)) (stand self.new parser.new.left) }
-        ensures counts { Carries parser.old parser.new }
-        ensures stays { Stays parser.old parser.new }
-        ensures names { Kept parser.old parser.new }
+        ensures steady { Steady parser.old parser.new }
     {
         if !take_word(parser, "else") {
             return Err(parser.unexpected());
@@ -188,7 +186,7 @@ impl<'a> Reader<'a> {
                 span,
             });
         }
-        let _ = self.levels.pop();
+        let_go(self.levels.pop());
         self.levels.push(Level::AfterElse)?;
         self.levels.push(Level::Arm)?;
         self.out
@@ -200,9 +198,7 @@ impl<'a> Reader<'a> {
         requires place { IsOpen self.old.levels }
         requires no_then { (ts : List Tok) → parser.old.left ≡ word (codes "then") ∷ ts → (i : Instr) (h : Option ℕ) (s : List Open) → self.old.levels ≡ InIf i h ∷ s → ⊥ }
         ensures turned { Turned result (stand self.old (LParen ∷ parser.old.left)) (stand self.new parser.new.left) }
-        ensures counts { Carries parser.old parser.new }
-        ensures stays { Stays parser.old parser.new }
-        ensures names { Kept parser.old parser.new }
+        ensures steady { Steady parser.old parser.new }
     {
         if take_hint_name(parser) {
             return self.hint(parser);
@@ -211,8 +207,8 @@ impl<'a> Reader<'a> {
         let instr = take_instr(parser)?;
         let hint = self.pending.take();
         if instr.is_block() {
-            self.levels.push(Level::Block)?;
-            return self.out.push(hint, instr, span);
+            self.out.push(hint, instr, span)?;
+            return self.levels.push(Level::Block);
         }
         let is_if = instr.is_if();
         let head = Head { instr, span, hint };
@@ -227,9 +223,7 @@ impl<'a> Reader<'a> {
     fn hint(&mut self, parser: &mut Parser<'a>) -> Result<()>
         requires { IsOpen self.old.levels }
         ensures turned { Turned result (stand self.old (LParen ∷ hint_name ∷ parser.old.left)) (stand self.new parser.new.left) }
-        ensures counts { Carries parser.old parser.new }
-        ensures stays { Stays parser.old parser.new }
-        ensures names { Kept parser.old parser.new }
+        ensures steady { Steady parser.old parser.new }
     {
         let span = parser.cur_span();
         let bytes = take_string(parser)?;

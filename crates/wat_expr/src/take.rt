@@ -3,8 +3,7 @@
 ghost use Rattle.std.specs.Prelude.{◌≡◌, codes};
 ghost use Rattle.wat_expr.specs.Items.{hint_name, word};
 ghost use Rattle.wat_expr.specs.Taken.{Takes, TakesString, ReadsInstr};
-ghost use Rattle.wat_mnemonics.specs.Probes.{Stays};
-ghost use Rattle.wat_tokens.specs.Counts.{Carries, Kept};
+ghost use Rattle.wat_tokens.specs.Steady.{Steady};
 ghost use Rattle.wat_tokens.specs.Token.{LParen, RParen};
 
 use wat_instr::Instruction;
@@ -13,9 +12,7 @@ use wat_tokens::{Parse, Parser, Result};
 /// Takes a `(` where it stands in front, and answers whether it did.
 pub fn take_open(parser: &mut Parser<'_>) -> bool
     ensures exact { Takes LParen result parser.old.left parser.new.left }
-    ensures counts { Carries parser.old parser.new }
-    ensures stays { Stays parser.old parser.new }
-    ensures names { Kept parser.old parser.new }
+    ensures steady { Steady parser.old parser.new }
 {
     parser.open().is_ok()
 }
@@ -23,9 +20,7 @@ pub fn take_open(parser: &mut Parser<'_>) -> bool
 /// Takes a `)` where it stands in front, and answers whether it did.
 pub fn take_close(parser: &mut Parser<'_>) -> bool
     ensures exact { Takes RParen result parser.old.left parser.new.left }
-    ensures counts { Carries parser.old parser.new }
-    ensures stays { Stays parser.old parser.new }
-    ensures names { Kept parser.old parser.new }
+    ensures steady { Steady parser.old parser.new }
 {
     parser.close().is_ok()
 }
@@ -33,9 +28,7 @@ pub fn take_close(parser: &mut Parser<'_>) -> bool
 /// Takes the keyword where it stands in front, and answers whether it did.
 pub fn take_word(parser: &mut Parser<'_>, text: &str) -> bool
     ensures exact { Takes (word text.now) result parser.old.left parser.new.left }
-    ensures counts { Carries parser.old parser.new }
-    ensures stays { Stays parser.old parser.new }
-    ensures names { Kept parser.old parser.new }
+    ensures steady { Steady parser.old parser.new }
 {
     parser.keyword(text).is_ok()
 }
@@ -43,9 +36,7 @@ pub fn take_word(parser: &mut Parser<'_>, text: &str) -> bool
 /// Takes the annotation of a branch hint where it stands in front, and answers whether it did.
 pub fn take_hint_name(parser: &mut Parser<'_>) -> bool
     ensures exact { Takes hint_name result parser.old.left parser.new.left }
-    ensures counts { Carries parser.old parser.new }
-    ensures stays { Stays parser.old parser.new }
-    ensures names { Kept parser.old parser.new }
+    ensures steady { Steady parser.old parser.new }
 {
     parser.take_annotation("metadata.code.branch_hint").is_ok()
 }
@@ -53,9 +44,7 @@ pub fn take_hint_name(parser: &mut Parser<'_>) -> bool
 /// Takes the instruction that stands in front, with its operand, or refuses as its own `parse` does.
 pub fn take_instr<'a>(parser: &mut Parser<'a>) -> Result<Instruction<'a>>
     ensures exact { ReadsInstr result parser.old.left parser.new.left }
-    ensures counts { Carries parser.old parser.new }
-    ensures stays { Stays parser.old parser.new }
-    ensures names { Kept parser.old parser.new }
+    ensures steady { Steady parser.old parser.new }
 {
     Instruction::parse(parser)
 }
@@ -63,9 +52,7 @@ pub fn take_instr<'a>(parser: &mut Parser<'a>) -> Result<Instruction<'a>>
 /// Takes the string that stands in front and answers its bytes, or refuses with Unexpected.
 pub fn take_string<'a>(parser: &mut Parser<'a>) -> Result<&'a [u8]>
     ensures exact { TakesString (λ s. s.now) result parser.old.left parser.new.left }
-    ensures counts { Carries parser.old parser.new }
-    ensures stays { Stays parser.old parser.new }
-    ensures names { Kept parser.old parser.new }
+    ensures steady { Steady parser.old parser.new }
 {
     parser.take_string()
 }

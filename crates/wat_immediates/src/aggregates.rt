@@ -99,11 +99,7 @@ impl<'a> Parse<'a> for StructAccess<'a> {
 
     ghost seen = { seen_struct_access };
 
-    ghost light = { true };
-
     ghost bare = { λ _. true };
-
-    ghost quiet = { true };
 
     ghost grammar = { index_pair };
 
@@ -121,11 +117,7 @@ impl<'a> Parse<'a> for ContBind<'a> {
 
     ghost seen = { seen_cont_bind };
 
-    ghost light = { true };
-
     ghost bare = { λ _. true };
-
-    ghost quiet = { true };
 
     ghost grammar = { index_pair };
 
@@ -146,11 +138,7 @@ impl<'a> Parse<'a> for Switch<'a> {
 
     ghost seen = { seen_switch };
 
-    ghost light = { true };
-
     ghost bare = { λ _. true };
-
-    ghost quiet = { true };
 
     ghost grammar = { index_pair };
 
@@ -171,11 +159,7 @@ impl<'a> Parse<'a> for ArrayFill<'a> {
 
     ghost seen = { seen_array_fill };
 
-    ghost light = { true };
-
     ghost bare = { λ _. true };
-
-    ghost quiet = { true };
 
     ghost grammar = { index };
 
@@ -191,11 +175,7 @@ impl<'a> Parse<'a> for ArrayCopy<'a> {
 
     ghost seen = { seen_array_copy };
 
-    ghost light = { true };
-
     ghost bare = { λ _. true };
-
-    ghost quiet = { true };
 
     ghost grammar = { index_pair };
 
@@ -216,11 +196,7 @@ impl<'a> Parse<'a> for ArrayInit<'a> {
 
     ghost seen = { seen_array_init };
 
-    ghost light = { true };
-
     ghost bare = { λ _. true };
-
-    ghost quiet = { true };
 
     ghost grammar = { index_pair };
 
@@ -239,11 +215,7 @@ impl<'a> Parse<'a> for ArrayNewFixed<'a> {
 
     ghost seen = { seen_array_new_fixed };
 
-    ghost light = { true };
-
     ghost bare = { λ _. true };
-
-    ghost quiet = { true };
 
     ghost grammar = { array_of_length };
 
@@ -261,11 +233,7 @@ impl<'a> Parse<'a> for ArrayNewData<'a> {
 
     ghost seen = { seen_array_new_data };
 
-    ghost light = { true };
-
     ghost bare = { λ _. true };
-
-    ghost quiet = { true };
 
     ghost grammar = { index_pair };
 
@@ -283,11 +251,7 @@ impl<'a> Parse<'a> for ArrayNewElem<'a> {
 
     ghost seen = { seen_array_new_elem };
 
-    ghost light = { true };
-
     ghost bare = { λ _. true };
-
-    ghost quiet = { true };
 
     ghost grammar = { index_pair };
 

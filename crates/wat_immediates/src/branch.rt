@@ -1,6 +1,7 @@
 //! The labels of a table of branches.
 
-ghost use Rattle.std.specs.Prelude.{◌≡◌, ◌≢◌, [], ◌∷◌, ◌++◌, true, false, IfOk, IfErr};
+ghost use Rattle.std.specs.Prelude.{◌≡◌, ◌≢◌, [], ◌∷◌, ◌++◌, false};
+ghost use Rattle.wat_tokens.specs.Copies.{Copies};
 ghost use Rattle.wat_immediates.specs.Branch.{BrTableTy, seen_br_table, bare_br_table, br_table};
 
 use wat_tokens::repeat::while_begun;
@@ -19,10 +20,7 @@ pub struct BrTableIndices<'a> {
 impl<'a> BrTableIndices<'a> {
     /// The same labels once more. Memory may be answered where there is one beside the default.
     pub fn clone(&self) -> Result<BrTableIndices<'a>>
-        ensures labels { IfOk result (λ b. b.labels.items ≡ self.now.labels.items) }
-        ensures default { IfOk result (λ b. b.default ≡ self.now.default) }
-        ensures seen { IfOk result (λ b. seen_br_table b ≡ seen_br_table self.now) }
-        ensures memory { IfErr result (λ e. (e.fault ≡ Fault.Memory) × (bare_br_table (seen_br_table self.now) ≡ false)) }
+        ensures copies { Copies (λ x y. (y.labels.items ≡ x.labels.items) × (y.default ≡ x.default)) seen_br_table bare_br_table result self.now }
     {
         let mut labels = Vec::new(*self.labels.allocator());
         labels.extend_from_slice(&self.labels)?;
@@ -53,8 +51,6 @@ impl<'a> Parse<'a> for BrTableIndices<'a> {
     ghost light = { false };
 
     ghost bare = { bare_br_table };
-
-    ghost quiet = { true };
 
     ghost grammar = { br_table };
 

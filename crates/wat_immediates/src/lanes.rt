@@ -1,9 +1,8 @@
 //! Lanes of vectors, and accesses to one lane.
 
 ghost use Rattle.std.specs.Prelude.{◌≡◌, true};
-ghost use Rattle.wat_tokens.specs.Counts.{Counted, Quiet, Kept};
 ghost use Rattle.wat_tokens.specs.Lookup.{front};
-ghost use Rattle.wat_tokens.specs.Parses.{Gives};
+ghost use Rattle.wat_tokens.specs.Reads.{ReadsLight};
 ghost use Rattle.wat_immediates.specs.Lanes.{lane_arg, goes_on, is_alone, seen_lane_access, lane_access};
 
 use crate::memory::{MemArg, MemArgTarget, begins_with};
@@ -39,11 +38,7 @@ impl<'a> Parse<'a> for LaneArg {
 
     ghost seen = { λ l. l };
 
-    ghost light = { true };
-
     ghost bare = { λ _. true };
-
-    ghost quiet = { true };
 
     ghost grammar = { lane_arg };
 
@@ -94,10 +89,7 @@ impl<'a> LoadOrStoreLane<'a> {
     /// Instructions".)
     #[tactic(auto, unfolding(crate::specs::Lanes::lane_access))]
     pub fn read(parser: &mut Parser<'a>, align: u64) -> Result<LoadOrStoreLane<'a>>
-        ensures exact { Gives true (λ _. true) seen_lane_access result ((lane_access align).reads parser.old.left) parser.new.left }
-        ensures counts { Counted result parser.old parser.new }
-        ensures quiet { Quiet parser.old parser.new }
-        ensures names { Kept parser.old parser.new }
+        ensures reads { ReadsLight seen_lane_access result ((lane_access align).reads parser.old.left) parser.old parser.new }
     {
         let memarg = if is_alone(parser.cursor()) {
             MemArg {

@@ -9,10 +9,6 @@ pub mod aggregates;
 pub mod branch;
 pub mod lanes;
 pub mod memory;
-#[cfg(test)]
-mod memory_tests;
-#[cfg(test)]
-mod operand_tests;
 pub mod ordering;
 pub mod tables;
 pub mod vector;

@@ -1,10 +1,9 @@
 //! What an access to a memory or an array is given: its target, an offset, an alignment and an ordering.
 
-ghost use Rattle.std.specs.Prelude.{◌≡◌, ◌≢◌, None, Some, true, option_map, MatchResult};
-ghost use Rattle.wat_tokens.specs.Counts.{Counted, Quiet, Kept};
+ghost use Rattle.std.specs.Prelude.{◌≡◌, ◌≢◌, None, Some, option_map, MatchResult};
 ghost use Rattle.wat_tokens.specs.Lookup.{front};
 ghost use Rattle.wat_tokens.specs.Number.{unsigned_value};
-ghost use Rattle.wat_tokens.specs.Parses.{Gives};
+ghost use Rattle.wat_tokens.specs.Reads.{ReadsLight};
 ghost use Rattle.wat_immediates.specs.Memory.{seen_target, target, behind, begins_with, field, offset_or_0, align, align_or, seen_mem_arg, mem_arg, atomic_mem_arg};
 
 use crate::ordering::Ordering;
@@ -85,10 +84,7 @@ fn number(text: &str, span: Span) -> Result<u64>
 /// Takes a keyword that begins so, and answers the number behind that.
 #[tactic(auto, unfolding(crate::specs::Memory::field))]
 fn take_field(parser: &mut Parser<'_>, front: &str) -> Result<u64>
-    ensures exact { Gives true (λ _. true) (λ n. n) result ((field front.now).reads parser.old.left) parser.new.left }
-    ensures counts { Counted result parser.old parser.new }
-    ensures quiet { Quiet parser.old parser.new }
-    ensures names { Kept parser.old parser.new }
+    ensures reads { ReadsLight (λ n. n) result ((field front.now).reads parser.old.left) parser.old parser.new }
 {
     let span = parser.cur_span();
     let word = parser.take_keyword()?;
@@ -104,10 +100,7 @@ fn take_field(parser: &mut Parser<'_>, front: &str) -> Result<u64>
 /// Takes the offset, where one is written, and else answers 0.
 #[tactic(auto, unfolding(crate::specs::Memory::offset_or_0))]
 fn read_offset(parser: &mut Parser<'_>) -> Result<u64>
-    ensures exact { Gives true (λ _. true) (λ n. n) result (offset_or_0.reads parser.old.left) parser.new.left }
-    ensures counts { Counted result parser.old parser.new }
-    ensures quiet { Quiet parser.old parser.new }
-    ensures names { Kept parser.old parser.new }
+    ensures reads { ReadsLight (λ n. n) result (offset_or_0.reads parser.old.left) parser.old parser.new }
 {
     if begins_with(parser.cursor(), "offset=") {
         take_field(parser, "offset=")
@@ -119,10 +112,7 @@ fn read_offset(parser: &mut Parser<'_>) -> Result<u64>
 /// Takes an alignment.
 #[tactic(auto, unfolding(crate::specs::Memory::align))]
 fn take_align(parser: &mut Parser<'_>) -> Result<u64>
-    ensures exact { Gives true (λ _. true) (λ n. n) result (align.reads parser.old.left) parser.new.left }
-    ensures counts { Counted result parser.old parser.new }
-    ensures quiet { Quiet parser.old parser.new }
-    ensures names { Kept parser.old parser.new }
+    ensures reads { ReadsLight (λ n. n) result (align.reads parser.old.left) parser.old parser.new }
 {
     let span = parser.cur_span();
     let align = take_field(parser, "align=")?;
@@ -139,10 +129,7 @@ fn take_align(parser: &mut Parser<'_>) -> Result<u64>
 /// Takes the alignment, where one is written, and else answers the default.
 #[tactic(auto, unfolding(crate::specs::Memory::align_or))]
 fn read_align(parser: &mut Parser<'_>, default: u64) -> Result<u64>
-    ensures exact { Gives true (λ _. true) (λ n. n) result ((align_or default).reads parser.old.left) parser.new.left }
-    ensures counts { Counted result parser.old parser.new }
-    ensures quiet { Quiet parser.old parser.new }
-    ensures names { Kept parser.old parser.new }
+    ensures reads { ReadsLight (λ n. n) result ((align_or default).reads parser.old.left) parser.old parser.new }
 {
     if begins_with(parser.cursor(), "align=") {
         take_align(parser)
@@ -154,10 +141,7 @@ fn read_align(parser: &mut Parser<'_>, default: u64) -> Result<u64>
 /// Takes the target: where the second token is `type`, an array, else a memory, whose default is 0.
 #[tactic(auto, unfolding(crate::specs::Memory::target))]
 fn read_target<'a>(parser: &mut Parser<'a>) -> Result<MemArgTarget<'a>>
-    ensures exact { Gives true (λ _. true) seen_target result (target.reads parser.old.left) parser.new.left }
-    ensures counts { Counted result parser.old parser.new }
-    ensures quiet { Quiet parser.old parser.new }
-    ensures names { Kept parser.old parser.new }
+    ensures reads { ReadsLight seen_target result (target.reads parser.old.left) parser.old parser.new }
 {
     if !parser.second_is("type") {
         return Ok(MemArgTarget::Memory(index_or_zero(parser)?));
@@ -180,10 +164,7 @@ impl<'a> MemArg<'a> {
     /// power of two. (WebAssembly Core Specification, Text Format, Instructions, "Memory Instructions".)
     #[tactic(auto, unfolding(crate::specs::Memory::mem_arg))]
     pub fn read(parser: &mut Parser<'a>, align: u64) -> Result<MemArg<'a>>
-        ensures exact { Gives true (λ _. true) seen_mem_arg result ((mem_arg align).reads parser.old.left) parser.new.left }
-        ensures counts { Counted result parser.old parser.new }
-        ensures quiet { Quiet parser.old parser.new }
-        ensures names { Kept parser.old parser.new }
+        ensures reads { ReadsLight seen_mem_arg result ((mem_arg align).reads parser.old.left) parser.old parser.new }
     {
         let target = read_target(parser)?;
         let offset = read_offset(parser)?;
@@ -202,10 +183,7 @@ impl<'a> MemArg<'a> {
     /// the proposals on threads.)
     #[tactic(auto, unfolding(crate::specs::Memory::atomic_mem_arg))]
     pub fn read_atomic(parser: &mut Parser<'a>, align: u64, rmw: bool) -> Result<MemArg<'a>>
-        ensures exact { Gives true (λ _. true) seen_mem_arg result ((atomic_mem_arg align rmw).reads parser.old.left) parser.new.left }
-        ensures counts { Counted result parser.old parser.new }
-        ensures quiet { Quiet parser.old parser.new }
-        ensures names { Kept parser.old parser.new }
+        ensures reads { ReadsLight seen_mem_arg result ((atomic_mem_arg align rmw).reads parser.old.left) parser.old parser.new }
     {
         let mut access = MemArg::read(parser, align)?;
         access.ordering = match Option::<Ordering>::parse(parser)? {

@@ -36,11 +36,7 @@ impl<'a> Parse<'a> for Ordering {
 
     ghost seen = { λ o. o };
 
-    ghost light = { true };
-
     ghost bare = { λ _. true };
-
-    ghost quiet = { true };
 
     ghost grammar = { ordering };
 
@@ -90,6 +86,8 @@ impl<'a, T: Parse<'a> + Drop> Parse<'a> for Ordered<T> {
     ghost bare = { λ v. T.bare v.1 };
 
     ghost quiet = { T.quiet };
+
+    ghost stays = { T.stays };
 
     ghost grammar = { ordered T.grammar };
 

@@ -1,9 +1,8 @@
 //! Operands that name tables and memories.
 
 ghost use Rattle.std.specs.Prelude.{◌≡◌, true};
-ghost use Rattle.wat_tokens.specs.Counts.{Counted, Quiet, Kept};
 ghost use Rattle.wat_tokens.specs.Index.{Idx, number, seen_index};
-ghost use Rattle.wat_tokens.specs.Parses.{Gives};
+ghost use Rattle.wat_tokens.specs.Reads.{ReadsLight};
 ghost use Rattle.wat_immediates.specs.Tables.{index_or_0, seen_table_arg, seen_memory_arg, init, seen_table_init, seen_memory_init, copy, seen_table_copy, seen_memory_copy};
 
 use wat_tokens::{Index, Parse, Parser, Result};
@@ -70,10 +69,7 @@ pub(crate) fn zero<'a>(parser: &Parser<'a>) -> Index<'a>
 /// Takes an index, where one begins in front, and else answers 0.
 #[tactic(auto, unfolding(crate::specs::Tables::index_or_0))]
 pub fn index_or_zero<'a>(parser: &mut Parser<'a>) -> Result<Index<'a>>
-    ensures exact { Gives true (λ _. true) seen_index result (index_or_0.reads parser.old.left) parser.new.left }
-    ensures counts { Counted result parser.old parser.new }
-    ensures quiet { Quiet parser.old parser.new }
-    ensures names { Kept parser.old parser.new }
+    ensures reads { ReadsLight seen_index result (index_or_0.reads parser.old.left) parser.old parser.new }
 {
     if parser.peek::<Index>() {
         Index::parse(parser)
@@ -85,10 +81,7 @@ pub fn index_or_zero<'a>(parser: &mut Parser<'a>) -> Result<Index<'a>>
 /// Where the second token is an index, takes a target and a segment; else takes a segment, and the target is 0.
 #[tactic(auto, unfolding(crate::specs::Tables::init, crate::specs::Tables::index_pair))]
 fn target_and_segment<'a>(parser: &mut Parser<'a>) -> Result<(Index<'a>, Index<'a>)>
-    ensures exact { Gives true (λ _. true) (λ p. (seen_index p.0, seen_index p.1)) result (init.reads parser.old.left) parser.new.left }
-    ensures counts { Counted result parser.old parser.new }
-    ensures quiet { Quiet parser.old parser.new }
-    ensures names { Kept parser.old parser.new }
+    ensures reads { ReadsLight (λ p. (seen_index p.0, seen_index p.1)) result (init.reads parser.old.left) parser.old parser.new }
 {
     let target = if parser.peek2::<Index>() {
         Index::parse(parser)?
@@ -102,10 +95,7 @@ fn target_and_segment<'a>(parser: &mut Parser<'a>) -> Result<(Index<'a>, Index<'
 /// Where an index begins, takes a destination and a source; else both are 0.
 #[tactic(auto, unfolding(crate::specs::Tables::copy, crate::specs::Tables::index_pair))]
 fn destination_and_source<'a>(parser: &mut Parser<'a>) -> Result<(Index<'a>, Index<'a>)>
-    ensures exact { Gives true (λ _. true) (λ p. (seen_index p.0, seen_index p.1)) result (copy.reads parser.old.left) parser.new.left }
-    ensures counts { Counted result parser.old parser.new }
-    ensures quiet { Quiet parser.old parser.new }
-    ensures names { Kept parser.old parser.new }
+    ensures reads { ReadsLight (λ p. (seen_index p.0, seen_index p.1)) result (copy.reads parser.old.left) parser.old parser.new }
 {
     if !parser.peek::<Index>() {
         return Ok((zero(parser), zero(parser)));
@@ -121,11 +111,7 @@ impl<'a> Parse<'a> for TableArg<'a> {
 
     ghost seen = { seen_table_arg };
 
-    ghost light = { true };
-
     ghost bare = { λ _. true };
-
-    ghost quiet = { true };
 
     ghost grammar = { index_or_0 };
 
@@ -142,11 +128,7 @@ impl<'a> Parse<'a> for MemoryArg<'a> {
 
     ghost seen = { seen_memory_arg };
 
-    ghost light = { true };
-
     ghost bare = { λ _. true };
-
-    ghost quiet = { true };
 
     ghost grammar = { index_or_0 };
 
@@ -164,11 +146,7 @@ impl<'a> Parse<'a> for TableInit<'a> {
 
     ghost seen = { seen_table_init };
 
-    ghost light = { true };
-
     ghost bare = { λ _. true };
-
-    ghost quiet = { true };
 
     ghost grammar = { init };
 
@@ -185,11 +163,7 @@ impl<'a> Parse<'a> for MemoryInit<'a> {
 
     ghost seen = { seen_memory_init };
 
-    ghost light = { true };
-
     ghost bare = { λ _. true };
-
-    ghost quiet = { true };
 
     ghost grammar = { init };
 
@@ -205,11 +179,7 @@ impl<'a> Parse<'a> for TableCopy<'a> {
 
     ghost seen = { seen_table_copy };
 
-    ghost light = { true };
-
     ghost bare = { λ _. true };
-
-    ghost quiet = { true };
 
     ghost grammar = { copy };
 
@@ -225,11 +195,7 @@ impl<'a> Parse<'a> for MemoryCopy<'a> {
 
     ghost seen = { seen_memory_copy };
 
-    ghost light = { true };
-
     ghost bare = { λ _. true };
-
-    ghost quiet = { true };
 
     ghost grammar = { copy };
 

@@ -22,6 +22,7 @@ use Rattle.wat_mnemonics.specs.Word.{mnemonic}
 use Rattle.wat_mnemonics.specs.declared.head.Head.{Head}
 use Rattle.wat_mnemonics.specs.declared.head.Head.TheVariants as head
 use Rattle.wat_mnemonics.specs.declared.indexed.BlockOp.TheVariants as block
+use Rattle.wat_mnemonics.specs.declared.indexed.IndexedOp.TheVariants as indexed
 use Rattle.wat_mnemonics.specs.declared.indexed.LabelOp.TheVariants as label
 use Rattle.wat_instr.specs.Followed.{followed}
 use Rattle.wat_instr.specs.Operand.{Operand, bare_operand, operand}
@@ -209,6 +210,10 @@ is_block n = (n == head_row (head.Block block.block) || n == head_row (head.Bloc
 -- `if`
 abbrev pub is_if : ℕ → Bool
 is_if n = n == head_row (head.Block block.if_)
+
+-- `br_if`
+abbrev pub is_br_if : ℕ → Bool
+is_br_if n = n == head_row (head.Indexed indexed.br_if)
 
 -- `else` without a label
 abbrev pub else_instr : Instr

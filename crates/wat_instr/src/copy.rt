@@ -1,6 +1,6 @@
 //! The same instruction once more.
 
-ghost use Rattle.std.specs.Prelude.{◌≡◌, false, IfOk, IfErr};
+ghost use Rattle.std.specs.Prelude.{false};
 ghost use Rattle.wat_immediates.specs.Branch.{seen_br_table, bare_br_table};
 ghost use Rattle.wat_operands.specs.Block.{seen_block};
 ghost use Rattle.wat_operands.specs.Call.{seen_call};
@@ -11,6 +11,7 @@ ghost use Rattle.wat_operands.specs.Select.{seen_select, bare_select};
 ghost use Rattle.wat_mnemonics.specs.declared.head.Head.TheVariants as head;
 ghost use Rattle.wat_instr.specs.Operand as operands;
 ghost use Rattle.wat_instr.specs.Instruction.{seen_instruction, bare_instruction, instr_of};
+ghost use Rattle.wat_instr.specs.Reading.{Copied};
 
 use crate::instruction::Instruction;
 use wat_mnemonics::{BlockOp, CallIndirectOp};
@@ -18,14 +19,13 @@ use wat_operands::{
     BlockType, BrOnCast, BrOnCastDescEq, BrOnCastDescEqFail, BrOnCastFail, BrTableIndices,
     CallIndirect, Resume, ResumeThrow, ResumeThrowRef, SelectTypes, TryTable,
 };
-use wat_tokens::{Fault, Result};
+use wat_tokens::Result;
 
 impl<'a> Instruction<'a> {
     /// The same instruction once more. Memory may be answered where its operand is in a box or has a list that isn't
     /// empty.
     pub fn clone(&self) -> Result<Instruction<'a>>
-        ensures seen { IfOk result (λ i. seen_instruction i ≡ seen_instruction self.now) }
-        ensures memory { IfErr result (λ e. (e.fault ≡ Fault.Memory) × (bare_instruction (seen_instruction self.now) ≡ false)) }
+        ensures { Copied (seen_instruction self.now) (bare_instruction (seen_instruction self.now)) result }
     {
         match self {
             Instruction::Block(op, x) => clone_block(*op, x),
@@ -84,8 +84,7 @@ impl<'a> Instruction<'a> {
 
 /// `block`, `loop`, `if` or `try`, and the type of the block, once more.
 fn clone_block<'a>(op: BlockOp, x: &Box<BlockType<'a>>) -> Result<Instruction<'a>>
-    ensures seen { IfOk result (λ i. seen_instruction i ≡ instr_of (head.Block op) (operands.block (seen_block x.now.value))) }
-    ensures memory { IfErr result (λ e. e.fault ≡ Fault.Memory) }
+    ensures { Copied (instr_of (head.Block op) (operands.block (seen_block x.now.value))) false result }
 {
     let same = BlockType::clone(x)?;
     Ok(Instruction::Block(op, Box::new(*Box::allocator(x), same)?))
@@ -93,8 +92,7 @@ fn clone_block<'a>(op: BlockOp, x: &Box<BlockType<'a>>) -> Result<Instruction<'a
 
 /// An indirect call, once more.
 fn clone_call_indirect<'a>(op: CallIndirectOp, x: &Box<CallIndirect<'a>>) -> Result<Instruction<'a>>
-    ensures seen { IfOk result (λ i. seen_instruction i ≡ instr_of (head.CallIndirect op) (operands.call (seen_call x.now.value))) }
-    ensures memory { IfErr result (λ e. e.fault ≡ Fault.Memory) }
+    ensures { Copied (instr_of (head.CallIndirect op) (operands.call (seen_call x.now.value))) false result }
 {
     let same = CallIndirect::clone(x)?;
     Ok(Instruction::CallIndirect(op, Box::new(*Box::allocator(x), same)?))
@@ -102,80 +100,70 @@ fn clone_call_indirect<'a>(op: CallIndirectOp, x: &Box<CallIndirect<'a>>) -> Res
 
 /// `br_table`, once more.
 fn clone_br_table<'a>(x: &BrTableIndices<'a>) -> Result<Instruction<'a>>
-    ensures seen { IfOk result (λ i. seen_instruction i ≡ instr_of head.br_table (operands.branches (seen_br_table x.now))) }
-    ensures memory { IfErr result (λ e. (e.fault ≡ Fault.Memory) × (bare_br_table (seen_br_table x.now) ≡ false)) }
+    ensures { Copied (instr_of head.br_table (operands.branches (seen_br_table x.now))) (bare_br_table (seen_br_table x.now)) result }
 {
     Ok(Instruction::br_table(x.clone()?))
 }
 
 /// `select`, once more.
 fn clone_select<'a>(x: &SelectTypes<'a>) -> Result<Instruction<'a>>
-    ensures seen { IfOk result (λ i. seen_instruction i ≡ instr_of head.select (operands.chosen (seen_select x.now))) }
-    ensures memory { IfErr result (λ e. (e.fault ≡ Fault.Memory) × (bare_select (seen_select x.now) ≡ false)) }
+    ensures { Copied (instr_of head.select (operands.chosen (seen_select x.now))) (bare_select (seen_select x.now)) result }
 {
     Ok(Instruction::select(x.clone()?))
 }
 
 /// `br_on_cast`, once more.
 fn clone_br_on_cast<'a>(x: &Box<BrOnCast<'a>>) -> Result<Instruction<'a>>
-    ensures seen { IfOk result (λ i. seen_instruction i ≡ instr_of head.br_on_cast (operands.cast (seen_branch x.now.value))) }
-    ensures memory { IfErr result (λ e. e.fault ≡ Fault.Memory) }
+    ensures { Copied (instr_of head.br_on_cast (operands.cast (seen_branch x.now.value))) false result }
 {
     Ok(Instruction::br_on_cast(x.clone()?))
 }
 
 /// `br_on_cast_fail`, once more.
 fn clone_br_on_cast_fail<'a>(x: &Box<BrOnCastFail<'a>>) -> Result<Instruction<'a>>
-    ensures seen { IfOk result (λ i. seen_instruction i ≡ instr_of head.br_on_cast_fail (operands.cast (seen_branch_fail x.now.value))) }
-    ensures memory { IfErr result (λ e. e.fault ≡ Fault.Memory) }
+    ensures { Copied (instr_of head.br_on_cast_fail (operands.cast (seen_branch_fail x.now.value))) false result }
 {
     Ok(Instruction::br_on_cast_fail(x.clone()?))
 }
 
 /// `try_table`, once more.
 fn clone_try_table<'a>(x: &TryTable<'a>) -> Result<Instruction<'a>>
-    ensures seen { IfOk result (λ i. seen_instruction i ≡ instr_of head.try_table (operands.caught (seen_try x.now))) }
-    ensures memory { IfErr result (λ e. e.fault ≡ Fault.Memory) }
+    ensures { Copied (instr_of head.try_table (operands.caught (seen_try x.now))) false result }
 {
     Ok(Instruction::try_table(x.clone()?))
 }
 
 /// `resume`, once more.
 fn clone_resume<'a>(x: &Resume<'a>) -> Result<Instruction<'a>>
-    ensures seen { IfOk result (λ i. seen_instruction i ≡ instr_of head.resume (operands.resumed (seen_resume x.now))) }
-    ensures memory { IfErr result (λ e. (e.fault ≡ Fault.Memory) × (bare_resume (seen_resume x.now) ≡ false)) }
+    ensures { Copied (instr_of head.resume (operands.resumed (seen_resume x.now))) (bare_resume (seen_resume x.now)) result }
 {
     Ok(Instruction::resume(x.clone()?))
 }
 
 /// `resume_throw`, once more.
 fn clone_resume_throw<'a>(x: &ResumeThrow<'a>) -> Result<Instruction<'a>>
-    ensures seen { IfOk result (λ i. seen_instruction i ≡ instr_of head.resume_throw (operands.thrown (seen_resume_throw x.now))) }
-    ensures memory { IfErr result (λ e. (e.fault ≡ Fault.Memory) × (bare_throw (seen_resume_throw x.now) ≡ false)) }
+    ensures { Copied (instr_of head.resume_throw (operands.thrown (seen_resume_throw x.now))) (bare_throw (seen_resume_throw x.now)) result }
 {
     Ok(Instruction::resume_throw(x.clone()?))
 }
 
 /// `resume_throw_ref`, once more.
 fn clone_resume_throw_ref<'a>(x: &ResumeThrowRef<'a>) -> Result<Instruction<'a>>
-    ensures seen { IfOk result (λ i. seen_instruction i ≡ instr_of head.resume_throw_ref (operands.resumed (seen_resume_throw_ref x.now))) }
-    ensures memory { IfErr result (λ e. (e.fault ≡ Fault.Memory) × (bare_resume (seen_resume_throw_ref x.now) ≡ false)) }
+    ensures { Copied (instr_of head.resume_throw_ref (operands.resumed (seen_resume_throw_ref x.now))) (bare_resume (seen_resume_throw_ref x.now)) result }
 {
     Ok(Instruction::resume_throw_ref(x.clone()?))
 }
 
 /// `br_on_cast_desc_eq`, once more.
 fn clone_br_on_cast_desc_eq<'a>(x: &Box<BrOnCastDescEq<'a>>) -> Result<Instruction<'a>>
-    ensures seen { IfOk result (λ i. seen_instruction i ≡ instr_of head.br_on_cast_desc_eq (operands.cast (seen_branch_desc_eq x.now.value))) }
-    ensures memory { IfErr result (λ e. e.fault ≡ Fault.Memory) }
+    ensures { Copied (instr_of head.br_on_cast_desc_eq (operands.cast (seen_branch_desc_eq x.now.value))) false result }
 {
     Ok(Instruction::br_on_cast_desc_eq(x.clone()?))
 }
 
 /// `br_on_cast_desc_eq_fail`, once more.
 fn clone_br_on_cast_desc_eq_fail<'a>(x: &Box<BrOnCastDescEqFail<'a>>) -> Result<Instruction<'a>>
-    ensures seen { IfOk result (λ i. seen_instruction i ≡ instr_of head.br_on_cast_desc_eq_fail (operands.cast (seen_branch_desc_eq_fail x.now.value))) }
-    ensures memory { IfErr result (λ e. e.fault ≡ Fault.Memory) }
+    ensures { Copied (instr_of head.br_on_cast_desc_eq_fail (operands.cast (seen_branch_desc_eq_fail x.now.value))) false result }
 {
     Ok(Instruction::br_on_cast_desc_eq_fail(x.clone()?))
 }

@@ -20,7 +20,10 @@ use wat_tokens::{Id, Index, Parse, Parser, Result};
 pub(crate) fn read_block<'a>(op: BlockOp, parser: &mut Parser<'a>) -> Result<Instruction<'a>>
     ensures { ReadsOperand (head.Block op) result parser.old parser.new }
 {
-    Ok(Instruction::Block(op, Box::<BlockType>::parse(parser)?))
+    match Box::<BlockType>::parse(parser) {
+        Ok(operand) => Ok(Instruction::Block(op, operand)),
+        Err(refused) => Err(refused),
+    }
 }
 
 /// `else` or `end`, and the label that may follow.
@@ -28,7 +31,10 @@ pub(crate) fn read_block<'a>(op: BlockOp, parser: &mut Parser<'a>) -> Result<Ins
 pub(crate) fn read_label<'a>(op: LabelOp, parser: &mut Parser<'a>) -> Result<Instruction<'a>>
     ensures { ReadsOperand (head.Label op) result parser.old parser.new }
 {
-    Ok(Instruction::Label(op, Option::<Id>::parse(parser)?))
+    match Option::<Id>::parse(parser) {
+        Ok(operand) => Ok(Instruction::Label(op, operand)),
+        Err(refused) => Err(refused),
+    }
 }
 
 /// An instruction with an index.
@@ -36,7 +42,10 @@ pub(crate) fn read_label<'a>(op: LabelOp, parser: &mut Parser<'a>) -> Result<Ins
 pub(crate) fn read_indexed<'a>(op: IndexedOp, parser: &mut Parser<'a>) -> Result<Instruction<'a>>
     ensures { ReadsOperand (head.Indexed op) result parser.old parser.new }
 {
-    Ok(Instruction::Indexed(op, Index::parse(parser)?))
+    match Index::parse(parser) {
+        Ok(operand) => Ok(Instruction::Indexed(op, operand)),
+        Err(refused) => Err(refused),
+    }
 }
 
 /// An indirect call.
@@ -47,7 +56,10 @@ pub(crate) fn read_call_indirect<'a>(
 ) -> Result<Instruction<'a>>
     ensures { ReadsOperand (head.CallIndirect op) result parser.old parser.new }
 {
-    Ok(Instruction::CallIndirect(op, Box::<CallIndirect>::parse(parser)?))
+    match Box::<CallIndirect>::parse(parser) {
+        Ok(operand) => Ok(Instruction::CallIndirect(op, operand)),
+        Err(refused) => Err(refused),
+    }
 }
 
 /// An instruction with a table.
@@ -55,7 +67,10 @@ pub(crate) fn read_call_indirect<'a>(
 pub(crate) fn read_table<'a>(op: TableOp, parser: &mut Parser<'a>) -> Result<Instruction<'a>>
     ensures { ReadsOperand (head.Table op) result parser.old parser.new }
 {
-    Ok(Instruction::Table(op, TableArg::parse(parser)?))
+    match TableArg::parse(parser) {
+        Ok(operand) => Ok(Instruction::Table(op, operand)),
+        Err(refused) => Err(refused),
+    }
 }
 
 /// A load, a store or a wait.
@@ -63,7 +78,10 @@ pub(crate) fn read_table<'a>(op: TableOp, parser: &mut Parser<'a>) -> Result<Ins
 pub(crate) fn read_access<'a>(op: AccessOp, parser: &mut Parser<'a>) -> Result<Instruction<'a>>
     ensures { ReadsOperand (head.Access op) result parser.old parser.new }
 {
-    Ok(Instruction::Access(op, MemArg::read(parser, op.align())?))
+    match MemArg::read(parser, op.align()) {
+        Ok(operand) => Ok(Instruction::Access(op, operand)),
+        Err(refused) => Err(refused),
+    }
 }
 
 /// An instruction with a memory.
@@ -71,7 +89,10 @@ pub(crate) fn read_access<'a>(op: AccessOp, parser: &mut Parser<'a>) -> Result<I
 pub(crate) fn read_memory<'a>(op: MemoryOp, parser: &mut Parser<'a>) -> Result<Instruction<'a>>
     ensures { ReadsOperand (head.Memory op) result parser.old parser.new }
 {
-    Ok(Instruction::Memory(op, MemoryArg::parse(parser)?))
+    match MemoryArg::parse(parser) {
+        Ok(operand) => Ok(Instruction::Memory(op, operand)),
+        Err(refused) => Err(refused),
+    }
 }
 
 /// A field of a structure.
@@ -79,7 +100,10 @@ pub(crate) fn read_memory<'a>(op: MemoryOp, parser: &mut Parser<'a>) -> Result<I
 pub(crate) fn read_struct<'a>(op: StructOp, parser: &mut Parser<'a>) -> Result<Instruction<'a>>
     ensures { ReadsOperand (head.Struct op) result parser.old parser.new }
 {
-    Ok(Instruction::Struct(op, StructAccess::parse(parser)?))
+    match StructAccess::parse(parser) {
+        Ok(operand) => Ok(Instruction::Struct(op, operand)),
+        Err(refused) => Err(refused),
+    }
 }
 
 /// An array, and the segment that it is filled from.
@@ -90,7 +114,10 @@ pub(crate) fn read_array_init<'a>(
 ) -> Result<Instruction<'a>>
     ensures { ReadsOperand (head.ArrayInit op) result parser.old parser.new }
 {
-    Ok(Instruction::ArrayInit(op, ArrayInit::parse(parser)?))
+    match ArrayInit::parse(parser) {
+        Ok(operand) => Ok(Instruction::ArrayInit(op, operand)),
+        Err(refused) => Err(refused),
+    }
 }
 
 /// An atomic load or store.
@@ -101,7 +128,10 @@ pub(crate) fn read_atomic_access<'a>(
 ) -> Result<Instruction<'a>>
     ensures { ReadsOperand (head.AtomicAccess op) result parser.old parser.new }
 {
-    Ok(Instruction::AtomicAccess(op, MemArg::read_atomic(parser, op.align(), false)?))
+    match MemArg::read_atomic(parser, op.align(), false) {
+        Ok(operand) => Ok(Instruction::AtomicAccess(op, operand)),
+        Err(refused) => Err(refused),
+    }
 }
 
 /// An atomic read, change and write.
@@ -112,7 +142,10 @@ pub(crate) fn read_rmw_access<'a>(
 ) -> Result<Instruction<'a>>
     ensures { ReadsOperand (head.RmwAccess op) result parser.old parser.new }
 {
-    Ok(Instruction::RmwAccess(op, MemArg::read_atomic(parser, op.align(), true)?))
+    match MemArg::read_atomic(parser, op.align(), true) {
+        Ok(operand) => Ok(Instruction::RmwAccess(op, operand)),
+        Err(refused) => Err(refused),
+    }
 }
 
 /// An atomic access to what an index names.
@@ -123,7 +156,10 @@ pub(crate) fn read_ordered_index<'a>(
 ) -> Result<Instruction<'a>>
     ensures { ReadsOperand (head.OrderedIndex op) result parser.old parser.new }
 {
-    Ok(Instruction::OrderedIndex(op, Ordered::<Index>::parse(parser)?))
+    match Ordered::<Index>::parse(parser) {
+        Ok(operand) => Ok(Instruction::OrderedIndex(op, operand)),
+        Err(refused) => Err(refused),
+    }
 }
 
 /// An atomic access to a table.
@@ -134,7 +170,10 @@ pub(crate) fn read_ordered_table<'a>(
 ) -> Result<Instruction<'a>>
     ensures { ReadsOperand (head.OrderedTable op) result parser.old parser.new }
 {
-    Ok(Instruction::OrderedTable(op, Ordered::<TableArg>::parse(parser)?))
+    match Ordered::<TableArg>::parse(parser) {
+        Ok(operand) => Ok(Instruction::OrderedTable(op, operand)),
+        Err(refused) => Err(refused),
+    }
 }
 
 /// An atomic access to a field of a structure.
@@ -145,7 +184,10 @@ pub(crate) fn read_ordered_struct<'a>(
 ) -> Result<Instruction<'a>>
     ensures { ReadsOperand (head.OrderedStruct op) result parser.old parser.new }
 {
-    Ok(Instruction::OrderedStruct(op, Ordered::<StructAccess>::parse(parser)?))
+    match Ordered::<StructAccess>::parse(parser) {
+        Ok(operand) => Ok(Instruction::OrderedStruct(op, operand)),
+        Err(refused) => Err(refused),
+    }
 }
 
 /// A load or store of one lane.
@@ -156,7 +198,10 @@ pub(crate) fn read_lane_access<'a>(
 ) -> Result<Instruction<'a>>
     ensures { ReadsOperand (head.LaneAccess op) result parser.old parser.new }
 {
-    Ok(Instruction::LaneAccess(op, LoadOrStoreLane::read(parser, op.align())?))
+    match LoadOrStoreLane::read(parser, op.align()) {
+        Ok(operand) => Ok(Instruction::LaneAccess(op, operand)),
+        Err(refused) => Err(refused),
+    }
 }
 
 /// A lane that is taken out or replaced.
@@ -164,7 +209,10 @@ pub(crate) fn read_lane_access<'a>(
 pub(crate) fn read_lane<'a>(op: LaneOp, parser: &mut Parser<'a>) -> Result<Instruction<'a>>
     ensures { ReadsOperand (head.Lane op) result parser.old parser.new }
 {
-    Ok(Instruction::Lane(op, LaneArg::parse(parser)?))
+    match LaneArg::parse(parser) {
+        Ok(operand) => Ok(Instruction::Lane(op, operand)),
+        Err(refused) => Err(refused),
+    }
 }
 
 /// An instruction without an operand, none of vectors.

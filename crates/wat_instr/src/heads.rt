@@ -3,12 +3,12 @@
 ghost use Rattle.std.specs.Prelude.{◌≡◌};
 ghost use Rattle.wat_mnemonics.specs.Heads.{head_word, head_opcode};
 ghost use Rattle.wat_mnemonics.specs.Opcodes.{bytes, Appends};
-ghost use Rattle.wat_instr.specs.Instruction.{head_in, seen_instruction, is_block, is_if};
-ghost use Rattle.wat_instr.specs.Rows.{opens, opens_if};
+ghost use Rattle.wat_instr.specs.Instruction.{head_in, seen_instruction, is_block, is_if, is_br_if};
+ghost use Rattle.wat_instr.specs.Rows.{opens, opens_if, branches_if};
 
 use crate::instruction::{Instruction, InstructionOf};
 use std::fmt;
-use wat_mnemonics::{BlockOp, Head};
+use wat_mnemonics::{BlockOp, Head, IndexedOp};
 use wat_tokens::Result;
 
 impl<
@@ -174,6 +174,14 @@ impl Instruction<'_> {
     {
         opens_if(self.head())
     }
+
+    /// Whether it is `br_if`.
+    #[tactic(auto, using(crate::specs::Rows::br_if_rows))]
+    pub fn is_br_if(&self) -> bool
+        ensures { result ≡ is_br_if (seen_instruction self.now).row }
+    {
+        branches_if(self.head())
+    }
 }
 
 /// Whether it is the head of `block`, `loop` or `try_table`.
@@ -202,6 +210,19 @@ fn opens_if(head: Head) -> bool
             BlockOp::block => false,
             BlockOp::loop_ => false,
             BlockOp::try_ => false,
+        },
+        _ => false,
+    }
+}
+
+/// Whether it is the head of `br_if`.
+fn branches_if(head: Head) -> bool
+    ensures { result ≡ branches_if head }
+{
+    match head {
+        Head::Indexed(op) => match op {
+            IndexedOp::br_if => true,
+            _ => false,
         },
         _ => false,
     }

@@ -8,8 +8,6 @@ pub mod instruction;
 pub mod laws;
 mod parse;
 mod singles;
-#[cfg(test)]
-mod tests;
 
 pub use instruction::{Instruction, InstructionOf};
 pub use wat_mnemonics::{

@@ -1,11 +1,11 @@
 //! Instructions as they are read.
 
-ghost use Rattle.std.specs.Prelude.{◌≡◌, ◌+◌, ◌≤◌, ◌∷◌, ℕ, false, List, None, IfErr};
+ghost use Rattle.std.specs.Prelude.{◌≡◌, ◌+◌, ◌≤◌, ◌∷◌, ℕ, true, false, List, None, IfErr};
 ghost use Rattle.std.proofs.Common.{IsTrue};
-ghost use Rattle.wat_tokens.specs.Counts.{Counted, Quiet, Kept};
+ghost use Rattle.wat_tokens.specs.Counts.{Counted, Quiet, Stays, Kept};
 ghost use Rattle.wat_tokens.specs.Parses.{Gives};
 ghost use Rattle.wat_tokens.specs.Token.{Tok, Keyword};
-ghost use Rattle.wat_mnemonics.specs.Probes.{Stays, AtMostTen};
+ghost use Rattle.wat_mnemonics.specs.Probes.{AtMostTen};
 ghost use Rattle.wat_mnemonics.specs.Word.{mnemonic};
 ghost use Rattle.wat_instr.specs.Instruction.{Instr, seen_instruction, bare_instruction, instruction};
 ghost use Rattle.wat_instr.specs.Reading.{ReadsOperand};
@@ -95,9 +95,9 @@ impl<'a> Parse<'a> for Instruction<'a> {
         ensures exact { Gives false bare_instruction seen_instruction result (instruction.reads parser.old.left) parser.new.left }
         ensures counts { Counted result parser.old parser.new }
         ensures quiet { IsTrue false → Quiet parser.old parser.new }
-        ensures names { Kept parser.old parser.new }
         // No turn and no height is counted.
-        ensures stays { Stays parser.old parser.new }
+        ensures stays { IsTrue true → Stays parser.old parser.new }
+        ensures names { Kept parser.old parser.new }
         // The word is compared at most ten times, and at least once where a keyword stands in front.
         ensures probes { AtMostTen parser.old parser.new }
         ensures probed { (w : List ℕ) (r : List Tok) → parser.old.left ≡ Keyword w ∷ r → parser.old.probes + 1 ≤ parser.new.probes }

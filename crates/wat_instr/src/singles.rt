@@ -18,7 +18,10 @@ use wat_types::HeapType;
 pub(crate) fn read_br_table<'a>(parser: &mut Parser<'a>) -> Result<Instruction<'a>>
     ensures { ReadsOperand head.br_table result parser.old parser.new }
 {
-    Ok(Instruction::br_table(BrTableIndices::parse(parser)?))
+    match BrTableIndices::parse(parser) {
+        Ok(operand) => Ok(Instruction::br_table(operand)),
+        Err(refused) => Err(refused),
+    }
 }
 
 /// `select`.
@@ -26,7 +29,10 @@ pub(crate) fn read_br_table<'a>(parser: &mut Parser<'a>) -> Result<Instruction<'
 pub(crate) fn read_select<'a>(parser: &mut Parser<'a>) -> Result<Instruction<'a>>
     ensures { ReadsOperand head.select result parser.old parser.new }
 {
-    Ok(Instruction::select(SelectTypes::parse(parser)?))
+    match SelectTypes::parse(parser) {
+        Ok(operand) => Ok(Instruction::select(operand)),
+        Err(refused) => Err(refused),
+    }
 }
 
 /// `memory.init`.
@@ -34,7 +40,10 @@ pub(crate) fn read_select<'a>(parser: &mut Parser<'a>) -> Result<Instruction<'a>
 pub(crate) fn read_memory_init<'a>(parser: &mut Parser<'a>) -> Result<Instruction<'a>>
     ensures { ReadsOperand head.memory_init result parser.old parser.new }
 {
-    Ok(Instruction::memory_init(MemoryInit::parse(parser)?))
+    match MemoryInit::parse(parser) {
+        Ok(operand) => Ok(Instruction::memory_init(operand)),
+        Err(refused) => Err(refused),
+    }
 }
 
 /// `memory.copy`.
@@ -42,7 +51,10 @@ pub(crate) fn read_memory_init<'a>(parser: &mut Parser<'a>) -> Result<Instructio
 pub(crate) fn read_memory_copy<'a>(parser: &mut Parser<'a>) -> Result<Instruction<'a>>
     ensures { ReadsOperand head.memory_copy result parser.old parser.new }
 {
-    Ok(Instruction::memory_copy(MemoryCopy::parse(parser)?))
+    match MemoryCopy::parse(parser) {
+        Ok(operand) => Ok(Instruction::memory_copy(operand)),
+        Err(refused) => Err(refused),
+    }
 }
 
 /// `table.init`.
@@ -50,7 +62,10 @@ pub(crate) fn read_memory_copy<'a>(parser: &mut Parser<'a>) -> Result<Instructio
 pub(crate) fn read_table_init<'a>(parser: &mut Parser<'a>) -> Result<Instruction<'a>>
     ensures { ReadsOperand head.table_init result parser.old parser.new }
 {
-    Ok(Instruction::table_init(TableInit::parse(parser)?))
+    match TableInit::parse(parser) {
+        Ok(operand) => Ok(Instruction::table_init(operand)),
+        Err(refused) => Err(refused),
+    }
 }
 
 /// `table.copy`.
@@ -58,7 +73,10 @@ pub(crate) fn read_table_init<'a>(parser: &mut Parser<'a>) -> Result<Instruction
 pub(crate) fn read_table_copy<'a>(parser: &mut Parser<'a>) -> Result<Instruction<'a>>
     ensures { ReadsOperand head.table_copy result parser.old parser.new }
 {
-    Ok(Instruction::table_copy(TableCopy::parse(parser)?))
+    match TableCopy::parse(parser) {
+        Ok(operand) => Ok(Instruction::table_copy(operand)),
+        Err(refused) => Err(refused),
+    }
 }
 
 /// `ref.null`.
@@ -66,7 +84,10 @@ pub(crate) fn read_table_copy<'a>(parser: &mut Parser<'a>) -> Result<Instruction
 pub(crate) fn read_ref_null<'a>(parser: &mut Parser<'a>) -> Result<Instruction<'a>>
     ensures { ReadsOperand head.ref_null result parser.old parser.new }
 {
-    Ok(Instruction::ref_null(HeapType::parse(parser)?))
+    match HeapType::parse(parser) {
+        Ok(operand) => Ok(Instruction::ref_null(operand)),
+        Err(refused) => Err(refused),
+    }
 }
 
 /// `array.new_fixed`.
@@ -74,7 +95,10 @@ pub(crate) fn read_ref_null<'a>(parser: &mut Parser<'a>) -> Result<Instruction<'
 pub(crate) fn read_array_new_fixed<'a>(parser: &mut Parser<'a>) -> Result<Instruction<'a>>
     ensures { ReadsOperand head.array_new_fixed result parser.old parser.new }
 {
-    Ok(Instruction::array_new_fixed(ArrayNewFixed::parse(parser)?))
+    match ArrayNewFixed::parse(parser) {
+        Ok(operand) => Ok(Instruction::array_new_fixed(operand)),
+        Err(refused) => Err(refused),
+    }
 }
 
 /// `array.new_data`.
@@ -82,7 +106,10 @@ pub(crate) fn read_array_new_fixed<'a>(parser: &mut Parser<'a>) -> Result<Instru
 pub(crate) fn read_array_new_data<'a>(parser: &mut Parser<'a>) -> Result<Instruction<'a>>
     ensures { ReadsOperand head.array_new_data result parser.old parser.new }
 {
-    Ok(Instruction::array_new_data(ArrayNewData::parse(parser)?))
+    match ArrayNewData::parse(parser) {
+        Ok(operand) => Ok(Instruction::array_new_data(operand)),
+        Err(refused) => Err(refused),
+    }
 }
 
 /// `array.new_elem`.
@@ -90,7 +117,10 @@ pub(crate) fn read_array_new_data<'a>(parser: &mut Parser<'a>) -> Result<Instruc
 pub(crate) fn read_array_new_elem<'a>(parser: &mut Parser<'a>) -> Result<Instruction<'a>>
     ensures { ReadsOperand head.array_new_elem result parser.old parser.new }
 {
-    Ok(Instruction::array_new_elem(ArrayNewElem::parse(parser)?))
+    match ArrayNewElem::parse(parser) {
+        Ok(operand) => Ok(Instruction::array_new_elem(operand)),
+        Err(refused) => Err(refused),
+    }
 }
 
 /// `array.fill`.
@@ -98,7 +128,10 @@ pub(crate) fn read_array_new_elem<'a>(parser: &mut Parser<'a>) -> Result<Instruc
 pub(crate) fn read_array_fill<'a>(parser: &mut Parser<'a>) -> Result<Instruction<'a>>
     ensures { ReadsOperand head.array_fill result parser.old parser.new }
 {
-    Ok(Instruction::array_fill(ArrayFill::parse(parser)?))
+    match ArrayFill::parse(parser) {
+        Ok(operand) => Ok(Instruction::array_fill(operand)),
+        Err(refused) => Err(refused),
+    }
 }
 
 /// `array.copy`.
@@ -106,7 +139,10 @@ pub(crate) fn read_array_fill<'a>(parser: &mut Parser<'a>) -> Result<Instruction
 pub(crate) fn read_array_copy<'a>(parser: &mut Parser<'a>) -> Result<Instruction<'a>>
     ensures { ReadsOperand head.array_copy result parser.old parser.new }
 {
-    Ok(Instruction::array_copy(ArrayCopy::parse(parser)?))
+    match ArrayCopy::parse(parser) {
+        Ok(operand) => Ok(Instruction::array_copy(operand)),
+        Err(refused) => Err(refused),
+    }
 }
 
 /// `ref.test`.
@@ -114,7 +150,10 @@ pub(crate) fn read_array_copy<'a>(parser: &mut Parser<'a>) -> Result<Instruction
 pub(crate) fn read_ref_test<'a>(parser: &mut Parser<'a>) -> Result<Instruction<'a>>
     ensures { ReadsOperand head.ref_test result parser.old parser.new }
 {
-    Ok(Instruction::ref_test(RefTest::parse(parser)?))
+    match RefTest::parse(parser) {
+        Ok(operand) => Ok(Instruction::ref_test(operand)),
+        Err(refused) => Err(refused),
+    }
 }
 
 /// `ref.cast`.
@@ -122,7 +161,10 @@ pub(crate) fn read_ref_test<'a>(parser: &mut Parser<'a>) -> Result<Instruction<'
 pub(crate) fn read_ref_cast<'a>(parser: &mut Parser<'a>) -> Result<Instruction<'a>>
     ensures { ReadsOperand head.ref_cast result parser.old parser.new }
 {
-    Ok(Instruction::ref_cast(RefCast::parse(parser)?))
+    match RefCast::parse(parser) {
+        Ok(operand) => Ok(Instruction::ref_cast(operand)),
+        Err(refused) => Err(refused),
+    }
 }
 
 /// `br_on_cast`.
@@ -130,7 +172,10 @@ pub(crate) fn read_ref_cast<'a>(parser: &mut Parser<'a>) -> Result<Instruction<'
 pub(crate) fn read_br_on_cast<'a>(parser: &mut Parser<'a>) -> Result<Instruction<'a>>
     ensures { ReadsOperand head.br_on_cast result parser.old parser.new }
 {
-    Ok(Instruction::br_on_cast(Box::<BrOnCast>::parse(parser)?))
+    match Box::<BrOnCast>::parse(parser) {
+        Ok(operand) => Ok(Instruction::br_on_cast(operand)),
+        Err(refused) => Err(refused),
+    }
 }
 
 /// `br_on_cast_fail`.
@@ -138,7 +183,10 @@ pub(crate) fn read_br_on_cast<'a>(parser: &mut Parser<'a>) -> Result<Instruction
 pub(crate) fn read_br_on_cast_fail<'a>(parser: &mut Parser<'a>) -> Result<Instruction<'a>>
     ensures { ReadsOperand head.br_on_cast_fail result parser.old parser.new }
 {
-    Ok(Instruction::br_on_cast_fail(Box::<BrOnCastFail>::parse(parser)?))
+    match Box::<BrOnCastFail>::parse(parser) {
+        Ok(operand) => Ok(Instruction::br_on_cast_fail(operand)),
+        Err(refused) => Err(refused),
+    }
 }
 
 /// `i32.const`.
@@ -146,7 +194,10 @@ pub(crate) fn read_br_on_cast_fail<'a>(parser: &mut Parser<'a>) -> Result<Instru
 pub(crate) fn read_i32_const<'a>(parser: &mut Parser<'a>) -> Result<Instruction<'a>>
     ensures { ReadsOperand head.i32_const result parser.old parser.new }
 {
-    Ok(Instruction::i32_const(i32::parse(parser)?))
+    match i32::parse(parser) {
+        Ok(operand) => Ok(Instruction::i32_const(operand)),
+        Err(refused) => Err(refused),
+    }
 }
 
 /// `i64.const`.
@@ -154,7 +205,10 @@ pub(crate) fn read_i32_const<'a>(parser: &mut Parser<'a>) -> Result<Instruction<
 pub(crate) fn read_i64_const<'a>(parser: &mut Parser<'a>) -> Result<Instruction<'a>>
     ensures { ReadsOperand head.i64_const result parser.old parser.new }
 {
-    Ok(Instruction::i64_const(i64::parse(parser)?))
+    match i64::parse(parser) {
+        Ok(operand) => Ok(Instruction::i64_const(operand)),
+        Err(refused) => Err(refused),
+    }
 }
 
 /// `f32.const`; no literal is read.
@@ -162,7 +216,10 @@ pub(crate) fn read_i64_const<'a>(parser: &mut Parser<'a>) -> Result<Instruction<
 pub(crate) fn read_f32_const<'a>(parser: &mut Parser<'a>) -> Result<Instruction<'a>>
     ensures { ReadsOperand head.f32_const result parser.old parser.new }
 {
-    Ok(Instruction::f32_const(F32::parse(parser)?))
+    match F32::parse(parser) {
+        Ok(operand) => Ok(Instruction::f32_const(operand)),
+        Err(refused) => Err(refused),
+    }
 }
 
 /// `f64.const`; no literal is read.
@@ -170,7 +227,10 @@ pub(crate) fn read_f32_const<'a>(parser: &mut Parser<'a>) -> Result<Instruction<
 pub(crate) fn read_f64_const<'a>(parser: &mut Parser<'a>) -> Result<Instruction<'a>>
     ensures { ReadsOperand head.f64_const result parser.old parser.new }
 {
-    Ok(Instruction::f64_const(F64::parse(parser)?))
+    match F64::parse(parser) {
+        Ok(operand) => Ok(Instruction::f64_const(operand)),
+        Err(refused) => Err(refused),
+    }
 }
 
 /// `atomic.fence`.
@@ -178,7 +238,10 @@ pub(crate) fn read_f64_const<'a>(parser: &mut Parser<'a>) -> Result<Instruction<
 pub(crate) fn read_atomic_fence<'a>(parser: &mut Parser<'a>) -> Result<Instruction<'a>>
     ensures { ReadsOperand head.atomic_fence result parser.old parser.new }
 {
-    Ok(Instruction::atomic_fence(Option::<Ordering>::parse(parser)?))
+    match Option::<Ordering>::parse(parser) {
+        Ok(operand) => Ok(Instruction::atomic_fence(operand)),
+        Err(refused) => Err(refused),
+    }
 }
 
 /// `v128.const`.
@@ -186,7 +249,10 @@ pub(crate) fn read_atomic_fence<'a>(parser: &mut Parser<'a>) -> Result<Instructi
 pub(crate) fn read_v128_const<'a>(parser: &mut Parser<'a>) -> Result<Instruction<'a>>
     ensures { ReadsOperand head.v128_const result parser.old parser.new }
 {
-    Ok(Instruction::v128_const(V128Const::parse(parser)?))
+    match V128Const::parse(parser) {
+        Ok(operand) => Ok(Instruction::v128_const(operand)),
+        Err(refused) => Err(refused),
+    }
 }
 
 /// `i8x16.shuffle`.
@@ -194,7 +260,10 @@ pub(crate) fn read_v128_const<'a>(parser: &mut Parser<'a>) -> Result<Instruction
 pub(crate) fn read_i8x16_shuffle<'a>(parser: &mut Parser<'a>) -> Result<Instruction<'a>>
     ensures { ReadsOperand head.i8x16_shuffle result parser.old parser.new }
 {
-    Ok(Instruction::i8x16_shuffle(I8x16Shuffle::parse(parser)?))
+    match I8x16Shuffle::parse(parser) {
+        Ok(operand) => Ok(Instruction::i8x16_shuffle(operand)),
+        Err(refused) => Err(refused),
+    }
 }
 
 /// `try_table`.
@@ -202,7 +271,10 @@ pub(crate) fn read_i8x16_shuffle<'a>(parser: &mut Parser<'a>) -> Result<Instruct
 pub(crate) fn read_try_table<'a>(parser: &mut Parser<'a>) -> Result<Instruction<'a>>
     ensures { ReadsOperand head.try_table result parser.old parser.new }
 {
-    Ok(Instruction::try_table(TryTable::parse(parser)?))
+    match TryTable::parse(parser) {
+        Ok(operand) => Ok(Instruction::try_table(operand)),
+        Err(refused) => Err(refused),
+    }
 }
 
 /// `cont.bind`.
@@ -210,7 +282,10 @@ pub(crate) fn read_try_table<'a>(parser: &mut Parser<'a>) -> Result<Instruction<
 pub(crate) fn read_cont_bind<'a>(parser: &mut Parser<'a>) -> Result<Instruction<'a>>
     ensures { ReadsOperand head.cont_bind result parser.old parser.new }
 {
-    Ok(Instruction::cont_bind(ContBind::parse(parser)?))
+    match ContBind::parse(parser) {
+        Ok(operand) => Ok(Instruction::cont_bind(operand)),
+        Err(refused) => Err(refused),
+    }
 }
 
 /// `resume`.
@@ -218,7 +293,10 @@ pub(crate) fn read_cont_bind<'a>(parser: &mut Parser<'a>) -> Result<Instruction<
 pub(crate) fn read_resume<'a>(parser: &mut Parser<'a>) -> Result<Instruction<'a>>
     ensures { ReadsOperand head.resume result parser.old parser.new }
 {
-    Ok(Instruction::resume(Resume::parse(parser)?))
+    match Resume::parse(parser) {
+        Ok(operand) => Ok(Instruction::resume(operand)),
+        Err(refused) => Err(refused),
+    }
 }
 
 /// `resume_throw`.
@@ -226,7 +304,10 @@ pub(crate) fn read_resume<'a>(parser: &mut Parser<'a>) -> Result<Instruction<'a>
 pub(crate) fn read_resume_throw<'a>(parser: &mut Parser<'a>) -> Result<Instruction<'a>>
     ensures { ReadsOperand head.resume_throw result parser.old parser.new }
 {
-    Ok(Instruction::resume_throw(ResumeThrow::parse(parser)?))
+    match ResumeThrow::parse(parser) {
+        Ok(operand) => Ok(Instruction::resume_throw(operand)),
+        Err(refused) => Err(refused),
+    }
 }
 
 /// `resume_throw_ref`.
@@ -234,7 +315,10 @@ pub(crate) fn read_resume_throw<'a>(parser: &mut Parser<'a>) -> Result<Instructi
 pub(crate) fn read_resume_throw_ref<'a>(parser: &mut Parser<'a>) -> Result<Instruction<'a>>
     ensures { ReadsOperand head.resume_throw_ref result parser.old parser.new }
 {
-    Ok(Instruction::resume_throw_ref(ResumeThrowRef::parse(parser)?))
+    match ResumeThrowRef::parse(parser) {
+        Ok(operand) => Ok(Instruction::resume_throw_ref(operand)),
+        Err(refused) => Err(refused),
+    }
 }
 
 /// `switch`.
@@ -242,7 +326,10 @@ pub(crate) fn read_resume_throw_ref<'a>(parser: &mut Parser<'a>) -> Result<Instr
 pub(crate) fn read_switch<'a>(parser: &mut Parser<'a>) -> Result<Instruction<'a>>
     ensures { ReadsOperand head.switch result parser.old parser.new }
 {
-    Ok(Instruction::switch(Switch::parse(parser)?))
+    match Switch::parse(parser) {
+        Ok(operand) => Ok(Instruction::switch(operand)),
+        Err(refused) => Err(refused),
+    }
 }
 
 /// `ref.cast_desc_eq`.
@@ -250,7 +337,10 @@ pub(crate) fn read_switch<'a>(parser: &mut Parser<'a>) -> Result<Instruction<'a>
 pub(crate) fn read_ref_cast_desc_eq<'a>(parser: &mut Parser<'a>) -> Result<Instruction<'a>>
     ensures { ReadsOperand head.ref_cast_desc_eq result parser.old parser.new }
 {
-    Ok(Instruction::ref_cast_desc_eq(RefCastDescEq::parse(parser)?))
+    match RefCastDescEq::parse(parser) {
+        Ok(operand) => Ok(Instruction::ref_cast_desc_eq(operand)),
+        Err(refused) => Err(refused),
+    }
 }
 
 /// `br_on_cast_desc_eq`.
@@ -258,7 +348,10 @@ pub(crate) fn read_ref_cast_desc_eq<'a>(parser: &mut Parser<'a>) -> Result<Instr
 pub(crate) fn read_br_on_cast_desc_eq<'a>(parser: &mut Parser<'a>) -> Result<Instruction<'a>>
     ensures { ReadsOperand head.br_on_cast_desc_eq result parser.old parser.new }
 {
-    Ok(Instruction::br_on_cast_desc_eq(Box::<BrOnCastDescEq>::parse(parser)?))
+    match Box::<BrOnCastDescEq>::parse(parser) {
+        Ok(operand) => Ok(Instruction::br_on_cast_desc_eq(operand)),
+        Err(refused) => Err(refused),
+    }
 }
 
 /// `br_on_cast_desc_eq_fail`.
@@ -266,5 +359,8 @@ pub(crate) fn read_br_on_cast_desc_eq<'a>(parser: &mut Parser<'a>) -> Result<Ins
 pub(crate) fn read_br_on_cast_desc_eq_fail<'a>(parser: &mut Parser<'a>) -> Result<Instruction<'a>>
     ensures { ReadsOperand head.br_on_cast_desc_eq_fail result parser.old parser.new }
 {
-    Ok(Instruction::br_on_cast_desc_eq_fail(Box::<BrOnCastDescEqFail>::parse(parser)?))
+    match Box::<BrOnCastDescEqFail>::parse(parser) {
+        Ok(operand) => Ok(Instruction::br_on_cast_desc_eq_fail(operand)),
+        Err(refused) => Err(refused),
+    }
 }

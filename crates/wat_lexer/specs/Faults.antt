@@ -2,7 +2,7 @@
 use Rattle.std.specs.Prelude.{ℕ, List, codes}
 use Rattle.wat_lexer.specs.declared.fault.Error.{Error}
 use Rattle.wat_lexer.specs.declared.fault.Fault.{Fault}
-use Rattle.wat_lexer.specs.declared.fault.Fault.TheVariants.{Memory, LexChar, LexString, LexComment, LexAnnotation, Unexpected, Range, Utf8, FloatLiteral, Alignment, PageSize, Operator, ParamAfterResult, IfWithoutThen, IfTooMany, HintValue, HintTwice, HintPlace, ImportMixed, ImportId}
+use Rattle.wat_lexer.specs.declared.fault.Fault.TheVariants.{Memory, LexChar, LexString, LexComment, LexAnnotation, Unexpected, Range, Utf8, FloatLiteral, Alignment, PageSize, Operator, ParamAfterResult, IfWithoutThen, IfTooMany, HintValue, HintTwice, HintPlace, ImportMixed, ImportId, HintTarget}
 
 abbrev pub fault_number : Fault → ℕ
 fault_number Memory = 1
@@ -25,6 +25,7 @@ fault_number HintTwice = 17
 fault_number HintPlace = 18
 fault_number ImportMixed = 19
 fault_number ImportId = 20
+fault_number HintTarget = 21
 
 -- the name of the variant
 abbrev pub fault_name : Fault → List ℕ
@@ -48,6 +49,7 @@ fault_name HintTwice = codes "HintTwice"
 fault_name HintPlace = codes "HintPlace"
 fault_name ImportMixed = codes "ImportMixed"
 fault_name ImportId = codes "ImportId"
+fault_name HintTarget = codes "HintTarget"
 
 -- want of memory
 abbrev pub memory : Error

@@ -8,7 +8,7 @@ use crate::span::Span;
 use std::alloc::{AllocError, AllocFailed};
 use thiserror::Error;
 
-/// What is wrong with a text. Each fault has a number, from 1 to 20.
+/// What is wrong with a text. Each fault has a number, from 1 to 21.
 #[derive(Clone, Copy, Debug, PartialEq, Eq, Hash)]
 pub enum Fault {
     /// A growth was refused memory; the offset is 0.
@@ -51,10 +51,12 @@ pub enum Fault {
     ImportMixed = 19,
     /// An identifier where none may stand in an import; the offset is its own.
     ImportId = 20,
+    /// An instruction behind a branch hint that is neither `br_if` nor `if`; the offset is that of its word.
+    HintTarget = 21,
 }
 
 impl Fault {
-    /// The number, from 1 to 20.
+    /// The number, from 1 to 21.
     pub fn number(self) -> u8
         ensures { result ≡ fault_number self }
     {
@@ -86,6 +88,7 @@ impl Fault {
             Fault::HintPlace => "HintPlace",
             Fault::ImportMixed => "ImportMixed",
             Fault::ImportId => "ImportId",
+            Fault::HintTarget => "HintTarget",
         }
     }
 }

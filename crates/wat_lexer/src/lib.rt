@@ -10,6 +10,4 @@ pub mod scan;
 pub mod sight;
 pub mod span;
 pub mod string;
-#[cfg(test)]
-mod tests;
 pub mod token;

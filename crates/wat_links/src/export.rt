@@ -1,6 +1,7 @@
 //! Exports.
 
-ghost use Rattle.std.specs.Prelude.{◌≡◌, ℕ, [], true, false, List, map, IfOk, IfErr};
+ghost use Rattle.std.specs.Prelude.{◌≡◌, ℕ, [], true, false, List};
+ghost use Rattle.wat_tokens.specs.Copies.{Copies};
 ghost use Rattle.wat_tokens.specs.Lookup.{front};
 ghost use Rattle.wat_tokens.specs.Parses.{no_items};
 ghost use Rattle.wat_tokens.specs.Tests.{look_up};
@@ -83,11 +84,7 @@ impl<'a> Parse<'a> for ExportKind {
 
     ghost seen = { λ k. k };
 
-    ghost light = { true };
-
     ghost bare = { λ _. true };
-
-    ghost quiet = { true };
 
     ghost grammar = { export_kind };
 
@@ -177,11 +174,7 @@ impl<'a> Parse<'a> for Export<'a> {
 
     ghost seen = { seen_export };
 
-    ghost light = { true };
-
     ghost bare = { λ _. true };
-
-    ghost quiet = { true };
 
     ghost grammar = { export_ };
 
@@ -205,11 +198,7 @@ impl<'a> Parse<'a> for Export<'a> {
 impl<'a> ExportType<'a> {
     /// The same once more. Memory may be answered where a type in it has a parameter or a result in line.
     pub fn clone(&self) -> Result<ExportType<'a>>
-        ensures span { IfOk result (λ e. e.span ≡ self.now.span) }
-        ensures name { IfOk result (λ e. e.name ≡ self.now.name) }
-        ensures item { IfOk result (λ e. SameSig self.now.item e.item) }
-        ensures seen { IfOk result (λ e. seen_export_type e ≡ seen_export_type self.now) }
-        ensures memory { IfErr result (λ e. (e.fault ≡ Fault.Memory) × (bare_export_type (seen_export_type self.now) ≡ false)) }
+        ensures copies { Copies (λ x y. (y.span ≡ x.span) × (y.name ≡ x.name) × (SameSig x.item y.item)) seen_export_type bare_export_type result self.now }
     {
         Ok(ExportType {
             span: self.span,
@@ -228,8 +217,6 @@ impl<'a> Parse<'a> for ExportType<'a> {
     ghost light = { false };
 
     ghost bare = { bare_export_type };
-
-    ghost quiet = { true };
 
     ghost grammar = { export_type };
 
@@ -263,11 +250,7 @@ impl<'a> Part<'a, &'a str> for InlineName {
 
     ghost seen = { λ n. n.now };
 
-    ghost light = { true };
-
     ghost bare = { λ _. true };
-
-    ghost quiet = { true };
 
     ghost grammar = { inline_name };
 
@@ -296,8 +279,6 @@ impl<'a> Parse<'a> for InlineExport<'a> {
     ghost light = { false };
 
     ghost bare = { no_items };
-
-    ghost quiet = { true };
 
     ghost grammar = { inline_export };
 

@@ -3,9 +3,11 @@
 ghost use Rattle.std.specs.Prelude.{◌≡◌, ◌&&◌, ℕ, true, false, List, map, length, replicate, slice_get, ◌<◌, IfOk, IfErr};
 ghost use Rattle.std.specs.Borrow.{sem};
 ghost use Rattle.std.specs.Option.{option_map};
+ghost use Rattle.wat_tokens.specs.Copies.{Copies};
 ghost use Rattle.wat_tokens.specs.Counts.{Counted, Quiet, Kept};
 ghost use Rattle.wat_tokens.specs.Lookup.{front};
 ghost use Rattle.wat_tokens.specs.Parses.{Gives, no_items};
+ghost use Rattle.wat_tokens.specs.Reads.{Reads};
 ghost use Rattle.wat_customs.specs.Raw.{begins_lparen};
 ghost use Rattle.wat_links.specs.Item.{SigTy, seen_sig, bare_sig, SameSig};
 ghost use Rattle.wat_links.specs.Forms.{import_items, imports};
@@ -215,9 +217,7 @@ impl<N, S> ImportsOf<N, S> {
 impl<'a> ImportGroup1Item<'a> {
     /// The same once more. Memory may be answered where a type in it has a parameter or a result in line.
     pub fn clone(&self) -> Result<ImportGroup1Item<'a>>
-        ensures same { IfOk result (λ x. SameTyped self.now x) }
-        ensures seen { IfOk result (λ x. seen_typed x ≡ seen_typed self.now) }
-        ensures memory { IfErr result (λ e. (e.fault ≡ Fault.Memory) × (bare_sig (seen_sig self.now.sig) ≡ false)) }
+        ensures copies { Copies SameTyped seen_typed (λ t. bare_sig t.1) result self.now }
     {
         Ok(ImportGroup1ItemOf {
             span: self.span,
@@ -230,9 +230,7 @@ impl<'a> ImportGroup1Item<'a> {
 /// The same items once more. Memory may be answered where there is an item.
 #[tactic(auto, using(crate::proofs::Same::same_next, crate::proofs::Same::seen_next, crate::proofs::Same::some_items))]
 fn clone_items<'a>(items: &Vec<ImportGroup1Item<'a>>) -> Result<Vec<ImportGroup1Item<'a>>>
-    ensures same { IfOk result (λ v. SameAll items.now.items v.items) }
-    ensures seen { IfOk result (λ v. map seen_typed v.items ≡ map seen_typed items.now.items) }
-    ensures memory { IfErr result (λ e. (e.fault ≡ Fault.Memory) × (no_items (map seen_typed items.now.items) ≡ false)) }
+    ensures copies { Copies (λ x y. SameAll x.items y.items) (λ v. map seen_typed v.items) no_items result items.now }
 {
     let mut copies = Vec::new(*items.allocator());
     'items: for item in items {
@@ -245,9 +243,7 @@ impl<'a> ImportItems<'a> {
     /// The same once more. Memory may be answered where there is an item in a group, or where a type has a parameter or a
     /// result in line.
     pub fn clone(&self) -> Result<ImportItems<'a>>
-        ensures same { IfOk result (λ i. SameItems self.now i) }
-        ensures seen { IfOk result (λ i. seen_items i ≡ seen_items self.now) }
-        ensures memory { IfErr result (λ e. (e.fault ≡ Fault.Memory) × (bare_items (seen_items self.now) ≡ false)) }
+        ensures copies { Copies SameItems seen_items bare_items result self.now }
     {
         match self {
             ImportItemsOf::Single { module, name, sig } => Ok(ImportItemsOf::Single {
@@ -276,10 +272,7 @@ impl<'a> Imports<'a> {
     /// The same once more. Memory may be answered where there is an item in a group, or where a type has a parameter or a
     /// result in line.
     pub fn clone(&self) -> Result<Imports<'a>>
-        ensures span { IfOk result (λ i. i.span ≡ self.now.span) }
-        ensures same { IfOk result (λ i. SameItems self.now.items i.items) }
-        ensures seen { IfOk result (λ i. seen_imports i ≡ seen_imports self.now) }
-        ensures memory { IfErr result (λ e. (e.fault ≡ Fault.Memory) × (bare_imports (seen_imports self.now) ≡ false)) }
+        ensures copies { Copies (λ x y. (y.span ≡ x.span) × (SameItems x.items y.items)) seen_imports bare_imports result self.now }
     {
         Ok(ImportsOf {
             span: self.span,
@@ -290,10 +283,7 @@ impl<'a> Imports<'a> {
 
 /// `( ItemSig )`
 fn read_sig<'a>(parser: &mut Parser<'a>) -> Result<ItemSig<'a>>
-    ensures exact { Gives false bare_sig seen_sig result (sig_group.reads parser.old.left) parser.new.left }
-    ensures counts { Counted result parser.old parser.new }
-    ensures quiet { Quiet parser.old parser.new }
-    ensures names { Kept parser.old parser.new }
+    ensures reads { Reads bare_sig seen_sig result (sig_group.reads parser.old.left) parser.old parser.new }
 {
     parser.open()?;
     let sig = ItemSig::parse(parser)?;
@@ -312,8 +302,6 @@ impl<'a> Part<'a, ImportGroup1Item<'a>> for TypedItem {
     ghost light = { false };
 
     ghost bare = { λ x. bare_sig x.1 };
-
-    ghost quiet = { true };
 
     ghost grammar = { typed_item };
 
@@ -360,8 +348,6 @@ impl<'a> Part<'a, ImportGroup2Item<'a>> for NamedItem {
 
     ghost bare = { λ _. true };
 
-    ghost quiet = { true };
-
     ghost grammar = { named_item };
 
     ghost follows = { item_follows };
@@ -389,10 +375,7 @@ impl<'a> Part<'a, ImportGroup2Item<'a>> for NamedItem {
 /// or the text.
 #[tactic(auto, using(crate::proofs::Ends::closes_none), unfolding(crate::specs::Import::shared_sig))]
 fn read_shared_sig<'a>(parser: &mut Parser<'a>) -> Result<ItemSig<'a>>
-    ensures exact { Gives false bare_sig seen_sig result (shared_sig.reads parser.old.left) parser.new.left }
-    ensures counts { Counted result parser.old parser.new }
-    ensures quiet { Quiet parser.old parser.new }
-    ensures names { Kept parser.old parser.new }
+    ensures reads { Reads bare_sig seen_sig result (shared_sig.reads parser.old.left) parser.old parser.new }
 {
     parser.open()?;
     let sig = ItemSig::parse(parser)?;
@@ -514,8 +497,6 @@ impl<'a> Parse<'a> for Imports<'a> {
 
     ghost bare = { bare_imports };
 
-    ghost quiet = { true };
-
     ghost grammar = { imports };
 
     #[tactic(auto, unfolding(crate::specs::Forms::imports))]
@@ -533,11 +514,7 @@ impl<'a> Parse<'a> for InlineImport<'a> {
 
     ghost seen = { seen_inline_import };
 
-    ghost light = { true };
-
     ghost bare = { λ _. true };
-
-    ghost quiet = { true };
 
     ghost grammar = { inline_import };
 

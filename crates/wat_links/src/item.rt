@@ -1,8 +1,8 @@
 //! Signatures of items that are imported or exported.
 
-ghost use Rattle.std.specs.Prelude.{◌≡◌, true, false, IfOk, IfErr};
-ghost use Rattle.wat_tokens.specs.Counts.{Counted, Quiet, Kept};
-ghost use Rattle.wat_tokens.specs.Parses.{Gives};
+ghost use Rattle.std.specs.Prelude.{◌≡◌, false};
+ghost use Rattle.wat_tokens.specs.Copies.{Copies};
+ghost use Rattle.wat_tokens.specs.Reads.{Reads, ReadsLight};
 ghost use Rattle.wat_types.specs.Label.{seen_label, label};
 ghost use Rattle.wat_links.specs.Item.{seen_kind, bare_kind, SigTy, seen_sig, bare_sig, func_kind, global_or_tag, item_sig, SameKind, SameSig};
 
@@ -44,9 +44,7 @@ pub struct ItemSig<'a> {
 impl<'a> ItemKind<'a> {
     /// The same once more. Memory may be answered where a type in it has a parameter or a result in line.
     pub fn clone(&self) -> Result<ItemKind<'a>>
-        ensures same { IfOk result (λ k. SameKind self.now k) }
-        ensures seen { IfOk result (λ k. seen_kind k ≡ seen_kind self.now) }
-        ensures memory { IfErr result (λ e. (e.fault ≡ Fault.Memory) × (bare_kind (seen_kind self.now) ≡ false)) }
+        ensures copies { Copies SameKind seen_kind bare_kind result self.now }
     {
         match self {
             ItemKind::Func(ty) => Ok(ItemKind::Func(ty.clone()?)),
@@ -62,9 +60,7 @@ impl<'a> ItemKind<'a> {
 impl<'a> ItemSig<'a> {
     /// The same signature once more. Memory may be answered where a type in it has a parameter or a result in line.
     pub fn clone(&self) -> Result<ItemSig<'a>>
-        ensures same { IfOk result (λ s. SameSig self.now s) }
-        ensures seen { IfOk result (λ s. seen_sig s ≡ seen_sig self.now) }
-        ensures memory { IfErr result (λ e. (e.fault ≡ Fault.Memory) × (bare_sig (seen_sig self.now) ≡ false)) }
+        ensures copies { Copies SameSig seen_sig bare_sig result self.now }
     {
         Ok(ItemSig {
             span: self.span,
@@ -78,10 +74,7 @@ impl<'a> ItemSig<'a> {
 /// An identifier and a name, each there or not.
 #[tactic(auto, unfolding(wat_types::specs::Label::label))]
 fn read_label<'a>(parser: &mut Parser<'a>) -> Result<(Option<Id<'a>>, Option<NameAnnotation<'a>>)>
-    ensures exact { Gives true (λ _. true) (λ l. seen_label l.0 l.1) result (label.reads parser.old.left) parser.new.left }
-    ensures counts { Counted result parser.old parser.new }
-    ensures quiet { Quiet parser.old parser.new }
-    ensures names { Kept parser.old parser.new }
+    ensures reads { ReadsLight (λ l. seen_label l.0 l.1) result (label.reads parser.old.left) parser.old parser.new }
 {
     let id = Option::<Id>::parse(parser)?;
     let name = Option::<NameAnnotation>::parse(parser)?;
@@ -91,10 +84,7 @@ fn read_label<'a>(parser: &mut Parser<'a>) -> Result<(Option<Id<'a>>, Option<Nam
 /// Where the second token is `exact`, a type use in `( exact .. )`, else a type use.
 #[tactic(auto, unfolding(crate::specs::Item::func_kind))]
 fn read_func_kind<'a>(parser: &mut Parser<'a>) -> Result<ItemKind<'a>>
-    ensures exact { Gives false bare_kind seen_kind result (func_kind.reads parser.old.left) parser.new.left }
-    ensures counts { Counted result parser.old parser.new }
-    ensures quiet { Quiet parser.old parser.new }
-    ensures names { Kept parser.old parser.new }
+    ensures reads { Reads bare_kind seen_kind result (func_kind.reads parser.old.left) parser.old parser.new }
 {
     if !parser.second_is("exact") {
         return Ok(ItemKind::Func(TypeUse::parse(parser)?));
@@ -109,10 +99,7 @@ fn read_func_kind<'a>(parser: &mut Parser<'a>) -> Result<ItemKind<'a>>
 /// `global` or `tag`, a label, and a type.
 #[tactic(auto, unfolding(crate::specs::Item::global_or_tag))]
 fn read_global_or_tag<'a>(parser: &mut Parser<'a>) -> Result<ItemSig<'a>>
-    ensures exact { Gives false bare_sig seen_sig result (global_or_tag.reads parser.old.left) parser.new.left }
-    ensures counts { Counted result parser.old parser.new }
-    ensures quiet { Quiet parser.old parser.new }
-    ensures names { Kept parser.old parser.new }
+    ensures reads { Reads bare_sig seen_sig result (global_or_tag.reads parser.old.left) parser.old parser.new }
 {
     if parser.next_is("global") {
         let span = parser.keyword("global")?;
@@ -147,8 +134,6 @@ impl<'a> Parse<'a> for ItemSig<'a> {
     ghost light = { false };
 
     ghost bare = { bare_sig };
-
-    ghost quiet = { true };
 
     ghost grammar = { item_sig };
 

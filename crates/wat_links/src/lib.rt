@@ -7,8 +7,6 @@
 pub mod export;
 pub mod import;
 pub mod item;
-#[cfg(test)]
-mod tests;
 
 pub use export::{Export, ExportKind, ExportType, InlineExport};
 pub use import::{

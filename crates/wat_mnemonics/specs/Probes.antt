@@ -1,11 +1,17 @@
 -- What is counted where a word is looked up.
-use Rattle.std.specs.Prelude.{◌≡◌, ◌+◌, ◌≤◌}
+use Rattle.std.specs.Prelude.{◌+◌, ◌≤◌, Result}
+use Rattle.wat_tokens.specs.Counts.{Stays}
+use Rattle.wat_tokens.specs.Error.{Error}
+use Rattle.wat_tokens.specs.Parses.{Exactly}
+use Rattle.wat_tokens.specs.Reads.{Call}
 use Rattle.wat_tokens.specs.State.{State}
-
--- no turn and no height was counted
-abbrev pub Stays : State → State → Type 0
-Stays a b = (b.turns ≡ a.turns) × (b.peak ≡ a.peak) × (b.held ≡ a.held)
+use Rattle.wat_mnemonics.specs.Word.{mnemonic}
+use Rattle.wat_mnemonics.specs.declared.head.Head.{Head}
 
 -- at most ten comparisons of the word with entries of the table were counted
 abbrev pub AtMostTen : State → State → Type 0
 AtMostTen a b = (a.probes ≤ b.probes) × (b.probes ≤ a.probes + 10)
+
+-- it answers the head whose word stands in front, takes no memory, and counts no turn and no height
+abbrev pub ReadsWord : Result Head Error → State → State → Type 0
+ReadsWord r a b = Call (Exactly (λ h. h) r (mnemonic.reads a.left) b.left) (Stays a b) r a b

@@ -4,12 +4,10 @@ ghost use Rattle.std.specs.Prelude.{◌≡◌, ◌≢◌, ◌<◌, ◌≤◌, �
 ghost use Rattle.wat_tokens.specs.Token.{Tok, Keyword};
 ghost use Rattle.wat_mnemonics.specs.Heads.{head_word};
 ghost use Rattle.wat_mnemonics.specs.Order.{first};
-ghost use Rattle.wat_mnemonics.specs.Probes.{Stays, AtMostTen};
+ghost use Rattle.wat_mnemonics.specs.Probes.{ReadsWord, AtMostTen};
 ghost use Rattle.wat_mnemonics.specs.Table.{TABLE};
-ghost use Rattle.wat_mnemonics.specs.Word.{mnemonic};
 ghost use Rattle.wat_mnemonics.specs.declared.head.Head.{Head as AnyHead};
-ghost use Rattle.wat_tokens.specs.Counts.{Carries, Counted, Kept};
-ghost use Rattle.wat_tokens.specs.Parses.{Exactly};
+ghost use Rattle.wat_tokens.specs.Counts.{Carries};
 
 use crate::head::Head;
 use crate::table::HEADS;
@@ -55,10 +53,7 @@ impl Head {
     /// A word that is no mnemonic, or any other token, is refused with Operator at it.
     #[tactic(auto, using(crate::specs::Word::reads_other_word, crate::specs::Word::reads_no_word))]
     pub fn take(parser: &mut Parser<'_>) -> Result<Head>
-        ensures exact { Exactly (λ h. h) result (mnemonic.reads parser.old.left) parser.new.left }
-        ensures counts { Counted result parser.old parser.new }
-        ensures stays { Stays parser.old parser.new }
-        ensures names { Kept parser.old parser.new }
+        ensures reads { ReadsWord result parser.old parser.new }
         ensures probes { AtMostTen parser.old parser.new }
         ensures probed { (w : List ℕ) (r : List Tok) → parser.old.left ≡ Keyword w ∷ r → parser.old.probes + 1 ≤ parser.new.probes }
         ensures fault { IfErr result (λ e. e.fault ≡ Fault.Operator) }

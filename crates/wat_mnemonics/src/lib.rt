@@ -13,8 +13,6 @@ pub mod opcode;
 pub mod ordered;
 pub mod scalar;
 pub mod table;
-#[cfg(test)]
-mod tests;
 pub mod vector;
 
 pub use access::{AccessOp, AtomicAccessOp, LaneAccessOp, RmwAccessOp};

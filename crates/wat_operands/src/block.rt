@@ -1,9 +1,9 @@
 //! Types of blocks.
 
-ghost use Rattle.std.specs.Prelude.{◌≡◌, true, false, IfOk, IfErr};
+ghost use Rattle.std.specs.Prelude.{◌≡◌, false};
+ghost use Rattle.wat_tokens.specs.Copies.{Copies};
+ghost use Rattle.wat_tokens.specs.Reads.{Reads};
 ghost use Rattle.wat_operands.specs.Block.{seen_signature, bare_signature, signature, BlockTy, seen_block, bare_block, block_type, SameBlock};
-ghost use Rattle.wat_tokens.specs.Counts.{Counted, Quiet, Kept};
-ghost use Rattle.wat_tokens.specs.Parses.{Gives};
 
 use wat_tokens::{Fault, Id, NameAnnotation, Parse, Parser, Result};
 use wat_types::{FunctionType, FunctionTypeNoNames, TypeUse};
@@ -23,10 +23,7 @@ pub struct BlockType<'a> {
 /// A type use of a [`FunctionTypeNoNames`], as one of a [`FunctionType`].
 #[tactic(auto, using(crate::specs::Block::seen_with_names))]
 pub(crate) fn read_signature<'a>(parser: &mut Parser<'a>) -> Result<TypeUse<'a, FunctionType<'a>>>
-    ensures exact { Gives false bare_signature seen_signature result (signature.reads parser.old.left) parser.new.left }
-    ensures counts { Counted result parser.old parser.new }
-    ensures quiet { Quiet parser.old parser.new }
-    ensures names { Kept parser.old parser.new }
+    ensures reads { Reads bare_signature seen_signature result (signature.reads parser.old.left) parser.old parser.new }
 {
     let found = TypeUse::<FunctionTypeNoNames>::parse(parser)?;
     Ok(TypeUse::from(found))
@@ -35,9 +32,7 @@ pub(crate) fn read_signature<'a>(parser: &mut Parser<'a>) -> Result<TypeUse<'a, 
 impl<'a> BlockType<'a> {
     /// The same type once more. Memory may be answered where its inline type has a parameter or a result.
     pub fn clone(&self) -> Result<BlockType<'a>>
-        ensures same { IfOk result (λ b. SameBlock self.now b) }
-        ensures seen { IfOk result (λ b. seen_block b ≡ seen_block self.now) }
-        ensures memory { IfErr result (λ e. (e.fault ≡ Fault.Memory) × (bare_block (seen_block self.now) ≡ false)) }
+        ensures copies { Copies SameBlock seen_block bare_block result self.now }
     {
         Ok(BlockType {
             label: self.label,
@@ -56,8 +51,6 @@ impl<'a> Parse<'a> for BlockType<'a> {
     ghost light = { false };
 
     ghost bare = { bare_block };
-
-    ghost quiet = { true };
 
     ghost grammar = { block_type };
 

@@ -1,6 +1,7 @@
 //! Indirect calls.
 
-ghost use Rattle.std.specs.Prelude.{◌≡◌, true, false, IfOk, IfErr};
+ghost use Rattle.std.specs.Prelude.{◌≡◌, false};
+ghost use Rattle.wat_tokens.specs.Copies.{Copies};
 ghost use Rattle.wat_operands.specs.Call.{CallTy, seen_call, bare_call, call_indirect, SameCall};
 
 use crate::block::read_signature;
@@ -20,9 +21,7 @@ pub struct CallIndirect<'a> {
 impl<'a> CallIndirect<'a> {
     /// The same operand once more. Memory may be answered where its inline type has a parameter or a result.
     pub fn clone(&self) -> Result<CallIndirect<'a>>
-        ensures same { IfOk result (λ c. SameCall self.now c) }
-        ensures seen { IfOk result (λ c. seen_call c ≡ seen_call self.now) }
-        ensures memory { IfErr result (λ e. (e.fault ≡ Fault.Memory) × (bare_call (seen_call self.now) ≡ false)) }
+        ensures copies { Copies SameCall seen_call bare_call result self.now }
     {
         Ok(CallIndirect {
             table: self.table,
@@ -40,8 +39,6 @@ impl<'a> Parse<'a> for CallIndirect<'a> {
     ghost light = { false };
 
     ghost bare = { bare_call };
-
-    ghost quiet = { true };
 
     ghost grammar = { call_indirect };
 

@@ -79,11 +79,7 @@ impl<'a> Parse<'a> for RefTest<'a> {
 
     ghost seen = { seen_test };
 
-    ghost light = { true };
-
     ghost bare = { λ _. true };
-
-    ghost quiet = { true };
 
     ghost grammar = { ref_type };
 
@@ -100,11 +96,7 @@ impl<'a> Parse<'a> for RefCast<'a> {
 
     ghost seen = { seen_cast };
 
-    ghost light = { true };
-
     ghost bare = { λ _. true };
-
-    ghost quiet = { true };
 
     ghost grammar = { ref_type };
 
@@ -121,11 +113,7 @@ impl<'a> Parse<'a> for RefCastDescEq<'a> {
 
     ghost seen = { seen_cast_desc_eq };
 
-    ghost light = { true };
-
     ghost bare = { λ _. true };
-
-    ghost quiet = { true };
 
     ghost grammar = { ref_type };
 
@@ -142,11 +130,7 @@ impl<'a> Parse<'a> for BrOnCast<'a> {
 
     ghost seen = { seen_branch };
 
-    ghost light = { true };
-
     ghost bare = { λ _. true };
-
-    ghost quiet = { true };
 
     ghost grammar = { cast_branch };
 
@@ -169,11 +153,7 @@ impl<'a> Parse<'a> for BrOnCastFail<'a> {
 
     ghost seen = { seen_branch_fail };
 
-    ghost light = { true };
-
     ghost bare = { λ _. true };
-
-    ghost quiet = { true };
 
     ghost grammar = { cast_branch };
 
@@ -196,11 +176,7 @@ impl<'a> Parse<'a> for BrOnCastDescEq<'a> {
 
     ghost seen = { seen_branch_desc_eq };
 
-    ghost light = { true };
-
     ghost bare = { λ _. true };
-
-    ghost quiet = { true };
 
     ghost grammar = { cast_branch };
 
@@ -223,11 +199,7 @@ impl<'a> Parse<'a> for BrOnCastDescEqFail<'a> {
 
     ghost seen = { seen_branch_desc_eq_fail };
 
-    ghost light = { true };
-
     ghost bare = { λ _. true };
-
-    ghost quiet = { true };
 
     ghost grammar = { cast_branch };
 

@@ -2,12 +2,12 @@
 
 ghost use Rattle.std.specs.Borrow.{sem};
 ghost use Rattle.std.specs.Option.{option_map};
-ghost use Rattle.std.specs.Prelude.{◌≡◌, true, false, IfOk, IfErr};
+ghost use Rattle.std.specs.Prelude.{◌≡◌, true, false};
 ghost use Rattle.wat_operands.specs.Catches.{tag_of, LendsTag, seen_kind, CatchTy, seen_catch, catch_kind, catch_clause, begins_catch, TryTy, seen_try, try_table, SameTry};
-ghost use Rattle.wat_tokens.specs.Counts.{Counted, Quiet, Kept};
+ghost use Rattle.wat_tokens.specs.Copies.{Copies};
 ghost use Rattle.wat_tokens.specs.Index.{seen_index};
 ghost use Rattle.wat_tokens.specs.Lookup.{front};
-ghost use Rattle.wat_tokens.specs.Parses.{Gives};
+ghost use Rattle.wat_tokens.specs.Reads.{ReadsLight};
 
 use crate::block::BlockType;
 use wat_tokens::repeat::while_begun;
@@ -67,10 +67,7 @@ pub struct TryTable<'a> {
 /// The word of a clause, and the tag where it has one.
 #[tactic(auto, unfolding(crate::specs::Catches::catch_kind))]
 fn read_kind<'a>(parser: &mut Parser<'a>) -> Result<TryTableCatchKind<'a>>
-    ensures exact { Gives true (λ _. true) (seen_kind seen_index) result (catch_kind.reads parser.old.left) parser.new.left }
-    ensures counts { Counted result parser.old parser.new }
-    ensures quiet { Quiet parser.old parser.new }
-    ensures names { Kept parser.old parser.new }
+    ensures reads { ReadsLight (seen_kind seen_index) result (catch_kind.reads parser.old.left) parser.old parser.new }
 {
     if parser.next_is("catch") {
         parser.keyword("catch")?;
@@ -95,11 +92,7 @@ impl<'a> Parse<'a> for TryTableCatch<'a> {
 
     ghost seen = { seen_catch };
 
-    ghost light = { true };
-
     ghost bare = { λ _. true };
-
-    ghost quiet = { true };
 
     ghost grammar = { catch_clause };
 
@@ -132,9 +125,7 @@ impl<'p> Peek for TryTableCatch<'p> {
 impl<'a> TryTable<'a> {
     /// The same operand once more. Memory may be answered, since the block is in a box.
     pub fn clone(&self) -> Result<TryTable<'a>>
-        ensures same { IfOk result (λ t. SameTry self.now t) }
-        ensures seen { IfOk result (λ t. seen_try t ≡ seen_try self.now) }
-        ensures memory { IfErr result (λ e. e.fault ≡ Fault.Memory) }
+        ensures copies { Copies SameTry seen_try (λ _. false) result self.now }
     {
         let alloc = *self.catches.allocator();
         let block = BlockType::clone(&self.block)?;
@@ -155,8 +146,6 @@ impl<'a> Parse<'a> for TryTable<'a> {
     ghost light = { false };
 
     ghost bare = { λ _. false };
-
-    ghost quiet = { true };
 
     ghost grammar = { try_table };
 

@@ -1,7 +1,8 @@
 //! Tables of handlers, and the operands that have one.
 
-ghost use Rattle.std.specs.Prelude.{◌≡◌, true, false, List, IfOk, IfErr};
+ghost use Rattle.std.specs.Prelude.{◌≡◌, true, false, List};
 ghost use Rattle.wat_operands.specs.Handlers.{HandleTy, seen_handle, handler, begins_handler, seen_table, resume_table, ResumeTy, seen_resume, seen_resume_throw_ref, bare_resume, resume, ThrowTy, seen_resume_throw, bare_throw, resume_throw};
+ghost use Rattle.wat_tokens.specs.Copies.{Copies};
 ghost use Rattle.wat_tokens.specs.Lookup.{front};
 ghost use Rattle.wat_tokens.specs.Parses.{no_items};
 
@@ -67,11 +68,7 @@ impl<'a> Parse<'a> for Handle<'a> {
 
     ghost seen = { seen_handle };
 
-    ghost light = { true };
-
     ghost bare = { λ _. true };
-
-    ghost quiet = { true };
 
     ghost grammar = { handler };
 
@@ -111,9 +108,7 @@ impl<'a> ResumeTable<'a> {
     /// The same table once more. Memory may be answered where it has a handler.
     #[tactic(auto, using(std::proofs::lemmas::List::Elements::same_from_all_zip))]
     pub fn clone(&self) -> Result<ResumeTable<'a>>
-        ensures handlers { IfOk result (λ t. t.handlers.items ≡ self.now.handlers.items) }
-        ensures seen { IfOk result (λ t. seen_table t ≡ seen_table self.now) }
-        ensures memory { IfErr result (λ e. (e.fault ≡ Fault.Memory) × (no_items (seen_table self.now) ≡ false)) }
+        ensures copies { Copies (λ x y. y.handlers.items ≡ x.handlers.items) seen_table no_items result self.now }
     {
         let mut handlers = Vec::new(*self.handlers.allocator());
         if self.handlers.is_empty() {
@@ -134,8 +129,6 @@ impl<'a> Parse<'a> for ResumeTable<'a> {
 
     ghost bare = { no_items };
 
-    ghost quiet = { true };
-
     ghost grammar = { resume_table };
 
     #[tactic(auto, using(crate::specs::Handlers::handler_eats), unfolding(crate::specs::Handlers::resume_table))]
@@ -149,10 +142,7 @@ impl<'a> Parse<'a> for ResumeTable<'a> {
 impl<'a> Resume<'a> {
     /// The same operand once more. Memory may be answered where it has a handler.
     pub fn clone(&self) -> Result<Resume<'a>>
-        ensures type_index { IfOk result (λ r. r.type_index ≡ self.now.type_index) }
-        ensures handlers { IfOk result (λ r. r.table.handlers.items ≡ self.now.table.handlers.items) }
-        ensures seen { IfOk result (λ r. seen_resume r ≡ seen_resume self.now) }
-        ensures memory { IfErr result (λ e. (e.fault ≡ Fault.Memory) × (bare_resume (seen_resume self.now) ≡ false)) }
+        ensures copies { Copies (λ x y. (y.type_index ≡ x.type_index) × (y.table.handlers.items ≡ x.table.handlers.items)) seen_resume bare_resume result self.now }
     {
         Ok(Resume {
             type_index: self.type_index,
@@ -171,8 +161,6 @@ impl<'a> Parse<'a> for Resume<'a> {
 
     ghost bare = { bare_resume };
 
-    ghost quiet = { true };
-
     ghost grammar = { resume };
 
     #[tactic(auto, unfolding(crate::specs::Handlers::resume))]
@@ -186,11 +174,7 @@ impl<'a> Parse<'a> for Resume<'a> {
 impl<'a> ResumeThrow<'a> {
     /// The same operand once more. Memory may be answered where it has a handler.
     pub fn clone(&self) -> Result<ResumeThrow<'a>>
-        ensures type_index { IfOk result (λ r. r.type_index ≡ self.now.type_index) }
-        ensures tag_index { IfOk result (λ r. r.tag_index ≡ self.now.tag_index) }
-        ensures handlers { IfOk result (λ r. r.table.handlers.items ≡ self.now.table.handlers.items) }
-        ensures seen { IfOk result (λ r. seen_resume_throw r ≡ seen_resume_throw self.now) }
-        ensures memory { IfErr result (λ e. (e.fault ≡ Fault.Memory) × (bare_throw (seen_resume_throw self.now) ≡ false)) }
+        ensures copies { Copies (λ x y. (y.type_index ≡ x.type_index) × (y.tag_index ≡ x.tag_index) × (y.table.handlers.items ≡ x.table.handlers.items)) seen_resume_throw bare_throw result self.now }
     {
         Ok(ResumeThrow {
             type_index: self.type_index,
@@ -210,8 +194,6 @@ impl<'a> Parse<'a> for ResumeThrow<'a> {
 
     ghost bare = { bare_throw };
 
-    ghost quiet = { true };
-
     ghost grammar = { resume_throw };
 
     #[tactic(auto, unfolding(crate::specs::Handlers::resume_throw))]
@@ -230,10 +212,7 @@ impl<'a> Parse<'a> for ResumeThrow<'a> {
 impl<'a> ResumeThrowRef<'a> {
     /// The same operand once more. Memory may be answered where it has a handler.
     pub fn clone(&self) -> Result<ResumeThrowRef<'a>>
-        ensures type_index { IfOk result (λ r. r.type_index ≡ self.now.type_index) }
-        ensures handlers { IfOk result (λ r. r.table.handlers.items ≡ self.now.table.handlers.items) }
-        ensures seen { IfOk result (λ r. seen_resume_throw_ref r ≡ seen_resume_throw_ref self.now) }
-        ensures memory { IfErr result (λ e. (e.fault ≡ Fault.Memory) × (bare_resume (seen_resume_throw_ref self.now) ≡ false)) }
+        ensures copies { Copies (λ x y. (y.type_index ≡ x.type_index) × (y.table.handlers.items ≡ x.table.handlers.items)) seen_resume_throw_ref bare_resume result self.now }
     {
         Ok(ResumeThrowRef {
             type_index: self.type_index,
@@ -251,8 +230,6 @@ impl<'a> Parse<'a> for ResumeThrowRef<'a> {
     ghost light = { false };
 
     ghost bare = { bare_resume };
-
-    ghost quiet = { true };
 
     ghost grammar = { resume };
 

@@ -8,14 +8,8 @@ pub mod block;
 pub mod call;
 pub mod casts;
 pub mod catches;
-#[cfg(test)]
-mod control_tests;
 pub mod handlers;
-#[cfg(test)]
-mod reading;
 pub mod select;
-#[cfg(test)]
-mod type_tests;
 
 pub use block::BlockType;
 pub use call::CallIndirect;

@@ -1,6 +1,7 @@
 //! The types of a `select`.
 
-ghost use Rattle.std.specs.Prelude.{◌≡◌, true, false, List, Option, map, IfOk, IfErr};
+ghost use Rattle.std.specs.Prelude.{◌≡◌, false, List, Option};
+ghost use Rattle.wat_tokens.specs.Copies.{Copies};
 ghost use Rattle.wat_operands.specs.Select.{seen_select, bare_select, result_group, result_follows, select_types, SameTypes};
 ghost use Rattle.wat_types.specs.Value.{ValTy, seen_val};
 
@@ -24,8 +25,6 @@ impl<'a> Group<'a, ValType<'a>> for ResultGroup {
 
     ghost seen = { seen_val };
 
-    ghost quiet = { true };
-
     ghost grammar = { result_group };
 
     ghost follows = { result_follows };
@@ -47,9 +46,7 @@ impl<'a> Group<'a, ValType<'a>> for ResultGroup {
 impl<'a> SelectTypes<'a> {
     /// The same operand once more. Memory may be answered where it has a type.
     pub fn clone(&self) -> Result<SelectTypes<'a>>
-        ensures same { IfOk result (λ s. SameTypes self.now.tys s.tys) }
-        ensures seen { IfOk result (λ s. seen_select s ≡ seen_select self.now) }
-        ensures memory { IfErr result (λ e. (e.fault ≡ Fault.Memory) × (bare_select (seen_select self.now) ≡ false)) }
+        ensures copies { Copies (λ x y. SameTypes x.tys y.tys) seen_select bare_select result self.now }
     {
         match &self.tys {
             Some(types) => {
@@ -72,8 +69,6 @@ impl<'a> Parse<'a> for SelectTypes<'a> {
     ghost light = { false };
 
     ghost bare = { bare_select };
-
-    ghost quiet = { true };
 
     ghost grammar = { select_types };
 

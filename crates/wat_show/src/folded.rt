@@ -21,6 +21,8 @@ impl<'a> Parse<'a> for FoldedInstruction<'a> {
 
     ghost quiet = { false };
 
+    ghost stays = { false };
+
     ghost grammar = { folded_instruction };
 
     fn parse(parser: &mut Parser<'a>) -> Result<Self> {

@@ -2,8 +2,6 @@
 #![tactic(auto)]
 
 pub mod error;
-#[cfg(test)]
-mod expression_tests;
 pub mod expressions;
 pub mod folded;
 pub mod input;
@@ -13,8 +11,6 @@ pub mod mode;
 pub mod output;
 pub mod show;
 pub mod shown;
-#[cfg(test)]
-mod tests;
 pub mod text;
 pub mod watched;
 pub mod whole;

@@ -1,6 +1,6 @@
 -- What stands in front, and what stands behind it.
 use Rattle.std.proofs.Common.{refl, ◌≡◌, ◌≢◌, ℕ, ◌+◌, ◌<◌, ◌≤◌, Bool, List, [], ◌∷◌, length, get_or, drop, sym, ap, ◌∙◌, arith, subst, length-drop, drop-drop}
-use Rattle.std.proofs.lemmas.List.{drop_more}
+use Rattle.std.proofs.lemmas.List.{drop_more, drop-map}
 use Rattle.wat_lexer.specs.Token.{Tok, tokens_of}
 use Rattle.wat_lexer.specs.Sight.{as_seen}
 use Rattle.wat_lexer.specs.View.{lexeme_tok, toks, placed, Shown}
@@ -20,6 +20,10 @@ steps_to known ls i n d left s lt =
     let c : drop n (drop i ls) ≡ get_or ls (i + n) d ∷ drop (i + n + 1) ls = drop-drop n i ls ∙ drop_more ls (i + n) d lt in
     let e : left ≡ lexeme_tok (get_or ls (i + n) d) ∷ as_seen known (toks (drop (i + n + 1) ls)) = subst (λ (l : List Lexeme). Shown known l left) c s in
     ap (drop 1) (sym e)
+
+-- the tokens behind the one in front are those behind its place
+pub rest_behind : (ls : List Lexeme) (i n : ℕ) → toks (drop (i + n + 1) ls) ≡ drop (n + 1) (toks (drop i ls))
+rest_behind ls i n = ap (λ (l : List Lexeme). toks l) (ap (λ (k : ℕ). drop k ls) {x = i + n + 1} {y = i + (n + 1)} (omega arith) ∙ sym (drop-drop (n + 1) i ls)) ∙ sym (drop-map lexeme_tok (n + 1) (drop i ls))
 
 -- the code's tokens are those of their places
 pub tokens_of-placed : (ls : List Lexeme) → tokens_of (placed ls) ≡ toks ls

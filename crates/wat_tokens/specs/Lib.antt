@@ -8,6 +8,7 @@ pub use Rattle.wat_lexer.specs.Sight
 pub use Rattle.wat_lexer.specs.Token
 pub use Rattle.wat_lexer.specs.View
 pub mod Begin
+pub mod Copies
 pub mod Counts
 pub mod Error
 pub mod Floats
@@ -22,7 +23,9 @@ pub mod Parens
 pub mod Parses
 pub mod Parts
 pub mod Production
+pub mod Reads
 pub mod Restated
 pub mod State
+pub mod Steady
 pub mod Strings
 pub mod Tests

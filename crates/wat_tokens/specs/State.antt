@@ -1,8 +1,8 @@
 -- A parser as contracts see it.
-use Rattle.std.specs.Prelude.{◌≡◌, List, ℕ, Bool, true, false}
-use Rattle.std.proofs.Common.{ap, sym}
+use Rattle.std.specs.Prelude.{◌≡◌, List, ℕ, zero, suc, ◌+◌, drop, Bool, true, false}
+use Rattle.std.proofs.Common.{ap, sym, ◌∙◌, arith}
 use Rattle.wat_lexer.specs.Cut.{IsCut}
-use Rattle.wat_lexer.specs.Sight.{as_seen}
+use Rattle.wat_lexer.specs.Sight.{as_seen, hidden}
 use Rattle.wat_lexer.specs.Token.{Tok, Placed, tokens_of}
 
 -- rest: all tokens from the place on; left: those of them that are seen; known: whether the five standard names are on;
@@ -26,6 +26,16 @@ begun t = record { rest = t; left = as_seen false t; known = false; tracks = fal
 -- a parser at the first token of the text's cut
 abbrev pub IsFresh : List ℕ → State → Type 0
 IsFresh text p = (ts : List Placed) × IsCut text ts × (p ≡ begun (tokens_of ts))
+
+-- directly behind the first n of the tokens that are seen
+unfoldable pub behind : Bool → ℕ → List Tok → List Tok
+behind known zero t = t
+behind known (suc n) t = behind known n (drop (hidden known t + 1) t)
+
+pub behind_then : (known : Bool) (m n : ℕ) (t : List Tok) → behind known n (behind known m t) ≡ behind known (m + n) t
+unfolding behind
+behind_then known zero n t = ap (λ (k : ℕ). behind known k t) {x = n} {y = 0 + n} (omega arith)
+behind_then known (suc m) n t = behind_then known m n (drop (hidden known t + 1) t) ∙ ap (λ (k : ℕ). behind known k t) {x = suc (m + n)} {y = suc m + n} (omega arith)
 
 -- the parser with the five names on
 abbrev pub lit : State → State

@@ -53,11 +53,7 @@ impl<'a> Parse<'a> for F32 {
 
     ghost seen = { λ x. x.bits };
 
-    ghost light = { true };
-
     ghost bare = { λ _. true };
-
-    ghost quiet = { true };
 
     ghost grammar = { none };
 
@@ -72,11 +68,7 @@ impl<'a> Parse<'a> for F64 {
 
     ghost seen = { λ x. x.bits };
 
-    ghost light = { true };
-
     ghost bare = { λ _. true };
-
-    ghost quiet = { true };
 
     ghost grammar = { none };
 

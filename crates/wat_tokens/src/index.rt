@@ -130,11 +130,7 @@ impl<'a> Parse<'a> for Id<'a> {
 
     ghost seen = { name_of };
 
-    ghost light = { true };
-
     ghost bare = { λ _. true };
-
-    ghost quiet = { true };
 
     ghost grammar = { identifier };
 
@@ -166,11 +162,7 @@ impl<'a> Parse<'a> for Index<'a> {
 
     ghost seen = { seen_index };
 
-    ghost light = { true };
-
     ghost bare = { λ _. true };
-
-    ghost quiet = { true };
 
     ghost grammar = { index };
 

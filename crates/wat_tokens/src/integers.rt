@@ -3,9 +3,8 @@
 ghost use Rattle.std.specs.Prelude.{◌≡◌, List, ℕ, ℤ, true, IsTrue};
 ghost use Rattle.wat_lexer.specs.Integer.{text_of};
 ghost use Rattle.wat_lexer.specs.Number.{is_width};
-ghost use Rattle.wat_tokens.specs.Counts.{Counted, Quiet, Kept};
 ghost use Rattle.wat_tokens.specs.Integers.{integer, unsigned, signed};
-ghost use Rattle.wat_tokens.specs.Parses.{Exactly};
+ghost use Rattle.wat_tokens.specs.Reads.{ReadsLight};
 ghost use Rattle.wat_tokens.specs.Tests.{begins_integer};
 
 use crate::cursor::Cursor;
@@ -20,11 +19,7 @@ impl<'a> Parse<'a> for Integer<'a> {
 
     ghost seen = { text_of };
 
-    ghost light = { true };
-
     ghost bare = { λ _. true };
-
-    ghost quiet = { true };
 
     ghost grammar = { integer };
 
@@ -37,10 +32,7 @@ impl<'a> Parse<'a> for Integer<'a> {
 /// none stands in front, and with Range, at the integer, where its value is too large or a `-` is written.
 fn unsigned(parser: &mut Parser<'_>, bits: u32) -> Result<u64, Error>
     requires { IsTrue (is_width bits) }
-    ensures exact { Exactly (λ n. n) result ((unsigned bits).reads parser.old.left) parser.new.left }
-    ensures counts { Counted result parser.old parser.new }
-    ensures quiet { Quiet parser.old parser.new }
-    ensures names { Kept parser.old parser.new }
+    ensures reads { ReadsLight (λ n. n) result ((unsigned bits).reads parser.old.left) parser.old parser.new }
 {
     let span = parser.cur_span();
     let integer = parser.take_integer()?;
@@ -59,11 +51,7 @@ impl<'a> Parse<'a> for u8 {
 
     ghost seen = { λ n. n };
 
-    ghost light = { true };
-
     ghost bare = { λ _. true };
-
-    ghost quiet = { true };
 
     ghost grammar = { unsigned 8 };
 
@@ -90,11 +78,7 @@ impl<'a> Parse<'a> for u16 {
 
     ghost seen = { λ n. n };
 
-    ghost light = { true };
-
     ghost bare = { λ _. true };
-
-    ghost quiet = { true };
 
     ghost grammar = { unsigned 16 };
 
@@ -121,11 +105,7 @@ impl<'a> Parse<'a> for u32 {
 
     ghost seen = { λ n. n };
 
-    ghost light = { true };
-
     ghost bare = { λ _. true };
-
-    ghost quiet = { true };
 
     ghost grammar = { unsigned 32 };
 
@@ -152,11 +132,7 @@ impl<'a> Parse<'a> for u64 {
 
     ghost seen = { λ n. n };
 
-    ghost light = { true };
-
     ghost bare = { λ _. true };
-
-    ghost quiet = { true };
 
     ghost grammar = { unsigned 64 };
 
@@ -181,10 +157,7 @@ impl Peek for u64 {
 /// none stands in front, and with Range, at the integer, where its value is out of range.
 fn signed(parser: &mut Parser<'_>, bits: u32) -> Result<i64, Error>
     requires { IsTrue (is_width bits) }
-    ensures exact { Exactly (λ n. n) result ((signed bits).reads parser.old.left) parser.new.left }
-    ensures counts { Counted result parser.old parser.new }
-    ensures quiet { Quiet parser.old parser.new }
-    ensures names { Kept parser.old parser.new }
+    ensures reads { ReadsLight (λ n. n) result ((signed bits).reads parser.old.left) parser.old parser.new }
 {
     let span = parser.cur_span();
     let integer = parser.take_integer()?;
@@ -203,11 +176,7 @@ impl<'a> Parse<'a> for i8 {
 
     ghost seen = { λ n. n };
 
-    ghost light = { true };
-
     ghost bare = { λ _. true };
-
-    ghost quiet = { true };
 
     ghost grammar = { signed 8 };
 
@@ -234,11 +203,7 @@ impl<'a> Parse<'a> for i16 {
 
     ghost seen = { λ n. n };
 
-    ghost light = { true };
-
     ghost bare = { λ _. true };
-
-    ghost quiet = { true };
 
     ghost grammar = { signed 16 };
 
@@ -265,11 +230,7 @@ impl<'a> Parse<'a> for i32 {
 
     ghost seen = { λ n. n };
 
-    ghost light = { true };
-
     ghost bare = { λ _. true };
-
-    ghost quiet = { true };
 
     ghost grammar = { signed 32 };
 
@@ -296,11 +257,7 @@ impl<'a> Parse<'a> for i64 {
 
     ghost seen = { λ n. n };
 
-    ghost light = { true };
-
     ghost bare = { λ _. true };
-
-    ghost quiet = { true };
 
     ghost grammar = { signed 64 };
 

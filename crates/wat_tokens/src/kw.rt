@@ -39,11 +39,7 @@ impl<'a> Parse<'a> for func {
 
     ghost seen = { λ _. tt };
 
-    ghost light = { true };
-
     ghost bare = { λ _. true };
-
-    ghost quiet = { true };
 
     ghost grammar = { word (codes "func") };
 
@@ -81,11 +77,7 @@ impl<'a> Parse<'a> for table {
 
     ghost seen = { λ _. tt };
 
-    ghost light = { true };
-
     ghost bare = { λ _. true };
-
-    ghost quiet = { true };
 
     ghost grammar = { word (codes "table") };
 
@@ -123,11 +115,7 @@ impl<'a> Parse<'a> for memory {
 
     ghost seen = { λ _. tt };
 
-    ghost light = { true };
-
     ghost bare = { λ _. true };
-
-    ghost quiet = { true };
 
     ghost grammar = { word (codes "memory") };
 
@@ -165,11 +153,7 @@ impl<'a> Parse<'a> for global {
 
     ghost seen = { λ _. tt };
 
-    ghost light = { true };
-
     ghost bare = { λ _. true };
-
-    ghost quiet = { true };
 
     ghost grammar = { word (codes "global") };
 
@@ -207,11 +191,7 @@ impl<'a> Parse<'a> for tag {
 
     ghost seen = { λ _. tt };
 
-    ghost light = { true };
-
     ghost bare = { λ _. true };
-
-    ghost quiet = { true };
 
     ghost grammar = { word (codes "tag") };
 

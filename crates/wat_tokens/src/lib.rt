@@ -5,22 +5,17 @@
 //! Offsets are in bytes from the start of the text.
 #![tactic(auto)]
 
-#[cfg(test)]
-mod basic_tests;
 pub mod cursor;
 pub mod floats;
+pub mod hand;
 pub mod index;
 pub mod integers;
 pub mod kw;
 pub mod name_annotation;
 pub mod parser;
 pub mod repeat;
-#[cfg(test)]
-mod shapes;
 pub mod strings;
 pub mod tally;
-#[cfg(test)]
-mod tests;
 pub mod traits;
 pub mod wrapped;
 

@@ -22,11 +22,7 @@ impl<'a> Parse<'a> for NameAnnotation<'a> {
 
     ghost seen = { λ a. a.name.now };
 
-    ghost light = { true };
-
     ghost bare = { λ _. true };
-
-    ghost quiet = { true };
 
     ghost grammar = { name_annotation };
 

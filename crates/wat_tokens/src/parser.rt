@@ -4,14 +4,14 @@ ghost use Rattle.std.specs.Prelude.{◌≡◌, ◌≢◌, ◌+◌, ◌≤◌, Li
 ghost use Rattle.wat_lexer.specs.Cut.{IsCut, FirstFault};
 ghost use Rattle.wat_lexer.specs.Integer.{text_of};
 ghost use Rattle.wat_lexer.specs.Place.{offset_of};
-ghost use Rattle.wat_lexer.specs.Sight.{as_seen};
+ghost use Rattle.wat_lexer.specs.Sight.{as_seen, hidden};
 ghost use Rattle.wat_lexer.specs.Token.{Placed};
 ghost use Rattle.wat_lexer.specs.View.{toks, AreLeaps};
 ghost use Rattle.wat_tokens.specs.Counts.{Carries, Counted, Quiet, Kept};
 ghost use Rattle.wat_tokens.specs.Lookup.{front, FirstIs};
-ghost use Rattle.wat_tokens.specs.Parses.{Exactly};
 ghost use Rattle.wat_tokens.specs.Error.{Error};
 ghost use Rattle.wat_tokens.specs.Parts.{one_reads, flag};
+ghost use Rattle.wat_tokens.specs.Reads.{ReadsLight, Unmoved, BehindOne};
 ghost use Rattle.wat_tokens.specs.State.{begun, IsFresh};
 ghost use Rattle.wat_tokens.specs.Tests.{is_lparen, is_rparen, is_keyword, is_id, is_integer, is_string, word_only, annotation_only, begins_word, begins_group, begins_annotation, none_left, ends, second};
 
@@ -275,10 +275,11 @@ impl<'a> Parser<'a> {
     }
 
     /// Takes the token in front.
-    #[tactic(auto, using(crate::proofs::Steps::stands_before, crate::proofs::Steps::steps_to))]
+    #[tactic(auto, using(crate::proofs::Steps::stands_before, crate::proofs::Steps::steps_to, crate::proofs::Steps::rest_behind))]
     fn advance(&mut self)
         requires { self.old.left ≢ [] }
         ensures left { self.new.left ≡ drop 1 self.old.left }
+        ensures stands { self.new.rest ≡ drop (hidden self.old.known self.old.rest + 1) self.old.rest }
         ensures taken { self.new.taken ≡ self.old.taken + 1 }
         ensures quiet { Quiet self.old self.new }
         ensures names { Kept self.old self.new }
@@ -294,6 +295,7 @@ impl<'a> Parser<'a> {
     fn step(&mut self)
         requires { self.old.left ≢ [] }
         ensures left { self.new.left ≡ drop 1 self.old.left }
+        ensures stands { self.new.rest ≡ drop (hidden self.old.known self.old.rest + 1) self.old.rest }
         ensures counts { Carries self.old self.new }
         ensures taken { self.new.taken ≡ self.old.taken + 1 }
         ensures quiet { Quiet self.old self.new }
@@ -304,11 +306,9 @@ impl<'a> Parser<'a> {
 
     /// Takes a `(`, or refuses with Unexpected.
     pub fn open(&mut self) -> Result<(), Error>
-        ensures exact { Exactly (λ x. x) result (one_reads is_lparen self.old.left) self.new.left }
-        ensures counts { Counted result self.old self.new }
-        ensures quiet { Quiet self.old self.new }
-        ensures names { Kept self.old self.new }
-        ensures refused { IfErr result (λ e. (e.fault ≡ Fault.Unexpected) × (self.new ≡ self.old)) }
+        ensures reads { ReadsLight (λ x. x) result (one_reads is_lparen self.old.left) self.old self.new }
+        ensures refused { Unmoved result self.old self.new }
+        ensures stands { BehindOne result self.old self.new }
     {
         match self.first() {
             Some(Token::LParen) => {
@@ -321,11 +321,9 @@ impl<'a> Parser<'a> {
 
     /// Takes a `)`, or refuses with Unexpected.
     pub fn close(&mut self) -> Result<(), Error>
-        ensures exact { Exactly (λ x. x) result (one_reads is_rparen self.old.left) self.new.left }
-        ensures counts { Counted result self.old self.new }
-        ensures quiet { Quiet self.old self.new }
-        ensures names { Kept self.old self.new }
-        ensures refused { IfErr result (λ e. (e.fault ≡ Fault.Unexpected) × (self.new ≡ self.old)) }
+        ensures reads { ReadsLight (λ x. x) result (one_reads is_rparen self.old.left) self.old self.new }
+        ensures refused { Unmoved result self.old self.new }
+        ensures stands { BehindOne result self.old self.new }
     {
         match self.first() {
             Some(Token::RParen) => {
@@ -338,11 +336,9 @@ impl<'a> Parser<'a> {
 
     /// Takes the one keyword (Text Format, "Tokens") and answers where it begins, or refuses with Unexpected.
     pub fn keyword(&mut self, word: &str) -> Result<Span, Error>
-        ensures exact { Exactly (λ _. tt) result (one_reads (word_only word.now) self.old.left) self.new.left }
-        ensures counts { Counted result self.old self.new }
-        ensures quiet { Quiet self.old self.new }
-        ensures names { Kept self.old self.new }
-        ensures refused { IfErr result (λ e. (e.fault ≡ Fault.Unexpected) × (self.new ≡ self.old)) }
+        ensures reads { ReadsLight (λ _. tt) result (one_reads (word_only word.now) self.old.left) self.old self.new }
+        ensures refused { Unmoved result self.old self.new }
+        ensures stands { BehindOne result self.old self.new }
     {
         let span = self.cur_span();
         match self.first() {
@@ -356,10 +352,7 @@ impl<'a> Parser<'a> {
 
     /// Takes the one keyword (Text Format, "Tokens") where it stands in front, and answers whether it did.
     pub fn flag(&mut self, word: &str) -> bool
-        ensures exact { (flag word.now).reads self.old.left ≡ Some (result, self.new.left) }
-        ensures counts { Counted {E = Error} (Ok result) self.old self.new }
-        ensures quiet { Quiet self.old self.new }
-        ensures names { Kept self.old self.new }
+        ensures reads { ReadsLight (λ b. b) (Ok result) ((flag word.now).reads self.old.left) self.old self.new }
     {
         let stands = self.next_is(word);
         if stands {
@@ -371,11 +364,9 @@ impl<'a> Parser<'a> {
     /// Takes the annotation of the name (Text Format, "Annotations"), given without its `@`, and answers where it
     /// begins, or refuses with Unexpected.
     pub fn take_annotation(&mut self, name: &str) -> Result<Span, Error>
-        ensures exact { Exactly (λ _. tt) result (one_reads (annotation_only name.now) self.old.left) self.new.left }
-        ensures counts { Counted result self.old self.new }
-        ensures quiet { Quiet self.old self.new }
-        ensures names { Kept self.old self.new }
-        ensures refused { IfErr result (λ e. (e.fault ≡ Fault.Unexpected) × (self.new ≡ self.old)) }
+        ensures reads { ReadsLight (λ _. tt) result (one_reads (annotation_only name.now) self.old.left) self.old self.new }
+        ensures refused { Unmoved result self.old self.new }
+        ensures stands { BehindOne result self.old self.new }
     {
         let span = self.cur_span();
         match self.first() {
@@ -389,11 +380,9 @@ impl<'a> Parser<'a> {
 
     /// Takes a keyword (Text Format, "Tokens"), whichever it is, or refuses with Unexpected.
     pub fn take_keyword(&mut self) -> Result<&'a str, Error>
-        ensures exact { Exactly (λ x. x.now) result (one_reads is_keyword self.old.left) self.new.left }
-        ensures counts { Counted result self.old self.new }
-        ensures quiet { Quiet self.old self.new }
-        ensures names { Kept self.old self.new }
-        ensures refused { IfErr result (λ e. (e.fault ≡ Fault.Unexpected) × (self.new ≡ self.old)) }
+        ensures reads { ReadsLight (λ x. x.now) result (one_reads is_keyword self.old.left) self.old self.new }
+        ensures refused { Unmoved result self.old self.new }
+        ensures stands { BehindOne result self.old self.new }
     {
         match self.first() {
             Some(Token::Keyword(text)) => {
@@ -407,11 +396,9 @@ impl<'a> Parser<'a> {
     /// Takes an identifier (Text Format, "Identifiers") and answers its name, without its `$`, or refuses with
     /// Unexpected.
     pub fn take_id(&mut self) -> Result<&'a str, Error>
-        ensures exact { Exactly (λ x. x.now) result (one_reads is_id self.old.left) self.new.left }
-        ensures counts { Counted result self.old self.new }
-        ensures quiet { Quiet self.old self.new }
-        ensures names { Kept self.old self.new }
-        ensures refused { IfErr result (λ e. (e.fault ≡ Fault.Unexpected) × (self.new ≡ self.old)) }
+        ensures reads { ReadsLight (λ x. x.now) result (one_reads is_id self.old.left) self.old self.new }
+        ensures refused { Unmoved result self.old self.new }
+        ensures stands { BehindOne result self.old self.new }
     {
         match self.first() {
             Some(Token::Id(text)) => {
@@ -424,11 +411,9 @@ impl<'a> Parser<'a> {
 
     /// Takes an integer (Text Format, "Integers") of any value, or refuses with Unexpected.
     pub fn take_integer(&mut self) -> Result<Integer<'a>, Error>
-        ensures exact { Exactly text_of result (one_reads is_integer self.old.left) self.new.left }
-        ensures counts { Counted result self.old self.new }
-        ensures quiet { Quiet self.old self.new }
-        ensures names { Kept self.old self.new }
-        ensures refused { IfErr result (λ e. (e.fault ≡ Fault.Unexpected) × (self.new ≡ self.old)) }
+        ensures reads { ReadsLight text_of result (one_reads is_integer self.old.left) self.old self.new }
+        ensures refused { Unmoved result self.old self.new }
+        ensures stands { BehindOne result self.old self.new }
     {
         match self.first() {
             Some(Token::Integer(integer)) => {
@@ -441,11 +426,9 @@ impl<'a> Parser<'a> {
 
     /// Takes a string (Text Format, "Strings") and answers its bytes, decoded, or refuses with Unexpected.
     pub fn take_string(&mut self) -> Result<&'a [u8], Error>
-        ensures exact { Exactly (λ x. x.now) result (one_reads is_string self.old.left) self.new.left }
-        ensures counts { Counted result self.old self.new }
-        ensures quiet { Quiet self.old self.new }
-        ensures names { Kept self.old self.new }
-        ensures refused { IfErr result (λ e. (e.fault ≡ Fault.Unexpected) × (self.new ≡ self.old)) }
+        ensures reads { ReadsLight (λ x. x.now) result (one_reads is_string self.old.left) self.old self.new }
+        ensures refused { Unmoved result self.old self.new }
+        ensures stands { BehindOne result self.old self.new }
     {
         match self.first() {
             Some(Token::String(bytes)) => {

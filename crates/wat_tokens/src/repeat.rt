@@ -1,12 +1,13 @@
 //! Parts that stand one behind the other.
 
-ghost use Rattle.std.specs.Prelude.{◌≡◌, ◌≤◌, map, List, Bool, IsTrue, false};
+ghost use Rattle.std.specs.Prelude.{◌≡◌, ◌≤◌, map, List, Bool, IsTrue, true, false};
 ghost use Rattle.wat_lexer.specs.Token.{Tok};
 ghost use Rattle.wat_tokens.specs.Counts.{Counted, Quiet, Kept};
 ghost use Rattle.wat_tokens.specs.Joined.{joined_behind};
 ghost use Rattle.wat_tokens.specs.Many.{after_front, many_reads};
 ghost use Rattle.wat_tokens.specs.Parses.{Gives, no_items};
 ghost use Rattle.wat_tokens.specs.Production.{Production};
+ghost use Rattle.wat_tokens.specs.Reads.{ReadsIf};
 ghost use Rattle.wat_tokens.specs.Tests.{more};
 
 use crate::parser::Parser;
@@ -21,13 +22,13 @@ pub trait Part<'a, V> {
     ghost seen: { V → Seen };
 
     /// Whether no part holds a vector or a box.
-    ghost light: { Bool };
+    ghost light: { Bool } = { true };
 
     /// Whether the part holds no box, and no vector that isn't empty.
     ghost bare: { Seen → Bool };
 
     /// Whether no instruction is in it.
-    ghost quiet: { Bool };
+    ghost quiet: { Bool } = { true };
 
     /// Which tokens spell a part, and how it is read.
     ghost grammar: { Production Seen };
@@ -53,10 +54,7 @@ pub fn parts<'a, V: Drop, P: Part<'a, V>>(
     out: &mut Vec<V>,
 ) -> Result<(), Error>
     requires { 1 ≤ P.grammar.least }
-    ensures exact { Gives false no_items (λ _. map P.seen out.new.items) result (after_front (map P.seen out.old.items) (many_reads P.follows P.grammar parser.old.left)) parser.new.left }
-    ensures counts { Counted result parser.old parser.new }
-    ensures quiet { IsTrue P.quiet → Quiet parser.old parser.new }
-    ensures names { Kept parser.old parser.new }
+    ensures reads { ReadsIf P.quiet false no_items (λ _. map P.seen out.new.items) result (after_front (map P.seen out.old.items) (many_reads P.follows P.grammar parser.old.left)) parser.old parser.new }
 {
     'parts: while P::follows(parser) {
         out.push(P::take(parser)?)?;
@@ -71,7 +69,7 @@ pub trait Group<'a, V> {
 
     ghost seen: { V → Seen };
 
-    ghost quiet: { Bool };
+    ghost quiet: { Bool } = { true };
 
     /// Which tokens spell a group, as the list of its parts, and how it is read.
     ghost grammar: { Production (List Seen) };
@@ -98,10 +96,7 @@ pub fn groups<'a, V: Drop, G: Group<'a, V>>(
     out: &mut Vec<V>,
 ) -> Result<(), Error>
     requires { 1 ≤ G.grammar.least }
-    ensures exact { Gives false no_items (λ _. map G.seen out.new.items) result (joined_behind (map G.seen out.old.items) (many_reads G.follows G.grammar parser.old.left)) parser.new.left }
-    ensures counts { Counted result parser.old parser.new }
-    ensures quiet { IsTrue G.quiet → Quiet parser.old parser.new }
-    ensures names { Kept parser.old parser.new }
+    ensures reads { ReadsIf G.quiet false no_items (λ _. map G.seen out.new.items) result (joined_behind (map G.seen out.old.items) (many_reads G.follows G.grammar parser.old.left)) parser.old parser.new }
 {
     'groups: while G::follows(parser) {
         G::take(parser, out)?;
@@ -169,10 +164,7 @@ pub fn rest_of_group<'a, T: Parse<'a> + Drop>(
     out: &mut Vec<T>,
 ) -> Result<(), Error>
     requires { 1 ≤ T.grammar.least }
-    ensures exact { Gives false no_items (λ _. map T.seen out.new.items) result (after_front (map T.seen out.old.items) (many_reads more T.grammar parser.old.left)) parser.new.left }
-    ensures counts { Counted result parser.old parser.new }
-    ensures quiet { IsTrue T.quiet → Quiet parser.old parser.new }
-    ensures names { Kept parser.old parser.new }
+    ensures reads { ReadsIf T.quiet false no_items (λ _. map T.seen out.new.items) result (after_front (map T.seen out.old.items) (many_reads more T.grammar parser.old.left)) parser.old parser.new }
 {
     parts::<T, ToEnd>(parser, out)
 }
@@ -183,10 +175,7 @@ pub fn while_begun<'a, T: Parse<'a> + Peek + Drop>(
     out: &mut Vec<T>,
 ) -> Result<(), Error>
     requires { 1 ≤ T.grammar.least }
-    ensures exact { Gives false no_items (λ _. map T.seen out.new.items) result (after_front (map T.seen out.old.items) (many_reads T.begins T.grammar parser.old.left)) parser.new.left }
-    ensures counts { Counted result parser.old parser.new }
-    ensures quiet { IsTrue T.quiet → Quiet parser.old parser.new }
-    ensures names { Kept parser.old parser.new }
+    ensures reads { ReadsIf T.quiet false no_items (λ _. map T.seen out.new.items) result (after_front (map T.seen out.old.items) (many_reads T.begins T.grammar parser.old.left)) parser.old parser.new }
 {
     parts::<T, WhileBegun>(parser, out)
 }

@@ -16,11 +16,7 @@ impl<'a> Parse<'a> for &'a [u8] {
 
     ghost seen = { λ s. s.now };
 
-    ghost light = { true };
-
     ghost bare = { λ _. true };
-
-    ghost quiet = { true };
 
     ghost grammar = { string };
 
@@ -51,11 +47,7 @@ impl<'a> Parse<'a> for &'a str {
 
     ghost seen = { λ s. s.now };
 
-    ghost light = { true };
-
     ghost bare = { λ _. true };
-
-    ghost quiet = { true };
 
     ghost grammar = { text };
 

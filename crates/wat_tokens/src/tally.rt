@@ -38,13 +38,3 @@ impl Tally {
         *self = Tally::after(self);
     }
 }
-
-#[cfg(test)]
-mod tests {
-    use super::Tally;
-
-    #[test]
-    fn takes_no_bytes(rt: HostRuntime) {
-        assert_eq!(rt; size_of::<Tally>(), 0);
-    }
-}

@@ -1,13 +1,14 @@
 //! What can be parsed, and what can be looked for.
 
-ghost use Rattle.std.specs.Prelude.{◌≡◌, ◌≤◌, ◌+◌, max, length, List, ℕ, Bool, IsTrue, IfOk, IfErr, ◌++◌, ◌≢◌, false};
+ghost use Rattle.std.specs.Prelude.{◌≡◌, ◌≤◌, ◌+◌, max, length, List, ℕ, Bool, IsTrue, IfOk, IfErr, ◌++◌, ◌≢◌, true, false};
 ghost use Rattle.wat_lexer.specs.Token.{Tok};
-ghost use Rattle.wat_tokens.specs.Counts.{Counted, Turned, Quiet, Kept};
+ghost use Rattle.wat_tokens.specs.Counts.{Counted, Turned, Grows, Quiet, Stays, Kept};
 ghost use Rattle.wat_tokens.specs.Error.{Memory};
 ghost use Rattle.wat_tokens.specs.Lookup.{front};
 ghost use Rattle.wat_tokens.specs.Parens.{nest};
 ghost use Rattle.wat_tokens.specs.Parses.{Gives, Accepts};
 ghost use Rattle.wat_tokens.specs.Production.{Production, Front};
+ghost use Rattle.wat_tokens.specs.State.{behind};
 ghost use Rattle.wat_tokens.specs.Tests.{second};
 
 use crate::cursor::Cursor;
@@ -22,13 +23,16 @@ pub trait Parse<'a>: Sized {
     ghost seen: { Self → Seen };
 
     /// Whether no value of the type holds a vector or a box.
-    ghost light: { Bool };
+    ghost light: { Bool } = { true };
 
     /// Whether the value holds no box, and no vector that isn't empty.
     ghost bare: { Seen → Bool };
 
     /// Whether no instruction is in it.
-    ghost quiet: { Bool };
+    ghost quiet: { Bool } = { true };
+
+    /// Whether no expression is in it, so that no turn and no height is counted.
+    ghost stays: { Bool } = { true };
 
     /// Which tokens spell a value, and how it is read.
     ghost grammar: { Production Seen };
@@ -41,6 +45,7 @@ pub trait Parse<'a>: Sized {
         ensures exact { Gives light bare seen result (grammar.reads parser.old.left) parser.new.left }
         ensures counts { Counted result parser.old parser.new }
         ensures quiet { IsTrue quiet → Quiet parser.old parser.new }
+        ensures stays { IsTrue stays → Stays parser.old parser.new }
         ensures names { Kept parser.old parser.new };
 }
 
@@ -88,9 +93,16 @@ impl<'a> Parser<'a> {
         ensures turned { Turned result self.old self.new }
         // `peak` is at most the greater of what it was and how the tokens that were taken nest.
         ensures peak { (c : List Tok) → self.old.left ≡ c ++ self.new.left → self.new.peak ≤ max self.old.peak (nest c) }
+        // What is left is an end of the tokens in front, also on a refusal.
+        ensures end { (c : List Tok) × (self.old.left ≡ c ++ self.new.left) }
+        // No count fell.
+        ensures grows { Grows self.old self.new }
+        // The parser stands directly behind the last token that was taken.
+        ensures stands { (c : List Tok) → self.old.left ≡ c ++ self.new.left → self.new.rest ≡ behind self.old.known (length c) self.old.rest }
         ensures exact { Gives T.light T.bare T.seen result (T.grammar.reads self.old.left) self.new.left }
         ensures counts { Counted result self.old self.new }
         ensures quiet { IsTrue T.quiet → Quiet self.old self.new }
+        ensures stays { IsTrue T.stays → Stays self.old self.new }
         ensures names { Kept self.old self.new }
     {
         T::parse(self)

@@ -20,6 +20,8 @@ impl<'a, T: Parse<'a> + Peek> Parse<'a> for Option<T> {
 
     ghost quiet = { T.quiet };
 
+    ghost stays = { T.stays };
+
     ghost grammar = { opt T.begins T.grammar };
 
     fn parse(parser: &mut Parser<'a>) -> Result<Self, Error> {
@@ -42,6 +44,8 @@ impl<'a, T: Parse<'a> + Drop> Parse<'a> for Box<T> {
     ghost bare = { λ _. false };
 
     ghost quiet = { T.quiet };
+
+    ghost stays = { T.stays };
 
     ghost grammar = { T.grammar };
 

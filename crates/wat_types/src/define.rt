@@ -1,11 +1,11 @@
 //! Definitions of types, and recursion groups.
 
 ghost use Rattle.std.specs.Prelude.{◌≡◌, true, false, List};
-ghost use Rattle.wat_tokens.specs.Counts.{Counted, Quiet, Kept};
 ghost use Rattle.wat_tokens.specs.Index.{Idx, seen_index, index};
 ghost use Rattle.wat_tokens.specs.Lookup.{front};
 ghost use Rattle.wat_tokens.specs.Many.{after_front};
-ghost use Rattle.wat_tokens.specs.Parses.{Gives, no_items, seen_option};
+ghost use Rattle.wat_tokens.specs.Parses.{no_items, seen_option};
+ghost use Rattle.wat_tokens.specs.Reads.{Reads, ReadsLight};
 ghost use Rattle.wat_tokens.specs.Tests.{second};
 ghost use Rattle.wat_types.specs.Define.{KindTy, seen_kind, bare_kind, kind, linked, DefTy, seen_def, bare_def, described, maybe_shared, type_def, TypeTy, seen_type, bare_type, type_, begins_type, grouped_type, seen_types, types, seen_rec, rec};
 
@@ -77,11 +77,7 @@ impl<'a> Parse<'a> for ContType<'a> {
 
     ghost seen = { λ c. seen_index c.0 };
 
-    ghost light = { true };
-
     ghost bare = { λ _. true };
-
-    ghost quiet = { true };
 
     ghost grammar = { index };
 
@@ -99,8 +95,6 @@ impl<'a> Parse<'a> for InnerTypeKind<'a> {
     ghost light = { false };
 
     ghost bare = { bare_kind };
-
-    ghost quiet = { true };
 
     ghost grammar = { kind };
 
@@ -126,10 +120,7 @@ impl<'a> Parse<'a> for InnerTypeKind<'a> {
 /// The index behind the word, where it stands, and then `) (`.
 #[tactic(auto, unfolding(crate::specs::Define::linked))]
 fn read_link<'a>(parser: &mut Parser<'a>, word: &str) -> Result<Option<Index<'a>>>
-    ensures exact { Gives true (λ _. true) (seen_option seen_index) result ((linked word.now).reads parser.old.left) parser.new.left }
-    ensures counts { Counted result parser.old parser.new }
-    ensures quiet { Quiet parser.old parser.new }
-    ensures names { Kept parser.old parser.new }
+    ensures reads { ReadsLight (seen_option seen_index) result ((linked word.now).reads parser.old.left) parser.old parser.new }
 {
     if !parser.next_is(word) {
         return Ok(None);
@@ -144,10 +135,7 @@ fn read_link<'a>(parser: &mut Parser<'a>, word: &str) -> Result<Option<Index<'a>
 /// A definition with neither `sub` nor `shared`.
 #[tactic(auto, unfolding(crate::specs::Define::described))]
 fn read_described<'a>(parser: &mut Parser<'a>) -> Result<TypeDef<'a>>
-    ensures exact { Gives false bare_def seen_def result (described.reads parser.old.left) parser.new.left }
-    ensures counts { Counted result parser.old parser.new }
-    ensures quiet { Quiet parser.old parser.new }
-    ensures names { Kept parser.old parser.new }
+    ensures reads { Reads bare_def seen_def result (described.reads parser.old.left) parser.old parser.new }
 {
     let describes = read_link(parser, "describes")?;
     let descriptor = read_link(parser, "descriptor")?;
@@ -165,10 +153,7 @@ fn read_described<'a>(parser: &mut Parser<'a>) -> Result<TypeDef<'a>>
 /// A definition without `sub`.
 #[tactic(auto, unfolding(crate::specs::Define::maybe_shared))]
 fn read_maybe_shared<'a>(parser: &mut Parser<'a>) -> Result<TypeDef<'a>>
-    ensures exact { Gives false bare_def seen_def result (maybe_shared.reads parser.old.left) parser.new.left }
-    ensures counts { Counted result parser.old parser.new }
-    ensures quiet { Quiet parser.old parser.new }
-    ensures names { Kept parser.old parser.new }
+    ensures reads { Reads bare_def seen_def result (maybe_shared.reads parser.old.left) parser.old parser.new }
 {
     if !parser.next_is("shared") {
         return read_described(parser);
@@ -191,8 +176,6 @@ impl<'a> Parse<'a> for TypeDef<'a> {
     ghost light = { false };
 
     ghost bare = { bare_def };
-
-    ghost quiet = { true };
 
     ghost grammar = { type_def };
 
@@ -223,8 +206,6 @@ impl<'a> Parse<'a> for Type<'a> {
     ghost light = { false };
 
     ghost bare = { bare_type };
-
-    ghost quiet = { true };
 
     ghost grammar = { type_ };
 
@@ -275,8 +256,6 @@ impl<'a> Part<'a, Type<'a>> for GroupedType {
 
     ghost bare = { bare_type };
 
-    ghost quiet = { true };
-
     ghost grammar = { grouped_type };
 
     ghost follows = { second begins_type };
@@ -302,8 +281,6 @@ impl<'a> Parse<'a> for Rec<'a> {
     ghost light = { false };
 
     ghost bare = { no_items };
-
-    ghost quiet = { true };
 
     ghost grammar = { rec };
 

@@ -1,10 +1,11 @@
 //! Function types.
 
-ghost use Rattle.std.specs.Prelude.{◌≡◌, [], true, false, map, IfOk, IfErr};
-ghost use Rattle.wat_tokens.specs.Counts.{Counted, Quiet, Kept};
+ghost use Rattle.std.specs.Prelude.{◌≡◌, [], true, false};
+ghost use Rattle.wat_tokens.specs.Copies.{Copies};
 ghost use Rattle.wat_tokens.specs.Lookup.{front};
 ghost use Rattle.wat_tokens.specs.Many.{after_front, add_read};
-ghost use Rattle.wat_tokens.specs.Parses.{Gives, no_items};
+ghost use Rattle.wat_tokens.specs.Parses.{no_items};
+ghost use Rattle.wat_tokens.specs.Reads.{Reads};
 ghost use Rattle.wat_tokens.specs.Tests.{more};
 ghost use Rattle.wat_types.specs.Function.{seen_param, seen_params, seen_function, seen_unnamed, bare_function, function_groups, function_type, function_type_no_names};
 ghost use Rattle.wat_types.specs.Group.{FuncTy, ParamTy, params, plain_param_only, func_group, group_follows, begins_func};
@@ -36,11 +37,7 @@ impl<'a> Part<'a, (Option<Id<'a>>, Option<NameAnnotation<'a>>, ValType<'a>)> for
 
     ghost seen = { seen_param };
 
-    ghost light = { true };
-
     ghost bare = { λ _. true };
-
-    ghost quiet = { true };
 
     ghost grammar = { plain_param_only };
 
@@ -64,10 +61,7 @@ fn read_params<'a>(
     labels: bool,
     out: &mut Vec<(Option<Id<'a>>, Option<NameAnnotation<'a>>, ValType<'a>)>,
 ) -> Result<()>
-    ensures exact { Gives false no_items (λ _. seen_params out.new.items) result (after_front (seen_params out.old.items) ((params labels).reads parser.old.left)) parser.new.left }
-    ensures counts { Counted result parser.old parser.new }
-    ensures quiet { Quiet parser.old parser.new }
-    ensures names { Kept parser.old parser.new }
+    ensures reads { Reads no_items (λ _. seen_params out.new.items) result (after_front (seen_params out.old.items) ((params labels).reads parser.old.left)) parser.old parser.new }
 {
     if labels && (parser.peek::<Id>() || parser.peek::<NameAnnotation>()) {
         let id = Option::<Id>::parse(parser)?;
@@ -82,10 +76,7 @@ fn read_params<'a>(
 /// One group, put behind what is there.
 #[tactic(auto, using(crate::specs::Value::val_type_eats), unfolding(crate::specs::Group::func_group, crate::specs::Group::val_types))]
 fn read_group<'a>(parser: &mut Parser<'a>, labels: bool, out: &mut FunctionType<'a>) -> Result<()>
-    ensures exact { Gives false bare_function (λ _. seen_function out.new) result (add_read add (seen_function out.old) ((func_group labels).reads parser.old.left)) parser.new.left }
-    ensures counts { Counted result parser.old parser.new }
-    ensures quiet { Quiet parser.old parser.new }
-    ensures names { Kept parser.old parser.new }
+    ensures reads { Reads bare_function (λ _. seen_function out.new) result (add_read add (seen_function out.old) ((func_group labels).reads parser.old.left)) parser.old parser.new }
 {
     let is_param = parser.group_is("param");
     parser.open()?;
@@ -115,10 +106,7 @@ fn group_next(parser: &Parser<'_>) -> bool
 
 /// Groups, as long as one has to follow.
 fn read_groups<'a>(parser: &mut Parser<'a>, labels: bool) -> Result<FunctionType<'a>>
-    ensures exact { Gives false bare_function seen_function result ((function_groups labels).reads parser.old.left) parser.new.left }
-    ensures counts { Counted result parser.old parser.new }
-    ensures quiet { Quiet parser.old parser.new }
-    ensures names { Kept parser.old parser.new }
+    ensures reads { Reads bare_function seen_function result ((function_groups labels).reads parser.old.left) parser.old parser.new }
 {
     let mut found = FunctionType::empty(parser.alloc());
     'groups: while group_next(parser) {
@@ -141,10 +129,7 @@ impl<'a> FunctionType<'a> {
 
     /// The same function type once more. Memory may be answered where it has a parameter or a result.
     pub fn clone(&self) -> Result<FunctionType<'a>>
-        ensures params { IfOk result (λ f. f.params.items ≡ self.now.params.items) }
-        ensures results { IfOk result (λ f. f.results.items ≡ self.now.results.items) }
-        ensures seen { IfOk result (λ f. seen_function f ≡ seen_function self.now) }
-        ensures memory { IfErr result (λ e. (e.fault ≡ Fault.Memory) × (bare_function (seen_function self.now) ≡ false)) }
+        ensures copies { Copies (λ x y. (y.params.items ≡ x.params.items) × (y.results.items ≡ x.results.items)) seen_function bare_function result self.now }
     {
         let mut copy = FunctionType::empty(*self.params.allocator());
         copy.params.extend_from_slice(&self.params)?;
@@ -164,8 +149,6 @@ impl<'a> Parse<'a> for FunctionType<'a> {
     ghost light = { false };
 
     ghost bare = { bare_function };
-
-    ghost quiet = { true };
 
     ghost grammar = { function_type };
 
@@ -200,10 +183,7 @@ impl<'a> FunctionTypeNoNames<'a> {
 
     /// The same function type once more. Memory may be answered where it has a parameter or a result.
     pub fn clone(&self) -> Result<FunctionTypeNoNames<'a>>
-        ensures params { IfOk result (λ f. f.0.params.items ≡ self.now.0.params.items) }
-        ensures results { IfOk result (λ f. f.0.results.items ≡ self.now.0.results.items) }
-        ensures seen { IfOk result (λ f. seen_unnamed f ≡ seen_unnamed self.now) }
-        ensures memory { IfErr result (λ e. (e.fault ≡ Fault.Memory) × (bare_function (seen_unnamed self.now) ≡ false)) }
+        ensures copies { Copies (λ x y. (y.0.params.items ≡ x.0.params.items) × (y.0.results.items ≡ x.0.results.items)) seen_unnamed bare_function result self.now }
     {
         Ok(FunctionTypeNoNames(self.0.clone()?))
     }
@@ -218,8 +198,6 @@ impl<'a> Parse<'a> for FunctionTypeNoNames<'a> {
     ghost light = { false };
 
     ghost bare = { bare_function };
-
-    ghost quiet = { true };
 
     ghost grammar = { function_type_no_names };
 

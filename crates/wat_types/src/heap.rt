@@ -88,11 +88,7 @@ impl<'a> Parse<'a> for AbstractHeapType {
 
     ghost seen = { λ t. t };
 
-    ghost light = { true };
-
     ghost bare = { λ _. true };
-
-    ghost quiet = { true };
 
     ghost grammar = { abstract_heap_type };
 
@@ -131,11 +127,7 @@ impl<'a> Parse<'a> for HeapType<'a> {
 
     ghost seen = { seen_heap };
 
-    ghost light = { true };
-
     ghost bare = { λ _. true };
-
-    ghost quiet = { true };
 
     ghost grammar = { heap_type };
 

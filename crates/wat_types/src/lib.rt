@@ -5,22 +5,14 @@
 #![tactic(auto)]
 
 pub mod define;
-#[cfg(test)]
-mod define_tests;
 pub mod function;
 pub mod heap;
 pub mod limits;
-#[cfg(test)]
-mod limits_tests;
 pub mod reference;
 pub mod storage;
 pub mod structure;
 pub mod tag;
-#[cfg(test)]
-mod tests;
 pub mod type_use;
-#[cfg(test)]
-mod type_use_tests;
 pub mod value;
 
 pub use define::{ContType, InnerTypeKind, Rec, Type, TypeDef};

@@ -1,8 +1,7 @@
 //! Limits, table types and memory types.
 
 ghost use Rattle.std.specs.Prelude.{◌≡◌, true};
-ghost use Rattle.wat_tokens.specs.Counts.{Counted, Quiet, Kept};
-ghost use Rattle.wat_tokens.specs.Parses.{Gives};
+ghost use Rattle.wat_tokens.specs.Reads.{ReadsLight};
 ghost use Rattle.wat_types.specs.Exponent.{exponent};
 ghost use Rattle.wat_types.specs.Limits.{is_64, page_exponent, pagesize_or_none, TableTy, seen_table, table_type};
 
@@ -45,10 +44,7 @@ pub struct MemoryType {
 /// Takes `i64` or `i32`, where it stands in front, and answers whether it is `i64`.
 #[tactic(auto, unfolding(crate::specs::Limits::is_64))]
 fn take_is64<'a>(parser: &mut Parser<'a>) -> Result<bool>
-    ensures exact { Gives true (λ _. true) (λ b. b) result (is_64.reads parser.old.left) parser.new.left }
-    ensures counts { Counted result parser.old parser.new }
-    ensures quiet { Quiet parser.old parser.new }
-    ensures names { Kept parser.old parser.new }
+    ensures reads { ReadsLight (λ b. b) result (is_64.reads parser.old.left) parser.old parser.new }
 {
     if parser.next_is("i64") {
         parser.keyword("i64")?;
@@ -68,11 +64,7 @@ impl<'a> Parse<'a> for Limits {
 
     ghost seen = { λ l. l };
 
-    ghost light = { true };
-
     ghost bare = { λ _. true };
-
-    ghost quiet = { true };
 
     ghost grammar = { limits_type };
 
@@ -104,10 +96,7 @@ fn exponent(number: u32) -> Option<u32>
 /// Takes a power of two of 32 bits, and answers its exponent. Another number is refused with PageSize, at the number.
 #[tactic(auto, unfolding(crate::specs::Limits::page_exponent))]
 fn take_exponent<'a>(parser: &mut Parser<'a>) -> Result<u32>
-    ensures exact { Gives true (λ _. true) (λ k. k) result (page_exponent.reads parser.old.left) parser.new.left }
-    ensures counts { Counted result parser.old parser.new }
-    ensures quiet { Quiet parser.old parser.new }
-    ensures names { Kept parser.old parser.new }
+    ensures reads { ReadsLight (λ k. k) result (page_exponent.reads parser.old.left) parser.old parser.new }
 {
     let span = parser.cur_span();
     match exponent(u32::parse(parser)?) {
@@ -126,10 +115,7 @@ fn take_exponent<'a>(parser: &mut Parser<'a>) -> Result<u32>
 /// has a `-` with Range.
 #[tactic(auto, unfolding(crate::specs::Limits::pagesize_or_none, crate::specs::Limits::pagesize))]
 pub fn page_size<'a>(parser: &mut Parser<'a>) -> Result<Option<u32>>
-    ensures exact { Gives true (λ _. true) (λ k. k) result (pagesize_or_none.reads parser.old.left) parser.new.left }
-    ensures counts { Counted result parser.old parser.new }
-    ensures quiet { Quiet parser.old parser.new }
-    ensures names { Kept parser.old parser.new }
+    ensures reads { ReadsLight (λ k. k) result (pagesize_or_none.reads parser.old.left) parser.old parser.new }
 {
     if !parser.group_is("pagesize") {
         return Ok(None);
@@ -147,11 +133,7 @@ impl<'a> Parse<'a> for TableType<'a> {
 
     ghost seen = { seen_table };
 
-    ghost light = { true };
-
     ghost bare = { λ _. true };
-
-    ghost quiet = { true };
 
     ghost grammar = { table_type };
 
@@ -177,11 +159,7 @@ impl<'a> Parse<'a> for MemoryType {
 
     ghost seen = { λ m. m };
 
-    ghost light = { true };
-
     ghost bare = { λ _. true };
-
-    ghost quiet = { true };
 
     ghost grammar = { memory_type };
 

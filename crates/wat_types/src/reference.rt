@@ -1,9 +1,8 @@
 //! Reference types.
 
 ghost use Rattle.std.specs.Prelude.{◌≡◌, true, IfSome};
-ghost use Rattle.wat_tokens.specs.Counts.{Counted, Quiet, Kept};
 ghost use Rattle.wat_tokens.specs.Lookup.{front};
-ghost use Rattle.wat_tokens.specs.Parses.{Gives};
+ghost use Rattle.wat_tokens.specs.Reads.{ReadsLight};
 ghost use Rattle.wat_tokens.specs.Tests.{look_up};
 ghost use Rattle.wat_types.specs.Reference.{RefTy, ref_type, seen_ref, shorthand, shorthand_words, begins_shorthand, begins_long_ref, begins_ref, nullable_ref, shared_ref};
 
@@ -45,10 +44,7 @@ fn shorthand_of(word: &str) -> Option<AbstractHeapType>
 /// The shorthand in front.
 #[tactic(auto, using(wat_tokens::specs::Begin::reads_table, wat_tokens::specs::Begin::reads_no_table), unfolding(crate::specs::Reference::shorthand))]
 fn take_shorthand<'a>(parser: &mut Parser<'a>) -> Result<AbstractHeapType>
-    ensures exact { Gives true (λ _. true) (λ t. t) result (shorthand.reads parser.old.left) parser.new.left }
-    ensures counts { Counted result parser.old parser.new }
-    ensures quiet { Quiet parser.old parser.new }
-    ensures names { Kept parser.old parser.new }
+    ensures reads { ReadsLight (λ t. t) result (shorthand.reads parser.old.left) parser.old parser.new }
 {
     let span = parser.cur_span();
     match shorthand_of(parser.take_keyword()?) {
@@ -212,11 +208,7 @@ impl<'a> Parse<'a> for RefType<'a> {
 
     ghost seen = { seen_ref };
 
-    ghost light = { true };
-
     ghost bare = { λ _. true };
-
-    ghost quiet = { true };
 
     ghost grammar = { ref_type };
 

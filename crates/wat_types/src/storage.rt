@@ -34,11 +34,7 @@ impl<'a> Parse<'a> for StorageType<'a> {
 
     ghost seen = { seen_storage };
 
-    ghost light = { true };
-
     ghost bare = { λ _. true };
-
-    ghost quiet = { true };
 
     ghost grammar = { storage_type };
 
@@ -73,11 +69,7 @@ impl<'a> Parse<'a> for GlobalType<'a> {
 
     ghost seen = { seen_global };
 
-    ghost light = { true };
-
     ghost bare = { λ _. true };
-
-    ghost quiet = { true };
 
     ghost grammar = { global_type };
 

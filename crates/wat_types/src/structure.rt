@@ -1,9 +1,10 @@
 //! Structure and array types.
 
-ghost use Rattle.std.specs.Prelude.{◌≡◌, true, false, List, IfOk, IfErr};
-ghost use Rattle.wat_tokens.specs.Counts.{Counted, Quiet, Kept};
+ghost use Rattle.std.specs.Prelude.{◌≡◌, true, false, List};
+ghost use Rattle.wat_tokens.specs.Copies.{Copies};
 ghost use Rattle.wat_tokens.specs.Many.{after_front};
-ghost use Rattle.wat_tokens.specs.Parses.{Gives, no_items};
+ghost use Rattle.wat_tokens.specs.Parses.{no_items};
+ghost use Rattle.wat_tokens.specs.Reads.{Reads};
 ghost use Rattle.wat_tokens.specs.Tests.{more};
 ghost use Rattle.wat_types.specs.Struct.{FieldTy, seen_array, field_type, MemberTy, seen_member, seen_members, plain_member, members, member_group, seen_struct, struct_type};
 
@@ -46,11 +47,7 @@ impl<'a> Parse<'a> for ArrayType<'a> {
 
     ghost seen = { seen_array };
 
-    ghost light = { true };
-
     ghost bare = { λ _. true };
-
-    ghost quiet = { true };
 
     ghost grammar = { field_type };
 
@@ -76,11 +73,7 @@ impl<'a> Part<'a, StructField<'a>> for PlainField {
 
     ghost seen = { seen_member };
 
-    ghost light = { true };
-
     ghost bare = { λ _. true };
-
-    ghost quiet = { true };
 
     ghost grammar = { plain_member };
 
@@ -104,10 +97,7 @@ impl<'a> Part<'a, StructField<'a>> for PlainField {
 /// The fields of a group, each put behind those that are there.
 #[tactic(auto, using(crate::specs::Struct::field_type_eats), unfolding(crate::specs::Struct::members, crate::specs::Struct::plain_members, crate::specs::Label::label))]
 fn read_fields<'a>(parser: &mut Parser<'a>, out: &mut Vec<StructField<'a>>) -> Result<()>
-    ensures exact { Gives false no_items (λ _. seen_members out.new.items) result (after_front (seen_members out.old.items) (members.reads parser.old.left)) parser.new.left }
-    ensures counts { Counted result parser.old parser.new }
-    ensures quiet { Quiet parser.old parser.new }
-    ensures names { Kept parser.old parser.new }
+    ensures reads { Reads no_items (λ _. seen_members out.new.items) result (after_front (seen_members out.old.items) (members.reads parser.old.left)) parser.old parser.new }
 {
     if parser.peek::<Id>() || parser.peek::<NameAnnotation>() {
         let id = Option::<Id>::parse(parser)?;
@@ -132,8 +122,6 @@ impl<'a> Group<'a, StructField<'a>> for FieldGroup {
 
     ghost seen = { seen_member };
 
-    ghost quiet = { true };
-
     ghost grammar = { member_group };
 
     ghost follows = { more };
@@ -155,9 +143,7 @@ impl<'a> Group<'a, StructField<'a>> for FieldGroup {
 impl<'a> StructType<'a> {
     /// The same structure type once more. Memory may be answered where it has a field.
     pub fn clone(&self) -> Result<StructType<'a>>
-        ensures fields { IfOk result (λ s. s.fields.items ≡ self.now.fields.items) }
-        ensures seen { IfOk result (λ s. seen_struct s ≡ seen_struct self.now) }
-        ensures memory { IfErr result (λ e. (e.fault ≡ Fault.Memory) × (no_items (seen_struct self.now) ≡ false)) }
+        ensures copies { Copies (λ x y. y.fields.items ≡ x.fields.items) seen_struct no_items result self.now }
     {
         let mut fields = Vec::new(*self.fields.allocator());
         fields.extend_from_slice(&self.fields)?;
@@ -176,8 +162,6 @@ impl<'a> Parse<'a> for StructType<'a> {
     ghost light = { false };
 
     ghost bare = { no_items };
-
-    ghost quiet = { true };
 
     ghost grammar = { struct_type };
 

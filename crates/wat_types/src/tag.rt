@@ -1,6 +1,7 @@
 //! Types of tags.
 
-ghost use Rattle.std.specs.Prelude.{◌≡◌, true, false, IfOk, IfErr};
+ghost use Rattle.std.specs.Prelude.{◌≡◌, false};
+ghost use Rattle.wat_tokens.specs.Copies.{Copies};
 ghost use Rattle.wat_types.specs.Function.{bare_function};
 ghost use Rattle.wat_types.specs.Group.{FuncTy};
 ghost use Rattle.wat_types.specs.Tag.{SameTag, seen_tag, tag_type};
@@ -20,9 +21,7 @@ pub enum TagType<'a> {
 impl<'a> TagType<'a> {
     /// The same type once more. Memory may be answered where its inline type has a parameter or a result.
     pub fn clone(&self) -> Result<TagType<'a>>
-        ensures same { IfOk result (λ t. SameTag self.now t) }
-        ensures seen { IfOk result (λ t. seen_tag t ≡ seen_tag self.now) }
-        ensures memory { IfErr result (λ e. (e.fault ≡ Fault.Memory) × (bare_use bare_function (seen_tag self.now) ≡ false)) }
+        ensures copies { Copies SameTag seen_tag (bare_use bare_function) result self.now }
     {
         match self {
             TagType::Exception(ty) => Ok(TagType::Exception(ty.clone()?)),
@@ -39,8 +38,6 @@ impl<'a> Parse<'a> for TagType<'a> {
     ghost light = { false };
 
     ghost bare = { bare_use bare_function };
-
-    ghost quiet = { true };
 
     ghost grammar = { tag_type };
 

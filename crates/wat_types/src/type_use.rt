@@ -1,6 +1,7 @@
 //! Type uses.
 
-ghost use Rattle.std.specs.Prelude.{◌≡◌, Some, None, false, IfOk, IfErr};
+ghost use Rattle.std.specs.Prelude.{◌≡◌, Some, None};
+ghost use Rattle.wat_tokens.specs.Copies.{Copies};
 ghost use Rattle.wat_types.specs.Function.{seen_function, seen_unnamed, bare_function};
 ghost use Rattle.wat_types.specs.Use.{UseTy, seen_use, bare_use, type_use, SameFunction, SameUnnamed, SameUse, with_names};
 
@@ -43,6 +44,8 @@ impl<'a, T: Parse<'a> + Peek> Parse<'a> for TypeUse<'a, T> {
 
     ghost quiet = { T.quiet };
 
+    ghost stays = { T.stays };
+
     ghost grammar = { type_use T.begins T.grammar };
 
     #[tactic(auto, unfolding(crate::specs::Use::type_use))]
@@ -64,9 +67,7 @@ impl<'a, T: Parse<'a> + Peek> Parse<'a> for TypeUse<'a, T> {
 impl<'a> TypeUse<'a, FunctionType<'a>> {
     /// The same use once more. Memory may be answered where its inline type has a parameter or a result.
     pub fn clone(&self) -> Result<Self>
-        ensures same { IfOk result (λ u. SameUse SameFunction self.now u) }
-        ensures seen { IfOk result (λ u. seen_use seen_function u ≡ seen_use seen_function self.now) }
-        ensures memory { IfErr result (λ e. (e.fault ≡ Fault.Memory) × (bare_use bare_function (seen_use seen_function self.now) ≡ false)) }
+        ensures copies { Copies (SameUse SameFunction) (seen_use seen_function) (bare_use bare_function) result self.now }
     {
         Ok(TypeUse {
             index: self.index,
@@ -78,9 +79,7 @@ impl<'a> TypeUse<'a, FunctionType<'a>> {
 impl<'a> TypeUse<'a, FunctionTypeNoNames<'a>> {
     /// The same use once more. Memory may be answered where its inline type has a parameter or a result.
     pub fn clone(&self) -> Result<Self>
-        ensures same { IfOk result (λ u. SameUse SameUnnamed self.now u) }
-        ensures seen { IfOk result (λ u. seen_use seen_unnamed u ≡ seen_use seen_unnamed self.now) }
-        ensures memory { IfErr result (λ e. (e.fault ≡ Fault.Memory) × (bare_use bare_function (seen_use seen_unnamed self.now) ≡ false)) }
+        ensures copies { Copies (SameUse SameUnnamed) (seen_use seen_unnamed) (bare_use bare_function) result self.now }
     {
         Ok(TypeUse {
             index: self.index,

@@ -44,11 +44,7 @@ impl<'a> Parse<'a> for ValType<'a> {
 
     ghost seen = { seen_val };
 
-    ghost light = { true };
-
     ghost bare = { λ _. true };
-
-    ghost quiet = { true };
 
     ghost grammar = { val_type };
 

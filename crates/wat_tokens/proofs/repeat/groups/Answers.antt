@@ -17,12 +17,26 @@ groups-preserved g c = record {
   names = search rules;
 }
 
-pub returns-clause-exact : goal.returns-clause-exact
-returns-clause-exact g c = sym c.groups.invariant.exact ∙ adding_ends join g.G.Group.follows g.G.Group.grammar c.requires (map g.G.Group.seen c.groups.out.items) c.groups.parser.left (sym c.follows.ensures ∙ c.groups-test.false)
+pub returns : goal.returns
+returns g c = record {
+  reads = record {
+    exact = sym c.groups.invariant.exact ∙ adding_ends join g.G.Group.follows g.G.Group.grammar c.requires (map g.G.Group.seen c.groups.out.items) c.groups.parser.left (sym c.follows.ensures ∙ c.groups-test.false);
+    counts = search rules;
+    quiet = search rules;
+    names = search rules;
+  };
+}
 
-pub returns-in_err-take-clause-exact : goal.returns-in_err-take-clause-exact
-returns-in_err-take-clause-exact g c =
+pub returns-in_err-take : goal.returns-in_err-take
+returns-in_err-take g c =
     let begun = sym c.follows.ensures ∙ c.groups-test.true in
     let p = err_from_is_err_and c.from_residual.result c.from_residual.ensures.1 in
     let before = map g.G.Group.seen c.groups.out.items in
-    rw (p.1, p.2) ((λ not. sym c.groups.invariant.exact ∙ adding_fails join g.G.Group.follows g.G.Group.grammar c.requires before c.groups.parser.left begun (c.in_err-take.ensures.exact.0 not)), (λ m. (refl, joined_not_bare g.G.Group.follows g.G.Group.grammar c.requires before c.groups.parser.left _ begun (c.in_err-take.ensures.exact.1 m).1 c.groups.invariant.exact)))
+    record {
+      reads = record {
+        exact = rw (p.1, p.2) ((λ not. sym c.groups.invariant.exact ∙ adding_fails join g.G.Group.follows g.G.Group.grammar c.requires before c.groups.parser.left begun (c.in_err-take.ensures.exact.0 not)), (λ m. (refl, joined_not_bare g.G.Group.follows g.G.Group.grammar c.requires before c.groups.parser.left _ begun (c.in_err-take.ensures.exact.1 m).1 c.groups.invariant.exact)));
+        counts = search rules;
+        quiet = search rules;
+        names = search rules;
+      };
+    }

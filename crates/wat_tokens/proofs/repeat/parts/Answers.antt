@@ -18,16 +18,37 @@ parts-preserved g c =
       names = search rules;
     }
 
-pub returns-clause-exact : goal.returns-clause-exact
-returns-clause-exact g c = sym c.parts.invariant.exact ∙ loop_ends g.P.Part.follows g.P.Part.grammar c.requires (map g.P.Part.seen c.parts.out.items) c.parts.parser.left (sym c.follows.ensures ∙ c.parts-test.false)
+pub returns : goal.returns
+returns g c = record {
+  reads = record {
+    exact = sym c.parts.invariant.exact ∙ loop_ends g.P.Part.follows g.P.Part.grammar c.requires (map g.P.Part.seen c.parts.out.items) c.parts.parser.left (sym c.follows.ensures ∙ c.parts-test.false);
+    counts = search rules;
+    quiet = search rules;
+    names = search rules;
+  };
+}
 
-pub returns-in_err-take-clause-exact : goal.returns-in_err-take-clause-exact
-returns-in_err-take-clause-exact g c =
+pub returns-in_err-take : goal.returns-in_err-take
+returns-in_err-take g c =
     let begun = sym c.follows.ensures ∙ c.parts-test.true in
     let p = err_from_is_err_and c.from_residual.result c.from_residual.ensures.1 in
-    rw (p.1, p.2) ((λ not. sym c.parts.invariant.exact ∙ loop_fails g.P.Part.follows g.P.Part.grammar c.requires (map g.P.Part.seen c.parts.out.items) c.parts.parser.left begun (c.in_err-take.ensures.exact.0 not)), (λ m. (refl, not_bare g.P.Part.follows g.P.Part.grammar (map g.P.Part.seen c.parts.out.items) c.parts.parser.left _ begun c.parts.invariant.exact)))
+    record {
+      reads = record {
+        exact = rw (p.1, p.2) ((λ not. sym c.parts.invariant.exact ∙ loop_fails g.P.Part.follows g.P.Part.grammar c.requires (map g.P.Part.seen c.parts.out.items) c.parts.parser.left begun (c.in_err-take.ensures.exact.0 not)), (λ m. (refl, not_bare g.P.Part.follows g.P.Part.grammar (map g.P.Part.seen c.parts.out.items) c.parts.parser.left _ begun c.parts.invariant.exact)));
+        counts = search rules;
+        quiet = search rules;
+        names = search rules;
+      };
+    }
 
-pub returns-in_err-push-clause-exact : goal.returns-in_err-push-clause-exact
-returns-in_err-push-clause-exact g c =
+pub returns-in_err-push : goal.returns-in_err-push
+returns-in_err-push g c =
     let p = err_from_is_err_and c.from_residual-in_err-push.result c.from_residual-in_err-push.ensures.1 in
-    rw p.1 ((λ not. absurd (not (ap (λ (e : Error). e.fault) p.2))), (λ m. (refl, not_bare g.P.Part.follows g.P.Part.grammar (map g.P.Part.seen c.parts.out.items) c.parts.parser.left _ (sym c.follows.ensures ∙ c.parts-test.true) c.parts.invariant.exact)))
+    record {
+      reads = record {
+        exact = rw p.1 ((λ not. absurd (not (ap (λ (e : Error). e.fault) p.2))), (λ m. (refl, not_bare g.P.Part.follows g.P.Part.grammar (map g.P.Part.seen c.parts.out.items) c.parts.parser.left _ (sym c.follows.ensures ∙ c.parts-test.true) c.parts.invariant.exact)));
+        counts = search rules;
+        quiet = search rules;
+        names = search rules;
+      };
+    }

@@ -19,25 +19,39 @@ groups-init c =
     }
 
 pub groups-smaller : goal.groups-smaller
-groups-smaller c = adding_takes add group_follows (func_group c.args.labels) (func_group_eats c.args.labels) (seen_function c.groups.found) c.groups.parser.left (seen_function c.read_group.new.out) c.read_group.new.parser.left c.in_ok-read_group.ensures.exact
+groups-smaller c = adding_takes add group_follows (func_group c.args.labels) (func_group_eats c.args.labels) (seen_function c.groups.found) c.groups.parser.left (seen_function c.read_group.new.out) c.read_group.new.parser.left c.in_ok-read_group.ensures.reads.exact
 
 pub groups-preserved : goal.groups-preserved
 unfolding func_groups
 groups-preserved c = record {
-  exact = sym (adding_goes_on add group_follows (func_group c.args.labels) (func_group_eats c.args.labels) (seen_function c.groups.found) c.groups.parser.left (seen_function c.read_group.new.out) c.read_group.new.parser.left (sym c.group_next.ensures ∙ c.groups-test.true) c.in_ok-read_group.ensures.exact) ∙ c.groups.invariant.exact;
+  exact = sym (adding_goes_on add group_follows (func_group c.args.labels) (func_group_eats c.args.labels) (seen_function c.groups.found) c.groups.parser.left (seen_function c.read_group.new.out) c.read_group.new.parser.left (sym c.group_next.ensures ∙ c.groups-test.true) c.in_ok-read_group.ensures.reads.exact) ∙ c.groups.invariant.exact;
   counts = search rules;
   turned = search rules;
   quiet = search rules;
   names = search rules;
 }
 
-pub returns-in_err-read_group-clause-exact : goal.returns-in_err-read_group-clause-exact
+pub returns-in_err-read_group : goal.returns-in_err-read_group
 unfolding func_groups
-returns-in_err-read_group-clause-exact c =
+returns-in_err-read_group c =
     let begun = sym c.group_next.ensures ∙ c.groups-test.true in
     let p = err_from_is_err_and c.from_residual.result c.from_residual.ensures.1 in
-    rw (p.1, p.2) ((λ not. sym c.groups.invariant.exact ∙ adding_fails add group_follows (func_group c.args.labels) (func_group_eats c.args.labels) (seen_function c.groups.found) c.groups.parser.left begun (c.in_err-read_group.ensures.exact.0 not)), (λ m. (refl, groups_not_bare c.args.labels (seen_function c.groups.found) c.groups.parser.left _ begun (c.in_err-read_group.ensures.exact.1 m).1 c.groups.invariant.exact)))
+    record {
+      reads = record {
+        exact = rw (p.1, p.2) ((λ not. sym c.groups.invariant.exact ∙ adding_fails add group_follows (func_group c.args.labels) (func_group_eats c.args.labels) (seen_function c.groups.found) c.groups.parser.left begun (c.in_err-read_group.ensures.reads.exact.0 not)), (λ m. (refl, groups_not_bare c.args.labels (seen_function c.groups.found) c.groups.parser.left _ begun (c.in_err-read_group.ensures.reads.exact.1 m).1 c.groups.invariant.exact)));
+        counts = search rules;
+        quiet = search rules;
+        names = search rules;
+      };
+    }
 
-pub returns-clause-exact : goal.returns-clause-exact
+pub returns : goal.returns
 unfolding func_groups
-returns-clause-exact c = sym c.groups.invariant.exact ∙ adding_ends add group_follows (func_group c.args.labels) (func_group_eats c.args.labels) (seen_function c.groups.found) c.groups.parser.left (sym c.group_next.ensures ∙ c.groups-test.false)
+returns c = record {
+  reads = record {
+    exact = sym c.groups.invariant.exact ∙ adding_ends add group_follows (func_group c.args.labels) (func_group_eats c.args.labels) (seen_function c.groups.found) c.groups.parser.left (sym c.group_next.ensures ∙ c.groups-test.false);
+    counts = search rules;
+    quiet = search rules;
+    names = search rules;
+  };
+}

@@ -10,18 +10,18 @@ pub returns-in_err-open-clause-exact : goal.returns-in_err-open-clause-exact
 unfolding folded_instruction
 returns-in_err-open-clause-exact c =
     let p = err_from_is_err_and c.from_residual.result c.from_residual.ensures.1 in
-    rw (p.1, p.2) ((λ not. not_begun _ c.in_err-open.ensures.exact.0), (λ m. absurd (c.in_err-open.ensures.exact.1 m)))
+    rw (p.1, p.2) ((λ not. not_begun _ c.in_err-open.ensures.reads.exact.0), (λ m. absurd (c.in_err-open.ensures.reads.exact.1 m)))
 
 pub returns-in_err-instr-clause-exact : goal.returns-in_err-instr-clause-exact
 unfolding folded_instruction
 returns-in_err-instr-clause-exact c =
     let p = err_from_is_err_and c.from_residual-in_err-instr.result c.from_residual-in_err-instr.ensures.1 in
-    rw (p.1, p.2) ((λ not. no_word _ _ (begun _ _ _ c.in_ok-open.ensures.exact) (c.in_err-instr.ensures.exact not)), (λ m. (refl, read_not_bare c.args.parser.now.left)))
+    rw (p.1, p.2) ((λ not. no_word _ _ (begun _ _ _ c.in_ok-open.ensures.reads.exact) (c.in_err-instr.ensures.exact not)), (λ m. (refl, read_not_bare c.args.parser.now.left)))
 
 pub returns-in_err-instr-clause-counts : goal.returns-in_err-instr-clause-counts
 returns-in_err-instr-clause-counts c =
     let p = err_from_is_err_and c.from_residual-in_err-instr.result c.from_residual-in_err-instr.ensures.1 in
-    (search rules, rw p.1 (refused_first c.args.parser.now c.open.new.self c.take_instr.new.parser c.in_ok-open.ensures.counts.0 c.in_ok-open.ensures.quiet.0 c.in_err-instr.ensures.counts c.in_err-instr.ensures.stays.0))
+    (search rules, rw p.1 (refused_first c.args.parser.now c.open.new.self c.take_instr.new.parser c.in_ok-open.ensures.reads.counts.0 c.in_ok-open.ensures.reads.quiet.0 c.in_err-instr.ensures.steady.counts c.in_err-instr.ensures.steady.stays.0))
 
 pub returns-in_err-push-clause-exact : goal.returns-in_err-push-clause-exact
 unfolding folded_instruction
@@ -32,7 +32,7 @@ returns-in_err-push-clause-exact c =
 pub returns-in_err-push-clause-counts : goal.returns-in_err-push-clause-counts
 returns-in_err-push-clause-counts c =
     let p = err_from_is_err_and c.from_residual-in_err-push.result c.from_residual-in_err-push.ensures.1 in
-    (search rules, rw p.1 (refused_first c.args.parser.now c.open.new.self c.take_instr.new.parser c.in_ok-open.ensures.counts.0 c.in_ok-open.ensures.quiet.0 c.in_ok-instr.ensures.counts c.in_ok-instr.ensures.stays.0))
+    (search rules, rw p.1 (refused_first c.args.parser.now c.open.new.self c.take_instr.new.parser c.in_ok-open.ensures.reads.counts.0 c.in_ok-open.ensures.reads.quiet.0 c.in_ok-instr.ensures.steady.counts c.in_ok-instr.ensures.steady.stays.0))
 
 pub returns-in_err-turn-clause-exact : goal.returns-in_err-turn-clause-exact
 unfolding folded_instruction
@@ -44,11 +44,11 @@ pub returns-in_err-turn-clause-counts : goal.returns-in_err-turn-clause-counts
 returns-in_err-turn-clause-counts c =
     let p = err_from_is_err_and c.from_residual-in_err-turn.result c.from_residual-in_err-turn.ensures.1 in
     let g = c.groups.invariant in
-    ((λ s n. c.in_err-turn.ensures.counts s (c.tick.ensures.counts s (g.counts s n))), rw p.1 (refused_later c.args.parser.now c.groups.parser c.tick.new.self c.turn.new.parser g.turned c.tick.ensures.only c.in_err-turn.ensures.counts c.in_err-turn.ensures.stays.0))
+    ((λ s n. c.in_err-turn.ensures.steady.counts s (c.tick.ensures.counts s (g.counts s n))), rw p.1 (refused_later c.args.parser.now c.groups.parser c.tick.new.self c.turn.new.parser g.turned c.tick.ensures.only c.in_err-turn.ensures.steady.counts c.in_err-turn.ensures.steady.stays.0))
 
 pub groups-init : goal.groups-init
 groups-init c =
-    going_begins _ _ _ _ _ _ None _ _ _ _ (begun _ _ _ c.in_ok-open.ensures.exact) c.in_ok-open.ensures.counts.0 c.in_ok-open.ensures.quiet c.in_ok-open.ensures.names c.in_ok-instr.ensures.exact c.in_ok-instr.ensures.counts c.in_ok-instr.ensures.stays c.in_ok-instr.ensures.names (rw c.new-levels.ensures at c.in_ok-push.ensures) (c.empty-out.ensures ∙ ap no_output c.tracks.ensures) c.height.ensures c.note_height.ensures c.held.ensures c.note_held.ensures.only c.note_held.ensures.counts
+    going_begins _ _ _ _ _ _ None _ _ _ _ (begun _ _ _ c.in_ok-open.ensures.reads.exact) c.in_ok-open.ensures.reads.counts.0 c.in_ok-open.ensures.reads.quiet c.in_ok-open.ensures.reads.names c.in_ok-instr.ensures.exact c.in_ok-instr.ensures.steady.counts c.in_ok-instr.ensures.steady.stays c.in_ok-instr.ensures.steady.names (rw c.new-levels.ensures at c.in_ok-push.ensures) (c.empty-out.ensures ∙ ap no_output c.tracks.ensures) c.height.ensures c.note_height.ensures c.held.ensures c.note_held.ensures.only c.note_held.ensures.counts
 
 pub groups-smaller : goal.groups-smaller
 groups-smaller c =
@@ -56,7 +56,7 @@ groups-smaller c =
 
 pub groups-preserved : goal.groups-preserved
 groups-preserved c =
-    going_on _ _ _ _ _ _ _ _ _ _ _ _ c.groups.invariant (is_some _ _ c.is_empty.ensures c.groups-test.true) c.tick.ensures.only c.tick.ensures.counts c.in_ok-turn.ensures.turned c.in_ok-turn.ensures.counts c.in_ok-turn.ensures.stays c.in_ok-turn.ensures.names c.height-in-groups.ensures c.note_height-in-groups.ensures c.held-in-groups.ensures c.note_held-in-groups.ensures.only c.note_held-in-groups.ensures.counts
+    going_on _ _ _ _ _ _ _ _ _ _ _ _ c.groups.invariant (is_some _ _ c.is_empty.ensures c.groups-test.true) c.tick.ensures.only c.tick.ensures.counts c.in_ok-turn.ensures.turned c.in_ok-turn.ensures.steady.counts c.in_ok-turn.ensures.steady.stays c.in_ok-turn.ensures.steady.names c.height-in-groups.ensures c.note_height-in-groups.ensures c.held-in-groups.ensures c.note_held-in-groups.ensures.only c.note_held-in-groups.ensures.counts
 
 pub returns-clause-exact : goal.returns-clause-exact
 unfolding folded_instruction

@@ -5,7 +5,7 @@ use Rattle.wat_expr.proofs.expression.ExpressionParse.parse.Goals as goal
 
 pub turns-preserved : goal.turns-preserved
 turns-preserved c =
-    goes_on _ _ _ _ _ c.turns.invariant c.tick.ensures.only c.turn.ensures.counts c.turn.ensures.stays c.turn.ensures.names _ _ _ _ _ c.tick.ensures.counts c.turns-test.ensures c.in_ok-turn.ensures.turned c.height.ensures c.held.ensures c.note_height.ensures c.note_held.ensures.only c.note_held.ensures.counts
+    goes_on _ _ _ _ _ c.turns.invariant c.tick.ensures.only c.turn.ensures.steady.counts c.turn.ensures.steady.stays c.turn.ensures.steady.names _ _ _ _ _ c.tick.ensures.counts c.turns-test.ensures c.in_ok-turn.ensures.turned c.height.ensures c.held.ensures c.note_height.ensures c.note_held.ensures.only c.note_held.ensures.counts
 
 pub returns-in_err-turn-clause-exact : goal.returns-in_err-turn-clause-exact
 returns-in_err-turn-clause-exact c =
@@ -18,7 +18,7 @@ returns-in_err-turn-clause-only c = accepted c.from_residual.result _ _ (returns
 pub returns-in_err-turn-clause-counts : goal.returns-in_err-turn-clause-counts
 returns-in_err-turn-clause-counts c =
     let p = err_from_is_err_and c.from_residual.result c.from_residual.ensures.1 in
-    rw p.1 (refused_counts _ _ _ _ _ c.turns.invariant c.tick.ensures.only c.turn.ensures.counts c.turn.ensures.stays c.turn.ensures.names c.tick.ensures.counts)
+    rw p.1 (refused_counts _ _ _ _ _ c.turns.invariant c.tick.ensures.only c.turn.ensures.steady.counts c.turn.ensures.steady.stays c.turn.ensures.steady.names c.tick.ensures.counts)
 
 pub returns-in-Some-clause-exact : goal.returns-in-Some-clause-exact
 returns-in-Some-clause-exact c =

@@ -13,7 +13,7 @@ returns-in_err-instr-clause-turned c =
 
 pub returns-then-is_block-clause-turned : goal.returns-then-is_block-clause-turned
 returns-then-is_block-clause-turned c =
-    turn_block _ _ _ _ _ _ _ _ _ _ _ c.requires.place (rw c.if-take_hint_name.ensures.exact.0 at c.in_ok-instr.ensures.exact) (sort_block (seen_instruction c.in_ok-instr.instr) (sym c.is_block.ensures ∙ c.if-is_block.true)) c.take-hint.ensures.after c.in_ok-push.ensures (rw c.take-hint.ensures.value at c.push-then-is_block.ensures)
+    turn_block _ _ _ _ _ _ _ _ _ _ _ c.requires.place (rw c.if-take_hint_name.ensures.exact.0 at c.in_ok-instr.ensures.exact) (sort_block (seen_instruction c.in_ok-instr.instr) (sym c.is_block.ensures ∙ c.if-is_block.true)) c.take-hint.ensures.after (rw c.take-hint.ensures.value at c.in_ok-push.ensures) c.push-then-is_block.ensures
 
 pub returns-then-is_if-clause-turned : goal.returns-then-is_if-clause-turned
 returns-then-is_if-clause-turned c =

@@ -28,7 +28,7 @@ returns-in_err-while_begun-clause-exact c =
     let t1 = c.parse.new.parser.left in
     let i = seen_index c.in_ok-first.first in
     let p = err_from_is_err_and c.from_residual-in_err-while_begun.result c.from_residual-in_err-while_begun.ensures.1 in
-    let q = rw (c.in_ok-push.ensures.items, c.new-labels.ensures.items) at c.in_err-while_begun.ensures.exact in
+    let q = rw (c.in_ok-push.ensures.items, c.new-labels.ensures.items) at c.in_err-while_begun.ensures.reads.exact in
     rw (p.1, p.2) ((λ not. others_fail t t1 i c.in_ok-first.ensures.exact (q.0 not)), (λ m. (refl, not_bare t t1 i c.in_ok-first.ensures.exact (sym c.peek.ensures ∙ c.if-not-peek.false))))
 
 pub returns-clause-exact : goal.returns-clause-exact
@@ -36,7 +36,7 @@ returns-clause-exact c =
     let ls = c.take_last-default.new.indices.items in
     let d = c.take_last-default.result in
     let t2 = c.while_begun.new.parser.left in
-    let read = rw (c.in_ok-push.ensures.items, c.new-labels.ensures.items) at c.in_ok-while_begun.ensures.exact in
+    let read = rw (c.in_ok-push.ensures.items, c.new-labels.ensures.items) at c.in_ok-while_begun.ensures.reads.exact in
     let whole = ap (map seen_index) c.take_last-default.ensures ∙ map-append seen_index ls (d ∷ []) in
     last_is_default c.args.parser.now.left c.parse.new.parser.left (seen_index c.in_ok-first.first) (map seen_index ls) (seen_index d) t2 c.in_ok-first.ensures.exact
     (read ∙ ap (λ (u : List Idx). some_of (u, t2)) whole)

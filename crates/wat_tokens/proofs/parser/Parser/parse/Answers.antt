@@ -1,4 +1,4 @@
-use Rattle.wat_tokens.specs.Counts.{counts_taken, counts_within, counts_peak}
+use Rattle.wat_tokens.specs.Counts.{counts_taken, counts_within, counts_peak, counts_stands, counts_end, counts_grows}
 use Rattle.wat_tokens.proofs.Exact.{gives_accepts, gives_refused}
 use Rattle.wat_tokens.proofs.parser.Parser.parse.Goals as goal
 
@@ -16,3 +16,12 @@ returns-clause-within g c = counts_within c.args.self.now c.parse.new.parser c.p
 
 pub returns-clause-peak : goal.returns-clause-peak
 returns-clause-peak g c d = counts_peak c.args.self.now c.parse.new.parser d c.parse.ensures.counts.0
+
+pub returns-clause-stands : goal.returns-clause-stands
+returns-clause-stands g c d = counts_stands c.args.self.now c.parse.new.parser d c.parse.ensures.counts.0
+
+pub returns-clause-end : goal.returns-clause-end
+returns-clause-end g c = counts_end c.args.self.now c.parse.new.parser c.parse.ensures.counts.0
+
+pub returns-clause-grows : goal.returns-clause-grows
+returns-clause-grows g c = counts_grows c.args.self.now c.parse.new.parser c.parse.ensures.counts.0

@@ -1,0 +1,309 @@
+//! Tests of the cut: each lexical rule with texts that are cut and texts that are refused.
+
+use crate::reading::repeated;
+use bumpalo::Bump;
+use std::alloc::{AllocError, Global};
+use std::process::Abort;
+use std::test::Fail;
+use wat_lexer::cut::cut;
+use wat_lexer::fault::{Error, Fault};
+use wat_lexer::token::Token;
+
+/// Adds a token in a short form: its sign, if it has one, and its content.
+fn add(out: &mut String, token: Token) -> Result<(), AllocError> {
+    match token {
+        Token::LParen => out.push_str("("),
+        Token::RParen => out.push_str(")"),
+        Token::Keyword(text) => out.push_str(text),
+        Token::Id(name) => add_marked(out, "$", name),
+        Token::Annotation(name) => add_marked(out, "@", name),
+        Token::Integer(integer) => add_marked(out, "#", integer.text()),
+        Token::String(bytes) => match str::from_utf8(bytes) {
+            Ok(text) => add_marked(out, "'", text),
+            Err(_) => out.push_str("'no UTF-8"),
+        },
+        Token::Reserved(text) => add_marked(out, "?", text),
+    }
+}
+
+fn add_marked(out: &mut String, mark: &str, text: &str) -> Result<(), AllocError> {
+    out.push_str(mark)?;
+    out.push_str(text)
+}
+
+fn add_number(alloc: Global, out: &mut String, number: usize) -> Result<(), AllocError> {
+    let digits = format!(in alloc; "{number}")?;
+    out.push_str(digits.as_str())
+}
+
+/// The tokens of a text, each behind a blank, or its fault and the offset.
+fn shown(alloc: Global, text: &str) -> Result<String, AllocError> {
+    let arena = Bump::new(alloc);
+    let mut out = String::new(alloc);
+    match cut(alloc, text, &arena) {
+        Ok(tokens) => {
+            for lexeme in &tokens {
+                out.push_str(" ")?;
+                add(&mut out, lexeme.token)?;
+            }
+        }
+        Err(error) => {
+            out.push_str(error.fault.name())?;
+            out.push_str(" ")?;
+            add_number(alloc, &mut out, error.span.offset())?;
+        }
+    }
+    Ok(out)
+}
+
+/// The offsets of the tokens of a text, each behind a blank.
+fn offsets(alloc: Global, text: &str) -> Result<String, Error> {
+    let arena = Bump::new(alloc);
+    let mut out = String::new(alloc);
+    for lexeme in &cut(alloc, text, &arena)? {
+        out.push_str(" ")?;
+        add_number(alloc, &mut out, lexeme.offset)?;
+    }
+    Ok(out)
+}
+
+fn agrees(rt: &impl Abort, alloc: Global, rows: &[(&str, &str)]) -> Result<(), Fail> {
+    for (text, expected) in rows {
+        let found = shown(alloc, text)?;
+        assert_eq!(rt; found.as_str(), *expected, "in {text}");
+    }
+    Ok(())
+}
+
+#[test]
+fn blanks_stand_between_tokens(rt: HostRuntime) -> Result<(), Fail> {
+    agrees(
+        &rt,
+        rt.alloc(),
+        &[
+            ("", ""),
+            (" \t\n\r\r\n", ""),
+            ("a b\tc\nd\re\r\nf", " a b c d e f"),
+            (";; all", ""),
+            (";;", ""),
+            ("a;;b\nc", " a c"),
+            ("a;;b\rc", " a c"),
+            (";; ;) (; \n a", " a"),
+            ("(;;)", ""),
+            ("(; a (; b ;) c ;)d", " d"),
+            ("(;(;;);)x", " x"),
+            ("(;;;)", ""),
+            ("(; \" ;)\"", "LexString 7"),
+            ("a(;b;)c", " a c"),
+            ("(;\u{7f}\u{e9}[{,;;)", ""),
+        ],
+    )
+}
+
+#[test]
+fn comments_are_closed(rt: HostRuntime) -> Result<(), Fail> {
+    agrees(
+        &rt,
+        rt.alloc(),
+        &[
+            ("(;", "LexComment 0"),
+            ("a (; (; ;)", "LexComment 2"),
+            ("(;;", "LexComment 0"),
+            ("(;)", "LexComment 0"),
+            (";)", "LexChar 0"),
+            (" ; a", "LexChar 1"),
+        ],
+    )
+}
+
+#[test]
+fn runs_have_classes(rt: HostRuntime) -> Result<(), Fail> {
+    agrees(
+        &rt,
+        rt.alloc(),
+        &[
+            ("(module)", " ( module )"),
+            ("i32.add offset=4", " i32.add offset=4"),
+            (
+                "a!#$%&'*+-./:<=>?@\\^_`|~Z9",
+                " a!#$%&'*+-./:<=>?@\\^_`|~Z9",
+            ),
+            ("$a $!x $\"a b\" $\"\\u{41}\"", " $a $!x $a b $A"),
+            ("$ $\"\" $\"\\ff\"", " ?$ ?$\"\" ?$\"\\ff\""),
+            ("(@a) (@\"b c\")", " ( @a ) ( @b c )"),
+            ("@a ( @a) (@)", " ?@a ( ?@a ) ( ?@ )"),
+            ("(;;)@a (;;)(@a)", " ?@a ( @a )"),
+            ("((;;)@a)", " ( ?@a )"),
+            ("A _a 0a", " ?A ?_a ?0a"),
+            (
+                "a\"b\" \"a\"b \"a\"\"b\" $a\"b\"",
+                " ?a\"b\" ?\"a\"b ?\"a\"\"b\" ?$a\"b\"",
+            ),
+            ("0 -1 +0x1F 1_000 0xA_b", " #0 #-1 #+0x1F #1_000 #0xA_b"),
+            ("0x_1 1_ _1 1__0 0x +", " ?0x_1 ?1_ ?_1 ?1__0 ?0x ?+"),
+            ("1.5 1e3 nan -inf", " ?1.5 ?1e3 nan ?-inf"),
+        ],
+    )
+}
+
+#[test]
+fn runs_with_escaped_strings_have_classes(rt: HostRuntime) -> Result<(), Fail> {
+    agrees(
+        &rt,
+        rt.alloc(),
+        &[
+            ("(@\"\\62\\u{63}\") @\"\\62\"", " ( @bc ) ?@\"\\62\""),
+            ("(@\"\")(@\"\\ff\")", " ( ?@\"\" ) ( ?@\"\\ff\" )"),
+            (
+                "\"\\41\"b $\"\\41\"b (@\"\\41\"b)",
+                " ?\"\\41\"b ?$\"\\41\"b ( ?@\"\\41\"b )",
+            ),
+            (
+                "x\"\\41\" $\"a\"\"\\41\" $$\"a\"",
+                " ?x\"\\41\" ?$\"a\"\"\\41\" ?$$\"a\"",
+            ),
+        ],
+    )
+}
+
+#[test]
+fn other_characters_are_refused(rt: HostRuntime) -> Result<(), Fail> {
+    agrees(
+        &rt,
+        rt.alloc(),
+        &[
+            ("[", "LexChar 0"),
+            ("a]", "LexChar 1"),
+            ("a {", "LexChar 2"),
+            ("}", "LexChar 0"),
+            ("a,b", "LexChar 1"),
+            ("(a;b)", "LexChar 2"),
+            ("\u{e9}", "LexChar 0"),
+            ("\u{7f}", "LexChar 0"),
+            ("\u{b}", "LexChar 0"),
+            ("a \"", "LexString 2"),
+            ("[\"", "LexChar 0"),
+        ],
+    )
+}
+
+#[test]
+fn strings_are_decoded(rt: HostRuntime) -> Result<(), Fail> {
+    agrees(
+        &rt,
+        rt.alloc(),
+        &[
+            ("\"\" \"a b\" \"(;;)\"", " ' 'a b '(;;)"),
+            ("\"\\t\\n\\r\\\"\\'\\\\\"", " '\t\n\r\"'\\"),
+            ("\"\\41\\c3\\A9\"", " 'A\u{e9}"),
+            ("\"\\ff\"", " 'no UTF-8"),
+            ("\"ab\\63d\\te\\u{66}gh\"", " 'abcd\tefgh"),
+            ("\"\u{e9}\u{10ffff}\"", " '\u{e9}\u{10ffff}"),
+            ("\"\\u{41}\\u{10FFFF}\\u{1_0}x\"", " 'A\u{10ffff}\u{10}x"),
+            ("\"\\u{00000041}\\u{d7ff}\"", " 'A\u{d7ff}"),
+        ],
+    )
+}
+
+#[test]
+fn other_strings_are_refused(rt: HostRuntime) -> Result<(), Fail> {
+    agrees(
+        &rt,
+        rt.alloc(),
+        &[
+            ("\"abc", "LexString 0"),
+            ("a \"\n\"", "LexString 2"),
+            ("\"\u{7f}\"", "LexString 0"),
+            ("\"\\\"", "LexString 0"),
+            ("\"\\", "LexString 0"),
+            ("\"\\4", "LexString 0"),
+            ("\"\\u", "LexString 0"),
+            ("\"\\u{41", "LexString 0"),
+            ("\"\\41bc", "LexString 0"),
+            ("\"\\41b\n\"", "LexString 0"),
+            ("\"\\x\"", "LexString 0"),
+            ("\"\\4\"", "LexString 0"),
+            ("\"\\4g\"", "LexString 0"),
+            ("\"\\u41\"", "LexString 0"),
+            ("\"\\u{}\"", "LexString 0"),
+            ("\"\\u{110000}\"", "LexString 0"),
+            ("\"\\u{D800}\"", "LexString 0"),
+            ("\"\\u{_1}\"", "LexString 0"),
+            ("\"\\u{1_}\"", "LexString 0"),
+            ("\"\\u{1__0}\"", "LexString 0"),
+            ("\"a\"\"b", "LexString 3"),
+            ("$\"a\"x\"\\y\"", "LexString 5"),
+        ],
+    )
+}
+
+#[test]
+fn annotation_groups_are_closed(rt: HostRuntime) -> Result<(), Fail> {
+    agrees(
+        &rt,
+        rt.alloc(),
+        &[
+            ("(@x (param)", "LexAnnotation 0"),
+            ("(module (@custom \"a\"", "LexAnnotation 8"),
+            ("(a (@x (@y", "LexAnnotation 3"),
+            ("(@x) (a (@y)", " ( @x ) ( a ( @y )"),
+            ("(@x))", " ( @x ) )"),
+            ("(@x [", "LexChar 4"),
+            ("(a", " ( a"),
+        ],
+    )
+}
+
+#[test]
+fn tokens_keep_their_offsets(rt: HostRuntime) -> Result<(), Fail> {
+    let alloc = rt.alloc();
+    assert_eq!(rt;
+        offsets(alloc, "(a  \"\\41\"\n$x)")?.as_str(),
+        " 0 1 4 10 12"
+    );
+    assert_eq!(rt; offsets(alloc, " (; \u{e9} ;)b")?.as_str(), " 9");
+    Ok(())
+}
+
+/// Text that is made of an opening and a closing part, each so many times.
+fn nested(alloc: Global, open: &str, close: &str, times: usize) -> Result<String, AllocError> {
+    let front = repeated(alloc, "", open, times, "")?;
+    repeated(alloc, front.as_str(), close, times, "")
+}
+
+#[test]
+fn deep_nesting_returns(rt: HostRuntime) -> Result<(), Fail> {
+    let alloc = rt.alloc();
+    for (times, count) in [(100000, 300000), (1000000, 3000000)] {
+        let comments = nested(alloc, "(;", ";)", times)?;
+        assert_eq!(rt; shown(alloc, comments.as_str())?.as_str(), "");
+        let open = repeated(alloc, "", "(;", times, "")?;
+        assert_eq!(rt; shown(alloc, open.as_str())?.as_str(), "LexComment 0");
+        let groups = nested(alloc, "(@a", ")", times)?;
+        let arena = Bump::new(alloc);
+        assert_eq!(rt; cut(alloc, groups.as_str(), &arena)?.len(), count);
+        let unclosed = repeated(alloc, "", "(@a", times, "")?;
+        assert_eq!(rt;
+            shown(alloc, unclosed.as_str())?.as_str(),
+            "LexAnnotation 0"
+        );
+    }
+    Ok(())
+}
+
+#[test]
+fn faults_have_names_numbers_and_texts(rt: HostRuntime) -> Result<(), Fail> {
+    let alloc = rt.alloc();
+    assert_eq!(rt; Fault::Memory.number(), 1);
+    assert_eq!(rt; Fault::ImportId.number(), 20);
+    assert_eq!(rt; Fault::HintTarget.number(), 21);
+    assert_eq!(rt; Fault::FloatLiteral.name(), "FloatLiteral");
+    let arena = Bump::new(alloc);
+    let error = match cut(alloc, "a [", &arena) {
+        Ok(_) => return Err(Fail::from("it was cut")),
+        Err(error) => error,
+    };
+    let text = format!(in alloc; "{error}")?;
+    assert_eq!(rt; text.as_str(), "LexChar at byte 2");
+    Ok(())
+}

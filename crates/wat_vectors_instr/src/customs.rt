@@ -1,0 +1,350 @@
+//! Custom sections as they are read, and each of their faults with the offset.
+
+use bumpalo::Bump;
+use std::alloc::Global;
+use std::test::Fail;
+use wat_customs::{
+    Custom, CustomPlace, CustomPlaceAnchor, Dylink0, Dylink0Subsection, Producers, RawCustomSection,
+};
+use wat_tokens::{Error, Fault, Parse};
+use wat_vectors::reading::{parser_of, refusal, repeated};
+
+/// Reads a value from the front of a text, behind its `(`; the standard annotations are known.
+fn read_behind_open<'a, T: Parse<'a>>(
+    alloc: Global,
+    text: &'a str,
+    arena: &'a Bump,
+) -> Result<T, Error> {
+    let mut parser = parser_of(alloc, text, arena)?;
+    parser.open()?;
+    parser.parse::<T>()
+}
+
+#[test]
+fn places_before(rt: HostRuntime) -> Result<(), Fail> {
+    let alloc = rt.alloc();
+    let arena = Bump::new(alloc);
+    for (text, place) in [
+        ("(before first", CustomPlace::BeforeFirst),
+        ("(after last", CustomPlace::AfterLast),
+        ("(before type", CustomPlace::Before(CustomPlaceAnchor::Type)),
+        (
+            "(before import",
+            CustomPlace::Before(CustomPlaceAnchor::Import),
+        ),
+    ] {
+        assert_eq!(rt;
+            read_behind_open::<CustomPlace>(alloc, text, &arena)?,
+            place,
+            "at {text}"
+        );
+    }
+    Ok(())
+}
+
+#[test]
+fn places_after(rt: HostRuntime) -> Result<(), Fail> {
+    let alloc = rt.alloc();
+    let arena = Bump::new(alloc);
+    for (text, anchor) in [
+        ("(after code", CustomPlaceAnchor::Code),
+        ("(after func", CustomPlaceAnchor::Func),
+        ("(after table", CustomPlaceAnchor::Table),
+        ("(after memory", CustomPlaceAnchor::Memory),
+        ("(after global", CustomPlaceAnchor::Global),
+        ("(after export", CustomPlaceAnchor::Export),
+        ("(after start", CustomPlaceAnchor::Start),
+        ("(after elem", CustomPlaceAnchor::Elem),
+        ("(after data", CustomPlaceAnchor::Data),
+        ("(after tag", CustomPlaceAnchor::Tag),
+    ] {
+        assert_eq!(rt;
+            read_behind_open::<CustomPlace>(alloc, text, &arena)?,
+            CustomPlace::After(anchor),
+            "at {text}"
+        );
+    }
+    Ok(())
+}
+
+#[test]
+fn places_that_are_none(rt: HostRuntime) {
+    let alloc = rt.alloc();
+    let arena = Bump::new(alloc);
+    for (text, offset) in [("(before last", 8), ("(after first", 7), ("(first", 1)] {
+        let found = refusal(read_behind_open::<CustomPlace>(alloc, text, &arena));
+        assert_eq!(rt; found, Some((Fault::Unexpected, offset)), "at {text}");
+    }
+}
+
+#[test]
+fn raw_sections(rt: HostRuntime) -> Result<(), Fail> {
+    let alloc = rt.alloc();
+    let arena = Bump::new(alloc);
+    let text = "(@custom \"a\" (before first) \"xy\" \"\\ff\")";
+    let found = read_behind_open::<Custom>(alloc, text, &arena)?;
+    assert_eq!(rt; found.place(), CustomPlace::BeforeFirst);
+    assert_eq!(rt; found.name(), "a");
+    match &found {
+        Custom::Raw(section) => {
+            assert_eq!(rt; section.span.offset(), 1);
+            assert_eq!(rt; section.data.len(), 2);
+            assert_eq!(rt; section.data[0], b"xy".as_slice());
+            assert_eq!(rt; section.data[1], b"\xff".as_slice());
+        }
+        _ => assert!(rt; false, "no raw section"),
+    }
+    Ok(())
+}
+
+#[test]
+fn raw_sections_of_any_length(rt: HostRuntime) -> Result<(), Fail> {
+    let alloc = rt.alloc();
+    for count in [0, 1, 1000] {
+        let text = repeated(alloc, "(@custom \"b\"", " \"cd\"", count, ")")?;
+        let arena = Bump::new(alloc);
+        let found = read_behind_open::<RawCustomSection>(alloc, &text, &arena)?;
+        assert_eq!(rt; found.place, CustomPlace::AfterLast);
+        assert_eq!(rt; found.data.len(), count);
+    }
+    Ok(())
+}
+
+#[test]
+fn producers_by_field(rt: HostRuntime) -> Result<(), Fail> {
+    let alloc = rt.alloc();
+    let arena = Bump::new(alloc);
+    let text = "(@producers (sdk \"a\" \"1\") (language \"b\" \"2\") (sdk \"c\" \"3\"))";
+    let found = read_behind_open::<Custom>(alloc, text, &arena)?;
+    assert_eq!(rt; found.place(), CustomPlace::AfterLast);
+    assert_eq!(rt; found.name(), "producers");
+    match &found {
+        Custom::Producers(section) => {
+            assert_eq!(rt; section.fields.len(), 2);
+            let (name, entries) = &section.fields[0];
+            assert_eq!(rt; *name, "language");
+            assert_eq!(rt; entries.as_slice(), [("b", "2")].as_slice());
+            let (name, entries) = &section.fields[1];
+            assert_eq!(rt; *name, "sdk");
+            assert_eq!(rt; entries.as_slice(), [("a", "1"), ("c", "3")].as_slice());
+        }
+        _ => assert!(rt; false, "no producers section"),
+    }
+    Ok(())
+}
+
+#[test]
+fn producers_of_any_length(rt: HostRuntime) -> Result<(), Fail> {
+    let alloc = rt.alloc();
+    for count in [0, 1, 2, 1000] {
+        let part = " (processed-by \"d\" \"4\")";
+        let text = repeated(alloc, "(@producers", part, count, ")")?;
+        let arena = Bump::new(alloc);
+        let found = read_behind_open::<Producers>(alloc, &text, &arena)?;
+        let held = found.fields.as_slice().first();
+        assert_eq!(rt; held.map_or(0, |field| field.1.len()), count);
+    }
+    Ok(())
+}
+
+/// How many entries a subsection has.
+fn count_of(section: &Dylink0Subsection<'_>) -> usize {
+    match section {
+        Dylink0Subsection::MemInfo { .. } => 0,
+        Dylink0Subsection::Needed(names) => names.len(),
+        Dylink0Subsection::ExportInfo(entries) => entries.len(),
+        Dylink0Subsection::ImportInfo(entries) => entries.len(),
+        Dylink0Subsection::RuntimePath(names) => names.len(),
+        Dylink0Subsection::TargetArch(_) => 0,
+    }
+}
+
+/// The name number i in a subsection, and its flags where it has some.
+fn entry_of<'a>(section: &Dylink0Subsection<'a>, i: usize) -> Option<(&'a str, u32)> {
+    match section {
+        Dylink0Subsection::MemInfo { .. } => None,
+        Dylink0Subsection::Needed(names) => names.get(i).map(|name| (*name, 0)),
+        Dylink0Subsection::ExportInfo(entries) => entries.get(i).copied(),
+        Dylink0Subsection::ImportInfo(entries) => entries.get(i).map(|entry| (entry.1, entry.2)),
+        Dylink0Subsection::RuntimePath(names) => names.get(i).map(|name| (*name, 0)),
+        Dylink0Subsection::TargetArch(name) => Some((*name, 0)),
+    }
+}
+
+/// The four numbers of a subsection on memory.
+fn sizes_of(section: &Dylink0Subsection<'_>) -> Option<[u32; 4]> {
+    match section {
+        Dylink0Subsection::MemInfo {
+            memory_size,
+            memory_align,
+            table_size,
+            table_align,
+        } => Some([*memory_size, *memory_align, *table_size, *table_align]),
+        _ => None,
+    }
+}
+
+/// A section in which exports follow each other, and come again behind others.
+const RUNS: &str =
+    "(@dylink.0 (export-info \"a\" tls) (export-info \"b\" 3) (needed \"x\") (export-info \"c\"))";
+
+/// A section of the other four subsections.
+const OTHERS: &str =
+    "(@dylink.0 (mem-info (table 1 2)) (target-arch \"t\") (runtime-path \"p\" \"q\") (import-info \"m\" \"n\" 1) (import-info \"m\" \"o\"))";
+
+#[test]
+fn runs_of_entries_are_one_subsection(rt: HostRuntime) -> Result<(), Fail> {
+    let alloc = rt.alloc();
+    let arena = Bump::new(alloc);
+    let found = read_behind_open::<Dylink0>(alloc, RUNS, &arena)?;
+    assert_eq!(rt; found.subsections.len(), 3);
+    for (i, id, count) in [(0, 3, 2), (1, 2, 1), (2, 3, 1)] {
+        let section = &found.subsections[i];
+        assert_eq!(rt; (section.id(), count_of(section)), (id, count), "at {i}");
+    }
+    Ok(())
+}
+
+#[test]
+fn entries_of_runs(rt: HostRuntime) -> Result<(), Fail> {
+    let alloc = rt.alloc();
+    let arena = Bump::new(alloc);
+    let found = read_behind_open::<Dylink0>(alloc, RUNS, &arena)?;
+    assert_eq!(rt; found.subsections.len(), 3);
+    for (i, k, name, flags) in [
+        (0, 0, "a", 256),
+        (0, 1, "b", 3),
+        (1, 0, "x", 0),
+        (2, 0, "c", 0),
+    ] {
+        let entry = entry_of(&found.subsections[i], k);
+        assert_eq!(rt; entry, Some((name, flags)), "at {i}, {k}");
+    }
+    Ok(())
+}
+
+#[test]
+fn other_subsections(rt: HostRuntime) -> Result<(), Fail> {
+    let alloc = rt.alloc();
+    let arena = Bump::new(alloc);
+    let found = read_behind_open::<Dylink0>(alloc, OTHERS, &arena)?;
+    assert_eq!(rt; found.subsections.len(), 4);
+    for (i, id, count) in [(0, 1, 0), (1, 6, 0), (2, 5, 2), (3, 4, 2)] {
+        let section = &found.subsections[i];
+        assert_eq!(rt; (section.id(), count_of(section)), (id, count), "at {i}");
+    }
+    assert_eq!(rt; sizes_of(&found.subsections[0]), Some([0, 0, 1, 2]));
+    let found = read_behind_open::<Custom>(alloc, "(@dylink.0)", &arena)?;
+    assert_eq!(rt; found.place(), CustomPlace::BeforeFirst);
+    assert_eq!(rt; found.name(), "dylink.0");
+    Ok(())
+}
+
+#[test]
+fn entries_of_other_subsections(rt: HostRuntime) -> Result<(), Fail> {
+    let alloc = rt.alloc();
+    let arena = Bump::new(alloc);
+    let found = read_behind_open::<Dylink0>(alloc, OTHERS, &arena)?;
+    assert_eq!(rt; found.subsections.len(), 4);
+    for (i, k, name, flags) in [
+        (1, 0, "t", 0),
+        (2, 1, "q", 0),
+        (3, 0, "n", 1),
+        (3, 1, "o", 0),
+    ] {
+        let entry = entry_of(&found.subsections[i], k);
+        assert_eq!(rt; entry, Some((name, flags)), "at {i}, {k}");
+    }
+    Ok(())
+}
+
+/// The flags of the first export in a text, and how many exports the first subsection holds.
+fn first_export(alloc: Global, text: &str) -> Result<(u32, usize), Error> {
+    let arena = Bump::new(alloc);
+    let found = read_behind_open::<Dylink0>(alloc, text, &arena)?;
+    if found.subsections.len() != 1 {
+        return Ok((0, 0));
+    }
+    let section = &found.subsections[0];
+    Ok(match entry_of(section, 0) {
+        Some((_, flags)) => (flags, count_of(section)),
+        None => (0, 0),
+    })
+}
+
+#[test]
+fn flags(rt: HostRuntime) -> Result<(), Fail> {
+    let alloc = rt.alloc();
+    for (flags, wanted) in [
+        ("", 0),
+        ("binding-weak tls 4", 261),
+        ("binding-local", 2),
+        ("visibility-hidden", 4),
+        ("undefined", 16),
+        ("exported", 32),
+        ("explicit-name", 64),
+        ("no-strip", 128),
+        ("absolute", 512),
+        ("+0xffff_ffff 1", 4_294_967_295),
+    ] {
+        let text = repeated(alloc, "(@dylink.0 (export-info \"f\" ", flags, 1, "))")?;
+        assert_eq!(rt; first_export(alloc, &text)?, (wanted, 1), "at {flags}");
+    }
+    Ok(())
+}
+
+#[test]
+fn exports_of_any_length(rt: HostRuntime) -> Result<(), Fail> {
+    let alloc = rt.alloc();
+    for count in [1, 2, 1000] {
+        let text = repeated(alloc, "(@dylink.0", " (export-info \"f\" 8 1)", count, ")")?;
+        assert_eq!(rt; first_export(alloc, &text)?, (9, count));
+    }
+    Ok(())
+}
+
+#[test]
+fn faults_of_sections(rt: HostRuntime) {
+    let alloc = rt.alloc();
+    let arena = Bump::new(alloc);
+    for (text, fault, offset) in [
+        ("(@custom (after last))", Fault::Unexpected, 9),
+        ("(@custom \"a\" (foo))", Fault::Unexpected, 14),
+        ("(@custom \"a\" (before last))", Fault::Unexpected, 21),
+        ("(@custom \"a\" \"b\" 1)", Fault::Unexpected, 17),
+        ("(@custom \"\\ff\")", Fault::Utf8, 9),
+        ("(@name \"a\")", Fault::Unexpected, 1),
+        ("(@producers (tool \"a\" \"1\"))", Fault::Unexpected, 13),
+        ("(@producers (sdk \"a\"))", Fault::Unexpected, 20),
+        ("(@producers sdk)", Fault::Unexpected, 12),
+    ] {
+        let found = refusal(read_behind_open::<Custom>(alloc, text, &arena));
+        assert_eq!(rt; found, Some((fault, offset)), "at {text}");
+    }
+}
+
+#[test]
+fn faults_of_subsections(rt: HostRuntime) {
+    let alloc = rt.alloc();
+    let arena = Bump::new(alloc);
+    for (text, fault, offset) in [
+        ("(@dylink.0 (foo))", Fault::Unexpected, 12),
+        ("(@dylink.0 (mem-info (table 1)))", Fault::Unexpected, 29),
+        (
+            "(@dylink.0 (export-info \"a\" weak))",
+            Fault::Unexpected,
+            28,
+        ),
+        (
+            "(@dylink.0 (export-info \"a\" 4294967296))",
+            Fault::Range,
+            28,
+        ),
+        ("(@dylink.0 (export-info \"a\" -1))", Fault::Range, 28),
+        ("(@dylink.0 (import-info \"a\" tls))", Fault::Unexpected, 28),
+        ("(@dylink.0 (needed \"a\" b))", Fault::Unexpected, 23),
+    ] {
+        let found = refusal(read_behind_open::<Custom>(alloc, text, &arena));
+        assert_eq!(rt; found, Some((fault, offset)), "at {text}");
+    }
+}

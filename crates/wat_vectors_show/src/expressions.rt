@@ -1,0 +1,438 @@
+//! Expressions as they are read, with their hints and spans, and their faults with the offset.
+
+use crate::deep::{TIMES, nested};
+use bumpalo::Bump;
+use std::alloc::Global;
+use std::process::Abort;
+use std::test::Fail;
+use wat_expr::Expression;
+use wat_instr::{Instruction, LabelOp};
+use wat_tokens::{Error, Fault, Parse, Parser};
+use wat_vectors::reading::{parser_of, read_unannotated, refusal};
+
+/// How a text is read.
+#[derive(Clone, Copy)]
+enum Mode {
+    WrittenOut,
+    Folded,
+}
+
+/// The text, where `#` stands for a hint of 1, `%` for one of 0, and `!` for one of 2. Each is 34 bytes long.
+fn with_hints(alloc: Global, text: &str) -> Result<String, Fail> {
+    let mut out = String::new(alloc);
+    for c in text.chars() {
+        match c {
+            '#' => out.push_str(r#"(@metadata.code.branch_hint "\01")"#)?,
+            '%' => out.push_str(r#"(@metadata.code.branch_hint "\00")"#)?,
+            '!' => out.push_str(r#"(@metadata.code.branch_hint "\02")"#)?,
+            other => out.push(other)?,
+        }
+    }
+    Ok(out)
+}
+
+/// Reads a whole text; the standard annotations are known and spans are kept. What is left over is refused.
+fn read_whole<'a>(
+    alloc: Global,
+    mode: Mode,
+    text: &'a str,
+    arena: &'a Bump,
+) -> Result<Expression<'a>, Error> {
+    let mut parser = parser_of(alloc, text, arena)?;
+    parser.track_instr_spans(true);
+    let found = match mode {
+        Mode::WrittenOut => Expression::parse(&mut parser)?,
+        Mode::Folded => Expression::parse_folded_instruction(&mut parser)?,
+    };
+    if parser.at_end() {
+        Ok(found)
+    } else {
+        Err(parser.unexpected())
+    }
+}
+
+/// Adds the hints of the instruction with the index.
+fn add_hints(out: &mut String, found: &Expression<'_>, index: usize) -> Result<(), Fail> {
+    for hint in &found.branch_hints {
+        if hint.instr_index == index {
+            out.push_str(if hint.value == 0 {
+                " hint 0"
+            } else {
+                " hint 1"
+            })?;
+        }
+    }
+    Ok(())
+}
+
+/// The instructions' words, with each hint behind its own.
+fn listing(alloc: Global, found: &Expression<'_>) -> Result<String, Fail> {
+    let mut out = String::new(alloc);
+    for (index, instr) in found.instrs.iter().enumerate() {
+        if index > 0 {
+            out.push(' ')?;
+        }
+        out.push_str(instr.mnemonic())?;
+        add_hints(&mut out, found, index)?;
+    }
+    Ok(out)
+}
+
+/// The listing of what a whole text is read as.
+fn listed(alloc: Global, mode: Mode, text: &str) -> Result<String, Fail> {
+    let arena = Bump::new(alloc);
+    let found = read_whole(alloc, mode, text, &arena)?;
+    listing(alloc, &found)
+}
+
+/// How many instructions a whole text is read as.
+fn count_of(alloc: Global, mode: Mode, text: &str) -> Result<usize, Error> {
+    let arena = Bump::new(alloc);
+    let found = read_whole(alloc, mode, text, &arena)?;
+    Ok(found.instrs.len())
+}
+
+/// The offsets of the instructions that a whole text is read as.
+fn offsets_of(alloc: Global, mode: Mode, text: &str) -> Result<Vec<usize>, Fail> {
+    let arena = Bump::new(alloc);
+    let found = read_whole(alloc, mode, text, &arena)?;
+    let mut offsets = Vec::new(alloc);
+    for span in found.instr_spans.as_ref().ok_or("no spans")? {
+        offsets.push(span.offset())?;
+    }
+    Ok(offsets)
+}
+
+/// What a whole text is refused with, and where.
+fn refusal_of(alloc: Global, mode: Mode, text: &str) -> Option<(Fault, usize)> {
+    let arena = Bump::new(alloc);
+    refusal(read_whole(alloc, mode, text, &arena))
+}
+
+#[test]
+fn written_out(rt: HostRuntime) -> Result<(), Fail> {
+    let alloc = rt.alloc();
+    for (text, wanted) in [
+        ("", ""),
+        ("nop", "nop"),
+        ("block nop end", "block nop end"),
+        (
+            "(i32.add (i32.const 1) (i32.const 2))",
+            "i32.const i32.const i32.add",
+        ),
+        ("(i32.add nop)", "nop i32.add"),
+        ("(block (nop))", "block nop end"),
+        (
+            "(block (loop (br 0) nop) unreachable)",
+            "block loop br nop end unreachable end",
+        ),
+        ("(try nop)", "nop try"),
+        ("(block (catch_all))", "block catch_all end"),
+        ("(if (then))", "if end"),
+        ("(else)", "else"),
+        ("if end", "if end"),
+        (
+            "(if (i32.const 1) (then (nop)) (else (unreachable)))",
+            "i32.const if nop else unreachable end",
+        ),
+        (
+            "(if (nop) (drop) (then nop (if (then) (else))) (else)) nop",
+            "nop drop if nop if else end else end nop",
+        ),
+        ("(if (if (then)) (then))", "if end if end"),
+    ] {
+        let found = listed(alloc, Mode::WrittenOut, text)?;
+        assert_eq!(rt; found.as_str(), wanted, "at {text}");
+    }
+    Ok(())
+}
+
+#[test]
+fn refused(rt: HostRuntime) -> Result<(), Fail> {
+    let alloc = rt.alloc();
+    for (text, fault, offset) in [
+        ("(then)", Fault::Operator, 1),
+        (")", Fault::Unexpected, 0),
+        ("(if nop (then))", Fault::Unexpected, 4),
+        ("(if (nop))", Fault::IfWithoutThen, 9),
+        ("(if (then) (nop))", Fault::Unexpected, 12),
+        ("(if (then) nop)", Fault::Unexpected, 11),
+        ("(if (then) (else) (nop))", Fault::IfTooMany, 19),
+        ("(if (then) (else) nop)", Fault::Unexpected, 18),
+        ("(if (then", Fault::Operator, 9),
+        ("(if (then)", Fault::Unexpected, 10),
+        ("nop zzz", Fault::Operator, 4),
+        (r#"nop "x""#, Fault::Operator, 4),
+        ("(i32.add", Fault::Operator, 8),
+        ("()", Fault::Operator, 1),
+        ("(((", Fault::Operator, 1),
+    ] {
+        let found = refusal_of(alloc, Mode::WrittenOut, text);
+        assert_eq!(rt; found, Some((fault, offset)), "at {text}");
+    }
+    Ok(())
+}
+
+#[test]
+fn hints(rt: HostRuntime) -> Result<(), Fail> {
+    let alloc = rt.alloc();
+    for (text, wanted) in [
+        ("# (br_if 0 (local.get 0))", "local.get br_if hint 1"),
+        (
+            "(block % (if (nop) (then # br_if 0)))",
+            "block nop if hint 0 br_if hint 1 end end",
+        ),
+        ("(i32.add # (br_if 0) nop)", "br_if hint 1 nop i32.add"),
+        ("# (block (nop))", "block hint 1 nop end"),
+        ("# nop % nop", "nop hint 1 nop hint 0"),
+        (
+            "(if # (nop) (then) (else % (nop)))",
+            "nop hint 1 if else nop hint 0 end",
+        ),
+        ("# (if % (nop) (then))", "nop hint 0 if hint 1 end"),
+        ("(@x ) # (@y \"\") nop", "nop hint 1"),
+    ] {
+        let text = with_hints(alloc, text)?;
+        let found = listed(alloc, Mode::WrittenOut, &text)?;
+        assert_eq!(rt; found.as_str(), wanted, "at {text}");
+    }
+    Ok(())
+}
+
+#[test]
+fn refused_hints(rt: HostRuntime) -> Result<(), Fail> {
+    let alloc = rt.alloc();
+    for (text, fault, offset) in [
+        ("# # nop", Fault::HintTwice, 63),
+        ("# ! nop", Fault::HintValue, 63),
+        ("! nop", Fault::HintValue, 28),
+        (
+            "(@metadata.code.branch_hint \"ab\") nop",
+            Fault::HintValue,
+            28,
+        ),
+        (
+            "(@metadata.code.branch_hint \"\") nop",
+            Fault::HintValue,
+            28,
+        ),
+        (
+            "(@metadata.code.branch_hint \"\\01\" nop) nop",
+            Fault::Unexpected,
+            34,
+        ),
+        (
+            "(@metadata.code.branch_hint nop) nop",
+            Fault::Unexpected,
+            28,
+        ),
+        ("(@metadata.code.branch_hint) nop", Fault::Unexpected, 27),
+    ] {
+        let text = with_hints(alloc, text)?;
+        let found = refusal_of(alloc, Mode::WrittenOut, &text);
+        assert_eq!(rt; found, Some((fault, offset)), "at {text}");
+    }
+    Ok(())
+}
+
+#[test]
+fn hints_in_other_places(rt: HostRuntime) -> Result<(), Fail> {
+    let alloc = rt.alloc();
+    for (text, fault, offset) in [
+        ("nop #", Fault::HintPlace, 38),
+        ("#", Fault::HintPlace, 34),
+        ("(block #)", Fault::HintPlace, 41),
+        ("(block #", Fault::Operator, 41),
+        ("(if (nop) # (then))", Fault::HintPlace, 46),
+        ("(if #)", Fault::HintPlace, 38),
+        ("(if (then) # (else))", Fault::Unexpected, 12),
+        ("(if (then) (else) #)", Fault::IfTooMany, 19),
+        ("nop (@name \"x\")", Fault::Operator, 5),
+    ] {
+        let text = with_hints(alloc, text)?;
+        let found = refusal_of(alloc, Mode::WrittenOut, &text);
+        assert_eq!(rt; found, Some((fault, offset)), "at {text}");
+    }
+    Ok(())
+}
+
+#[test]
+fn unknown_hints_are_not_seen(rt: HostRuntime) -> Result<(), Fail> {
+    let alloc = rt.alloc();
+    let arena = Bump::new(alloc);
+    let text = with_hints(alloc, "# # nop !")?;
+    let found = read_unannotated::<Expression>(alloc, &text, &arena)?;
+    assert_eq!(rt; listing(alloc, &found)?.as_str(), "nop");
+    assert!(rt; found.instr_spans.is_none());
+    Ok(())
+}
+
+#[test]
+fn spans(rt: HostRuntime) -> Result<(), Fail> {
+    let alloc = rt.alloc();
+    for (mode, text, wanted) in [
+        (
+            Mode::WrittenOut,
+            "(i32.add (i32.const 1) nop)",
+            [10, 23, 1].as_slice(),
+        ),
+        (Mode::WrittenOut, "(block nop)", [1, 7, 10].as_slice()),
+        (
+            Mode::WrittenOut,
+            "(if (nop) (then) (else))",
+            [5, 1, 18, 23].as_slice(),
+        ),
+        (Mode::WrittenOut, "(if (then nop))", [1, 10, 14].as_slice()),
+        (Mode::WrittenOut, "", [].as_slice()),
+        (
+            Mode::Folded,
+            "(i32.add (block (nop)))",
+            [17, 10, 1].as_slice(),
+        ),
+    ] {
+        let offsets = offsets_of(alloc, mode, text)?;
+        assert!(rt; offsets.as_slice() == wanted, "at {text}");
+    }
+    Ok(())
+}
+
+#[test]
+fn folded(rt: HostRuntime) -> Result<(), Fail> {
+    let alloc = rt.alloc();
+    for (text, wanted) in [
+        ("(block (nop))", "nop block"),
+        ("(block (nop) (br 0))", "nop br block"),
+        ("(if (nop))", "nop if"),
+        (
+            "(i32.add (i32.const 1) (i32.add (nop) (drop)))",
+            "i32.const nop drop i32.add i32.add",
+        ),
+    ] {
+        let found = listed(alloc, Mode::Folded, text)?;
+        assert_eq!(rt; found.as_str(), wanted, "at {text}");
+    }
+    Ok(())
+}
+
+#[test]
+fn refused_as_folded(rt: HostRuntime) -> Result<(), Fail> {
+    let alloc = rt.alloc();
+    for (text, fault, offset) in [
+        ("", Fault::Unexpected, 0),
+        ("nop", Fault::Unexpected, 0),
+        ("(nop) nop", Fault::Unexpected, 6),
+        ("(i32.add nop)", Fault::Unexpected, 9),
+        ("(if (nop) (then))", Fault::Operator, 11),
+        ("(i32.add #)", Fault::Operator, 10),
+        ("(nop", Fault::Unexpected, 4),
+        ("()", Fault::Operator, 1),
+    ] {
+        let text = with_hints(alloc, text)?;
+        let found = refusal_of(alloc, Mode::Folded, &text);
+        assert_eq!(rt; found, Some((fault, offset)), "at {text}");
+    }
+    Ok(())
+}
+
+#[test]
+fn one_instruction(rt: HostRuntime) -> Result<(), Fail> {
+    let alloc = rt.alloc();
+    let found = Expression::one(alloc, Instruction::Label(LabelOp::end, None))?;
+    assert_eq!(rt; listing(alloc, &found)?.as_str(), "end");
+    assert!(rt; found.branch_hints.is_empty() && found.instr_spans.is_none());
+    Ok(())
+}
+
+#[test]
+fn the_rest_is_left(rt: HostRuntime) -> Result<(), Fail> {
+    let alloc = rt.alloc();
+    let arena = Bump::new(alloc);
+    let mut parser = Parser::new(alloc, "nop (block) ) nop", &arena)?;
+    let found = Expression::parse(&mut parser)?;
+    assert_eq!(rt; listing(alloc, &found)?.as_str(), "nop block end");
+    assert_eq!(rt; parser.cur_span().offset(), 12);
+    Ok(())
+}
+
+/// So many times the first part, with as many times the second behind it, are read as so many instructions.
+fn has_count(
+    rt: &impl Abort,
+    alloc: Global,
+    mode: Mode,
+    first: &str,
+    second: &str,
+    wanted: usize,
+) -> Result<(), Fail> {
+    let text = nested(alloc, first, TIMES, second, TIMES)?;
+    let count = count_of(alloc, mode, &text)?;
+    assert_eq!(rt; count, wanted, "at {first}");
+    Ok(())
+}
+
+#[test]
+fn deep_blocks(rt: HostRuntime) -> Result<(), Fail> {
+    has_count(&rt, rt.alloc(), Mode::WrittenOut, "(block", ")", 200_000)
+}
+
+#[test]
+fn deep_groups(rt: HostRuntime) -> Result<(), Fail> {
+    has_count(&rt, rt.alloc(), Mode::WrittenOut, "(nop ", ")", 100_000)
+}
+
+#[test]
+fn deep_conditions(rt: HostRuntime) -> Result<(), Fail> {
+    has_count(&rt, rt.alloc(), Mode::WrittenOut, "(if", "(then))", 200_000)
+}
+
+#[test]
+fn deep_arms(rt: HostRuntime) -> Result<(), Fail> {
+    has_count(
+        &rt,
+        rt.alloc(),
+        Mode::WrittenOut,
+        "(if (then",
+        "))",
+        200_000,
+    )
+}
+
+#[test]
+fn deep_folded_instructions(rt: HostRuntime) -> Result<(), Fail> {
+    has_count(&rt, rt.alloc(), Mode::Folded, "(nop", ")", 100_000)
+}
+
+#[test]
+fn deep_and_refused(rt: HostRuntime) -> Result<(), Fail> {
+    let alloc = rt.alloc();
+    for (mode, first, second, more, fault, offset) in [
+        (
+            Mode::WrittenOut,
+            "(block",
+            ")",
+            99_999,
+            Fault::Operator,
+            699_999,
+        ),
+        (
+            Mode::Folded,
+            "(nop",
+            ")",
+            99_999,
+            Fault::Unexpected,
+            499_999,
+        ),
+        (
+            Mode::WrittenOut,
+            "(if",
+            ")",
+            1,
+            Fault::IfWithoutThen,
+            300_000,
+        ),
+    ] {
+        let text = nested(alloc, first, TIMES, second, more)?;
+        let found = refusal_of(alloc, mode, &text);
+        assert_eq!(rt; found, Some((fault, offset)), "at {first}");
+    }
+    Ok(())
+}

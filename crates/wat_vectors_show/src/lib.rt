@@ -1,0 +1,15 @@
+//! Tests of expressions as they are read, and of what the program shows.
+#![tactic(auto)]
+
+#[cfg(test)]
+mod deep;
+#[cfg(test)]
+mod expressions;
+#[cfg(test)]
+mod functype;
+#[cfg(test)]
+mod listing;
+#[cfg(test)]
+mod shown;
+#[cfg(test)]
+mod streams;
