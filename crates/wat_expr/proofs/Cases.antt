@@ -1,5 +1,5 @@
 -- The turns as the code makes them: what each exit owes.
-use Rattle.std.proofs.Common.{◌≡◌, ◌≢◌, ℕ, ◌<◌, List, [], ◌∷◌, Option, Some, None, Result, Ok, Err, MatchResult, MatchOption, true, false, refl, sym, subst}
+use Rattle.std.proofs.Common.{◌≡◌, ◌≢◌, ℕ, ◌<◌, List, [], ◌∷◌, Option, Some, None, Result, Ok, Err, MatchResult, MatchOption, true, false, refl, sym, ap, subst, ◌∙◌}
 use Rattle.std.specs.Prelude.{codes}
 use Rattle.wat_tokens.specs.Error.{Error, Memory}
 use Rattle.wat_tokens.specs.Token.{Tok, LParen, RParen, String}
@@ -7,7 +7,8 @@ use Rattle.wat_instr.specs.Instruction.{Instr, else_instr, end_instr, is_block, 
 use Rattle.wat_expr.specs.Flat.{Flat, push}
 use Rattle.wat_expr.specs.Items.{sort, IsBlock, IsIf, IsOther, reads, word, hint_name}
 use Rattle.wat_expr.specs.Levels.{Level, InFolded, InBlock, InIf, AfterThen, AfterElse, InArm}
-use Rattle.wat_expr.specs.Progress.{IsOpen, TakesPlain, with_tallies, Stand, Turn, Stuck, Turned}
+use Rattle.wat_expr.specs.Facts.{reads_one}
+use Rattle.wat_expr.specs.Progress.{suits, IsOpen, TakesPlain, with_tallies, Stand, Turn, Stuck, Turned}
 use Rattle.wat_expr.proofs.Turns.{at, turn_plain_is, turn_folded_is, turn_block_is, turn_if_is, turn_hint_is, turn_close_is, turn_close_block_is, turn_close_arm_is, turn_then_is, turn_else_is, turn_close_then_is, turn_close_else_is}
 use Rattle.wat_expr.proofs.Stuck.{pending_close, pending_then, if_close, after_else_open, after_then_open, after_then_pending, hint_shape, HintIn}
 
@@ -56,14 +57,14 @@ module _ (levels s : List Level) (p : Option ℕ) (m : List Tok) (f : Flat) (non
 
 -- ---- an instruction
 
-pub turn_plain : (A : Type 0) (res : Result A Error) (s : List Level) (p after : Option ℕ) (i : Instr) (ts m : List Tok) (f g : Flat) → TakesPlain s → reads i ts m → after ≡ None → MatchResult res (λ _. g ≡ push p i f) (λ e. e.fault ≡ Memory) → Turned res (at s p ts f) (at s after m g)
-turn_plain A res s p after i ts m f g a h n r = subst (λ (q : Option ℕ). Turned res (at s p ts f) (at s q m g)) (sym n) (pushed res _ s None p i m f g r (turn_plain_is s p i ts m f a h))
+pub turn_plain : (A : Type 0) (res : Result A Error) (s : List Level) (p after : Option ℕ) (i : Instr) (ts m : List Tok) (f g : Flat) → TakesPlain s → reads i ts m → suits p i ≡ true → after ≡ None → MatchResult res (λ _. g ≡ push p i f) (λ e. e.fault ≡ Memory) → Turned res (at s p ts f) (at s after m g)
+turn_plain A res s p after i ts m f g a h t n r = subst (λ (q : Option ℕ). Turned res (at s p ts f) (at s q m g)) (sym n) (pushed res _ s None p i m f g r (turn_plain_is s p i ts m f a h t))
 
-pub turn_block : (A : Type 0) (res : Result A Error) (s new : List Level) (p after : Option ℕ) (i : Instr) (ts m : List Tok) (f g : Flat) → IsOpen s → reads i ts m → sort i ≡ IsBlock → after ≡ None → g ≡ push p i f → MatchResult res (λ _. new ≡ InBlock ∷ s) (λ e. e.fault ≡ Memory) → Turned res (at s p (LParen ∷ ts) f) (at new after m g)
-turn_block A res s new p after i ts m f g a h k n l r = subst (λ (q : Option ℕ). Turned res (at s p (LParen ∷ ts) f) (at new q m g)) (sym n) (subst (λ (q : Flat). Turned res (at s p (LParen ∷ ts) f) (at new None m q)) (sym l) (levelled res _ s new None InBlock m (push p i f) r (turn_block_is s p i ts m f a h k)))
+pub turn_block : (A : Type 0) (res : Result A Error) (s new : List Level) (p after : Option ℕ) (i : Instr) (ts m : List Tok) (f g : Flat) → IsOpen s → reads i ts m → suits p i ≡ true → sort i ≡ IsBlock → after ≡ None → g ≡ push p i f → MatchResult res (λ _. new ≡ InBlock ∷ s) (λ e. e.fault ≡ Memory) → Turned res (at s p (LParen ∷ ts) f) (at new after m g)
+turn_block A res s new p after i ts m f g a h t k n l r = subst (λ (q : Option ℕ). Turned res (at s p (LParen ∷ ts) f) (at new q m g)) (sym n) (subst (λ (q : Flat). Turned res (at s p (LParen ∷ ts) f) (at new None m q)) (sym l) (levelled res _ s new None InBlock m (push p i f) r (turn_block_is s p i ts m f a h t k)))
 
-pub turn_folded : (A : Type 0) (res : Result A Error) (s new : List Level) (p after : Option ℕ) (i : Instr) (ts m : List Tok) (f : Flat) → IsOpen s → reads i ts m → sort i ≡ IsOther → after ≡ None → MatchResult res (λ _. new ≡ InFolded i p ∷ s) (λ e. e.fault ≡ Memory) → Turned res (at s p (LParen ∷ ts) f) (at new after m f)
-turn_folded A res s new p after i ts m f a h k n r = subst (λ (q : Option ℕ). Turned res (at s p (LParen ∷ ts) f) (at new q m f)) (sym n) (levelled res _ s new None (InFolded i p) m f r (turn_folded_is s p i ts m f a h k))
+pub turn_folded : (A : Type 0) (res : Result A Error) (s new : List Level) (p after : Option ℕ) (i : Instr) (ts m : List Tok) (f : Flat) → IsOpen s → reads i ts m → suits p i ≡ true → sort i ≡ IsOther → after ≡ None → MatchResult res (λ _. new ≡ InFolded i p ∷ s) (λ e. e.fault ≡ Memory) → Turned res (at s p (LParen ∷ ts) f) (at new after m f)
+turn_folded A res s new p after i ts m f a h t k n r = subst (λ (q : Option ℕ). Turned res (at s p (LParen ∷ ts) f) (at new q m f)) (sym n) (levelled res _ s new None (InFolded i p) m f r (turn_folded_is s p i ts m f a h t k))
 
 pub turn_if : (A : Type 0) (res : Result A Error) (s new : List Level) (p after : Option ℕ) (i : Instr) (ts m : List Tok) (f : Flat) → IsOpen s → reads i ts m → sort i ≡ IsIf → after ≡ None → MatchResult res (λ _. new ≡ InIf i p ∷ s) (λ e. e.fault ≡ Memory) → Turned res (at s p (LParen ∷ ts) f) (at new after m f)
 turn_if A res s new p after i ts m f a h k n r = subst (λ (q : Option ℕ). Turned res (at s p (LParen ∷ ts) f) (at new q m f)) (sym n) (levelled res _ s new None (InIf i p) m f r (turn_if_is s p i ts m f a h k))
@@ -113,8 +114,14 @@ module _ (s : List Level) (p : Option ℕ) (u : List Tok) (f : Flat) (g : IsOpen
 
 -- ---- refusals of an instruction, and its sort
 
-pub refused_by : (e e2 : Error) (ts : List Tok) (s : Stand) → e2 ≡ e → (e.fault ≢ Memory → (i : Instr) (m : List Tok) → reads i ts m → ⊥) → (((i : Instr) (m : List Tok) → reads i ts m → ⊥) → Stuck s) → e2.fault ≢ Memory → Stuck s
-refused_by e e2 ts s q o k n = k (o (subst (λ (x : Error). x.fault ≢ Memory) q n))
+pub refused_by : {C : Type 0} (e e2 : Error) → e2 ≡ e → (e.fault ≢ Memory → C) → e2.fault ≢ Memory → C
+refused_by e e2 q o n = o (subst (λ (x : Error). x.fault ≢ Memory) q n)
+
+-- one instruction stands in front, and it doesn't suit
+pub unsuited : (p : Option ℕ) (j : Instr) (ts r : List Tok) → reads j ts r → suits p j ≡ false → (i : Instr) (m : List Tok) → reads i ts m → suits p i ≡ true → ⊥
+unsuited p j ts r h other i m k same =
+    let e : suits p i ≡ suits p j = ap (λ (x : Instr). suits p x) (reads_one i j ts m r k h).0 in
+    let bad : true ≡ false = sym same ∙ e ∙ other in cc
 
 pub sort_block : (i : Instr) → is_block i.row ≡ true → sort i ≡ IsBlock
 sort_block i b = rw b refl

@@ -1,4 +1,5 @@
 pub mod Bounds
+pub mod Branches
 pub mod Cases
 pub mod Flatten
 pub mod FoldedLoop

@@ -1,11 +1,12 @@
 -- Each step of the loop leaves as much to do as there was.
-use Rattle.std.proofs.Common.{◌≡◌, ◌⊎◌, inl, inr, ℕ, suc, ◌<◌, List, [], ◌∷◌, Option, Some, None, refl, sym, subst}
+use Rattle.std.proofs.Common.{◌≡◌, ◌⊎◌, inl, inr, ℕ, suc, ◌<◌, true, List, [], ◌∷◌, Option, Some, None, refl, sym, subst}
 use Rattle.std.specs.Prelude.{codes}
 use Rattle.wat_tokens.specs.Token.{Tok, LParen, RParen, String}
 use Rattle.wat_instr.specs.Instruction.{Instr, end_instr}
 use Rattle.wat_expr.specs.Facts.{word_front, reads_one, Stops, stops_at, stops_no_word, stops_no_group, no_paren, same_group, one_sort, no_hint_word}
-use Rattle.wat_expr.specs.Items.{sort, IsBlock, IsIf, IsOther, reads, word, hint_name, Items, Nil, Plain, Folded, Block, IfThen, IfElse, Hinted, Only, BeginsWithInstr, lists}
-use Rattle.wat_expr.specs.Progress.{Counted, add, counted, noted, emit, Fits, After, Open, close_with, then_arm}
+use Rattle.wat_expr.specs.Items.{sort, IsBlock, IsIf, IsOther, reads, word, hint_name, Items, Nil, Plain, Folded, Block, IfThen, IfElse, Hinted, Only, is_branch, BeginsWithBranch, lists}
+use Rattle.wat_expr.specs.Progress.{Counted, add, counted, noted, emit, Fits, suits, After, Open, close_with, then_arm}
+use Rattle.wat_expr.proofs.Branches.{if_branch, folded_branch, branch_folded, branch_block}
 
 abbrev pub Ends : After → Type 0
 Ends K = (r : List Tok) (f : Counted) → K r f → Stops r
@@ -164,21 +165,30 @@ module _ (P G : Type 0) (K : After) (ends : Ends K) (hi he : ℕ) where
   end_forth p ts f s (IfElse j ops th el xs, r, l, fit, only, k) = absurd (stops_no_group j l.0 l.1 l.7 (stops_at _ ts (sym l.5) s))
   end_forth p ts f s (Hinted w xs, r, l, fit, only, k) = absurd (stops_at _ ts (sym l.1) s)
 
-fits : (p : Option ℕ) (xs : Items) → BeginsWithInstr xs → Fits p xs
+fits : (p : Option ℕ) (xs : Items) → BeginsWithBranch xs → Fits p xs
 fits None xs b = tt
 fits (Some v) xs b = b
 
+-- an item fits where its instruction suits
+fits_by : (p : Option ℕ) (i : Instr) (xs : Items) → (is_branch i ≡ true → BeginsWithBranch xs) → suits p i ≡ true → Fits p xs
+fits_by None i xs k t = tt
+fits_by (Some v) i xs k t = k t
+
+suits_by : (p : Option ℕ) (i : Instr) (xs : Items) → (BeginsWithBranch xs → is_branch i ≡ true) → Fits p xs → suits p i ≡ true
+suits_by None i xs k f = refl
+suits_by (Some v) i xs k f = k f
+
 module _ (P G : Type 0) (K : After) (hi he : ℕ) where
-  pub plain_back : (p : Option ℕ) (i : Instr) (ts m : List Tok) (f : Counted) → reads i ts m → P → Open P G K hi he None m (noted hi he (add p i (counted f))) → Open P G K hi he p ts f
-  plain_back p i ts m f h a (xs, r, l, fit, only, k) = (Plain i xs, r, (m, h, l), fits p (Plain i xs) tt, (a, only), k)
+  pub plain_back : (p : Option ℕ) (i : Instr) (ts m : List Tok) (f : Counted) → reads i ts m → suits p i ≡ true → P → Open P G K hi he None m (noted hi he (add p i (counted f))) → Open P G K hi he p ts f
+  plain_back p i ts m f h t a (xs, r, l, fit, only, k) = (Plain i xs, r, (m, h, l), fits_by p i (Plain i xs) (λ b. b) t, (a, only), k)
 
-  pub folded_back : (p : Option ℕ) (i : Instr) (a b : List Tok) (f : Counted) → reads i a b → sort i ≡ IsOther → G → Open (Unit {0}) (Unit {0}) (close_with hi he (Open P G K hi he None) i p) (suc hi) (suc he) None b (noted (suc hi) (suc he) (counted f)) → Open P G K hi he p (LParen ∷ a) f
-  folded_back p i a b f h ki g (ys, q, l, fit, only, (d, e, (xs, r, l', fit', only', k))) =
-      (Folded i ys xs, r, (a, b, d, refl, ki, h, subst (λ (t : List Tok). lists ys b t) e l, l'), fits p (Folded i ys xs) tt, (g, only'), k)
+  pub folded_back : (p : Option ℕ) (i : Instr) (a b : List Tok) (f : Counted) → reads i a b → suits p i ≡ true → sort i ≡ IsOther → G → Open (Unit {0}) (Unit {0}) (close_with hi he (Open P G K hi he None) i p) (suc hi) (suc he) None b (noted (suc hi) (suc he) (counted f)) → Open P G K hi he p (LParen ∷ a) f
+  folded_back p i a b f h t ki g (ys, q, l, fit, only, (d, e, (xs, r, l', fit', only', k))) =
+      (Folded i ys xs, r, (a, b, d, refl, ki, h, subst (λ (t : List Tok). lists ys b t) e l, l'), fits_by p i (Folded i ys xs) (branch_folded i ki) t, (g, only'), k)
 
-  pub block_back : (p : Option ℕ) (i : Instr) (a b : List Tok) (f : Counted) → reads i a b → sort i ≡ IsBlock → G → Open (Unit {0}) (Unit {0}) (close_with hi he (Open P G K hi he None) end_instr None) (suc hi) he None b (noted (suc hi) he (add p i (counted f))) → Open P G K hi he p (LParen ∷ a) f
-  block_back p i a b f h ki g (ys, q, l, fit, only, (d, e, (xs, r, l', fit', only', k))) =
-      (Block i ys xs, r, (a, b, d, refl, ki, h, subst (λ (t : List Tok). lists ys b t) e l, l'), fits p (Block i ys xs) tt, (g, only'), k)
+  pub block_back : (p : Option ℕ) (i : Instr) (a b : List Tok) (f : Counted) → reads i a b → suits p i ≡ true → sort i ≡ IsBlock → G → Open (Unit {0}) (Unit {0}) (close_with hi he (Open P G K hi he None) end_instr None) (suc hi) he None b (noted (suc hi) he (add p i (counted f))) → Open P G K hi he p (LParen ∷ a) f
+  block_back p i a b f h t ki g (ys, q, l, fit, only, (d, e, (xs, r, l', fit', only', k))) =
+      (Block i ys xs, r, (a, b, d, refl, ki, h, subst (λ (t : List Tok). lists ys b t) e l, l'), fits_by p i (Block i ys xs) (branch_block i ki) t, (g, only'), k)
 
   pub if_back : (p : Option ℕ) (i : Instr) (a b : List Tok) (f : Counted) → reads i a b → sort i ≡ IsIf → G → Open ⊥ (Unit {0}) (then_arm hi he (Open P G K hi he None) i p) (suc hi) (suc he) None b (noted (suc hi) (suc he) (counted f)) → Open P G K hi he p (LParen ∷ a) f
   if_back p i a b f h ki g (ops, q, l, fit, only, (d, e, (th, q2, l2, fit2, only2, (d2, e2, inl (d3, e3, (xs, r, l', fit', only', k)))))) =
@@ -198,15 +208,15 @@ module _ (P G : Type 0) (K : After) (hi he : ℕ) where
 -- what can stand at the front of a list
 abbrev pub Front : Type 0 → Option ℕ → List Tok → Type 0
 Front P p ts =
-    Stops ts ⊎ ((P × ((i : Instr) × (m : List Tok) × reads i ts m)) ⊎ (((a : List Tok) × (ts ≡ LParen ∷ a) × ((i : Instr) × (b : List Tok) × reads i a b)) ⊎ ((p ≡ None) × ((v : ℕ) × (d : List Tok) × (v < 2) × (ts ≡ LParen ∷ hint_name ∷ String (v ∷ []) ∷ RParen ∷ d)))))
+    Stops ts ⊎ ((P × ((i : Instr) × (m : List Tok) × reads i ts m × (suits p i ≡ true))) ⊎ (((a : List Tok) × (ts ≡ LParen ∷ a) × ((i : Instr) × (b : List Tok) × reads i a b × (suits p i ≡ true))) ⊎ ((p ≡ None) × ((v : ℕ) × (d : List Tok) × (v < 2) × (ts ≡ LParen ∷ hint_name ∷ String (v ∷ []) ∷ RParen ∷ d)))))
 
 module _ (P G : Type 0) (K : After) (ends : Ends K) (hi he : ℕ) where
   pub front : (p : Option ℕ) (ts : List Tok) (f : Counted) → Open P G K hi he p ts f → Front P p ts
   front p ts f (Nil, r, l, fit, only, k) = inl (stops_at ts r l (ends r _ k))
-  front p ts f (Plain j xs, r, l, fit, only, k) = inr (inl (only.0, (j, l.0, l.1)))
-  front p ts f (Folded j ys xs, r, l, fit, only, k) = inr (inr (inl (l.0, l.3, (j, l.1, l.5))))
-  front p ts f (Block j ys xs, r, l, fit, only, k) = inr (inr (inl (l.0, l.3, (j, l.1, l.5))))
-  front p ts f (IfThen j ops th xs, r, l, fit, only, k) = inr (inr (inl (l.0, l.4, (j, l.1, l.6))))
-  front p ts f (IfElse j ops th el xs, r, l, fit, only, k) = inr (inr (inl (l.0, l.5, (j, l.1, l.7))))
+  front p ts f (Plain j xs, r, l, fit, only, k) = inr (inl (only.0, (j, l.0, l.1, suits_by p j (Plain j xs) (λ b. b) fit)))
+  front p ts f (Folded j ys xs, r, l, fit, only, k) = inr (inr (inl (l.0, l.3, (j, l.1, l.5, suits_by p j (Folded j ys xs) (folded_branch j) fit))))
+  front p ts f (Block j ys xs, r, l, fit, only, k) = inr (inr (inl (l.0, l.3, (j, l.1, l.5, suits_by p j (Block j ys xs) (λ b. absurd b) fit))))
+  front p ts f (IfThen j ops th xs, r, l, fit, only, k) = inr (inr (inl (l.0, l.4, (j, l.1, l.6, suits_by p j (IfThen j ops th xs) (λ b. if_branch j l.5) fit))))
+  front p ts f (IfElse j ops th el xs, r, l, fit, only, k) = inr (inr (inl (l.0, l.5, (j, l.1, l.7, suits_by p j (IfElse j ops th el xs) (λ b. if_branch j l.6) fit))))
   front None ts f (Hinted w xs, r, l, fit, only, k) = inr (inr (inr (refl, (w, l.0, l.2, l.1))))
   front (Some v) ts f (Hinted w xs, r, l, fit, only, k) = absurd fit

@@ -8,7 +8,7 @@ use Rattle.wat_expr.specs.Facts.{Stops, word_front}
 use Rattle.wat_expr.specs.Flat.{Flat}
 use Rattle.wat_expr.specs.Items.{reads, word, hint_name}
 use Rattle.wat_expr.specs.Levels.{Level, InFolded, InBlock, InIf, AfterThen, AfterElse, InArm, heads_in}
-use Rattle.wat_expr.specs.Progress.{Counted, After, after_then, IsOpen, TakesPlain, behind, Finishes, IsStuck, with_tallies, Stuck}
+use Rattle.wat_expr.specs.Progress.{Counted, suits, After, after_then, IsOpen, TakesPlain, behind, Finishes, IsStuck, with_tallies, Stuck}
 use Rattle.wat_expr.specs.Reading.{stops_end}
 use Rattle.wat_expr.proofs.Steps.{Front, end_forth, front}
 use Rattle.wat_expr.proofs.Turns.{now, at, resume, ends_behind, only_end}
@@ -83,12 +83,12 @@ no_behind (AfterThen ∷ s) o r ts f g no_group no_close no_end k = g
 no_behind (AfterElse ∷ s) o r ts f g no_group no_close no_end k = g
 
 -- no instruction where one is needed
-pub no_plain : (s : List Level) (p : Option ℕ) (ts : List Tok) (f : Flat) → IsOpen s → ((d : List Tok) → ts ≡ LParen ∷ d → ⊥) → ((s ≡ [] → ⊥) → (d : List Tok) → ts ≡ RParen ∷ d → ⊥) → (s ≡ [] → ends ts ≡ true → ⊥) → (TakesPlain s → (i : Instr) (m : List Tok) → reads i ts m → ⊥) → Stuck (at s p ts f)
+pub no_plain : (s : List Level) (p : Option ℕ) (ts : List Tok) (f : Flat) → IsOpen s → ((d : List Tok) → ts ≡ LParen ∷ d → ⊥) → ((s ≡ [] → ⊥) → (d : List Tok) → ts ≡ RParen ∷ d → ⊥) → (s ≡ [] → ends ts ≡ true → ⊥) → (TakesPlain s → (i : Instr) (m : List Tok) → reads i ts m → suits p i ≡ true → ⊥) → Stuck (at s p ts f)
 no_plain s p ts f g no_group no_close no_end never = λ c o r k. go (with_tallies f c) o r k (front (TakesPlain s) (IsOpen s) (behind o r s) (ends_behind o r s g) (length s) (heads_in s) p ts (with_tallies f c) k)
   where
     go : (q : Counted) (o : Counted) (r : List Tok) → Finishes o r (now s p ts q) → Front (TakesPlain s) p ts → ⊥
     go q o r k (inl st) = no_behind s o r ts q g no_group no_close no_end (stop_ends s p ts q g st o r k).1
-    go q o r k (inr (inl (a, (i, m, h)))) = never a i m h
+    go q o r k (inr (inl (a, (i, m, h, t)))) = never a i m h t
     go q o r k (inr (inr (inl (d, e, x)))) = no_group d e
     go q o r k (inr (inr (inr (e, (v, d, lt, e2))))) = no_group _ e2
 
@@ -115,12 +115,12 @@ hint_shape s p u f g o r k = go (front (TakesPlain s) (IsOpen s) (behind o r s) 
   where
     go : Front (TakesPlain s) p (LParen ∷ hint_name ∷ u) → HintIn p u
     go (inl st) = absurd st
-    go (inr (inl (a, (i, m, h)))) = absurd (word_front i LParen (hint_name ∷ u) m h)
-    go (inr (inr (inl (d, e, (i, b, h))))) = let e2 : d ≡ hint_name ∷ u = cc in absurd (word_front i hint_name u b (subst (λ (t : List Tok). reads i t b) e2 h))
+    go (inr (inl (a, (i, m, h, t)))) = absurd (word_front i LParen (hint_name ∷ u) m h)
+    go (inr (inr (inl (d, e, (i, b, h, t))))) = let e2 : d ≡ hint_name ∷ u = cc in absurd (word_front i hint_name u b (subst (λ (t : List Tok). reads i t b) e2 h))
     go (inr (inr (inr (e, (v, d, lt, e2))))) = (e, (v, d, lt, cc))
 
 -- what opens is no instruction, no hint and no (then
-pub no_item : (s : List Level) (p : Option ℕ) (u : List Tok) (f : Flat) → IsOpen s → ((d : List Tok) → u ≡ hint_name ∷ d → ⊥) → ((ts : List Tok) → u ≡ word (codes "then") ∷ ts → (i : Instr) (h : Option ℕ) (q : List Level) → s ≡ InIf i h ∷ q → ⊥) → ((i : Instr) (m : List Tok) → reads i u m → ⊥) → Stuck (at s p (LParen ∷ u) f)
+pub no_item : (s : List Level) (p : Option ℕ) (u : List Tok) (f : Flat) → IsOpen s → ((d : List Tok) → u ≡ hint_name ∷ d → ⊥) → ((ts : List Tok) → u ≡ word (codes "then") ∷ ts → (i : Instr) (h : Option ℕ) (q : List Level) → s ≡ InIf i h ∷ q → ⊥) → ((i : Instr) (m : List Tok) → reads i u m → suits p i ≡ true → ⊥) → Stuck (at s p (LParen ∷ u) f)
 no_item s p u f g no_hint no_then never = λ c o r k. go (with_tallies f c) o r k (front (TakesPlain s) (IsOpen s) (behind o r s) (ends_behind o r s g) (length s) (heads_in s) p _ (with_tallies f c) k)
   where
     closed : (q : Counted) (o : Counted) (r : List Tok) (s : List Level) → IsOpen s → ((ts : List Tok) → u ≡ word (codes "then") ∷ ts → (i : Instr) (h : Option ℕ) (q : List Level) → s ≡ InIf i h ∷ q → ⊥) → behind o r s (LParen ∷ u) q → ⊥
@@ -134,6 +134,6 @@ no_item s p u f g no_hint no_then never = λ c o r k. go (with_tallies f c) o r 
 
     go : (q : Counted) (o : Counted) (r : List Tok) → Finishes o r (now s p (LParen ∷ u) q) → Front (TakesPlain s) p (LParen ∷ u) → ⊥
     go q o r k (inl st) = closed q o r s g no_then (stop_ends s p _ q g st o r k).1
-    go q o r k (inr (inl (a, (i, m, h)))) = word_front i LParen u m h
-    go q o r k (inr (inr (inl (d, e, (i, b, h))))) = let e2 : d ≡ u = cc in never i b (subst (λ (t : List Tok). reads i t b) e2 h)
+    go q o r k (inr (inl (a, (i, m, h, t)))) = word_front i LParen u m h
+    go q o r k (inr (inr (inl (d, e, (i, b, h, t))))) = let e2 : d ≡ u = cc in never i b (subst (λ (t : List Tok). reads i t b) e2 h) t
     go q o r k (inr (inr (inr (e, (v, d, lt, e2))))) = no_hint (String (v ∷ []) ∷ RParen ∷ d) (cc)

@@ -1,5 +1,5 @@
 -- Each turn of the loop leaves as much to do as there was.
-use Rattle.std.proofs.Common.{◌≡◌, inl, inr, ℕ, suc, ◌<◌, List, [], ◌∷◌, length, Option, Some, None, refl, sym, subst, arith}
+use Rattle.std.proofs.Common.{◌≡◌, inl, inr, ℕ, suc, ◌<◌, true, List, [], ◌∷◌, length, Option, Some, None, refl, sym, subst, arith}
 use Rattle.std.specs.Prelude.{codes}
 use Rattle.wat_tokens.specs.Token.{Tok, LParen, RParen, String}
 use Rattle.wat_instr.specs.Instruction.{Instr, else_instr, end_instr}
@@ -7,7 +7,7 @@ use Rattle.wat_expr.specs.Facts.{Stops, reads_shorter, reads_level}
 use Rattle.wat_expr.specs.Flat.{Flat, push}
 use Rattle.wat_expr.specs.Items.{sort, IsBlock, IsIf, IsOther, reads, word, hint_name, Nil, Plain, Folded, Block, IfThen, IfElse, Hinted}
 use Rattle.wat_expr.specs.Levels.{Level, InFolded, InBlock, InIf, AfterThen, AfterElse, InArm, heads_in}
-use Rattle.wat_expr.specs.Progress.{Counted, add, counted, noted, emit, After, Open, closing, after_else, after_then, arm, IsOpen, TakesPlain, behind, Place, Same, with_tallies, Stand, Turn}
+use Rattle.wat_expr.specs.Progress.{Counted, add, counted, noted, emit, suits, After, Open, closing, after_else, after_then, arm, IsOpen, TakesPlain, behind, Place, Same, with_tallies, Stand, Turn}
 use Rattle.wat_expr.proofs.Steps.{Ends, plain_forth, folded_forth, block_forth, if_forth, hint_forth, end_forth, plain_back, folded_back, block_back, if_back, hint_back, end_back}
 
 abbrev pub now : List Level → Option ℕ → List Tok → Counted → Place
@@ -43,22 +43,22 @@ plain_is_open (InArm ∷ s) h = tt
 plain_is_open (AfterThen ∷ s) h = h
 plain_is_open (AfterElse ∷ s) h = h
 
-counted_plain : (s : List Level) (p : Option ℕ) (i : Instr) (ts m : List Tok) (f : Counted) → TakesPlain s → reads i ts m → Same (now s p ts f) (now s None m (noted (length s) (heads_in s) (add p i (counted f))))
-counted_plain s p i ts m f a h = record {
+counted_plain : (s : List Level) (p : Option ℕ) (i : Instr) (ts m : List Tok) (f : Counted) → TakesPlain s → reads i ts m → suits p i ≡ true → Same (now s p ts f) (now s None m (noted (length s) (heads_in s) (add p i (counted f))))
+counted_plain s p i ts m f a h t = record {
   forth = λ o r k. (plain_forth (TakesPlain s) (IsOpen s) (behind o r s) (ends_behind o r s (plain_is_open s a)) (length s) (heads_in s) p i ts m f h k).1;
-  back = λ o r k. plain_back (TakesPlain s) (IsOpen s) (behind o r s) (length s) (heads_in s) p i ts m f h a k;
+  back = λ o r k. plain_back (TakesPlain s) (IsOpen s) (behind o r s) (length s) (heads_in s) p i ts m f h t a k;
 }
 
-counted_folded : (s : List Level) (p : Option ℕ) (i : Instr) (a b : List Tok) (f : Counted) → IsOpen s → reads i a b → sort i ≡ IsOther → Same (now s p (LParen ∷ a) f) (now (InFolded i p ∷ s) None b (noted (suc (length s)) (suc (heads_in s)) (counted f)))
-counted_folded s p i a b f g h ki = record {
+counted_folded : (s : List Level) (p : Option ℕ) (i : Instr) (a b : List Tok) (f : Counted) → IsOpen s → reads i a b → suits p i ≡ true → sort i ≡ IsOther → Same (now s p (LParen ∷ a) f) (now (InFolded i p ∷ s) None b (noted (suc (length s)) (suc (heads_in s)) (counted f)))
+counted_folded s p i a b f g h t ki = record {
   forth = λ o r k. folded_forth (TakesPlain s) (IsOpen s) (behind o r s) (ends_behind o r s g) (length s) (heads_in s) p i a b f h ki k;
-  back = λ o r k. folded_back (TakesPlain s) (IsOpen s) (behind o r s) (length s) (heads_in s) p i a b f h ki g k;
+  back = λ o r k. folded_back (TakesPlain s) (IsOpen s) (behind o r s) (length s) (heads_in s) p i a b f h t ki g k;
 }
 
-counted_block : (s : List Level) (p : Option ℕ) (i : Instr) (a b : List Tok) (f : Counted) → IsOpen s → reads i a b → sort i ≡ IsBlock → Same (now s p (LParen ∷ a) f) (now (InBlock ∷ s) None b (noted (suc (length s)) (heads_in s) (add p i (counted f))))
-counted_block s p i a b f g h ki = record {
+counted_block : (s : List Level) (p : Option ℕ) (i : Instr) (a b : List Tok) (f : Counted) → IsOpen s → reads i a b → suits p i ≡ true → sort i ≡ IsBlock → Same (now s p (LParen ∷ a) f) (now (InBlock ∷ s) None b (noted (suc (length s)) (heads_in s) (add p i (counted f))))
+counted_block s p i a b f g h t ki = record {
   forth = λ o r k. block_forth (TakesPlain s) (IsOpen s) (behind o r s) (ends_behind o r s g) (length s) (heads_in s) p i a b f h ki k;
-  back = λ o r k. block_back (TakesPlain s) (IsOpen s) (behind o r s) (length s) (heads_in s) p i a b f h ki g k;
+  back = λ o r k. block_back (TakesPlain s) (IsOpen s) (behind o r s) (length s) (heads_in s) p i a b f h t ki g k;
 }
 
 counted_if : (s : List Level) (p : Option ℕ) (i : Instr) (a b : List Tok) (f : Counted) → IsOpen s → reads i a b → sort i ≡ IsIf → Same (now s p (LParen ∷ a) f) (now (InIf i p ∷ s) None b (noted (suc (length s)) (suc (heads_in s)) (counted f)))
@@ -182,23 +182,23 @@ counted_close_else s m f = record {
 abbrev pub at : List Level → Option ℕ → List Tok → Flat → Stand
 at s p ts f = record { levels = s; pending = p; left = ts; out = f }
 
-pub turn_plain_is : (s : List Level) (p : Option ℕ) (i : Instr) (ts m : List Tok) (f : Flat) → TakesPlain s → reads i ts m → Turn (at s p ts f) (at s None m (push p i f))
-turn_plain_is s p i ts m f a h = record {
-  same = λ c. (suc c.items, omega arith, counted_plain s p i ts m (with_tallies f c) a h);
+pub turn_plain_is : (s : List Level) (p : Option ℕ) (i : Instr) (ts m : List Tok) (f : Flat) → TakesPlain s → reads i ts m → suits p i ≡ true → Turn (at s p ts f) (at s None m (push p i f))
+turn_plain_is s p i ts m f a h t = record {
+  same = λ c. (suc c.items, omega arith, counted_plain s p i ts m (with_tallies f c) a h t);
   shorter = reads_shorter i ts m h;
   level = omega (arith, reads_level i ts m h);
 }
 
-pub turn_folded_is : (s : List Level) (p : Option ℕ) (i : Instr) (a b : List Tok) (f : Flat) → IsOpen s → reads i a b → sort i ≡ IsOther → Turn (at s p (LParen ∷ a) f) (at (InFolded i p ∷ s) None b f)
-turn_folded_is s p i a b f g h ki = record {
-  same = λ c. (suc c.items, omega arith, counted_folded s p i a b (with_tallies f c) g h ki);
+pub turn_folded_is : (s : List Level) (p : Option ℕ) (i : Instr) (a b : List Tok) (f : Flat) → IsOpen s → reads i a b → suits p i ≡ true → sort i ≡ IsOther → Turn (at s p (LParen ∷ a) f) (at (InFolded i p ∷ s) None b f)
+turn_folded_is s p i a b f g h t ki = record {
+  same = λ c. (suc c.items, omega arith, counted_folded s p i a b (with_tallies f c) g h t ki);
   shorter = omega (arith, reads_shorter i a b h);
   level = omega (arith, reads_level i a b h);
 }
 
-pub turn_block_is : (s : List Level) (p : Option ℕ) (i : Instr) (a b : List Tok) (f : Flat) → IsOpen s → reads i a b → sort i ≡ IsBlock → Turn (at s p (LParen ∷ a) f) (at (InBlock ∷ s) None b (push p i f))
-turn_block_is s p i a b f g h ki = record {
-  same = λ c. (suc c.items, omega arith, counted_block s p i a b (with_tallies f c) g h ki);
+pub turn_block_is : (s : List Level) (p : Option ℕ) (i : Instr) (a b : List Tok) (f : Flat) → IsOpen s → reads i a b → suits p i ≡ true → sort i ≡ IsBlock → Turn (at s p (LParen ∷ a) f) (at (InBlock ∷ s) None b (push p i f))
+turn_block_is s p i a b f g h t ki = record {
+  same = λ c. (suc c.items, omega arith, counted_block s p i a b (with_tallies f c) g h t ki);
   shorter = omega (arith, reads_shorter i a b h);
   level = omega (arith, reads_level i a b h);
 }

@@ -16,10 +16,10 @@ use Rattle.wat_expr.specs.declared.reader.Reader.{Reader}
 use Rattle.wat_expr.specs.Expression.{Expr, seen_expression, bare_expression, value_of, SpansAre}
 use Rattle.wat_expr.specs.Facts.{lists_between}
 use Rattle.wat_expr.specs.Flat.{Flat, flat, no_output}
-use Rattle.wat_expr.specs.Items.{Items, Nil, Plain, Folded, Block, IfThen, IfElse, Hinted, BeginsWithInstr, lists, unfolded}
+use Rattle.wat_expr.specs.Items.{Items, Nil, Plain, Folded, Block, IfThen, IfElse, Hinted, lists, unfolded}
 use Rattle.wat_expr.specs.Levels.{Level, heads_in}
 use Rattle.wat_expr.specs.Listed.{IsListed}
-use Rattle.wat_expr.specs.Progress.{Counted, emit, all_done, Place, Finishes, Same, IsStuck, Tallies, with_tallies, standing, risen, Balanced, Turn, Stuck}
+use Rattle.wat_expr.specs.Progress.{Counted, emit, Fits, all_done, Place, Finishes, Same, IsStuck, Tallies, with_tallies, standing, risen, Balanced, Turn, Stuck}
 use Rattle.wat_expr.specs.Reading.{expression}
 use Rattle.wat_expr.specs.Turned.{stand}
 use Rattle.wat_expr.proofs.Flatten.{flat_instrs, flat_hints, flat_count, flat_peak, flat_held, flat_spans, Spanned}
@@ -220,23 +220,17 @@ no_items_more : (x y : List Instr) → no_items x ≡ false → no_items (x ++ y
 no_items_more [] y e = absurd cc
 no_items_more (j ∷ x) y e = refl
 
-some_instr : (xs : Items) → BeginsWithInstr xs → no_items (unfolded xs) ≡ false
-some_instr Nil g = absurd g
-some_instr (Plain i xs) g = refl
-some_instr (Folded i ys xs) g = no_items_more _ (unfolded xs) (no_items_behind (unfolded ys) [] i)
-some_instr (Block i ys xs) g = refl
-some_instr (IfThen i ops th xs) g = no_items_more _ (unfolded xs) (no_items_behind (unfolded ops) _ i)
-some_instr (IfElse i ops th el xs) g = no_items_more _ (unfolded xs) (no_items_behind (unfolded ops) _ i)
-some_instr (Hinted v xs) g = absurd g
-
-some_listed : (xs : Items) (ts r : List Tok) → lists xs ts r → (ts ≡ r → ⊥) → no_items (unfolded xs) ≡ false
-some_listed Nil ts r l n = absurd (n l)
-some_listed (Plain i xs) ts r l n = some_instr (Plain i xs) tt
-some_listed (Folded i ys xs) ts r l n = some_instr (Folded i ys xs) tt
-some_listed (Block i ys xs) ts r l n = some_instr (Block i ys xs) tt
-some_listed (IfThen i ops th xs) ts r l n = some_instr (IfThen i ops th xs) tt
-some_listed (IfElse i ops th el xs) ts r l n = some_instr (IfElse i ops th el xs) tt
-some_listed (Hinted v xs) ts r l n = some_instr xs l.3
+-- items behind a hint, and items of some tokens, have an instruction
+some_listed : (p : Option ℕ) (xs : Items) (ts r : List Tok) → Fits p xs → lists xs ts r → (p ≡ None → ts ≡ r → ⊥) → no_items (unfolded xs) ≡ false
+some_listed None Nil ts r f l n = absurd (n refl l)
+some_listed (Some v) Nil ts r f l n = absurd f
+some_listed p (Plain i xs) ts r f l n = refl
+some_listed p (Folded i ys xs) ts r f l n = no_items_more _ (unfolded xs) (no_items_behind (unfolded ys) [] i)
+some_listed p (Block i ys xs) ts r f l n = refl
+some_listed p (IfThen i ops th xs) ts r f l n = no_items_more _ (unfolded xs) (no_items_behind (unfolded ops) _ i)
+some_listed p (IfElse i ops th el xs) ts r f l n = no_items_more _ (unfolded xs) (no_items_behind (unfolded ops) _ i)
+some_listed None (Hinted v xs) ts r f l n = some_listed (Some v) xs l.0 r l.3 l.4 (λ e q. cc)
+some_listed (Some u) (Hinted v xs) ts r f l n = absurd f
 
 not_bare_of : (x : Read Expr) → ((y : Expr × List Tok) → x ≡ Some y → bare_expression y.0 ≡ false) → NotBare bare_expression x
 not_bare_of (Some y) f = f y refl
@@ -249,7 +243,7 @@ not_bare ts more =
     not_bare_of (expression.reads ts)
     (λ y e. (let f = expression.sound ts y e in
     let l = f.2 in
-    let k = some_listed l.0 ts y.1 (subst (λ (u : List Tok). lists l.0 u y.1) (sym f.1) l.1) (λ q. more (ap ends q ∙ l.2)) in
+    let k = some_listed None l.0 ts y.1 tt (subst (λ (u : List Tok). lists l.0 u y.1) (sym f.1) l.1) (λ p q. more (ap ends q ∙ l.2)) in
     ap (λ (v : Expr). no_items v.instrs) l.3 ∙ k))
 
 -- ---- the exits

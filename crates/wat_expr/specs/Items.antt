@@ -1,7 +1,7 @@
 -- Expressions: items, the tokens that list them, and what they unfold to.
-use Rattle.std.specs.Prelude.{◌≡◌, ℕ, suc, ◌+◌, ◌<◌, max, Bool, true, false, List, [], ◌∷◌, ◌++◌, length, Option, Some, None, codes}
+use Rattle.std.specs.Prelude.{◌≡◌, ℕ, suc, ◌+◌, ◌<◌, max, Bool, true, false, ◌||◌, List, [], ◌∷◌, ◌++◌, length, Option, Some, None, codes}
 use Rattle.wat_tokens.specs.Token.{Tok, LParen, RParen, Keyword, Annotation, String}
-use Rattle.wat_instr.specs.Instruction.{Instr, instruction, is_block, is_if, else_instr, end_instr}
+use Rattle.wat_instr.specs.Instruction.{Instr, instruction, is_block, is_if, is_br_if, else_instr, end_instr}
 
 -- what stands behind an instruction in its group
 pub data Sort : Type 0 where
@@ -46,15 +46,19 @@ Only P G (Hinted v xs) = G × Only P G xs
 abbrev pub AreGroups : Items → Type 0
 AreGroups xs = Only ⊥ (Unit {0}) xs
 
--- the first item exists and isn't a hint
-abbrev pub BeginsWithInstr : Items → Type 0
-BeginsWithInstr Nil = ⊥
-BeginsWithInstr (Plain i xs) = Unit {0}
-BeginsWithInstr (Folded i ys xs) = Unit {0}
-BeginsWithInstr (Block i ys xs) = Unit {0}
-BeginsWithInstr (IfThen i ops th xs) = Unit {0}
-BeginsWithInstr (IfElse i ops th el xs) = Unit {0}
-BeginsWithInstr (Hinted v xs) = ⊥
+-- whether the instruction is `br_if` or `if`
+abbrev pub is_branch : Instr → Bool
+is_branch i = is_br_if i.row || is_if i.row
+
+-- the first item is `br_if` or `if` alone, a folded `br_if`, or the group of an `if`
+abbrev pub BeginsWithBranch : Items → Type 0
+BeginsWithBranch Nil = ⊥
+BeginsWithBranch (Plain i xs) = is_branch i ≡ true
+BeginsWithBranch (Folded i ys xs) = is_br_if i.row ≡ true
+BeginsWithBranch (Block i ys xs) = ⊥
+BeginsWithBranch (IfThen i ops th xs) = Unit {0}
+BeginsWithBranch (IfElse i ops th el xs) = Unit {0}
+BeginsWithBranch (Hinted v xs) = ⊥
 
 -- the tokens of a word and of a hint's annotation
 abbrev pub word : List ℕ → Tok
@@ -81,9 +85,9 @@ lists (IfThen i ops th xs) ts r =
 -- ( if groups ( then items ) ( else items ) )
 lists (IfElse i ops th el xs) ts r =
     (a b d e f : List Tok) × (ts ≡ LParen ∷ a) × (sort i ≡ IsIf) × reads i a b × AreGroups ops × lists ops b (LParen ∷ word (codes "then") ∷ d) × lists th d (RParen ∷ LParen ∷ word (codes "else") ∷ e) × lists el e (RParen ∷ RParen ∷ f) × lists xs f r
--- ( @metadata.code.branch_hint "v" ), v the byte 0 or 1, and an item that isn't a hint
+-- ( @metadata.code.branch_hint "v" ), v the byte 0 or 1, and an item whose head is `br_if` or `if`
 lists (Hinted v xs) ts r =
-    (d : List Tok) × (ts ≡ LParen ∷ hint_name ∷ String (v ∷ []) ∷ RParen ∷ d) × (v < 2) × BeginsWithInstr xs × lists xs d r
+    (d : List Tok) × (ts ≡ LParen ∷ hint_name ∷ String (v ∷ []) ∷ RParen ∷ d) × (v < 2) × BeginsWithBranch xs × lists xs d r
 
 -- The instructions in the order of a flat list: a folded one behind its operands, a block's and an `if`'s in front of
 -- what it holds, with `else` and `end` added.

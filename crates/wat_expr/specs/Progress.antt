@@ -1,12 +1,12 @@
 -- What the loop has still to do from a state: the meaning of its open levels.
-use Rattle.std.specs.Prelude.{◌≡◌, ◌≢◌, ◌⊎◌, ℕ, suc, ◌≤◌, ◌+◌, ◌<◌, max, true, List, [], ◌∷◌, length, Option, Some, None, Result, Ok, Err, codes}
+use Rattle.std.specs.Prelude.{◌≡◌, ◌≢◌, ◌⊎◌, ℕ, suc, ◌≤◌, ◌+◌, ◌<◌, max, Bool, true, List, [], ◌∷◌, length, Option, Some, None, Result, Ok, Err, codes}
 use Rattle.wat_tokens.specs.Token.{Tok, LParen, RParen}
 use Rattle.wat_tokens.specs.Error.{Error, Memory}
 use Rattle.wat_tokens.specs.Parens.{opens, closes}
 use Rattle.wat_tokens.specs.Tests.{ends}
 use Rattle.wat_instr.specs.Instruction.{Instr, else_instr, end_instr}
 use Rattle.wat_expr.specs.Flat.{Flat, push}
-use Rattle.wat_expr.specs.Items.{word, Items, Nil, Plain, Folded, Block, IfThen, IfElse, Hinted, Only, BeginsWithInstr, lists}
+use Rattle.wat_expr.specs.Items.{word, Items, Nil, Plain, Folded, Block, IfThen, IfElse, Hinted, Only, is_branch, BeginsWithBranch, lists}
 use Rattle.wat_expr.specs.Levels.{Level, InFolded, InBlock, InIf, AfterThen, AfterElse, InArm, heads_in}
 
 -- the output, how many items there were, and the greatest numbers of levels and of heads so far
@@ -44,7 +44,12 @@ emit k h p (Hinted v xs) f = emit k h (Some v) xs (noted k h (counted f))
 -- what stands behind a pending hint
 abbrev pub Fits : Option ℕ → Items → Type 0
 Fits None xs = Unit {0}
-Fits (Some v) xs = BeginsWithInstr xs
+Fits (Some v) xs = BeginsWithBranch xs
+
+-- whether an instruction can be the first behind a pending hint
+abbrev pub suits : Option ℕ → Instr → Bool
+suits None i = true
+suits (Some v) i = is_branch i
 
 -- what follows a list: its tokens, and the output so far
 abbrev pub After : Type 1

@@ -8,8 +8,8 @@ use Rattle.wat_tokens.specs.Token.{Tok, LParen, RParen, Keyword, Annotation, Str
 use Rattle.wat_tokens.specs.Parens.{Level, opens-append, closes-append}
 use Rattle.wat_tokens.specs.Production.{Read, Front, Production, bind, bind_some, some_of, none_of, some_is, none_is_not, by_test}
 use Rattle.wat_tokens.specs.Tests.{ends}
-use Rattle.wat_instr.specs.Instruction.{Instr, instruction}
-use Rattle.wat_expr.specs.Items.{Sort, sort, IsBlock, IsIf, IsOther, reads, word, hint_name, Items, Nil, Plain, Folded, Block, IfThen, IfElse, Hinted, AreGroups, BeginsWithInstr, lists}
+use Rattle.wat_instr.specs.Instruction.{Instr, instruction, is_br_if}
+use Rattle.wat_expr.specs.Items.{Sort, sort, IsBlock, IsIf, IsOther, reads, word, hint_name, Items, Nil, Plain, Folded, Block, IfThen, IfElse, Hinted, AreGroups, is_branch, BeginsWithBranch, lists}
 use Rattle.wat_expr.specs.Facts.{word_front, reads_nothing, reads_shorter, reads_not_then, Stops, lists_between}
 use Rattle.wat_expr.specs.Expression.{Expr, value_of}
 
@@ -34,10 +34,12 @@ are_groups (IfThen i ops th xs) = are_groups xs
 are_groups (IfElse i ops th el xs) = are_groups xs
 are_groups (Hinted v xs) = are_groups xs
 
-abbrev pub begins_instr : Items → Bool
-begins_instr Nil = false
-begins_instr (Hinted v xs) = false
-begins_instr _ = true
+abbrev pub begins_branch : Items → Bool
+begins_branch (Plain i xs) = is_branch i
+begins_branch (Folded i ys xs) = is_br_if i.row
+begins_branch (IfThen i ops th xs) = true
+begins_branch (IfElse i ops th el xs) = true
+begins_branch _ = false
 
 module _ (rec : List Tok → Read Items) where
   -- the items after one, with it
@@ -65,7 +67,7 @@ module _ (rec : List Tok → Read Items) where
 
   -- what follows the annotation of a hint
   abbrev pub hint_by : List Tok → Read Items
-  hint_by (String (v ∷ []) ∷ RParen ∷ d) = if nat_lt v 2 then bind (rec d) (λ xs r. if begins_instr xs then Some (Hinted v xs, r) else None) else None
+  hint_by (String (v ∷ []) ∷ RParen ∷ d) = if nat_lt v 2 then bind (rec d) (λ xs r. if begins_branch xs then Some (Hinted v xs, r) else None) else None
   hint_by _ = None
 
   -- what follows a `(`
@@ -97,14 +99,14 @@ are_groups_so (IfThen i ops th xs) e = (tt, are_groups_so xs e)
 are_groups_so (IfElse i ops th el xs) e = (tt, are_groups_so xs e)
 are_groups_so (Hinted v xs) e = (tt, are_groups_so xs e)
 
-begins_instr_so : (xs : Items) → begins_instr xs ≡ true → BeginsWithInstr xs
-begins_instr_so Nil e = absurd cc
-begins_instr_so (Plain i xs) e = tt
-begins_instr_so (Folded i ys xs) e = tt
-begins_instr_so (Block i ys xs) e = tt
-begins_instr_so (IfThen i ops th xs) e = tt
-begins_instr_so (IfElse i ops th el xs) e = tt
-begins_instr_so (Hinted v xs) e = absurd cc
+begins_branch_so : (xs : Items) → begins_branch xs ≡ true → BeginsWithBranch xs
+begins_branch_so Nil e = absurd cc
+begins_branch_so (Plain i xs) e = e
+begins_branch_so (Folded i ys xs) e = e
+begins_branch_so (Block i ys xs) e = absurd cc
+begins_branch_so (IfThen i ops th xs) e = tt
+begins_branch_so (IfElse i ops th el xs) e = tt
+begins_branch_so (Hinted v xs) e = absurd cc
 
 pub shut_is : (t : List Tok) (x : Unit {0} × List Tok) → shut t ≡ Some x → t ≡ RParen ∷ x.1
 shut_is [] x e = none_is_not x e
@@ -191,12 +193,12 @@ module _ (rec : List Tok → Read Items) (good : Sound rec) where
       is_listed (LParen ∷ a) (Block i m.0 m.1) m.3 x m.6 (a, b, m.2, refl, k, h, m.4, m.5)
   sort_sound i a b x IsIf k h e = if_sound i a b x k h e
 
-  hint_items_sound : (v : ℕ) (d : List Tok) (x : Items × List Tok) → v < 2 → bind (rec d) (λ xs r. if begins_instr xs then Some (Hinted v xs, r) else None) ≡ Some x → lists x.0 (LParen ∷ hint_name ∷ String (v ∷ []) ∷ RParen ∷ d) x.1
+  hint_items_sound : (v : ℕ) (d : List Tok) (x : Items × List Tok) → v < 2 → bind (rec d) (λ xs r. if begins_branch xs then Some (Hinted v xs, r) else None) ≡ Some x → lists x.0 (LParen ∷ hint_name ∷ String (v ∷ []) ∷ RParen ∷ d) x.1
   hint_items_sound v d x lt e =
-      let p = bind_some (rec d) (λ xs r. if begins_instr xs then Some (Hinted v xs, r) else None) x e in
-      by_test (begins_instr p.0.0)
+      let p = bind_some (rec d) (λ xs r. if begins_branch xs then Some (Hinted v xs, r) else None) x e in
+      by_test (begins_branch p.0.0)
       (λ g. (let e2 : some_of (Hinted v p.0.0, p.0.1) ≡ some_of x = rw g at p.2 in
-      is_listed _ (Hinted v p.0.0) p.0.1 x (some_is (Hinted v p.0.0, p.0.1) x e2) (d, refl, lt, begins_instr_so p.0.0 g, good d p.0 p.1)))
+      is_listed _ (Hinted v p.0.0) p.0.1 x (some_is (Hinted v p.0.0, p.0.1) x e2) (d, refl, lt, begins_branch_so p.0.0 g, good d p.0 p.1)))
       (λ g. (let e2 : none_of {A = Items} ≡ some_of x = rw g at p.2 in none_is_not x e2))
 
   hint_sound : (t : List Tok) (x : Items × List Tok) → hint_by rec t ≡ Some x → lists x.0 (LParen ∷ hint_name ∷ t) x.1
@@ -251,14 +253,14 @@ so_are_groups (IfThen i ops th xs) g = so_are_groups xs g.1
 so_are_groups (IfElse i ops th el xs) g = so_are_groups xs g.1
 so_are_groups (Hinted v xs) g = so_are_groups xs g.1
 
-so_begins_instr : (xs : Items) → BeginsWithInstr xs → begins_instr xs ≡ true
-so_begins_instr Nil g = absurd g
-so_begins_instr (Plain i xs) g = refl
-so_begins_instr (Folded i ys xs) g = refl
-so_begins_instr (Block i ys xs) g = refl
-so_begins_instr (IfThen i ops th xs) g = refl
-so_begins_instr (IfElse i ops th el xs) g = refl
-so_begins_instr (Hinted v xs) g = absurd g
+so_begins_branch : (xs : Items) → BeginsWithBranch xs → begins_branch xs ≡ true
+so_begins_branch Nil g = absurd g
+so_begins_branch (Plain i xs) g = g
+so_begins_branch (Folded i ys xs) g = g
+so_begins_branch (Block i ys xs) g = absurd g
+so_begins_branch (IfThen i ops th xs) g = refl
+so_begins_branch (IfElse i ops th el xs) g = refl
+so_begins_branch (Hinted v xs) g = absurd g
 
 not_then : (i : Instr) (w : List ℕ) (t m : List Tok) → reads i (Keyword w ∷ t) m → bytes_eq w (codes "then") ≡ false
 not_then i w t m h =
@@ -317,7 +319,7 @@ items_at_complete (IfElse i ops th el xs) (suc n) ts r lt s (a, b, d, e, f, q, k
     rw q (begins_group (items_at n) i a b h ∙ rw (k, items_at_complete ops n b _ (omega arith) refl lo, so_are_groups ops g, items_at_complete th n d _ (omega arith) tt lh, items_at_complete el n e _ (omega arith) tt le, items_at_complete xs n f r (omega arith) s lx) refl)
 items_at_complete (Hinted v xs) (suc n) ts r lt s (d, e, less, g, l) =
     let z = ap length e in
-    rw (e, lt-ltb v 2 less, items_at_complete xs n d r (omega arith) s l, so_begins_instr xs g) refl
+    rw (e, lt-ltb v 2 less, items_at_complete xs n d r (omega arith) s l, so_begins_branch xs g) refl
 
 -- ---- the production
 

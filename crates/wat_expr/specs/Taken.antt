@@ -1,10 +1,11 @@
 -- What takes one token, or an instruction.
-use Rattle.std.specs.Prelude.{◌≡◌, ◌≢◌, Bool, Result, Ok, Err, List, ◌∷◌, MatchBool, ℕ}
+use Rattle.std.specs.Prelude.{◌≡◌, ◌≢◌, Bool, true, Option, Result, Ok, Err, List, ◌∷◌, MatchBool, ℕ}
 use Rattle.wat_tokens.specs.Token.{Tok, String}
 use Rattle.wat_tokens.specs.Error.{Error, Memory}
 use Rattle.wat_instr.specs.Instruction.{Instruction}
 use Rattle.wat_instr.specs.Instruction.{Instr, seen_instruction}
 use Rattle.wat_expr.specs.Items.{reads}
+use Rattle.wat_expr.specs.Progress.{suits}
 
 -- from ts to r the token was taken, or it doesn't stand in front and nothing was
 abbrev pub Takes : Tok → Bool → List Tok → List Tok → Type 0
@@ -14,6 +15,11 @@ Takes t b ts r = MatchBool b (ts ≡ t ∷ r) ((r ≡ ts) × ((u : List Tok) →
 abbrev pub ReadsInstr : Result Instruction Error → List Tok → List Tok → Type 0
 ReadsInstr (Ok i) ts r = reads (seen_instruction i) ts r
 ReadsInstr (Err e) ts r = e.fault ≢ Memory → (i : Instr) (m : List Tok) → reads i ts m → ⊥
+
+-- an instruction was read that suits the pending hint, or, unless memory ran out, none that does stands in front
+abbrev pub ReadsSuited : Option ℕ → Result Instruction Error → List Tok → List Tok → Type 0
+ReadsSuited p (Ok i) ts r = reads (seen_instruction i) ts r × (suits p (seen_instruction i) ≡ true)
+ReadsSuited p (Err e) ts r = e.fault ≢ Memory → (i : Instr) (m : List Tok) → reads i ts m → suits p i ≡ true → ⊥
 
 -- a string was taken, seen by its content, or none stands in front
 abbrev pub TakesString : {X : Type 0} → (X → List ℕ) → Result X Error → List Tok → List Tok → Type 0

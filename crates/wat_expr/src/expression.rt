@@ -127,13 +127,14 @@ impl<'a> Expression<'a> {
 /// Items up to the end of the group (WebAssembly Core Specification, Text Format, Instructions, "Expressions").
 ///
 /// An item is an instruction alone, or a group `(`, an instruction, items, `)`: a block, `if` with its groups, `( then`
-/// items `)` and `( else` items `)`, or a folded instruction. Where the standard annotations are known, an item may have a
-/// branch hint `(@metadata.code.branch_hint "v")` before it, `v` being the byte 0 or 1.
+/// items `)` and `( else` items `)`, or a folded instruction. Where the standard annotations are known, an item of `br_if` or
+/// `if` may have a branch hint `(@metadata.code.branch_hint "v")` before it, `v` being the byte 0 or 1.
 ///
-/// Refused are, at the token in front: what is no instruction's word where one is needed, with Operator; an `if` that closes
-/// without `( then`, with IfWithoutThen; a group behind its `( else .. )`, with IfTooMany; the string of a hint that isn't
-/// such a byte, with HintValue, or that has a hint directly before it, with HintTwice; a hint with no item behind it, with
-/// HintPlace; anything else, with Unexpected.
+/// Refused are, at the token in front: what is no instruction's word where one is needed, and the end of the text in an open
+/// `if`, with Operator; an `if` that closes without `( then`, with IfWithoutThen; a group behind its `( else .. )`, with
+/// IfTooMany; the string of a hint that isn't such a byte, with HintValue, or that has a hint directly before it, with
+/// HintTwice; a hint with no item behind it, with HintPlace; anything else, with Unexpected. An instruction behind a hint that
+/// is neither `br_if` nor `if` is refused with HintTarget, at its word; a fault in its operand comes before that.
 impl<'a> Parse<'a> for Expression<'a> {
     ghost Seen = { Expr };
 

@@ -4,9 +4,10 @@ ghost use Rattle.std.specs.Prelude.{◌≡◌, ◌∷◌, [], List, ℕ, Option,
 ghost use Rattle.wat_expr.specs.Flat.{flat, no_output};
 ghost use Rattle.wat_expr.specs.Items.{word, hint_name};
 ghost use Rattle.wat_expr.specs.Levels.{Level as Open, InIf, AfterThen};
-ghost use Rattle.wat_expr.specs.Progress.{IsOpen, Turned};
+ghost use Rattle.wat_expr.specs.Progress.{IsOpen, Turned, suits};
+ghost use Rattle.wat_expr.specs.Taken.{ReadsSuited};
 ghost use Rattle.wat_expr.specs.Turned.{stand, IsHintByte};
-ghost use Rattle.wat_instr.specs.Instruction.{Instr};
+ghost use Rattle.wat_instr.specs.Instruction.{Instr, seen_instruction};
 ghost use Rattle.wat_tokens.specs.Steady.{Steady};
 ghost use Rattle.wat_tokens.specs.Tests.{ends};
 ghost use Rattle.wat_tokens.specs.Token.{Tok, LParen, RParen};
@@ -36,6 +37,48 @@ fn hint_byte(bytes: &[u8]) -> Option<u32>
         [byte] if *byte < 2 => Some(u32::from(*byte)),
         _ => None,
     }
+}
+
+/// Whether the hint, where one waits, can stand before the instruction.
+fn suits(hint: Option<u32>, instr: &Instruction<'_>) -> bool
+    ensures { result ≡ suits hint (seen_instruction instr.now) }
+{
+    match hint {
+        Some(_) => instr.is_br_if() || instr.is_if(),
+        None => true,
+    }
+}
+
+/// Takes the instruction that stands in front, with its operand; `span` is where its word begins. One that the waiting hint
+/// can't stand before is refused with HintTarget, there.
+fn take_suited<'a>(
+    parser: &mut Parser<'a>,
+    hint: Option<u32>,
+    span: Span,
+) -> Result<Instruction<'a>>
+    ensures exact { ReadsSuited hint result parser.old.left parser.new.left }
+    ensures steady { Steady parser.old parser.new }
+{
+    let instr = take_instr(parser)?;
+    if suits(hint, &instr) {
+        return Ok(instr);
+    }
+    let_go(instr);
+    Err(Error {
+        fault: Fault::HintTarget,
+        span,
+    })
+}
+
+/// The refusal where no instruction can stand alone: Operator at the end of the text, and else Unexpected.
+fn misplaced(parser: &Parser<'_>) -> Error {
+    if parser.at_end() {
+        return Error {
+            fault: Fault::Operator,
+            span: parser.cur_span(),
+        };
+    }
+    parser.unexpected()
 }
 
 impl<'a> Reader<'a> {
@@ -83,10 +126,10 @@ impl<'a> Reader<'a> {
         ensures steady { Steady parser.old parser.new }
     {
         if !self.levels.takes_plain() {
-            return Err(parser.unexpected());
+            return Err(misplaced(parser));
         }
         let span = parser.cur_span();
-        let instr = take_instr(parser)?;
+        let instr = take_suited(parser, self.pending, span)?;
         let hint = self.pending.take();
         self.out.push(hint, instr, span)
     }
@@ -204,7 +247,7 @@ impl<'a> Reader<'a> {
             return self.hint(parser);
         }
         let span = parser.cur_span();
-        let instr = take_instr(parser)?;
+        let instr = take_suited(parser, self.pending, span)?;
         let hint = self.pending.take();
         if instr.is_block() {
             self.out.push(hint, instr, span)?;

@@ -72,6 +72,20 @@ fn conditions(rt: HostRuntime) -> Result<(), Fail> {
 }
 
 #[test]
+fn an_open_condition(rt: HostRuntime) -> Result<(), Fail> {
+    let alloc = rt.alloc();
+    let text = nested(alloc, "(if", TIMES, "(then))", 99_999)?;
+    shows_long(
+        &rt,
+        alloc,
+        Mode::Expr,
+        &text,
+        "refused Operator at 999993\n",
+        1,
+    )
+}
+
+#[test]
 fn folded_instructions(rt: HostRuntime) -> Result<(), Fail> {
     let alloc = rt.alloc();
     let text = nested(alloc, "(nop", TIMES, ")", TIMES)?;

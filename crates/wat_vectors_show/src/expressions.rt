@@ -160,7 +160,12 @@ fn refused(rt: HostRuntime) -> Result<(), Fail> {
         ("(if (then) (else) (nop))", Fault::IfTooMany, 19),
         ("(if (then) (else) nop)", Fault::Unexpected, 18),
         ("(if (then", Fault::Operator, 9),
-        ("(if (then)", Fault::Unexpected, 10),
+        ("(if", Fault::Operator, 3),
+        ("(if (nop)", Fault::Operator, 9),
+        ("(if (then)", Fault::Operator, 10),
+        ("(if (then) ", Fault::Operator, 11),
+        ("(if (then) (else)", Fault::Operator, 17),
+        ("(if (then) (", Fault::Unexpected, 12),
         ("nop zzz", Fault::Operator, 4),
         (r#"nop "x""#, Fault::Operator, 4),
         ("(i32.add", Fault::Operator, 8),
@@ -183,14 +188,20 @@ fn hints(rt: HostRuntime) -> Result<(), Fail> {
             "block nop if hint 0 br_if hint 1 end end",
         ),
         ("(i32.add # (br_if 0) nop)", "br_if hint 1 nop i32.add"),
-        ("# (block (nop))", "block hint 1 nop end"),
-        ("# nop % nop", "nop hint 1 nop hint 0"),
+        ("# (br_if 0 (block (nop)))", "block nop end br_if hint 1"),
+        ("# br_if 0 % br_if 0", "br_if hint 1 br_if hint 0"),
         (
-            "(if # (nop) (then) (else % (nop)))",
-            "nop hint 1 if else nop hint 0 end",
+            "(if # (br_if 0) (then) (else % (br_if 0)))",
+            "br_if hint 1 if else br_if hint 0 end",
         ),
-        ("# (if % (nop) (then))", "nop hint 0 if hint 1 end"),
-        ("(@x ) # (@y \"\") nop", "nop hint 1"),
+        (
+            "# (if % (br_if 0) (then))",
+            "br_if hint 0 if hint 1 end",
+        ),
+        ("# (if (nop) (then))", "nop if hint 1 end"),
+        ("% (if (then) (else))", "if hint 0 else end"),
+        ("# if end", "if hint 1 end"),
+        ("(@x ) # (@y \"\") br_if 0", "br_if hint 1"),
     ] {
         let text = with_hints(alloc, text)?;
         let found = listed(alloc, Mode::WrittenOut, &text)?;
@@ -236,6 +247,56 @@ fn refused_hints(rt: HostRuntime) -> Result<(), Fail> {
 }
 
 #[test]
+fn hints_before_other_instructions(rt: HostRuntime) -> Result<(), Fail> {
+    let alloc = rt.alloc();
+    for (text, offset) in [
+        ("# nop", 35),
+        ("% nop", 35),
+        ("nop # nop", 39),
+        ("# br 0", 35),
+        ("# br_on_null 0", 35),
+        ("# block end", 35),
+        ("# else", 35),
+        ("# end", 35),
+        ("# (block (nop))", 36),
+        ("# (loop (br_if 0))", 36),
+        ("# (try_table)", 36),
+        ("# (i32.add (br_if 0))", 36),
+        ("# (nop #)", 36),
+        ("# (nop", 36),
+        ("(block # (block (br_if 0)))", 43),
+        ("(i32.add # nop)", 44),
+        ("(if # (nop) (then))", 40),
+        ("(if (then # nop))", 45),
+    ] {
+        let text = with_hints(alloc, text)?;
+        let found = refusal_of(alloc, Mode::WrittenOut, &text);
+        assert_eq!(rt; found, Some((Fault::HintTarget, offset)), "at {text}");
+    }
+    Ok(())
+}
+
+#[test]
+fn faults_in_the_instruction_behind_a_hint(rt: HostRuntime) -> Result<(), Fail> {
+    let alloc = rt.alloc();
+    for (text, fault, offset) in [
+        ("# (br)", Fault::Unexpected, 38),
+        ("# br_if", Fault::Unexpected, 40),
+        ("# zzz", Fault::Operator, 35),
+        ("# (zzz)", Fault::Operator, 36),
+        ("# ()", Fault::Operator, 36),
+        ("# i32.const 4294967296", Fault::Range, 45),
+        ("# f32.const 1", Fault::FloatLiteral, 45),
+        ("(if # nop (then))", Fault::Unexpected, 39),
+    ] {
+        let text = with_hints(alloc, text)?;
+        let found = refusal_of(alloc, Mode::WrittenOut, &text);
+        assert_eq!(rt; found, Some((fault, offset)), "at {text}");
+    }
+    Ok(())
+}
+
+#[test]
 fn hints_in_other_places(rt: HostRuntime) -> Result<(), Fail> {
     let alloc = rt.alloc();
     for (text, fault, offset) in [
@@ -245,6 +306,7 @@ fn hints_in_other_places(rt: HostRuntime) -> Result<(), Fail> {
         ("(block #", Fault::Operator, 41),
         ("(if (nop) # (then))", Fault::HintPlace, 46),
         ("(if #)", Fault::HintPlace, 38),
+        ("(if #", Fault::Operator, 38),
         ("(if (then) # (else))", Fault::Unexpected, 12),
         ("(if (then) (else) #)", Fault::IfTooMany, 19),
         ("nop (@name \"x\")", Fault::Operator, 5),
@@ -325,6 +387,8 @@ fn refused_as_folded(rt: HostRuntime) -> Result<(), Fail> {
         ("(if (nop) (then))", Fault::Operator, 11),
         ("(i32.add #)", Fault::Operator, 10),
         ("(nop", Fault::Unexpected, 4),
+        ("(if", Fault::Unexpected, 3),
+        ("(if (nop)", Fault::Unexpected, 9),
         ("()", Fault::Operator, 1),
     ] {
         let text = with_hints(alloc, text)?;

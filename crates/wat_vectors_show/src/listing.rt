@@ -64,6 +64,10 @@ fn other_texts_are_no_expressions(rt: HostRuntime) -> Result<(), Fail> {
         ("(if (nop))", "refused IfWithoutThen at 9\n"),
         ("(if (then) (nop))", "refused Unexpected at 12\n"),
         ("(if (then) (else) (nop))", "refused IfTooMany at 19\n"),
+        ("(if", "refused Operator at 3\n"),
+        ("(if (nop)", "refused Operator at 9\n"),
+        ("(if (then)", "refused Operator at 10\n"),
+        ("(if (then) (else)", "refused Operator at 17\n"),
         ("(then)", "refused Operator at 1\n"),
         (")", "refused Unexpected at 0\n"),
         ("(try_table (catch_all))", "refused Unexpected at 21\n"),
@@ -103,6 +107,7 @@ fn other_texts_are_no_folded_instructions(rt: HostRuntime) -> Result<(), Fail> {
         ("(nop) nop", "refused Unexpected at 6\n"),
         ("(i32.add nop)", "refused Unexpected at 9\n"),
         ("(if (nop) (then))", "refused Operator at 11\n"),
+        ("(if", "refused Unexpected at 3\n"),
     ] {
         shows(&rt, rt.alloc(), Mode::Folded, text, expected, 1)?;
     }
@@ -112,8 +117,13 @@ fn other_texts_are_no_folded_instructions(rt: HostRuntime) -> Result<(), Fail> {
 // No annotation is known in the mode, so a hint is left out.
 #[test]
 fn annotations_are_left_out(rt: HostRuntime) -> Result<(), Fail> {
-    let text = "(@metadata.code.branch_hint \"\\01\") (@metadata.code.branch_hint \"\\02\") nop";
-    shows(&rt, rt.alloc(), Mode::Expr, text, "nop\n", 0)
+    for text in [
+        "(@metadata.code.branch_hint \"\\01\") (@metadata.code.branch_hint \"\\01\") nop",
+        "(@metadata.code.branch_hint \"\\01\") (@metadata.code.branch_hint \"\\02\") nop",
+    ] {
+        shows(&rt, rt.alloc(), Mode::Expr, text, "nop\n", 0)?;
+    }
+    Ok(())
 }
 
 fn hints_of(alloc: Global, hints: &[(usize, u32)]) -> Result<Vec<BranchHint>, AllocError> {
@@ -139,10 +149,10 @@ fn listing(alloc: Global, expression: &Expression<'_>) -> Result<Vec<u8>, AllocE
 fn a_hint_stands_behind_its_instruction(rt: HostRuntime) -> Result<(), Fail> {
     let arena = Bump::new(rt.alloc());
     let text = "nop (@metadata.code.branch_hint \"\\01\") (br_if 0 (local.get 0)) \
-        (@metadata.code.branch_hint \"\\00\") return";
+        (@metadata.code.branch_hint \"\\00\") br_if 1";
     let expression = read::<Expression>(rt.alloc(), text, &arena)?;
     let out = listing(rt.alloc(), &expression)?;
-    let expected = "nop\nlocal.get 0\nbr_if 0 hint 1\nreturn hint 0\n";
+    let expected = "nop\nlocal.get 0\nbr_if 0 hint 1\nbr_if 1 hint 0\n";
     assert_eq!(rt; out.as_slice(), expected.as_bytes());
     Ok(())
 }

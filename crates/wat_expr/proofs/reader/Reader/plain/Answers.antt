@@ -10,8 +10,8 @@ returns-then-not-takes_plain-clause-turned c = λ n. no_place _ _ _ _ c.if-not-t
 pub returns-in_err-instr-clause-turned : goal.returns-in_err-instr-clause-turned
 returns-in_err-instr-clause-turned c =
     let p = err_from_is_err_and c.from_residual.result c.from_residual.ensures.1 in
-    rw p.1 (refused_by _ _ _ _ p.2 c.in_err-instr.ensures.exact (λ q. no_plain _ _ _ _ (plain_is_open _ c.if-not-takes_plain.ensures) c.requires.no_group c.requires.no_close c.requires.no_end (λ a. q)))
+    rw p.1 (refused_by _ _ p.2 (λ n. no_plain _ _ _ _ (plain_is_open _ c.if-not-takes_plain.ensures) c.requires.no_group c.requires.no_close c.requires.no_end (λ a. c.in_err-instr.ensures.exact n)))
 
 pub returns-clause-turned : goal.returns-clause-turned
 returns-clause-turned c =
-    turn_plain _ _ _ _ _ _ _ _ _ _ c.if-not-takes_plain.ensures c.in_ok-instr.ensures.exact c.take-hint.ensures.after (rw c.take-hint.ensures.value at c.push.ensures)
+    turn_plain _ _ _ _ _ _ _ _ _ _ c.if-not-takes_plain.ensures c.in_ok-instr.ensures.exact.0 c.in_ok-instr.ensures.exact.1 c.take-hint.ensures.after (rw c.take-hint.ensures.value at c.push.ensures)
