@@ -1,12 +1,14 @@
 pub mod Bounds
 pub mod Branches
 pub mod Cases
+pub mod FlatForm
 pub mod Flatten
 pub mod FoldedLoop
 pub mod FoldedReads
 pub mod Folding
 pub mod Heights
 pub mod Levels
+pub mod OneFlat
 pub mod OneReading
 pub mod Steps
 pub mod Stuck

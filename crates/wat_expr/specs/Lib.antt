@@ -5,6 +5,7 @@ pub mod Expression
 pub mod Reading
 pub mod Folded
 pub mod Flat
+pub mod FlatForm
 pub mod Levels
 pub mod Taken
 pub mod Listed

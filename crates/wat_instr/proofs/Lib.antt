@@ -1,3 +1,4 @@
+pub mod Firsts
 pub mod Immediates
 pub mod Operands
 pub mod Rests

@@ -1,9 +1,11 @@
--- Two rests that an instruction's tests don't tell apart: one front, and then anything in the one, and in the other a word that may follow.
+-- Two rests that an instruction's tests don't tell apart: one front, and then anything in the one, and in the other what may follow.
 use Rattle.std.proofs.Common.{◌≡◌, ℕ, ◌+◌, ◌≤◌, true, false, is_some, List, [], ◌∷◌, ◌++◌, length, codes, refl, bytes_eq, ap, sym, ◌∙◌, append_assoc, arith, length-append, Bool}
-use Rattle.wat_tokens.specs.Token.{Tok, RParen, Keyword}
+use Rattle.wat_tokens.specs.Token.{Tok, RParen}
 use Rattle.wat_tokens.specs.Parens.{opens, closes, Level, opens-append, closes-append}
-use Rattle.wat_immediates.specs.Memory.{behind}
-use Rattle.wat_instr.specs.Follows.{BeginsNoType}
+use Rattle.wat_tokens.specs.Tests.{begins_word, begins_group, begins_annotation, begins_id, begins_integer}
+use Rattle.wat_tokens.specs.Index.{begins_index}
+use Rattle.wat_immediates.specs.Memory.{behind, begins_with}
+use Rattle.wat_instr.specs.Follows.{NoTypeSecond}
 
 -- a word that no part of an instruction is asked to begin with
 pub record IsPlain (w : List ℕ) : Type 0 where
@@ -15,13 +17,22 @@ pub record IsPlain (w : List ℕ) : Type 0 where
   pub no_offset : is_some (behind (codes "offset=") w) ≡ false
   pub no_align : is_some (behind (codes "align=") w) ≡ false
 
--- t begins with such a word, and behind it stands none of the words `type`, `param` and `result`
+-- no part of an instruction is asked to begin with what t begins with; and behind t's first token stands none of the
+-- words `type`, `param` and `result`
 pub record Follows (t : List Tok) : Type 0 where
-  pub word : List ℕ
-  pub rest : List Tok
-  pub is : t ≡ Keyword word ∷ rest
-  pub plain : IsPlain word
-  pub then : BeginsNoType rest
+  pub not_type : begins_word (codes "type") t ≡ false
+  pub not_param : begins_word (codes "param") t ≡ false
+  pub not_result : begins_word (codes "result") t ≡ false
+  pub not_seqcst : begins_word (codes "seqcst") t ≡ false
+  pub not_acqrel : begins_word (codes "acqrel") t ≡ false
+  pub no_offset : begins_with (codes "offset=") t ≡ false
+  pub no_align : begins_with (codes "align=") t ≡ false
+  pub no_index : begins_index t ≡ false
+  pub no_id : begins_id t ≡ false
+  pub no_integer : begins_integer t ≡ false
+  pub no_group : (w : List ℕ) → begins_group w t ≡ false
+  pub no_annotation : (n : List ℕ) → begins_annotation n t ≡ false
+  pub then : NoTypeSecond t
 
 -- t and u have a front in common, of n tokens or more, which opens no group that it leaves open; behind it, u goes on with what may follow
 pub record Alike (n : ℕ) (t u : List Tok) : Type 0 where

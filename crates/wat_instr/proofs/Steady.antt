@@ -1,5 +1,5 @@
 -- The tests by which parts of an instruction are told apart, and for which rests they stay as they are.
-use Rattle.std.proofs.Common.{◌≡◌, ℕ, ◌≤◌, Bool, true, false, not, ◌||◌, List, [], ◌∷◌, ◌++◌, length, codes, bytes_eq, ap, sym, ◌∙◌, refl, arith, Option}
+use Rattle.std.proofs.Common.{◌≡◌, ℕ, ◌≤◌, Bool, true, false, not, ◌||◌, List, [], ◌∷◌, ◌++◌, length, codes, ap, sym, ◌∙◌, refl, arith, Option}
 use Rattle.std.proofs.lemmas.Bool.{or_parts, or_from, or_left, or_right}
 use Rattle.wat_tokens.specs.Token.{Tok, LParen, RParen, Keyword, Id, Annotation, Integer}
 use Rattle.wat_tokens.specs.Tests.{begins_word, begins_group, begins_annotation, begins_id, begins_integer, more, second}
@@ -87,15 +87,11 @@ begins_word_sees w (_ ∷ e) r s le = refl
 pub word_steady : (w : List ℕ) → Steady 1 1 (begins_word w)
 word_steady w = steady_1_1 (begins_word w) (begins_word_sees w)
 
--- a word that nothing that may follow begins with
-word_fails : (w : List ℕ) → ((s : List Tok) (f : Follows s) → bytes_eq f.word w ≡ false) → FailsFirst (begins_word w)
-word_fails w g s f = rw (f.is) (g s f)
-
 pub seqcst_steady : Steady 1 0 (begins_word (codes "seqcst"))
-seqcst_steady = steady_1_0 (begins_word (codes "seqcst")) (begins_word_sees (codes "seqcst")) (word_fails (codes "seqcst") (λ s f. f.plain.not_seqcst))
+seqcst_steady = steady_1_0 (begins_word (codes "seqcst")) (begins_word_sees (codes "seqcst")) (λ s f. f.not_seqcst)
 
 pub acqrel_steady : Steady 1 0 (begins_word (codes "acqrel"))
-acqrel_steady = steady_1_0 (begins_word (codes "acqrel")) (begins_word_sees (codes "acqrel")) (word_fails (codes "acqrel") (λ s f. f.plain.not_acqrel))
+acqrel_steady = steady_1_0 (begins_word (codes "acqrel")) (begins_word_sees (codes "acqrel")) (λ s f. f.not_acqrel)
 
 begins_index_sees : Sees 1 begins_index
 begins_index_sees [] r s le = absurd (omega (arith, le))
@@ -103,7 +99,7 @@ begins_index_sees (Id n ∷ e) r s le = refl
 begins_index_sees (_ ∷ e) r s le = refl
 
 pub index_steady : Steady 1 0 begins_index
-index_steady = steady_1_0 begins_index begins_index_sees (λ s f. rw (f.is) refl)
+index_steady = steady_1_0 begins_index begins_index_sees (λ s f. f.no_index)
 
 begins_id_sees : Sees 1 begins_id
 begins_id_sees [] r s le = absurd (omega (arith, le))
@@ -111,7 +107,7 @@ begins_id_sees (Id n ∷ e) r s le = refl
 begins_id_sees (_ ∷ e) r s le = refl
 
 pub id_steady : Steady 1 0 begins_id
-id_steady = steady_1_0 begins_id begins_id_sees (λ s f. rw (f.is) refl)
+id_steady = steady_1_0 begins_id begins_id_sees (λ s f. f.no_id)
 
 begins_integer_sees : Sees 1 begins_integer
 begins_integer_sees [] r s le = absurd (omega (arith, le))
@@ -124,10 +120,10 @@ begins_with_sees front (Keyword w ∷ e) r s le = refl
 begins_with_sees front (_ ∷ e) r s le = refl
 
 pub offset_steady : Steady 1 0 (begins_with (codes "offset="))
-offset_steady = steady_1_0 (begins_with (codes "offset=")) (begins_with_sees (codes "offset=")) (λ s f. rw (f.is) (f.plain.no_offset))
+offset_steady = steady_1_0 (begins_with (codes "offset=")) (begins_with_sees (codes "offset=")) (λ s f. f.no_offset)
 
 pub align_steady : Steady 1 0 (begins_with (codes "align="))
-align_steady = steady_1_0 (begins_with (codes "align=")) (begins_with_sees (codes "align=")) (λ s f. rw (f.is) (f.plain.no_align))
+align_steady = steady_1_0 (begins_with (codes "align=")) (begins_with_sees (codes "align=")) (λ s f. f.no_align)
 
 one_of_sees : {A : Type 0} (value_of : Tok → Option A) → Sees 1 (begins_one_of value_of)
 one_of_sees value_of [] r s le = absurd (omega (arith, le))
@@ -158,7 +154,7 @@ no_group w LParen s shut f = absurd (omega (arith, shut))
 no_group w _ s shut f = refl
 
 pub group_steady : (w : List ℕ) → Steady 2 0 (begins_group w)
-group_steady w = steady_2_0 (begins_group w) (begins_group_sees w) (no_group w) (λ s f. rw (f.is) refl)
+group_steady w = steady_2_0 (begins_group w) (begins_group_sees w) (no_group w) (λ s f. f.no_group w)
 
 begins_annotation_sees : (n : List ℕ) → Sees 2 (begins_annotation n)
 begins_annotation_sees n [] r s le = absurd (omega (arith, le))
@@ -172,7 +168,7 @@ no_annotation n LParen s shut f = absurd (omega (arith, shut))
 no_annotation n _ s shut f = refl
 
 pub annotation_steady : (n : List ℕ) → Steady 2 0 (begins_annotation n)
-annotation_steady n = steady_2_0 (begins_annotation n) (begins_annotation_sees n) (no_annotation n) (λ s f. rw (f.is) refl)
+annotation_steady n = steady_2_0 (begins_annotation n) (begins_annotation_sees n) (no_annotation n) (λ s f. f.no_annotation n)
 
 -- ---- the second token, whatever the first is
 
@@ -186,19 +182,19 @@ second_steady test sees first behind = steady_2_0 (second test) (second_sees tes
 
 pub second_type_steady : Steady 2 0 (second (begins_word (codes "type")))
 second_type_steady =
-    second_steady (begins_word (codes "type")) (begins_word_sees (codes "type")) (word_fails (codes "type") (λ s f. f.plain.not_type)) (λ s f. rw (f.is) (f.then.0))
+    second_steady (begins_word (codes "type")) (begins_word_sees (codes "type")) (λ s f. f.not_type) (λ s f. f.then.0)
 
 pub second_param_steady : Steady 2 0 (second (begins_word (codes "param")))
 second_param_steady =
-    second_steady (begins_word (codes "param")) (begins_word_sees (codes "param")) (word_fails (codes "param") (λ s f. f.plain.not_param)) (λ s f. rw (f.is) (f.then.1))
+    second_steady (begins_word (codes "param")) (begins_word_sees (codes "param")) (λ s f. f.not_param) (λ s f. f.then.1)
 
 pub second_result_steady : Steady 2 0 (second (begins_word (codes "result")))
 second_result_steady =
-    second_steady (begins_word (codes "result")) (begins_word_sees (codes "result")) (word_fails (codes "result") (λ s f. f.plain.not_result)) (λ s f. rw (f.is) (f.then.2))
+    second_steady (begins_word (codes "result")) (begins_word_sees (codes "result")) (λ s f. f.not_result) (λ s f. f.then.2)
 
 -- an index behind the first token: a rest may begin so behind its word, so that at least one token has to stand before the rest
 pub second_index_steady : Steady 2 1 (second begins_index)
-second_index_steady = steady_2_1 (second begins_index) (second_sees begins_index begins_index_sees) (λ x s shut f. rw (f.is) refl)
+second_index_steady = steady_2_1 (second begins_index) (second_sees begins_index begins_index_sees) (λ x s shut f. f.no_index)
 
 -- ---- an integer that stands alone
 
@@ -207,7 +203,7 @@ goes_on_sees e r s le =
     rw (begins_integer_sees e r s le, begins_with_sees (codes "offset=") e r s le, begins_with_sees (codes "align=") e r s le) refl
 
 goes_on_fails : FailsFirst goes_on
-goes_on_fails s f = rw (f.is) (rw (f.plain.no_offset, f.plain.no_align) refl)
+goes_on_fails s f = rw (f.no_integer, f.no_offset, f.no_align) refl
 
 is_alone_sees : Sees 2 is_alone
 is_alone_sees [] r s le = absurd (omega (arith, le))

@@ -1,14 +1,15 @@
 -- No mnemonic is a word that a part of an instruction is asked to begin with.
-use Rattle.std.proofs.Common.{◌≡◌, ℕ, zero, suc, ◌<◌, Bool, false, ◌||◌, is_some, List, [], ◌∷◌, length, get_or, codes, bytes_eq, refl, subst, arith}
+use Rattle.std.proofs.Common.{◌≡◌, ℕ, zero, suc, ◌<◌, Bool, false, ◌||◌, is_some, List, [], ◌∷◌, length, get_or, codes, bytes_eq, refl, subst, sym, arith, true, ◌⊎◌, inl, inr}
 use Rattle.std.proofs.lemmas.Bool.{or_parts}
-use Rattle.wat_tokens.specs.Token.{Tok}
+use Rattle.wat_tokens.specs.Token.{Tok, Keyword, RParen}
+use Rattle.wat_tokens.specs.Tests.{ends}
 use Rattle.wat_immediates.specs.Memory.{behind}
 use Rattle.wat_mnemonics.specs.Heads.{head_word}
 use Rattle.wat_mnemonics.specs.Order.{first}
 use Rattle.wat_mnemonics.specs.Places.{place, there, below, table_length}
 use Rattle.wat_mnemonics.specs.Table.{TABLE}
 use Rattle.wat_mnemonics.specs.declared.head.Head.{Head}
-use Rattle.wat_instr.specs.Follows.{MayFollow}
+use Rattle.wat_instr.specs.Follows.{BeginsMnemonic, NoTypeSecond, MayFollow}
 use Rattle.wat_instr.proofs.Rests.{IsPlain, Follows}
 
 -- the word is one that a part of an instruction may be asked to begin with
@@ -46,5 +47,61 @@ mnemonic_is_plain x =
     let e = asked_at TABLE (place x) none_asked (let l = table_length in let b = below x in omega arith) in
     not_asked (head_word x) (subst (λ (y : Head). asked (head_word y) ≡ false) (there x) e)
 
+-- each test fails on such a word
+word_follows : (w : List ℕ) (t : List Tok) → IsPlain w → NoTypeSecond (Keyword w ∷ t) → Follows (Keyword w ∷ t)
+word_follows w t p e = record {
+  not_type = p.not_type;
+  not_param = p.not_param;
+  not_result = p.not_result;
+  not_seqcst = p.not_seqcst;
+  not_acqrel = p.not_acqrel;
+  no_offset = p.no_offset;
+  no_align = p.no_align;
+  no_index = refl;
+  no_id = refl;
+  no_integer = refl;
+  no_group = λ w. refl;
+  no_annotation = λ n. refl;
+  then = e;
+}
+
+-- and where a group ends
+end_follows : (s : List Tok) → ends s ≡ true → NoTypeSecond s → Follows s
+end_follows [] k e = record {
+  not_type = refl;
+  not_param = refl;
+  not_result = refl;
+  not_seqcst = refl;
+  not_acqrel = refl;
+  no_offset = refl;
+  no_align = refl;
+  no_index = refl;
+  no_id = refl;
+  no_integer = refl;
+  no_group = λ w. refl;
+  no_annotation = λ n. refl;
+  then = e;
+}
+end_follows (RParen ∷ t) k e = record {
+  not_type = refl;
+  not_param = refl;
+  not_result = refl;
+  not_seqcst = refl;
+  not_acqrel = refl;
+  no_offset = refl;
+  no_align = refl;
+  no_index = refl;
+  no_id = refl;
+  no_integer = refl;
+  no_group = λ w. refl;
+  no_annotation = λ n. refl;
+  then = e;
+}
+end_follows (_ ∷ t) k e = absurd cc
+
+first_follows : (s : List Tok) → BeginsMnemonic s ⊎ (ends s ≡ true) → NoTypeSecond s → Follows s
+first_follows s (inl m) e = subst Follows (sym m.2) (word_follows (head_word m.0) m.1 (mnemonic_is_plain m.0) (subst NoTypeSecond m.2 e))
+first_follows s (inr k) e = end_follows s k e
+
 pub may_follow : (s : List Tok) → MayFollow s → Follows s
-may_follow s m = record { word = head_word m.0; rest = m.1; is = m.2; plain = mnemonic_is_plain m.0; then = m.3 }
+may_follow s m = first_follows s m.0 m.1

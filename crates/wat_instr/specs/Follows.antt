@@ -1,14 +1,20 @@
 -- What may follow an instruction, whatever followed it before.
-use Rattle.std.specs.Prelude.{◌≡◌, false, List, ◌∷◌, codes}
+use Rattle.std.specs.Prelude.{◌≡◌, true, false, List, ◌∷◌, ◌⊎◌, codes}
 use Rattle.wat_tokens.specs.Token.{Tok, Keyword}
-use Rattle.wat_tokens.specs.Tests.{begins_word}
+use Rattle.wat_tokens.specs.Tests.{begins_word, ends, second}
 use Rattle.wat_mnemonics.specs.Heads.{head_word}
 use Rattle.wat_mnemonics.specs.declared.head.Head.{Head}
 
--- none of the words `type`, `param` and `result` stands in front
-abbrev pub BeginsNoType : List Tok → Type 0
-BeginsNoType t = (begins_word (codes "type") t ≡ false) × (begins_word (codes "param") t ≡ false) × (begins_word (codes "result") t ≡ false)
+-- the second token is none of the words `type`, `param` and `result`
+abbrev pub NoTypeSecond : List Tok → Type 0
+NoTypeSecond s =
+    (second (begins_word (codes "type")) s ≡ false) × (second (begins_word (codes "param")) s ≡ false) × (second (begins_word (codes "result")) s ≡ false)
 
--- a mnemonic stands in front, and behind it none of the words `type`, `param` and `result`
+-- a mnemonic stands in front
+abbrev pub BeginsMnemonic : List Tok → Type 0
+BeginsMnemonic s = (x : Head) × (t : List Tok) × (s ≡ Keyword (head_word x) ∷ t)
+
+-- it begins with a mnemonic, or is empty or begins with `)`; and its second token is none of the words `type`, `param`
+-- and `result`
 abbrev pub MayFollow : List Tok → Type 0
-MayFollow s = (x : Head) × (t : List Tok) × (s ≡ Keyword (head_word x) ∷ t) × BeginsNoType t
+MayFollow s = (BeginsMnemonic s ⊎ (ends s ≡ true)) × NoTypeSecond s
