@@ -79,10 +79,10 @@ lists (Folded i ys xs) ts r =
 -- ( i items ), of a block
 lists (Block i ys xs) ts r =
     (a b d : List Tok) × (ts ≡ LParen ∷ a) × (sort i ≡ IsBlock) × reads i a b × lists ys b (RParen ∷ d) × lists xs d r
--- ( if groups ( then items ) )
+-- ( i groups ( then items ) ), of an `if`, behind whose word a block type may stand
 lists (IfThen i ops th xs) ts r =
     (a b d e : List Tok) × (ts ≡ LParen ∷ a) × (sort i ≡ IsIf) × reads i a b × AreGroups ops × lists ops b (LParen ∷ word (codes "then") ∷ d) × lists th d (RParen ∷ RParen ∷ e) × lists xs e r
--- ( if groups ( then items ) ( else items ) )
+-- ( i groups ( then items ) ( else items ) )
 lists (IfElse i ops th el xs) ts r =
     (a b d e f : List Tok) × (ts ≡ LParen ∷ a) × (sort i ≡ IsIf) × reads i a b × AreGroups ops × lists ops b (LParen ∷ word (codes "then") ∷ d) × lists th d (RParen ∷ LParen ∷ word (codes "else") ∷ e) × lists el e (RParen ∷ RParen ∷ f) × lists xs f r
 -- ( @metadata.code.branch_hint "v" ), v the byte 0 or 1, and an item whose head is `br_if` or `if`

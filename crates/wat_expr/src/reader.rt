@@ -223,6 +223,8 @@ impl<'a> Reader<'a> {
             return Err(parser.unexpected());
         }
         let span = parser.prev_span();
+        // No hint waits here: none is read behind `( then .. )`, and one inside it is refused at its `)`. The contract doesn't
+        // say so, and a hint that waited would have no place.
         if let Some(_) = self.pending {
             return Err(Error {
                 fault: Fault::HintPlace,

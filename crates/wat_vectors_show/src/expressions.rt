@@ -194,10 +194,7 @@ fn hints(rt: HostRuntime) -> Result<(), Fail> {
             "(if # (br_if 0) (then) (else % (br_if 0)))",
             "br_if hint 1 if else br_if hint 0 end",
         ),
-        (
-            "# (if % (br_if 0) (then))",
-            "br_if hint 0 if hint 1 end",
-        ),
+        ("# (if % (br_if 0) (then))", "br_if hint 0 if hint 1 end"),
         ("# (if (nop) (then))", "nop if hint 1 end"),
         ("% (if (then) (else))", "if hint 0 else end"),
         ("# if end", "if hint 1 end"),
