@@ -11,7 +11,7 @@ use wat_immediates::{
     TableCopy, TableInit, V128Const,
 };
 use wat_tokens::{F32, F64, Fault, Index, Span};
-use wat_vectors::reading::{read_unannotated, refusal};
+use wat_vectors::reading::{number_of, read_unannotated, refusal};
 
 /// The index of the number, at the beginning of the text.
 fn numbered<'a>(number: u32) -> Index<'a> {
@@ -114,7 +114,7 @@ fn counted(alloc: Global, count: u32) -> Result<String, Fail> {
 /// Whether each label is the number of its place.
 fn count_up(labels: &[Index<'_>]) -> bool {
     for (i, label) in labels.iter().enumerate() {
-        if *label != numbered(i as u32) {
+        if number_of(*label).map(|number| number as usize) != Some(i) {
             return false;
         }
     }
