@@ -10,11 +10,10 @@ use Rattle.wat_instr.specs.Follows.{MayFollow, NoTypeSecond}
 use Rattle.wat_instr.specs.Instruction.{Instr, instruction, else_instr, end_instr}
 use Rattle.wat_instr.specs.Operand.{operand}
 use Rattle.wat_instr.specs.Operand as operands
-use Rattle.wat_expr.specs.Expression.{value_of}
+use Rattle.wat_expr.specs.Expression.{value_of, expression_spells}
 use Rattle.wat_expr.specs.FlatForm.{one_by_one, AreInstrs, own, flat_tokens, flat_groups, flat_folded, flat_value, number, PassesOwnAlone}
 use Rattle.wat_expr.specs.Folded.{Groups, NoGroup, Group, groups, is_folded, plain}
 use Rattle.wat_expr.specs.Items.{Items, Nil, Plain, Folded, Block, IfThen, IfElse, Hinted, reads, lists, unfolded, hints, word, hint_name}
-use Rattle.wat_expr.specs.Reading.{expression_spells}
 
 -- ---- own tokens
 
@@ -76,11 +75,11 @@ Follow = (v : Instr) (c r s : List Tok) → instruction.spells v c r → MayFoll
 
 module _ (stands : Stands) (follow : Follow) where
   spelled : (i : Instr) (c r : List Tok) → instruction.spells i c r → IsFlat (i ∷ []) c
-  spelled i c r h = record { before = λ s f. ((s, instruction.complete i c s (stands i c r s h f), refl), follow i c r s h f) }
+  spelled i c r h = record { before = λ s f. ((s, (c, refl, stands i c r s h f), refl), follow i c r s h f) }
 
   single : (i : Instr) (ts m : List Tok) → reads i ts m → IsFlat (i ∷ []) (own ts m)
   single i ts m h =
-      let k = instruction.sound ts (i, m) h in
+      let k = h in
       let o : own ts m ≡ k.0 = ap (λ (t : List Tok). own t m) k.1 ∙ own_is k.0 m in
       subst (IsFlat (i ∷ [])) (sym o) (spelled i k.0 m k.2)
 
@@ -131,7 +130,7 @@ module _ (stands : Stands) (follow : Follow) where
 
 pub own_front : (i : Instr) (ts m : List Tok) → reads i ts m → (ts ≡ own ts m ++ m) × instruction.spells i (own ts m) m
 own_front i ts m h =
-    let k = instruction.sound ts (i, m) h in
+    let k = h in
     let o : k.0 ≡ own ts m = sym (ap (λ (t : List Tok). own t m) k.1 ∙ own_is k.0 m) in
     (k.1 ∙ ap (λ (c : List Tok). c ++ m) o, subst (λ (c : List Tok). instruction.spells i c m) o k.2)
 
@@ -245,7 +244,7 @@ module _ (test : Tok → Bool) (p : PassesOwnAlone test) where
 pub already_flat : (xs : Items) (ts r : List Tok) (l : lists xs ts r) → AreInstrs xs → flat_tokens xs ts r l ++ r ≡ ts
 already_flat Nil ts r l p = sym l
 already_flat (Plain i xs) ts r (m, h, l) p =
-    let k = instruction.sound ts (i, m) h in
+    let k = h in
     let o : own ts m ≡ k.0 = ap (λ (t : List Tok). own t m) k.1 ∙ own_is k.0 m in
     append_assoc (own ts m) (flat_tokens xs m r l) r ∙ ap (λ (t : List Tok). own ts m ++ t) (already_flat xs m r l p.1) ∙ ap (λ (c : List Tok). c ++ m) o ∙ sym k.1
 already_flat (Folded i ys xs) ts r l p = absurd p.0

@@ -7,12 +7,13 @@ use Rattle.wat_tokens.specs.Production.{Read, by_read, some_is, none_is_not}
 use Rattle.wat_tokens.specs.Tests.{is_lparen}
 use Rattle.wat_instr.specs.Instruction.{Instr}
 use Rattle.wat_expr.specs.Expression.{Expr, bare_expression}
+use Rattle.wat_expr.specs.Facts.{read_of}
 use Rattle.wat_expr.specs.Items.{reads}
 use Rattle.wat_expr.specs.Folded.{Groups, plain, is_folded, folded_value, folded_reads, groups_at_complete, folded_sound}
 
 -- the group that stands in front is read
 pub read_folded : (i : Instr) (gs : Groups) (ts r : List Tok) → is_folded i gs ts r → folded_reads ts ≡ Some (folded_value i gs, r)
-read_folded i gs ts r (a, b, e, h, l) = rw (e, h, groups_at_complete gs (suc (length b)) b r (omega arith) l) refl
+read_folded i gs ts r (a, b, e, h, l) = rw (e, read_of i a b h, groups_at_complete gs (suc (length b)) b r (omega arith) l) refl
 
 -- where no group stands in front, nothing is read
 pub read_none : (ts : List Tok) → ((i : Instr) (gs : Groups) (r : List Tok) → is_folded i gs ts r → ⊥) → folded_reads ts ≡ None

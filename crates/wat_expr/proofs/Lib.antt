@@ -7,6 +7,7 @@ pub mod FoldedLoop
 pub mod FoldedReads
 pub mod Folding
 pub mod Heights
+pub mod Instructions
 pub mod Levels
 pub mod OneFlat
 pub mod OneReading

@@ -263,14 +263,18 @@ by_fault : {P : Type 0} (f : Fault) → (f ≡ Memory → P) → (f ≢ Memory �
 by_fault Memory is not = is refl
 by_fault _ is not = not (λ e. cc)
 
+-- what is read is answered, or memory ran out and it isn't bare
+pub read_accepted : (res : Result Expression Error) (read : Read Expr) (left : List Tok) → Gives false bare_expression seen_expression res read left
+    → (v : Expr) (r : List Tok) → read ≡ Some (v, r) → Accepts seen_expression bare_expression res v left r
+read_accepted (Ok x) read left g v r e =
+    let s = some_is (seen_expression x, left) (v, r) (sym g ∙ e) in
+    (ap (λ (y : Expr × List Tok). y.0) s, ap (λ (y : Expr × List Tok). y.1) s)
+read_accepted (Err f) read left g v r e =
+    by_fault f.fault
+    (λ m. (m, rw e at (g.1 m).1))
+    (λ not. (let none : read ≡ None = g.0 not in cc))
+
 -- the items that are listed are what is answered, or memory ran out
 pub accepted : (res : Result Expression Error) (ts left : List Tok) → Gives false bare_expression seen_expression res (expression.reads ts) left
     → (xs : Items) (r : List Tok) → lists xs ts r → ends r ≡ true → Accepts seen_expression bare_expression res (value_of xs) left r
-accepted (Ok x) ts left g xs r l e =
-    let s = some_is (seen_expression x, left) (value_of xs, r) (sym g ∙ reads_listed xs ts r l e) in
-    (ap (λ (y : Expr × List Tok). y.0) s, ap (λ (y : Expr × List Tok). y.1) s)
-accepted (Err f) ts left g xs r l e =
-    let read = reads_listed xs ts r l e in
-    by_fault f.fault
-    (λ m. (m, rw read at (g.1 m).1))
-    (λ not. (let none : expression.reads ts ≡ None = g.0 not in cc))
+accepted res ts left g xs r l e = read_accepted res (expression.reads ts) left g (value_of xs) r (reads_listed xs ts r l e)

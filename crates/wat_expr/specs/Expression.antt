@@ -1,10 +1,12 @@
--- An expression as contracts see it.
-use Rattle.std.specs.Prelude.{◌≡◌, ℕ, Bool, true, false, List, length, map, Some, None}
+-- An expression as contracts see it, and the tokens that spell it.
+use Rattle.std.specs.Prelude.{◌≡◌, ◌++◌, ℕ, Bool, true, false, List, length, map, Some, None}
 use Rattle.wat_tokens.specs.Parses.{no_items}
+use Rattle.wat_tokens.specs.Tests.{ends}
+use Rattle.wat_tokens.specs.Token.{Tok}
 use Rattle.wat_instr.specs.Instruction.{Instr, seen_instruction}
 use Rattle.wat_expr.specs.declared.expression.BranchHint.{BranchHint}
 use Rattle.wat_expr.specs.declared.expression.Expression.{Expression}
-use Rattle.wat_expr.specs.Items.{Items, unfolded, hints}
+use Rattle.wat_expr.specs.Items.{Items, lists, unfolded, hints}
 
 -- its instructions, and each hint as an index and a value
 pub record Expr : Type 0 where
@@ -23,6 +25,11 @@ bare_expression e = no_items e.instrs
 -- what items are as an expression
 abbrev pub value_of : Items → Expr
 value_of xs = record { instrs = unfolded xs; hints = hints xs 0 }
+
+-- in front of the rest r, which is empty or begins with `)`, the tokens c list items, and the expression is what they
+-- unfold to, with their hints
+abbrev pub expression_spells : Expr → List Tok → List Tok → Type 0
+expression_spells e c r = (xs : Items) × lists xs (c ++ r) r × (ends r ≡ true) × (e ≡ value_of xs)
 
 -- as many spans as instructions where they are kept, and else none
 abbrev pub SpansAre : Bool → Expression → Type 0

@@ -1,5 +1,5 @@
 -- What of instructions the items rest on, and what can stand behind a list of items.
-use Rattle.std.specs.Prelude.{◌≡◌, ℕ, ◌+◌, ◌≤◌, ◌<◌, List, [], ◌∷◌, ◌++◌, length, codes}
+use Rattle.std.specs.Prelude.{◌≡◌, ℕ, ◌+◌, ◌≤◌, ◌<◌, List, [], ◌∷◌, ◌++◌, length, Some, codes}
 use Rattle.std.proofs.Common.{ap, subst, sym, ◌∙◌, arith, length-append, append_assoc}
 use Rattle.wat_tokens.specs.Token.{Tok, LParen, RParen, Keyword, String}
 use Rattle.wat_tokens.specs.Parens.{Level, opens, closes, opens-append, closes-append}
@@ -17,39 +17,45 @@ IsWord _ = ⊥
 first_of_list : (x y : Tok) (a b : List Tok) → x ∷ a ≡ y ∷ b → x ≡ y
 first_of_list x y a b e = cc
 
+-- what a front spells is what is read of it
+pub read_of : (i : Instr) (ts m : List Tok) → reads i ts m → instruction.reads ts ≡ Some (i, m)
+read_of i ts m (c, e, s) = rw e (instruction.complete i c m s)
+
+pub reads_of : (i : Instr) (ts m : List Tok) → instruction.reads ts ≡ Some (i, m) → reads i ts m
+reads_of i ts m e = instruction.sound ts (i, m) e
+
 -- an instruction's first token is a word
 pub word_front : (i : Instr) (t : Tok) (u m : List Tok) → reads i (t ∷ u) m → IsWord t
 word_front i t u m h =
-    let f = instruction_first (t ∷ u) (i, m) h in
+    let f = instruction_first (t ∷ u) (i, m) (read_of i (t ∷ u) m h) in
     subst IsWord (sym (first_of_list t (Keyword f.0) u f.1 f.2)) tt
 
 pub reads_nothing : (i : Instr) (m : List Tok) → reads i [] m → ⊥
-reads_nothing i m h = none_is_not (i, m) (sym instruction_none ∙ h)
+reads_nothing i m h = none_is_not (i, m) (sym instruction_none ∙ read_of i [] m h)
 
 -- the tokens determine the instruction and the rest
 pub reads_one : (i j : Instr) (ts m n : List Tok) → reads i ts m → reads j ts n → (i ≡ j) × (m ≡ n)
 reads_one i j ts m n h k =
-    let e = some_is (i, m) (j, n) (sym h ∙ k) in
+    let e = some_is (i, m) (j, n) (sym (read_of i ts m h) ∙ read_of j ts n k) in
     (ap (λ (x : Instr × List Tok). x.0) e, ap (λ (x : Instr × List Tok). x.1) e)
 
 -- an instruction takes a token
 pub reads_shorter : (i : Instr) (ts m : List Tok) → reads i ts m → length m < length ts
-reads_shorter i ts m h = less_left instruction ts i m instruction_eats h
+reads_shorter i ts m h = less_left instruction ts i m instruction_eats (read_of i ts m h)
 
 -- its parentheses are level
 pub reads_level : (i : Instr) (ts m : List Tok) → reads i ts m → opens ts + closes m ≡ closes ts + opens m
 reads_level i ts m h =
-    let f = instruction.sound ts (i, m) h in
-    let e : Level f.0 = instruction.level i f.0 m f.2 in
-    omega (arith, e, ap opens f.1, ap closes f.1, opens-append f.0 m, closes-append f.0 m)
+    let e : Level h.0 = instruction.level i h.0 m h.2 in
+    omega (arith, e, ap opens h.1, ap closes h.1, opens-append h.0 m, closes-append h.0 m)
 
 -- it is read of a front
 pub reads_front : (i : Instr) (ts m : List Tok) → reads i ts m → (c : List Tok) × (ts ≡ c ++ m)
-reads_front i ts m h = let f = instruction.sound ts (i, m) h in (f.0, f.1)
+reads_front i ts m h = (h.0, h.1)
 
 -- its word isn't `then`
 pub reads_not_then : (i : Instr) (ts m : List Tok) → reads i (word (codes "then") ∷ ts) m → ⊥
-reads_not_then i ts m h = none_is_not (i, m) (sym (instruction_not_then ts) ∙ h)
+reads_not_then i ts m h = none_is_not (i, m) (sym (instruction_not_then ts) ∙ read_of i (word (codes "then") ∷ ts) m h)
 
 -- ---- where a list of items ends
 

@@ -6,7 +6,7 @@ use Rattle.wat_tokens.specs.Parens.{Level, opens, closes, opens-append, closes-a
 use Rattle.wat_tokens.specs.Production.{Read, Front, Production, bind, bind_some, some_of, some_is, none_is_not}
 use Rattle.wat_instr.specs.Instruction.{Instr, instruction}
 use Rattle.wat_expr.specs.Items.{reads}
-use Rattle.wat_expr.specs.Facts.{reads_front, reads_level, reads_shorter, Between, between, group_is}
+use Rattle.wat_expr.specs.Facts.{read_of, reads_of, reads_front, reads_level, reads_shorter, Between, between, group_is}
 use Rattle.wat_expr.specs.Expression.{Expr}
 use Rattle.wat_expr.specs.Reading.{shut, shut_is}
 
@@ -68,7 +68,7 @@ groups_at_sound (suc n) (LParen ∷ t) x e =
     let s = bind_some (shut q.0.1) (λ _ d. bind (groups_at n d) (λ hs r. some_of (Group p.0.0 q.0.0 hs, r))) x q.2 in
     let z = bind_some (groups_at n s.0.1) (λ hs r. some_of (Group p.0.0 q.0.0 hs, r)) x s.2 in
     subst (λ (u : Groups × List Tok). groups u.0 (LParen ∷ t) u.1) (some_is (Group p.0.0 q.0.0 z.0.0, z.0.1) x z.2)
-    (t, p.0.1, s.0.1, refl, p.1, subst (λ (u : List Tok). groups q.0.0 p.0.1 u) (shut_is q.0.1 s.0 s.1) (groups_at_sound n p.0.1 q.0 q.1), groups_at_sound n s.0.1 z.0 z.1)
+    (t, p.0.1, s.0.1, refl, reads_of p.0.0 t p.0.1 p.1, subst (λ (u : List Tok). groups q.0.0 p.0.1 u) (shut_is q.0.1 s.0 s.1) (groups_at_sound n p.0.1 q.0 q.1), groups_at_sound n s.0.1 z.0 z.1)
 groups_at_sound (suc n) [] x e = no_group_read [] x e
 groups_at_sound (suc n) (k ∷ t) x e = no_group_read (k ∷ t) x e
 
@@ -91,7 +91,7 @@ groups_at_complete (Group i gs hs) (suc n) ts r lt (a, b, d, e, h, l, k) =
     let s = reads_shorter i a b h in
     let z = ap length e in
     let y = (groups_between gs b (RParen ∷ d) l).shorter in
-    rw (e, h, groups_at_complete gs n b d (omega arith) l, groups_at_complete hs n d r (omega arith) k) refl
+    rw (e, read_of i a b h, groups_at_complete gs n b d (omega arith) l, groups_at_complete hs n d r (omega arith) k) refl
 
 pub folded_between : (i : Instr) (gs : Groups) (ts r : List Tok) → is_folded i gs ts r → Between ts r
 folded_between i gs ts r (a, b, e, h, l) = groups_between (Group i gs NoGroup) ts r (a, b, r, e, h, l, refl)
@@ -109,7 +109,7 @@ folded_sound (LParen ∷ t) x e =
     let p = bind_some (instruction.reads t) (λ i b. bind (groups_at (suc (length b)) b) (λ gs u. bind (shut u) (λ _ r. some_of (folded_value i gs, r)))) x e in
     let q = bind_some (groups_at (suc (length p.0.1)) p.0.1) (λ gs u. bind (shut u) (λ _ r. some_of (folded_value p.0.0 gs, r))) x p.2 in
     let s = bind_some (shut q.0.1) (λ _ r. some_of (folded_value p.0.0 q.0.0, r)) x q.2 in
-    let l : is_folded p.0.0 q.0.0 (LParen ∷ t) s.0.1 = (t, p.0.1, refl, p.1, subst (λ (u : List Tok). groups q.0.0 p.0.1 u) (shut_is q.0.1 s.0 s.1) (groups_at_sound (suc (length p.0.1)) p.0.1 q.0 q.1)) in
+    let l : is_folded p.0.0 q.0.0 (LParen ∷ t) s.0.1 = (t, p.0.1, refl, reads_of p.0.0 t p.0.1 p.1, subst (λ (u : List Tok). groups q.0.0 p.0.1 u) (shut_is q.0.1 s.0 s.1) (groups_at_sound (suc (length p.0.1)) p.0.1 q.0 q.1)) in
     let b = folded_between p.0.0 q.0.0 (LParen ∷ t) s.0.1 l in
     subst (λ (u : Expr × List Tok). Front folded_spells (LParen ∷ t) u) (some_is (folded_value p.0.0 q.0.0, s.0.1) x s.2)
     (b.front, b.is, (p.0.0, q.0.0, subst (λ (u : List Tok). is_folded p.0.0 q.0.0 u s.0.1) b.is l, refl))
@@ -117,7 +117,7 @@ folded_sound (_ ∷ t) x e = none_is_not x e
 
 pub folded_complete : (v : Expr) (c r : List Tok) → folded_spells v c r → folded_reads (c ++ r) ≡ Some (v, r)
 folded_complete v c r (i, gs, (a, b, e, h, l), k) =
-    rw (e, h, groups_at_complete gs (suc (length b)) b r (omega arith) l, k) refl
+    rw (e, read_of i a b h, groups_at_complete gs (suc (length b)) b r (omega arith) l, k) refl
 
 pub folded_takes : (v : Expr) (c r : List Tok) → folded_spells v c r → 1 ≤ length c
 folded_takes v c r (i, gs, (a, b, e, h, l), k) =

@@ -1,5 +1,6 @@
 -- Expressions: items, the tokens that list them, and what they unfold to.
 use Rattle.std.specs.Prelude.{◌≡◌, ℕ, suc, ◌+◌, ◌<◌, max, Bool, true, false, ◌||◌, List, [], ◌∷◌, ◌++◌, length, Option, Some, None, codes}
+use Rattle.wat_tokens.specs.Production.{Front}
 use Rattle.wat_tokens.specs.Token.{Tok, LParen, RParen, Keyword, Annotation, String}
 use Rattle.wat_instr.specs.Instruction.{Instr, instruction, is_block, is_if, is_br_if, else_instr, end_instr}
 
@@ -18,9 +19,9 @@ sort_of false false = IsOther
 abbrev pub sort : Instr → Sort
 sort i = sort_of (is_block i.row) (is_if i.row)
 
--- From the tokens ts the instruction is read, and r is left.
+-- A front of the tokens ts spells the instruction, and r is left.
 abbrev pub reads : Instr → List Tok → List Tok → Type 0
-reads i ts r = instruction.reads ts ≡ Some (i, r)
+reads i ts r = Front instruction.spells ts (i, r)
 
 -- A list of items: its first item, and last the items after it. A hint stands in front of the items after it.
 pub data Items : Type 0 where

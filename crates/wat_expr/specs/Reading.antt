@@ -10,8 +10,8 @@ use Rattle.wat_tokens.specs.Production.{Read, Front, Production, bind, bind_some
 use Rattle.wat_tokens.specs.Tests.{ends}
 use Rattle.wat_instr.specs.Instruction.{Instr, instruction, is_br_if}
 use Rattle.wat_expr.specs.Items.{Sort, sort, IsBlock, IsIf, IsOther, reads, word, hint_name, Items, Nil, Plain, Folded, Block, IfThen, IfElse, Hinted, AreGroups, is_branch, BeginsWithBranch, lists}
-use Rattle.wat_expr.specs.Facts.{word_front, reads_nothing, reads_shorter, reads_not_then, Stops, lists_between}
-use Rattle.wat_expr.specs.Expression.{Expr, value_of}
+use Rattle.wat_expr.specs.Facts.{read_of, reads_of, word_front, reads_nothing, reads_shorter, reads_not_then, Stops, lists_between}
+use Rattle.wat_expr.specs.Expression.{Expr, value_of, expression_spells}
 
 -- ---- the reader, where rec reads the lists of items further on
 
@@ -216,7 +216,7 @@ module _ (rec : List Tok → Read Items) (good : Sound rec) where
       is_listed _ Nil (LParen ∷ Keyword w ∷ t) x (some_is (Nil, LParen ∷ Keyword w ∷ t) x e2) refl))
       (λ g. (let e2 : bind (instruction.reads (Keyword w ∷ t)) (λ i b. sort_by rec (sort i) i b) ≡ Some x = rw g at e in
       let p = bind_some (instruction.reads (Keyword w ∷ t)) (λ i b. sort_by rec (sort i) i b) x e2 in
-      sort_sound p.0.0 (Keyword w ∷ t) p.0.1 x (sort p.0.0) refl p.1 p.2))
+      sort_sound p.0.0 (Keyword w ∷ t) p.0.1 x (sort p.0.0) refl (reads_of p.0.0 (Keyword w ∷ t) p.0.1 p.1) p.2))
   paren_sound (Annotation n ∷ t) x e =
       by_test (bytes_eq n (codes "metadata.code.branch_hint"))
       (λ g. (let e2 : hint_by rec t ≡ Some x = rw g at e in
@@ -229,7 +229,7 @@ module _ (rec : List Tok → Read Items) (good : Sound rec) where
   plain_sound t x e =
       let p = bind_some (instruction.reads t) (λ i m. more_by rec (Plain i) m) x e in
       let m = more_sound (Plain p.0.0) p.0.1 x p.2 in
-      is_listed t (Plain p.0.0 m.0) m.1 x m.3 (p.0.1, p.1, m.2)
+      is_listed t (Plain p.0.0 m.0) m.1 x m.3 (p.0.1, reads_of p.0.0 t p.0.1 p.1, m.2)
 
   items_sound : (t : List Tok) (x : Items × List Tok) → items_by rec t ≡ Some x → lists x.0 t x.1
   items_sound [] x e = is_listed [] Nil [] x (some_is (Nil, []) x e) refl
@@ -279,12 +279,12 @@ module _ (rec : List Tok → Read Items) where
 
   begins_plain : (i : Instr) (ts m : List Tok) → reads i ts m → items_by rec ts ≡ more_by rec (Plain i) m
   begins_plain i [] m h = absurd (reads_nothing i m h)
-  begins_plain i (Keyword w ∷ t) m h = rw h refl
+  begins_plain i (Keyword w ∷ t) m h = rw (read_of i (Keyword w ∷ t) m h) refl
   begins_plain i (k ∷ t) m h = absurd (word_front i k t m h)
 
   begins_group : (i : Instr) (a b : List Tok) → reads i a b → items_by rec (LParen ∷ a) ≡ sort_by rec (sort i) i b
   begins_group i [] b h = absurd (reads_nothing i b h)
-  begins_group i (Keyword w ∷ t) b h = rw (not_then i w t b h, h) refl
+  begins_group i (Keyword w ∷ t) b h = rw (not_then i w t b h, read_of i (Keyword w ∷ t) b h) refl
   begins_group i (k ∷ t) b h = absurd (word_front i k t b h)
 
 pub items_at_complete : (xs : Items) (n : ℕ) (ts r : List Tok) → length ts < n → Stops r → lists xs ts r → items_at n ts ≡ Some (xs, r)
@@ -327,11 +327,6 @@ pub stops_end : (r : List Tok) → ends r ≡ true → Stops r
 stops_end [] e = tt
 stops_end (RParen ∷ r) e = tt
 stops_end (_ ∷ r) e = absurd cc
-
--- in front of the rest r, which is empty or begins with `)`, the tokens c list items, and the expression is what they
--- unfold to, with their hints
-abbrev pub expression_spells : Expr → List Tok → List Tok → Type 0
-expression_spells e c r = (xs : Items) × lists xs (c ++ r) r × (ends r ≡ true) × (e ≡ value_of xs)
 
 abbrev pub to_the_end : Items → List Tok → Read Expr
 to_the_end xs r = if ends r then Some (value_of xs, r) else None

@@ -1,20 +1,22 @@
 //! Folded instructions of any kind, as element segments and inline tables have them.
 
-ghost use Rattle.std.specs.Prelude.{◌≡◌, false, IfOk};
-ghost use Rattle.wat_expr.specs.Expression.{seen_expression, bare_expression, SpansAre};
+ghost use Rattle.std.specs.Prelude.{◌≡◌, List, false, IfOk};
+ghost use Rattle.wat_expr.specs.Expression.{Expr, seen_expression, bare_expression, SpansAre};
 ghost use Rattle.wat_expr.specs.Flat.{flat};
-ghost use Rattle.wat_expr.specs.Folded.{folded_instruction};
+ghost use Rattle.wat_expr.specs.Folded.{Groups, folded_instruction, folded_value, is_folded};
 ghost use Rattle.wat_expr.specs.GroupTurn.{GroupTurn, spot};
 ghost use Rattle.wat_expr.specs.Listed.{IsFolded};
+ghost use Rattle.wat_instr.specs.Instruction.{Instr};
 ghost use Rattle.wat_tokens.specs.Counts.{Counted, Kept};
-ghost use Rattle.wat_tokens.specs.Parses.{Gives};
+ghost use Rattle.wat_tokens.specs.Parses.{Gives, Accepts};
 ghost use Rattle.wat_tokens.specs.Steady.{Steady};
+ghost use Rattle.wat_tokens.specs.Token.{Tok};
 
 use crate::expression::Expression;
 use crate::level::{Head, Level, Levels};
 use crate::take::{take_close, take_instr, take_open};
 use wat_tokens::hand::let_go;
-use wat_tokens::{Parser, Result};
+use wat_tokens::{Parse, Parser, Result};
 
 /// One turn: a group opens, or the innermost one closes and its instruction is put behind the others.
 fn turn<'a>(
@@ -56,6 +58,8 @@ impl<'a> Expression<'a> {
     pub fn parse_folded_instruction(parser: &mut Parser<'a>) -> Result<Expression<'a>>
         // What tokens in front spell is answered, and leaves what is behind them; memory alone may refuse it.
         ensures exact { Gives false bare_expression seen_expression result (folded_instruction.reads parser.old.left) parser.new.left }
+        // Where tokens in front list one group, it is the answer, unless memory ran out.
+        ensures only { (i : Instr) (gs : Groups) (r : List Tok) → is_folded i gs parser.old.left r → Accepts seen_expression bare_expression result (folded_value i gs) parser.new.left r }
         // What was read is one group, and these are its counts.
         ensures listed { IfOk result (λ e. IsFolded parser.old parser.new e) }
         ensures spans { IfOk result (λ e. SpansAre parser.old.tracks e) }
@@ -81,5 +85,30 @@ impl<'a> Expression<'a> {
             parser.note_held(levels.held());
         }
         Ok(out)
+    }
+}
+
+/// An expression that one folded instruction of any kind spells, as
+/// [`parse_folded_instruction`](Expression::parse_folded_instruction) reads it.
+#[derive(Drop)]
+pub struct FoldedInstruction<'a>(pub Expression<'a>);
+
+impl<'a> Parse<'a> for FoldedInstruction<'a> {
+    ghost Seen = { Expr };
+
+    ghost seen = { λ folded. seen_expression folded.0 };
+
+    ghost light = { false };
+
+    ghost bare = { bare_expression };
+
+    ghost quiet = { false };
+
+    ghost stays = { false };
+
+    ghost grammar = { folded_instruction };
+
+    fn parse(parser: &mut Parser<'a>) -> Result<Self> {
+        Ok(FoldedInstruction(Expression::parse_folded_instruction(parser)?))
     }
 }

@@ -9,3 +9,4 @@ mod reader;
 mod take;
 
 pub use expression::{BranchHint, Expression};
+pub use folded::FoldedInstruction;

@@ -3,7 +3,6 @@
 
 pub mod error;
 pub mod expressions;
-pub mod folded;
 pub mod input;
 pub mod instructions;
 pub mod listing;

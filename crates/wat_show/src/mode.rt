@@ -13,7 +13,6 @@ ghost use Rattle.wat_types.specs.Function.{function_type};
 
 use crate::error::RunError;
 use crate::expressions::add_expression;
-use crate::folded::FoldedInstruction;
 use crate::listing::add_function;
 use crate::show::{Shows, run_shows};
 use crate::shown::refused;
@@ -22,7 +21,7 @@ use crate::whole::read_whole;
 use bumpalo::Bump;
 use std::alloc::{AllocError, Global};
 use std::io::{Read, Write};
-use wat_expr::Expression;
+use wat_expr::{Expression, FoldedInstruction};
 use wat_tokens::{Error, Fault, Span};
 use wat_types::FunctionType;
 

@@ -1,9 +1,10 @@
-use Rattle.std.proofs.Common.{rules, None, refl, ap, ◌∙◌}
+use Rattle.std.proofs.Common.{rules, Ok, None, refl, ap, ◌∙◌}
 use Rattle.std.proofs.lemmas.Result.{err_from_is_err_and}
 use Rattle.wat_expr.specs.Flat.{no_output}
 use Rattle.wat_expr.specs.Folded.{folded_instruction}
 use Rattle.wat_expr.proofs.FoldedLoop.{is_some, is_none, going_begins, going_on, going_smaller, going_halts, going_ends, going_reads, refused_first, refused_later}
-use Rattle.wat_expr.proofs.FoldedReads.{begun, not_begun, no_word, read_not_bare}
+use Rattle.wat_expr.proofs.FoldedReads.{begun, not_begun, no_word, read_folded, read_not_bare}
+use Rattle.wat_expr.proofs.Whole.{read_accepted}
 use Rattle.wat_expr.proofs.expression.Expression.parse_folded_instruction.Goals as goal
 
 pub returns-in_err-open-clause-exact : goal.returns-in_err-open-clause-exact
@@ -12,11 +13,19 @@ returns-in_err-open-clause-exact c =
     let p = err_from_is_err_and c.from_residual.result c.from_residual.ensures.1 in
     rw (p.1, p.2) ((λ not. not_begun _ c.in_err-open.ensures.reads.exact.0), (λ m. absurd (c.in_err-open.ensures.reads.exact.1 m)))
 
+pub returns-in_err-open-clause-only : goal.returns-in_err-open-clause-only
+unfolding folded_instruction
+returns-in_err-open-clause-only c = λ i gs r l. read_accepted c.from_residual.result _ _ (returns-in_err-open-clause-exact c) _ r (read_folded i gs _ r l)
+
 pub returns-in_err-instr-clause-exact : goal.returns-in_err-instr-clause-exact
 unfolding folded_instruction
 returns-in_err-instr-clause-exact c =
     let p = err_from_is_err_and c.from_residual-in_err-instr.result c.from_residual-in_err-instr.ensures.1 in
     rw (p.1, p.2) ((λ not. no_word _ _ (begun _ _ _ c.in_ok-open.ensures.reads.exact) (c.in_err-instr.ensures.exact not)), (λ m. (refl, read_not_bare c.args.parser.now.left)))
+
+pub returns-in_err-instr-clause-only : goal.returns-in_err-instr-clause-only
+unfolding folded_instruction
+returns-in_err-instr-clause-only c = λ i gs r l. read_accepted c.from_residual-in_err-instr.result _ _ (returns-in_err-instr-clause-exact c) _ r (read_folded i gs _ r l)
 
 pub returns-in_err-instr-clause-counts : goal.returns-in_err-instr-clause-counts
 returns-in_err-instr-clause-counts c =
@@ -29,6 +38,10 @@ returns-in_err-push-clause-exact c =
     let p = err_from_is_err_and c.from_residual-in_err-push.result c.from_residual-in_err-push.ensures.1 in
     rw (p.1, p.2) ((λ not. absurd (not c.in_err-push.ensures)), (λ m. (refl, read_not_bare c.args.parser.now.left)))
 
+pub returns-in_err-push-clause-only : goal.returns-in_err-push-clause-only
+unfolding folded_instruction
+returns-in_err-push-clause-only c = λ i gs r l. read_accepted c.from_residual-in_err-push.result _ _ (returns-in_err-push-clause-exact c) _ r (read_folded i gs _ r l)
+
 pub returns-in_err-push-clause-counts : goal.returns-in_err-push-clause-counts
 returns-in_err-push-clause-counts c =
     let p = err_from_is_err_and c.from_residual-in_err-push.result c.from_residual-in_err-push.ensures.1 in
@@ -39,6 +52,10 @@ unfolding folded_instruction
 returns-in_err-turn-clause-exact c =
     let p = err_from_is_err_and c.from_residual-in_err-turn.result c.from_residual-in_err-turn.ensures.1 in
     rw (p.1, p.2) ((λ not. going_halts _ _ _ _ _ c.groups.invariant (is_some _ _ c.is_empty.ensures c.groups-test.true) c.tick.ensures.only (c.in_err-turn.ensures.turned not)), (λ m. (refl, read_not_bare c.args.parser.now.left)))
+
+pub returns-in_err-turn-clause-only : goal.returns-in_err-turn-clause-only
+unfolding folded_instruction
+returns-in_err-turn-clause-only c = λ i gs r l. read_accepted c.from_residual-in_err-turn.result _ _ (returns-in_err-turn-clause-exact c) _ r (read_folded i gs _ r l)
 
 pub returns-in_err-turn-clause-counts : goal.returns-in_err-turn-clause-counts
 returns-in_err-turn-clause-counts c =
@@ -61,6 +78,10 @@ groups-preserved c =
 pub returns-clause-exact : goal.returns-clause-exact
 unfolding folded_instruction
 returns-clause-exact c = going_reads _ _ _ c.groups.out c.groups.invariant (is_none _ _ c.is_empty.ensures c.groups-test.false)
+
+pub returns-clause-only : goal.returns-clause-only
+unfolding folded_instruction
+returns-clause-only c = λ i gs r l. read_accepted (Ok c.groups.out) _ _ (returns-clause-exact c) _ r (read_folded i gs _ r l)
 
 pub returns-clause-listed : goal.returns-clause-listed
 returns-clause-listed c = going_ends _ _ _ c.groups.out c.groups.invariant (is_none _ _ c.is_empty.ensures c.groups-test.false)
