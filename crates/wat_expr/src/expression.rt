@@ -131,7 +131,7 @@ impl<'a> Expression<'a> {
 /// `if` may have a branch hint `(@metadata.code.branch_hint "v")` before it, `v` being the byte 0 or 1.
 ///
 /// Refused are, at the token in front: what is no instruction's word where one is needed, and the end of the text in an open
-/// `if`, with Operator; an `if` that closes without `( then`, with IfWithoutThen; a group behind its `( else .. )`, with
+/// `if`, but behind the `(` of an arm, with Operator; an `if` that closes without `( then`, with IfWithoutThen; a group behind its `( else .. )`, with
 /// IfTooMany; the string of a hint that isn't such a byte, with HintValue, or that has a hint directly before it, with
 /// HintTwice; a hint with no item behind it, with HintPlace; anything else, with Unexpected. An instruction behind a hint that
 /// is neither `br_if` nor `if` is refused with HintTarget, at its word; a fault in its operand comes before that.
