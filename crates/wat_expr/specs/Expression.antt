@@ -1,5 +1,7 @@
 -- An expression as contracts see it, and the tokens that spell it.
-use Rattle.std.specs.Prelude.{◌≡◌, ◌++◌, ℕ, Bool, true, false, List, length, map, Some, None}
+use Rattle.std.specs.Prelude.{◌≡◌, [], ◌∷◌, ◌++◌, ℕ, Bool, true, false, List, length, map, Option, Some, None, Vec}
+use Rattle.std.specs.Option.{option_map}
+use Rattle.std.specs.declared.alloc.Global.{Global}
 use Rattle.wat_tokens.specs.Parses.{no_items}
 use Rattle.wat_tokens.specs.Tests.{ends}
 use Rattle.wat_tokens.specs.Token.{Tok}
@@ -34,3 +36,11 @@ expression_spells e c r = (xs : Items) × lists xs (c ++ r) r × (ends r ≡ tru
 -- as many spans as instructions where they are kept, and else none
 abbrev pub SpansAre : Bool → Expression → Type 0
 SpansAre keeps e = elim e.instr_spans [ Some v ↦ (keeps ≡ true) × (length v.items ≡ length e.instrs.items) | None ↦ keeps ≡ false ]
+
+-- the spans that are kept
+abbrev pub kept_spans : {S : Type 0} → Option (Vec S Global) → Option (List S)
+kept_spans s = option_map (λ v. v.items) s
+
+-- one more span behind them, where they are kept
+abbrev pub and_span : {S : Type 0} → S → Option (List S) → Option (List S)
+and_span s l = option_map (λ l. l ++ s ∷ []) l

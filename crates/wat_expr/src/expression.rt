@@ -1,7 +1,7 @@
 //! Expressions.
 
-ghost use Rattle.std.specs.Prelude.{◌≡◌, [], ◌∷◌, ◌++◌, List, map, None, true, false, IsTrue, IfOk, IfErr, MatchResult};
-ghost use Rattle.wat_expr.specs.Expression.{Expr, seen_hint, seen_expression, bare_expression, value_of, SpansAre};
+ghost use Rattle.std.specs.Prelude.{◌≡◌, [], ◌∷◌, ◌++◌, List, Option, map, None, true, false, IsTrue, IfOk, IfErr, MatchResult};
+ghost use Rattle.wat_expr.specs.Expression.{Expr, seen_hint, seen_expression, bare_expression, value_of, SpansAre, kept_spans, and_span};
 ghost use Rattle.wat_expr.specs.Flat.{number_of, flat, no_output, one_more, push};
 ghost use Rattle.wat_expr.specs.Items.{Items, lists, mark};
 ghost use Rattle.wat_expr.specs.Listed.{IsListed};
@@ -61,7 +61,8 @@ fn add_hint(hints: &mut Vec<BranchHint>, hint: Option<u32>, index: usize) -> Res
 
 /// Puts a span behind the others, where they are kept. Memory refuses it.
 fn add_span(spans: &mut Option<Vec<Span>>, span: Span) -> Result<()>
-    ensures { MatchResult result (λ _. number_of spans.new ≡ one_more (number_of spans.old)) (λ e. e.fault ≡ Fault.Memory) }
+    ensures kept { MatchResult result (λ _. kept_spans spans.new ≡ and_span span (kept_spans spans.old)) (λ e. (e.fault ≡ Fault.Memory) × (kept_spans spans.new ≡ kept_spans spans.old)) }
+    ensures number { MatchResult result (λ _. number_of spans.new ≡ one_more (number_of spans.old)) (λ e. e.fault ≡ Fault.Memory) }
 {
     match spans {
         Some(kept) => {
@@ -69,6 +70,15 @@ fn add_span(spans: &mut Option<Vec<Span>>, span: Span) -> Result<()>
             Ok(())
         }
         None => Ok(()),
+    }
+}
+
+/// Takes the last span away again, where they are kept.
+fn drop_span(spans: &mut Option<Vec<Span>>)
+    ensures { (l : Option (List Span)) (s : Span) → kept_spans spans.old ≡ and_span s l → kept_spans spans.new ≡ l }
+{
+    if let Some(kept) = spans {
+        kept.pop();
     }
 }
 
@@ -87,6 +97,24 @@ impl<'a> Expression<'a> {
             branch_hints: Vec::new(alloc),
             instr_spans: None,
         })
+    }
+
+    /// Puts an instruction behind the others, without a hint, and its span, where spans are kept. Memory refuses it, and then
+    /// the expression is as it was.
+    pub fn put_last(&mut self, instr: Instruction<'a>, span: Span) -> Result<()>
+        ensures instrs { MatchResult result (λ _. self.new.instrs.items ≡ self.old.instrs.items ++ instr.entry ∷ []) (λ _. self.new.instrs.items ≡ self.old.instrs.items) }
+        ensures spans { MatchResult result (λ _. kept_spans self.new.instr_spans ≡ and_span span (kept_spans self.old.instr_spans)) (λ _. kept_spans self.new.instr_spans ≡ kept_spans self.old.instr_spans) }
+        ensures hints { self.new.branch_hints ≡ self.old.branch_hints }
+        ensures memory { IfErr result (λ e. e.fault ≡ Fault.Memory) }
+    {
+        add_span(&mut self.instr_spans, span)?;
+        match put(&mut self.instrs, instr) {
+            Ok(()) => Ok(()),
+            Err(error) => {
+                drop_span(&mut self.instr_spans);
+                Err(error)
+            }
+        }
     }
 
     /// No instructions; spans are kept where `tracks` says so.

@@ -5,10 +5,12 @@
 #![tactic(auto)]
 
 pub mod export;
+pub mod head;
 pub mod import;
 pub mod item;
 
 pub use export::{Export, ExportKind, ExportType, InlineExport};
+pub use head::Head;
 pub use import::{
     ImportGroup1Item, ImportGroup1ItemOf, ImportGroup2Item, ImportGroup2ItemOf, ImportItems,
     ImportItemsOf, Imports, ImportsOf, InlineImport,

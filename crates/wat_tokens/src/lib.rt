@@ -17,6 +17,7 @@ pub mod repeat;
 pub mod strings;
 pub mod tally;
 pub mod traits;
+pub mod whole;
 pub mod wrapped;
 
 pub use cursor::Cursor;

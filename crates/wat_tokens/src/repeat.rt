@@ -1,6 +1,6 @@
 //! Parts that stand one behind the other.
 
-ghost use Rattle.std.specs.Prelude.{◌≡◌, ◌≤◌, map, List, Bool, IsTrue, true, false};
+ghost use Rattle.std.specs.Prelude.{◌≡◌, ◌≤◌, [], map, List, Bool, IsTrue, true, false};
 ghost use Rattle.wat_lexer.specs.Token.{Tok};
 ghost use Rattle.wat_tokens.specs.Counts.{Counted, Quiet, Kept};
 ghost use Rattle.wat_tokens.specs.Joined.{joined_behind};
@@ -178,4 +178,34 @@ pub fn while_begun<'a, T: Parse<'a> + Peek + Drop>(
     ensures reads { ReadsIf T.quiet false no_items (λ _. map T.seen out.new.items) result (after_front (map T.seen out.old.items) (many_reads T.begins T.grammar parser.old.left)) parser.old parser.new }
 {
     parts::<T, WhileBegun>(parser, out)
+}
+
+/// Parts as long as one has to follow, as a list of their own.
+pub fn all_parts<'a, V: Drop, P: Part<'a, V>>(parser: &mut Parser<'a>) -> Result<Vec<V>, Error>
+    requires { 1 ≤ P.grammar.least }
+    ensures reads { ReadsIf P.quiet false no_items (λ v. map P.seen v.items) result (many_reads P.follows P.grammar parser.old.left) parser.old parser.new }
+{
+    let mut found = Vec::new(parser.alloc());
+    parts::<V, P>(parser, &mut found)?;
+    Ok(found)
+}
+
+/// The parts of groups, as long as one more group has to follow, as a list of their own.
+pub fn all_groups<'a, V: Drop, G: Group<'a, V>>(parser: &mut Parser<'a>) -> Result<Vec<V>, Error>
+    requires { 1 ≤ G.grammar.least }
+    ensures reads { ReadsIf G.quiet false no_items (λ v. map G.seen v.items) result (joined_behind [] (many_reads G.follows G.grammar parser.old.left)) parser.old parser.new }
+{
+    let mut found = Vec::new(parser.alloc());
+    groups::<V, G>(parser, &mut found)?;
+    Ok(found)
+}
+
+/// Values up to the end of the group, as a list of their own.
+pub fn all_to_end<'a, T: Parse<'a> + Drop>(parser: &mut Parser<'a>) -> Result<Vec<T>, Error>
+    requires { 1 ≤ T.grammar.least }
+    ensures reads { ReadsIf T.quiet false no_items (λ v. map T.seen v.items) result (many_reads more T.grammar parser.old.left) parser.old parser.new }
+{
+    let mut found = Vec::new(parser.alloc());
+    rest_of_group::<T>(parser, &mut found)?;
+    Ok(found)
 }

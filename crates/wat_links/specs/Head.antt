@@ -1,0 +1,27 @@
+-- What stands in front of a field's own part.
+use Rattle.std.specs.Prelude.{ℕ, Bool, List}
+use Rattle.wat_tokens.specs.Production.{Production}
+use Rattle.wat_tokens.specs.Parts.{seq, made}
+use Rattle.wat_tokens.specs.Parses.{no_items}
+use Rattle.wat_types.specs.Label.{Label, seen_label, label}
+use Rattle.wat_links.specs.Export.{seen_inline_export, inline_export}
+use Rattle.wat_links.specs.declared.head.Head.{Head}
+
+-- what names a field, and the names of its exports in line
+pub record HeadTy : Type 0 where
+  pub label : Label
+  pub exports : List (List ℕ)
+
+abbrev pub head_of : Label → List (List ℕ) → HeadTy
+head_of l e = record { label = l; exports = e }
+
+abbrev pub seen_head : Head → HeadTy
+seen_head h = head_of (seen_label h.id h.name) (seen_inline_export h.exports)
+
+-- no export in line
+abbrev pub bare_head : HeadTy → Bool
+bare_head h = no_items h.exports
+
+-- id? name? InlineExport
+unfoldable pub head : Production HeadTy
+head = made (λ v. head_of v.0 v.1) (seq label inline_export)
