@@ -1,4 +1,5 @@
 pub mod Fields
 pub mod FlagList
 pub mod FlagReads
+pub mod Rows
 pub mod Runs

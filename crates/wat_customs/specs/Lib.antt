@@ -7,3 +7,4 @@ pub mod Flags
 pub mod Place
 pub mod Producers
 pub mod Raw
+pub mod Rows

@@ -7,6 +7,7 @@
 pub mod custom;
 pub mod dylink;
 pub mod flags;
+pub mod laws;
 pub mod place;
 pub mod producers;
 pub mod raw;

@@ -2,3 +2,4 @@ pub mod Again
 pub mod Bytes
 pub mod Fields
 pub mod Labels
+pub mod Rows

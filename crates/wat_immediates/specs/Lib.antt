@@ -7,5 +7,6 @@ pub mod Lanes
 pub mod Memory
 pub mod Ordering
 pub mod Power
+pub mod Rows
 pub mod Tables
 pub mod Vector

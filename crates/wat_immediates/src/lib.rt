@@ -8,6 +8,7 @@
 pub mod aggregates;
 pub mod branch;
 pub mod lanes;
+pub mod laws;
 pub mod memory;
 pub mod ordering;
 pub mod tables;

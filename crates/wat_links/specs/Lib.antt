@@ -5,3 +5,4 @@ pub mod Head
 pub mod Import
 pub mod Item
 pub mod Lend
+pub mod Rows

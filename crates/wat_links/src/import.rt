@@ -71,7 +71,7 @@ pub struct ImportGroup1ItemOf<N, S> {
 }
 
 /// An item that shares its signature: see [`ImportGroup2Item`].
-#[derive(Clone, Copy, Debug)]
+#[derive(Clone, Debug, Drop)]
 pub struct ImportGroup2ItemOf<N> {
     /// Where the word `item` begins.
     pub span: Span,
@@ -239,6 +239,17 @@ fn clone_items<'a>(items: &Vec<ImportGroup1Item<'a>>) -> Result<Vec<ImportGroup1
     Ok(copies)
 }
 
+/// The same items once more. Memory may be answered where there is an item.
+fn clone_names<'a>(items: &Vec<ImportGroup2Item<'a>>) -> Result<Vec<ImportGroup2Item<'a>>>
+    ensures copies { Copies (λ x y. y.items ≡ x.items) (λ v. map seen_named v.items) no_items result items.now }
+{
+    let mut copies = Vec::new(*items.allocator());
+    'items: for item in items {
+        copies.push(item.clone()?)?;
+    }
+    Ok(copies)
+}
+
 impl<'a> ImportItems<'a> {
     /// The same once more. Memory may be answered where there is an item in a group, or where a type has a parameter or a
     /// result in line.
@@ -255,15 +266,11 @@ impl<'a> ImportItems<'a> {
                 module: *module,
                 items: clone_items(items)?,
             }),
-            ImportItemsOf::Group2 { module, sig, items } => {
-                let mut copies = Vec::new(*items.allocator());
-                copies.extend_from_slice(items)?;
-                Ok(ImportItemsOf::Group2 {
-                    module: *module,
-                    sig: sig.clone()?,
-                    items: copies,
-                })
-            }
+            ImportItemsOf::Group2 { module, sig, items } => Ok(ImportItemsOf::Group2 {
+                module: *module,
+                sig: sig.clone()?,
+                items: clone_names(items)?,
+            }),
         }
     }
 }

@@ -8,6 +8,7 @@ pub mod export;
 pub mod head;
 pub mod import;
 pub mod item;
+pub mod laws;
 
 pub use export::{Export, ExportKind, ExportType, InlineExport};
 pub use head::Head;

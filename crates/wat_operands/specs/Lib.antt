@@ -12,4 +12,5 @@ pub mod Call
 pub mod Casts
 pub mod Catches
 pub mod Handlers
+pub mod Rows
 pub mod Select

@@ -9,6 +9,7 @@ pub mod call;
 pub mod casts;
 pub mod catches;
 pub mod handlers;
+pub mod laws;
 pub mod select;
 
 pub use block::BlockType;

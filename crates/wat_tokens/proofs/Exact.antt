@@ -1,7 +1,6 @@
 -- What follows from an answer that is exactly what is read.
 use Rattle.std.proofs.Common.{◌≡◌, ◌≢◌, Bool, true, false, ℕ, zero, suc, List, [], ◌∷◌, length, ◌++◌, Some, None, Result, Ok, Err, refl, sym, ap, ◌∙◌, subst}
 use Rattle.std.specs.Prelude.{IfErr}
-use Rattle.std.proofs.lemmas.List.{append_cancel_right}
 use Rattle.wat_lexer.specs.Token.{Tok}
 use Rattle.wat_tokens.specs.Error.{Error, Fault, Memory}
 use Rattle.wat_tokens.specs.Many.{after_front, many_at, many_reads}
@@ -52,9 +51,3 @@ pub not_bare : {A : Type 0} (begins : List Tok → Bool) (g : Production A) (bef
     → after_front before (many_reads begins g t) ≡ total → NotBare no_items total
 unfolding many_reads
 not_bare begins g before t total k e = rw (← e) (begun_after before begins g (length t) t k)
-
-pub reads_once : {A : Type 0} (g : Production A) (v w : A) (c d r s : List Tok) → c ++ r ≡ d ++ s → g.spells v c r → g.spells w d s → (v ≡ w) × (r ≡ s) × (c ≡ d)
-reads_once {A} g v w c d r s e p q =
-    let x = some_is (v, r) (w, s) (sym (g.complete v c r p) ∙ ap (λ (u : List Tok). g.reads u) e ∙ g.complete w d s q) in
-    let rest : r ≡ s = ap (λ (u : A × List Tok). u.1) x in
-    (ap (λ (u : A × List Tok). u.0) x, rest, append_cancel_right c d s (subst (λ (u : List Tok). c ++ u ≡ d ++ s) rest e))

@@ -19,12 +19,14 @@ pub mod Joined
 pub mod Lookup
 pub mod Many
 pub mod NameAnnotation
+pub mod Once
 pub mod Parens
 pub mod Parses
 pub mod Parts
 pub mod Production
 pub mod Reads
 pub mod Restated
+pub mod Spelled
 pub mod State
 pub mod Steady
 pub mod Strings

@@ -1,3 +1,4 @@
 pub mod Begun
 pub mod Definitions
 pub mod Groups
+pub mod Rows

@@ -10,6 +10,7 @@ pub mod Label
 pub mod Limits
 pub mod Order
 pub mod Reference
+pub mod Rows
 pub mod Storage
 pub mod Struct
 pub mod Tag

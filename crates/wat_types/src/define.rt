@@ -16,7 +16,7 @@ use wat_tokens::{Cursor, Id, Index, NameAnnotation, Parse, Parser, Peek, Result,
 
 /// A continuation type: the function type that it is of, by its index (WebAssembly Core Specification, Text Format,
 /// Types, "Composite Types").
-#[derive(Clone, Copy, Debug)]
+#[derive(Clone, Debug, Drop)]
 pub struct ContType<'a>(pub Index<'a>);
 
 /// What a definition defines (WebAssembly Core Specification, Text Format, Types, "Composite Types").

@@ -7,6 +7,7 @@
 pub mod define;
 pub mod function;
 pub mod heap;
+pub mod laws;
 pub mod limits;
 pub mod reference;
 pub mod storage;

@@ -13,7 +13,7 @@ use wat_tokens::repeat::{Group, Part, groups, parts};
 use wat_tokens::{Fault, Id, NameAnnotation, Parse, Parser, Result};
 
 /// An array type (WebAssembly Core Specification, Text Format, Types, "Composite Types").
-#[derive(Clone, Copy, Debug)]
+#[derive(Clone, Debug, Drop)]
 pub struct ArrayType<'a> {
     /// Whether an element may be changed.
     pub mutable: bool,
@@ -22,7 +22,7 @@ pub struct ArrayType<'a> {
 }
 
 /// A field of a structure type (WebAssembly Core Specification, Text Format, Types, "Composite Types").
-#[derive(Clone, Copy, Debug)]
+#[derive(Clone, Debug, Drop)]
 pub struct StructField<'a> {
     /// Its identifier.
     pub id: Option<Id<'a>>,
@@ -146,7 +146,9 @@ impl<'a> StructType<'a> {
         ensures copies { Copies (λ x y. y.fields.items ≡ x.fields.items) seen_struct no_items result self.now }
     {
         let mut fields = Vec::new(*self.fields.allocator());
-        fields.extend_from_slice(&self.fields)?;
+        'fields: for field in &self.fields {
+            fields.push(field.clone()?)?;
+        }
         Ok(StructType { fields })
     }
 }

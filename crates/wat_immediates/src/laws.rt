@@ -1,0 +1,28 @@
+//! Laws of operands, and texts that spell them.
+
+ghost use Rattle.wat_tokens.specs.Once.{HasOneReading};
+ghost use Rattle.wat_immediates.specs.Lanes.{lane_access};
+ghost use Rattle.wat_immediates.specs.Memory.{mem_arg, atomic_mem_arg};
+ghost use Rattle.wat_immediates.specs.Rows.{Accesses, AtomicAccesses, LaneAccesses, TableInits, TableCopies, Vector, OrderedTable};
+ghost use Rattle.std.specs.Prelude.{ℕ, Bool};
+
+/// No two fronts of one token list spell a memory access, unless they are one front and one access: of one default alignment,
+/// and of one kind of atomic instruction.
+#[tactic(auto, using(wat_tokens::specs::Once::reads_once))]
+pub fn one_reading()
+    ensures access { (align : ℕ) → HasOneReading (mem_arg align) }
+    ensures atomic { (align : ℕ) (rmw : Bool) → HasOneReading (atomic_mem_arg align rmw) }
+    ensures lane { (align : ℕ) → HasOneReading (lane_access align) }
+{}
+
+/// Texts that spell operands, as facts over the definitions alone: an error that a reader and its definition share would show
+/// here.
+pub fn rows()
+    ensures accesses { Accesses }
+    ensures atomic_accesses { AtomicAccesses }
+    ensures lane_accesses { LaneAccesses }
+    ensures table_inits { TableInits }
+    ensures table_copies { TableCopies }
+    ensures vector { Vector }
+    ensures ordered_table { OrderedTable }
+{}

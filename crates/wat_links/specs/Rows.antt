@@ -1,0 +1,35 @@
+-- Texts as tokens, and the imports and exports that they spell.
+use Rattle.std.specs.Prelude.{List, [], ◌∷◌, ◌++◌, codes, None}
+use Rattle.wat_tokens.specs.Token.{Tok, Keyword, Integer, String}
+use Rattle.wat_tokens.specs.Production.{Front}
+use Rattle.wat_tokens.specs.Spelled.{in_parens, Spelled}
+use Rattle.wat_types.specs.Label.{no_label}
+use Rattle.wat_types.specs.Use.{use_of}
+use Rattle.wat_links.specs.Export.{inline_export}
+use Rattle.wat_links.specs.Forms.{imports}
+use Rattle.wat_links.specs.Import.{imports_of, group1, group2}
+use Rattle.wat_links.specs.Item.{SigTy, sig_of, func}
+
+-- `(func)`
+abbrev bare_func : List Tok
+bare_func = in_parens (Keyword (codes "func") ∷ [])
+
+abbrev any_func : SigTy
+any_func = sig_of no_label (func (use_of None None))
+
+-- `import "m"` has no items; `import "m" (func)` has a signature and no items; `import "m" (item "a") (item "b") (func)` has two items that share one
+abbrev pub Imports : Type 0
+Imports =
+    Spelled imports (Keyword (codes "import") ∷ String (codes "m") ∷ []) (imports_of (codes "m") (group1 []))
+    × Spelled imports (Keyword (codes "import") ∷ String (codes "m") ∷ bare_func) (imports_of (codes "m") (group2 any_func []))
+    × Spelled imports (Keyword (codes "import") ∷ String (codes "m") ∷ (in_parens (Keyword (codes "item") ∷ String (codes "a") ∷ []) ++ (in_parens (Keyword (codes "item") ∷ String (codes "b") ∷ []) ++ bare_func)))
+    (imports_of (codes "m") (group2 any_func (codes "a" ∷ codes "b" ∷ [])))
+
+abbrev no_name : List Tok
+no_name = in_parens (Keyword (codes "export") ∷ Integer (codes "1") ∷ [])
+
+-- `(export "a") (export "b") (export 1)`: two names, and the third group is left
+abbrev pub InlineNames : Type 0
+InlineNames =
+    Front inline_export.spells (in_parens (Keyword (codes "export") ∷ String (codes "a") ∷ []) ++ (in_parens (Keyword (codes "export") ∷ String (codes "b") ∷ []) ++ no_name))
+    (codes "a" ∷ codes "b" ∷ [], no_name)

@@ -1,0 +1,28 @@
+-- Texts as tokens, and the operands that they spell: what is read of them.
+use Rattle.std.proofs.Common.{refl}
+use Rattle.wat_tokens.specs.Many.{many_at, many_reads}
+use Rattle.wat_tokens.specs.NameAnnotation.{name_annotation}
+use Rattle.wat_tokens.specs.Number.{read}
+use Rattle.wat_tokens.specs.Spelled.{spelled}
+use Rattle.wat_types.specs.Function.{func_groups, function_groups}
+use Rattle.wat_types.specs.Group.{val_types}
+use Rattle.wat_types.specs.Label.{label}
+use Rattle.wat_types.specs.Use.{type_use}
+use Rattle.wat_types.specs.Value.{val_type}
+use Rattle.wat_operands.specs.Block.{block_type}
+use Rattle.wat_operands.specs.Catches.{catch_kind, catch_clause, try_table}
+use Rattle.wat_operands.specs.Handlers.{aim, handler, resume_table}
+use Rattle.wat_operands.specs.Rows.{Catches, Handlers, Selects}
+use Rattle.wat_operands.specs.Select.{select_types}
+
+pub catches : Catches
+unfolding try_table catch_clause catch_kind block_type label name_annotation type_use function_groups func_groups many_at many_reads read
+catches = spelled try_table _ _ refl
+
+pub handlers : Handlers
+unfolding resume_table handler aim many_at many_reads read
+handlers = spelled resume_table _ _ refl
+
+pub selects : Selects
+unfolding select_types val_types val_type many_at many_reads
+selects = (spelled select_types _ _ refl, spelled select_types _ _ refl, spelled select_types _ _ refl)

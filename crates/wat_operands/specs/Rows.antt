@@ -1,0 +1,31 @@
+-- Texts as tokens, and the operands that they spell.
+use Rattle.std.specs.Prelude.{List, [], ◌∷◌, ◌++◌, codes, Some, None}
+use Rattle.wat_tokens.specs.Token.{Tok, Keyword, Integer}
+use Rattle.wat_tokens.specs.Index.{number}
+use Rattle.wat_tokens.specs.Spelled.{in_parens, Spelled}
+use Rattle.wat_types.specs.Label.{no_label}
+use Rattle.wat_types.specs.Use.{use_of}
+use Rattle.wat_types.specs.Value.{i32, i64}
+use Rattle.wat_operands.specs.Catches.{catch_of, try_of, try_table}
+use Rattle.wat_operands.specs.Handlers.{on_label, on_switch, resume_table}
+use Rattle.wat_operands.specs.Select.{select_types}
+use Rattle.wat_operands.specs.declared.catches.CatchKind.TheVariants.{Catch, CatchAllRef}
+
+-- `(catch 0 1) (catch_all_ref 2)`: the tag 0 with the label 1, and everything with the label 2
+abbrev pub Catches : Type 0
+Catches =
+    Spelled try_table (in_parens (Keyword (codes "catch") ∷ Integer (codes "0") ∷ Integer (codes "1") ∷ []) ++ in_parens (Keyword (codes "catch_all_ref") ∷ Integer (codes "2") ∷ []))
+    (try_of (record { label = no_label; ty = use_of None None }) (catch_of (Catch (number 0)) (number 1) ∷ catch_of CatchAllRef (number 2) ∷ []))
+
+-- `(on 0 switch) (on 1 2)`
+abbrev pub Handlers : Type 0
+Handlers =
+    Spelled resume_table (in_parens (Keyword (codes "on") ∷ Integer (codes "0") ∷ Keyword (codes "switch") ∷ []) ++ in_parens (Keyword (codes "on") ∷ Integer (codes "1") ∷ Integer (codes "2") ∷ []))
+    (on_switch (number 0) ∷ on_label (number 1) (number 2) ∷ [])
+
+-- no tokens, `(result)`, and `(result i32) (result i64)`
+abbrev pub Selects : Type 0
+Selects =
+    Spelled select_types [] None
+    × Spelled select_types (in_parens (Keyword (codes "result") ∷ [])) (Some [])
+    × Spelled select_types (in_parens (Keyword (codes "result") ∷ Keyword (codes "i32") ∷ []) ++ in_parens (Keyword (codes "result") ∷ Keyword (codes "i64") ∷ [])) (Some (i32 ∷ i64 ∷ []))

@@ -1,0 +1,67 @@
+-- Texts as tokens, and the types that they spell: what is read of them.
+use Rattle.std.proofs.Common.{◌≡◌, List, [], ◌∷◌, ◌++◌, Some, refl}
+use Rattle.std.specs.Prelude.{codes}
+use Rattle.wat_tokens.specs.Token.{Tok, RParen, Keyword, Integer}
+use Rattle.wat_tokens.specs.NameAnnotation.{name_annotation}
+use Rattle.wat_tokens.specs.Spelled.{in_parens, Spelled, spelled}
+use Rattle.wat_tokens.specs.Many.{many_at, many_reads}
+use Rattle.wat_tokens.specs.Number.{read}
+use Rattle.wat_types.specs.Define.{kind, linked, described, maybe_shared, type_def, type_}
+use Rattle.wat_types.specs.Exponent.{exponent}
+use Rattle.wat_types.specs.Function.{function_type, func_groups, function_groups}
+use Rattle.wat_types.specs.Group.{plain_params, params, val_types, func_group, begins_func}
+use Rattle.wat_types.specs.Heap.{abstract_heap_type, heap_type}
+use Rattle.wat_types.specs.Label.{label}
+use Rattle.wat_types.specs.Limits.{is_64, limits_type, page_exponent, pagesize, pagesize_or_none}
+use Rattle.wat_types.specs.Reference.{shorthand, ref_type}
+use Rattle.wat_types.specs.Rows.{PageSizes, Globals, LongLimits, FinalSub, OpenSub, Structure, Described, Uses}
+use Rattle.wat_types.specs.Storage.{storage_type, global_type}
+use Rattle.wat_types.specs.Struct.{field_type, plain_members, members, member_group, struct_type}
+use Rattle.wat_types.specs.Use.{type_use}
+use Rattle.wat_types.specs.Value.{val_type}
+
+abbrev text_64k : List Tok
+text_64k = Integer (codes "65536") ∷ []
+
+exponent_64k : page_exponent.reads (text_64k ++ RParen ∷ []) ≡ Some (16, RParen ∷ [])
+unfolding page_exponent read
+exponent_64k = page_exponent.complete 16 text_64k (RParen ∷ []) (65536, (Integer (codes "65536"), refl, refl), refl)
+
+abbrev page_text_64k : List Tok
+page_text_64k = in_parens (Keyword (codes "pagesize") ∷ text_64k)
+
+page_of_64k : Spelled pagesize_or_none page_text_64k (Some 16)
+unfolding pagesize_or_none pagesize
+page_of_64k = spelled pagesize_or_none page_text_64k (Some 16) (rw exponent_64k refl)
+
+pub page_sizes : PageSizes
+unfolding pagesize_or_none pagesize page_exponent exponent read
+page_sizes = (spelled pagesize_or_none _ _ refl, page_of_64k, spelled pagesize_or_none _ _ refl)
+
+pub globals : Globals
+unfolding global_type val_type ref_type shorthand many_at many_reads read
+globals = (spelled global_type _ _ refl, spelled global_type _ _ refl)
+
+pub long_limits : LongLimits
+unfolding limits_type is_64 many_at many_reads read
+long_limits = spelled limits_type _ _ refl
+
+pub final_sub : FinalSub
+unfolding type_def maybe_shared described linked kind function_groups func_groups func_group many_at many_reads read
+final_sub = spelled type_def _ _ refl
+
+pub open_sub : OpenSub
+unfolding type_def maybe_shared described linked kind field_type storage_type many_at many_reads read
+open_sub = (spelled type_def _ _ refl, spelled type_def _ _ refl)
+
+pub structure : Structure
+unfolding struct_type member_group members plain_members label name_annotation field_type storage_type val_type many_at many_reads read
+structure = spelled struct_type _ _ refl
+
+pub described_type : Described
+unfolding type_ type_def maybe_shared described linked kind label name_annotation struct_type member_group many_at many_reads read
+described_type = spelled type_ _ _ refl
+
+pub uses : Uses
+unfolding type_use function_groups func_groups func_group params plain_params val_type label name_annotation many_at many_reads read
+uses = (spelled (type_use begins_func function_type) _ _ refl, spelled (type_use begins_func function_type) _ _ refl, spelled (type_use begins_func function_type) _ _ refl)
