@@ -41,9 +41,9 @@ pub struct MemoryType {
     pub page_size_log2: Option<u32>,
 }
 
-/// Takes `i64` or `i32`, where it stands in front, and answers whether it is `i64`.
+/// Takes `i64` or `i32`, where it stands in front, and answers whether it is `i64` (Text Format, Types, "Limits").
 #[tactic(auto, unfolding(crate::specs::Limits::is_64))]
-fn take_is64<'a>(parser: &mut Parser<'a>) -> Result<bool>
+pub fn take_is64<'a>(parser: &mut Parser<'a>) -> Result<bool>
     ensures reads { ReadsLight (λ b. b) result (is_64.reads parser.old.left) parser.old parser.new }
 {
     if parser.next_is("i64") {

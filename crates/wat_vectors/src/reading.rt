@@ -33,6 +33,26 @@ pub fn refusal<T: Drop>(found: Result<T, Error>) -> Option<(Fault, usize)> {
     }
 }
 
+/// The first text that isn't refused with the fault at the offset of its row, and what it gives; None where each is
+/// refused so, whether or not the standard annotations are known.
+pub fn refused_otherwise<'a, T: Parse<'a> + Drop>(
+    alloc: Global,
+    arena: &'a Bump,
+    rows: &[(&'a str, Fault, usize)],
+) -> Option<(&'a str, Option<(Fault, usize)>)> {
+    for &(text, fault, offset) in rows {
+        let known = refusal(read::<T>(alloc, text, arena));
+        if known != Some((fault, offset)) {
+            return Some((text, known));
+        }
+        let unknown = refusal(read_unannotated::<T>(alloc, text, arena));
+        if unknown != Some((fault, offset)) {
+            return Some((text, unknown));
+        }
+    }
+    None
+}
+
 /// The number that an index is.
 pub fn number_of(index: Index<'_>) -> Option<u32> {
     match index {

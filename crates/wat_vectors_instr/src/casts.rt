@@ -1,14 +1,15 @@
 //! Casts and the types of a `select` as they are read and cloned, and their faults with the offset.
 
 use bumpalo::Bump;
+use std::alloc::Global;
 use std::test::Fail;
 use wat_operands::{
     BrOnCast, BrOnCastDescEq, BrOnCastDescEqFail, BrOnCastFail, RefCast, RefCastDescEq, RefTest,
     SelectTypes,
 };
-use wat_tokens::{Fault, Index};
+use wat_tokens::{Error, Fault, Index};
 use wat_types::{AbstractHeapType, HeapType, RefType, ValType};
-use wat_vectors::reading::{name_of, number_of, read, refusal, repeated};
+use wat_vectors::reading::{name_of, number_of, read, refused_otherwise, repeated};
 
 /// Whether the branch is `1 (ref i31) anyref`.
 fn is_wanted(label: Index<'_>, from: RefType<'_>, to: RefType<'_>) -> bool {
@@ -32,10 +33,6 @@ fn casts(rt: HostRuntime) -> Result<(), Fail> {
     assert_eq!(rt; (named.nullable, name), (false, Some("t")));
     assert!(rt; read::<RefCast>(alloc, text, &arena)?.clone()?.type_ == named);
     assert!(rt; read::<RefCastDescEq>(alloc, text, &arena)?.clone()?.type_ == named);
-    assert_eq!(rt;
-        refusal(read::<RefTest>(alloc, "i32", &arena)),
-        Some((Fault::Unexpected, 0))
-    );
     Ok(())
 }
 
@@ -56,83 +53,64 @@ fn branches_on_casts(rt: HostRuntime) -> Result<(), Fail> {
 }
 
 #[test]
-fn branches_that_are_refused(rt: HostRuntime) {
+fn refused(rt: HostRuntime) {
+    let alloc = rt.alloc();
+    let arena = Bump::new(alloc);
+    let rows = &[("i32", Fault::Unexpected, 0)];
+    assert_eq!(rt; refused_otherwise::<RefTest>(alloc, &arena, rows), None);
+    let rows = &[
+        ("anyref", Fault::Unexpected, 0),
+        ("1 (ref i31)", Fault::Unexpected, 11),
+        ("1 anyref (shared $t)", Fault::Unexpected, 17),
+    ];
+    assert_eq!(rt;
+        refused_otherwise::<BrOnCastFail>(alloc, &arena, rows),
+        None
+    );
+    let rows = &[
+        ("nop result", Fault::Unexpected, 0),
+        ("(result i32", Fault::Unexpected, 11),
+        ("(result i32) (result i8)", Fault::Unexpected, 21),
+    ];
+    assert_eq!(rt; refused_otherwise::<SelectTypes>(alloc, &arena, rows), None);
+}
+
+/// How many types a `select` and its clone have, None of one without a list of them.
+fn count_of(alloc: Global, text: &str) -> Result<(Option<usize>, Option<usize>), Error> {
+    let arena = Bump::new(alloc);
+    let found = read::<SelectTypes>(alloc, text, &arena)?;
+    let copy = found.clone()?;
+    let count = found.tys.as_ref().map(|tys| tys.len());
+    Ok((count, copy.tys.as_ref().map(|tys| tys.len())))
+}
+
+/// The types of the clone of a `select` that has a list of them.
+fn types_of<'a>(alloc: Global, text: &'a str, arena: &'a Bump) -> Result<Vec<ValType<'a>>, Fail> {
+    let found = read::<SelectTypes>(alloc, text, arena)?.clone()?;
+    Ok(found.tys.ok_or("no types")?)
+}
+
+#[test]
+fn selects(rt: HostRuntime) -> Result<(), Fail> {
     let alloc = rt.alloc();
     let arena = Bump::new(alloc);
     for (text, wanted) in [
-        ("anyref", (Fault::Unexpected, 0)),
-        ("1 (ref i31)", (Fault::Unexpected, 11)),
-        ("1 anyref (shared $t)", (Fault::Unexpected, 17)),
+        ("", None),
+        ("nop", None),
+        ("(then)", None),
+        (")", None),
+        ("(result)", Some(0)),
+        ("(result) (result) nop", Some(0)),
     ] {
-        assert_eq!(rt;
-            refusal(read::<BrOnCastFail>(alloc, text, &arena)),
-            Some(wanted),
-            "at {text}"
-        );
+        assert_eq!(rt; count_of(alloc, text)?, (wanted, wanted), "at {text}");
     }
-}
-
-#[test]
-fn selects_without_types(rt: HostRuntime) -> Result<(), Fail> {
-    let alloc = rt.alloc();
-    let arena = Bump::new(alloc);
-    for text in ["", "nop", "(then)", ")"] {
-        let found = read::<SelectTypes>(alloc, text, &arena)?;
-        assert!(rt;
-            found.tys.is_none() && found.clone()?.tys.is_none(),
-            "at {text}"
-        );
-    }
-    Ok(())
-}
-
-#[test]
-fn selects_of_no_type(rt: HostRuntime) -> Result<(), Fail> {
-    let alloc = rt.alloc();
-    let arena = Bump::new(alloc);
-    for text in ["(result)", "(result) (result) nop"] {
-        let found = read::<SelectTypes>(alloc, text, &arena)?.clone()?;
-        assert_eq!(rt; found.tys.map(|tys| tys.len()), Some(0), "at {text}");
-    }
-    Ok(())
-}
-
-#[test]
-fn selects_of_types(rt: HostRuntime) -> Result<(), Fail> {
-    let alloc = rt.alloc();
-    let arena = Bump::new(alloc);
-    let found = read::<SelectTypes>(alloc, "(result i32) (result) (result i64)", &arena)?;
-    let tys = found.clone()?.tys.ok_or("no types")?;
+    let tys = types_of(alloc, "(result i32) (result) (result i64)", &arena)?;
     assert_eq!(rt; tys.len(), 2);
     assert!(rt; tys[0] == ValType::I32 && tys[1] == ValType::I64);
-    Ok(())
-}
-
-#[test]
-fn selects_that_are_refused(rt: HostRuntime) {
-    let alloc = rt.alloc();
-    let arena = Bump::new(alloc);
-    for (text, wanted) in [
-        ("nop result", (Fault::Unexpected, 0)),
-        ("(result i32", (Fault::Unexpected, 11)),
-        ("(result i32) (result i8)", (Fault::Unexpected, 21)),
-    ] {
-        assert_eq!(rt;
-            refusal(read::<SelectTypes>(alloc, text, &arena)),
-            Some(wanted),
-            "at {text}"
-        );
-    }
-}
-
-#[test]
-fn selects_of_any_length(rt: HostRuntime) -> Result<(), Fail> {
-    let alloc = rt.alloc();
     for count in [0, 1, 2, 1000] {
-        let arena = Bump::new(alloc);
         let text = repeated(alloc, "(result f64)", " (result f64)", count, "")?;
-        let found = read::<SelectTypes>(alloc, text.as_str(), &arena)?.clone()?;
-        let tys = found.tys.ok_or("no types")?;
+        let inner = Bump::new(alloc);
+        let tys = types_of(alloc, text.as_str(), &inner)?;
         assert_eq!(rt; tys.len(), count + 1);
         assert!(rt; tys.iter().all(|ty| *ty == ValType::F64));
     }

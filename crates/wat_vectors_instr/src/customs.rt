@@ -21,7 +21,7 @@ fn read_behind_open<'a, T: Parse<'a>>(
 }
 
 #[test]
-fn places_before(rt: HostRuntime) -> Result<(), Fail> {
+fn places(rt: HostRuntime) -> Result<(), Fail> {
     let alloc = rt.alloc();
     let arena = Bump::new(alloc);
     for (text, place) in [
@@ -33,19 +33,9 @@ fn places_before(rt: HostRuntime) -> Result<(), Fail> {
             CustomPlace::Before(CustomPlaceAnchor::Import),
         ),
     ] {
-        assert_eq!(rt;
-            read_behind_open::<CustomPlace>(alloc, text, &arena)?,
-            place,
-            "at {text}"
-        );
+        let found = read_behind_open::<CustomPlace>(alloc, text, &arena)?;
+        assert_eq!(rt; found, place, "at {text}");
     }
-    Ok(())
-}
-
-#[test]
-fn places_after(rt: HostRuntime) -> Result<(), Fail> {
-    let alloc = rt.alloc();
-    let arena = Bump::new(alloc);
     for (text, anchor) in [
         ("(after code", CustomPlaceAnchor::Code),
         ("(after func", CustomPlaceAnchor::Func),
@@ -58,28 +48,26 @@ fn places_after(rt: HostRuntime) -> Result<(), Fail> {
         ("(after data", CustomPlaceAnchor::Data),
         ("(after tag", CustomPlaceAnchor::Tag),
     ] {
-        assert_eq!(rt;
-            read_behind_open::<CustomPlace>(alloc, text, &arena)?,
-            CustomPlace::After(anchor),
-            "at {text}"
-        );
+        let found = read_behind_open::<CustomPlace>(alloc, text, &arena)?;
+        assert_eq!(rt; found, CustomPlace::After(anchor), "at {text}");
+    }
+    for (text, offset) in [("(before last", 8), ("(after first", 7), ("(first", 1)] {
+        let found = refusal(read_behind_open::<CustomPlace>(alloc, text, &arena));
+        assert_eq!(rt; found, Some((Fault::Unexpected, offset)), "at {text}");
     }
     Ok(())
 }
 
 #[test]
-fn places_that_are_none(rt: HostRuntime) {
-    let alloc = rt.alloc();
-    let arena = Bump::new(alloc);
-    for (text, offset) in [("(before last", 8), ("(after first", 7), ("(first", 1)] {
-        let found = refusal(read_behind_open::<CustomPlace>(alloc, text, &arena));
-        assert_eq!(rt; found, Some((Fault::Unexpected, offset)), "at {text}");
-    }
-}
-
-#[test]
 fn raw_sections(rt: HostRuntime) -> Result<(), Fail> {
     let alloc = rt.alloc();
+    for count in [0, 1, 1000] {
+        let text = repeated(alloc, "(@custom \"b\"", " \"cd\"", count, ")")?;
+        let arena = Bump::new(alloc);
+        let found = read_behind_open::<RawCustomSection>(alloc, &text, &arena)?;
+        assert_eq!(rt; found.place, CustomPlace::AfterLast);
+        assert_eq!(rt; found.data.len(), count);
+    }
     let arena = Bump::new(alloc);
     let text = "(@custom \"a\" (before first) \"xy\" \"\\ff\")";
     let found = read_behind_open::<Custom>(alloc, text, &arena)?;
@@ -98,21 +86,16 @@ fn raw_sections(rt: HostRuntime) -> Result<(), Fail> {
 }
 
 #[test]
-fn raw_sections_of_any_length(rt: HostRuntime) -> Result<(), Fail> {
+fn producers(rt: HostRuntime) -> Result<(), Fail> {
     let alloc = rt.alloc();
-    for count in [0, 1, 1000] {
-        let text = repeated(alloc, "(@custom \"b\"", " \"cd\"", count, ")")?;
+    for count in [0, 1, 2, 1000] {
+        let part = " (processed-by \"d\" \"4\")";
+        let text = repeated(alloc, "(@producers", part, count, ")")?;
         let arena = Bump::new(alloc);
-        let found = read_behind_open::<RawCustomSection>(alloc, &text, &arena)?;
-        assert_eq!(rt; found.place, CustomPlace::AfterLast);
-        assert_eq!(rt; found.data.len(), count);
+        let found = read_behind_open::<Producers>(alloc, &text, &arena)?;
+        let held = found.fields.as_slice().first();
+        assert_eq!(rt; held.map_or(0, |field| field.1.len()), count);
     }
-    Ok(())
-}
-
-#[test]
-fn producers_by_field(rt: HostRuntime) -> Result<(), Fail> {
-    let alloc = rt.alloc();
     let arena = Bump::new(alloc);
     let text = "(@producers (sdk \"a\" \"1\") (language \"b\" \"2\") (sdk \"c\" \"3\"))";
     let found = read_behind_open::<Custom>(alloc, text, &arena)?;
@@ -129,20 +112,6 @@ fn producers_by_field(rt: HostRuntime) -> Result<(), Fail> {
             assert_eq!(rt; entries.as_slice(), [("a", "1"), ("c", "3")].as_slice());
         }
         _ => assert!(rt; false, "no producers section"),
-    }
-    Ok(())
-}
-
-#[test]
-fn producers_of_any_length(rt: HostRuntime) -> Result<(), Fail> {
-    let alloc = rt.alloc();
-    for count in [0, 1, 2, 1000] {
-        let part = " (processed-by \"d\" \"4\")";
-        let text = repeated(alloc, "(@producers", part, count, ")")?;
-        let arena = Bump::new(alloc);
-        let found = read_behind_open::<Producers>(alloc, &text, &arena)?;
-        let held = found.fields.as_slice().first();
-        assert_eq!(rt; held.map_or(0, |field| field.1.len()), count);
     }
     Ok(())
 }
@@ -192,69 +161,69 @@ const RUNS: &str =
 const OTHERS: &str =
     "(@dylink.0 (mem-info (table 1 2)) (target-arch \"t\") (runtime-path \"p\" \"q\") (import-info \"m\" \"n\" 1) (import-info \"m\" \"o\"))";
 
-#[test]
-fn runs_of_entries_are_one_subsection(rt: HostRuntime) -> Result<(), Fail> {
-    let alloc = rt.alloc();
+/// The numbers of the subsections of a text, each with how many entries it has.
+fn counts_in(alloc: Global, text: &str) -> Result<Vec<(u8, usize)>, Fail> {
     let arena = Bump::new(alloc);
-    let found = read_behind_open::<Dylink0>(alloc, RUNS, &arena)?;
-    assert_eq!(rt; found.subsections.len(), 3);
-    for (i, id, count) in [(0, 3, 2), (1, 2, 1), (2, 3, 1)] {
-        let section = &found.subsections[i];
-        assert_eq!(rt; (section.id(), count_of(section)), (id, count), "at {i}");
+    let found = read_behind_open::<Dylink0>(alloc, text, &arena)?;
+    let mut counts = Vec::new(alloc);
+    for section in &found.subsections {
+        counts.push((section.id(), count_of(section)))?;
     }
-    Ok(())
+    Ok(counts)
+}
+
+/// The entry number k of the subsection number i of a text, where there is one.
+fn entry_in<'a>(
+    alloc: Global,
+    text: &'a str,
+    arena: &'a Bump,
+    i: usize,
+    k: usize,
+) -> Result<Option<(&'a str, u32)>, Error> {
+    let found = read_behind_open::<Dylink0>(alloc, text, arena)?;
+    match found.subsections.get(i) {
+        Some(section) => Ok(entry_of(section, k)),
+        None => Ok(None),
+    }
 }
 
 #[test]
-fn entries_of_runs(rt: HostRuntime) -> Result<(), Fail> {
+fn subsections(rt: HostRuntime) -> Result<(), Fail> {
     let alloc = rt.alloc();
     let arena = Bump::new(alloc);
-    let found = read_behind_open::<Dylink0>(alloc, RUNS, &arena)?;
-    assert_eq!(rt; found.subsections.len(), 3);
-    for (i, k, name, flags) in [
-        (0, 0, "a", 256),
-        (0, 1, "b", 3),
-        (1, 0, "x", 0),
-        (2, 0, "c", 0),
+    let counts = counts_in(alloc, RUNS)?;
+    assert_eq!(rt; counts.as_slice(), [(3, 2), (2, 1), (3, 1)].as_slice());
+    let counts = counts_in(alloc, OTHERS)?;
+    assert_eq!(rt;
+        counts.as_slice(),
+        [(1, 0), (6, 0), (5, 2), (4, 2)].as_slice()
+    );
+    for (text, i, k, name, flags) in [
+        (RUNS, 0, 0, "a", 256),
+        (RUNS, 0, 1, "b", 3),
+        (RUNS, 1, 0, "x", 0),
+        (RUNS, 2, 0, "c", 0),
+        (OTHERS, 1, 0, "t", 0),
+        (OTHERS, 2, 1, "q", 0),
+        (OTHERS, 3, 0, "n", 1),
+        (OTHERS, 3, 1, "o", 0),
     ] {
-        let entry = entry_of(&found.subsections[i], k);
+        let entry = entry_in(alloc, text, &arena, i, k)?;
         assert_eq!(rt; entry, Some((name, flags)), "at {i}, {k}");
     }
     Ok(())
 }
 
 #[test]
-fn other_subsections(rt: HostRuntime) -> Result<(), Fail> {
+fn sizes_and_an_empty_section(rt: HostRuntime) -> Result<(), Fail> {
     let alloc = rt.alloc();
     let arena = Bump::new(alloc);
     let found = read_behind_open::<Dylink0>(alloc, OTHERS, &arena)?;
-    assert_eq!(rt; found.subsections.len(), 4);
-    for (i, id, count) in [(0, 1, 0), (1, 6, 0), (2, 5, 2), (3, 4, 2)] {
-        let section = &found.subsections[i];
-        assert_eq!(rt; (section.id(), count_of(section)), (id, count), "at {i}");
-    }
-    assert_eq!(rt; sizes_of(&found.subsections[0]), Some([0, 0, 1, 2]));
+    let sizes = found.subsections.first().and_then(sizes_of);
+    assert_eq!(rt; sizes, Some([0, 0, 1, 2]));
     let found = read_behind_open::<Custom>(alloc, "(@dylink.0)", &arena)?;
     assert_eq!(rt; found.place(), CustomPlace::BeforeFirst);
     assert_eq!(rt; found.name(), "dylink.0");
-    Ok(())
-}
-
-#[test]
-fn entries_of_other_subsections(rt: HostRuntime) -> Result<(), Fail> {
-    let alloc = rt.alloc();
-    let arena = Bump::new(alloc);
-    let found = read_behind_open::<Dylink0>(alloc, OTHERS, &arena)?;
-    assert_eq!(rt; found.subsections.len(), 4);
-    for (i, k, name, flags) in [
-        (1, 0, "t", 0),
-        (2, 1, "q", 0),
-        (3, 0, "n", 1),
-        (3, 1, "o", 0),
-    ] {
-        let entry = entry_of(&found.subsections[i], k);
-        assert_eq!(rt; entry, Some((name, flags)), "at {i}, {k}");
-    }
     Ok(())
 }
 
@@ -273,7 +242,7 @@ fn first_export(alloc: Global, text: &str) -> Result<(u32, usize), Error> {
 }
 
 #[test]
-fn flags(rt: HostRuntime) -> Result<(), Fail> {
+fn flags_and_exports_of_any_length(rt: HostRuntime) -> Result<(), Fail> {
     let alloc = rt.alloc();
     for (flags, wanted) in [
         ("", 0),
@@ -290,12 +259,6 @@ fn flags(rt: HostRuntime) -> Result<(), Fail> {
         let text = repeated(alloc, "(@dylink.0 (export-info \"f\" ", flags, 1, "))")?;
         assert_eq!(rt; first_export(alloc, &text)?, (wanted, 1), "at {flags}");
     }
-    Ok(())
-}
-
-#[test]
-fn exports_of_any_length(rt: HostRuntime) -> Result<(), Fail> {
-    let alloc = rt.alloc();
     for count in [1, 2, 1000] {
         let text = repeated(alloc, "(@dylink.0", " (export-info \"f\" 8 1)", count, ")")?;
         assert_eq!(rt; first_export(alloc, &text)?, (9, count));
@@ -317,17 +280,6 @@ fn faults_of_sections(rt: HostRuntime) {
         ("(@producers (tool \"a\" \"1\"))", Fault::Unexpected, 13),
         ("(@producers (sdk \"a\"))", Fault::Unexpected, 20),
         ("(@producers sdk)", Fault::Unexpected, 12),
-    ] {
-        let found = refusal(read_behind_open::<Custom>(alloc, text, &arena));
-        assert_eq!(rt; found, Some((fault, offset)), "at {text}");
-    }
-}
-
-#[test]
-fn faults_of_subsections(rt: HostRuntime) {
-    let alloc = rt.alloc();
-    let arena = Bump::new(alloc);
-    for (text, fault, offset) in [
         ("(@dylink.0 (foo))", Fault::Unexpected, 12),
         ("(@dylink.0 (mem-info (table 1)))", Fault::Unexpected, 29),
         (

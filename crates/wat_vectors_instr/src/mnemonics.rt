@@ -26,7 +26,7 @@ fn bytes_of(alloc: Global, head: Head) -> Result<Option<Vec<u8>>, Error> {
 }
 
 #[test]
-fn words_that_are_mnemonics(rt: HostRuntime) -> Result<(), Fail> {
+fn words(rt: HostRuntime) -> Result<(), Fail> {
     let alloc = rt.alloc();
     let arena = Bump::new(alloc);
     assert_eq!(rt;
@@ -43,35 +43,22 @@ fn words_that_are_mnemonics(rt: HostRuntime) -> Result<(), Fail> {
     );
     assert_eq!(rt; take(alloc, "if", &arena)?.mnemonic(), "if");
     assert_eq!(rt; take(alloc, "f64.const 1", &arena)?, Head::f64_const);
-    Ok(())
-}
-
-#[test]
-fn words_that_are_none(rt: HostRuntime) {
-    let alloc = rt.alloc();
-    let arena = Bump::new(alloc);
     for text in [
         "a.b", "zzz", "try_", "try_tabl", "i32.addx", "i32_add", "(", ")", "$i32.add", "0",
         "\"nop\"", "=", "",
     ] {
-        assert_eq!(rt;
-            refusal(take(alloc, text, &arena)),
-            Some((Fault::Operator, 0)),
-            "at {text}"
-        );
+        let found = refusal(take(alloc, text, &arena));
+        assert_eq!(rt; found, Some((Fault::Operator, 0)), "at {text}");
     }
-    assert_eq!(rt;
-        refusal(take(alloc, "  a", &arena)),
-        Some((Fault::Operator, 2))
-    );
-    assert_eq!(rt;
-        refusal(take(alloc, " (; ;) ", &arena)),
-        Some((Fault::Operator, 7))
-    );
+    for (text, offset) in [("  a", 2), (" (; ;) ", 7)] {
+        let found = refusal(take(alloc, text, &arena));
+        assert_eq!(rt; found, Some((Fault::Operator, offset)), "at {text}");
+    }
+    Ok(())
 }
 
 #[test]
-fn opcodes(rt: HostRuntime) -> Result<(), Fail> {
+fn opcodes_and_alignments(rt: HostRuntime) -> Result<(), Fail> {
     let alloc = rt.alloc();
     let mut found = Vec::new(alloc);
     for i in 0..HEADS.len() {
@@ -82,15 +69,11 @@ fn opcodes(rt: HostRuntime) -> Result<(), Fail> {
     assert_eq!(rt; found.len(), 339);
     let add = bytes_of(alloc, Head::Scalar(ScalarOp::i32_add))?;
     assert_eq!(rt; add.as_deref(), Some(&[0x6a][..]));
-    Ok(())
-}
-
-#[test]
-fn default_alignments(rt: HostRuntime) {
     assert_eq!(rt; AccessOp::i64_load.align(), 8);
     assert_eq!(rt; AccessOp::i64_store32.align(), 4);
     assert_eq!(rt; AccessOp::v128_load.align(), 16);
     assert_eq!(rt; AtomicAccessOp::i64_atomic_load16_u.align(), 2);
     assert_eq!(rt; RmwAccessOp::i64_atomic_rmw_cmpxchg.align(), 8);
     assert_eq!(rt; LaneAccessOp::v128_load8_lane.align(), 1);
+    Ok(())
 }

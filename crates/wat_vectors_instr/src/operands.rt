@@ -10,59 +10,52 @@ use wat_immediates::{
     ContBind, I8x16Shuffle, MemoryArg, MemoryCopy, MemoryInit, StructAccess, Switch, TableArg,
     TableCopy, TableInit, V128Const,
 };
-use wat_tokens::{F32, F64, Fault, Index, Span};
-use wat_vectors::reading::{number_of, read_unannotated, refusal};
+use wat_tokens::{Error, F32, F64, Fault, Index, Span};
+use wat_vectors::reading::{number_of, read_unannotated, refused_otherwise};
 
 /// The index of the number, at the beginning of the text.
 fn numbered<'a>(number: u32) -> Index<'a> {
     Index::Num(number, Span::from_offset(0))
 }
 
-#[test]
-fn segments_that_are_copied(rt: HostRuntime) -> Result<(), Fail> {
-    let alloc = rt.alloc();
+/// What a `table.init` and a `memory.init` copy to, and from which segment.
+fn segments_in(alloc: Global, text: &str) -> Result<[(Option<u32>, Option<u32>); 2], Error> {
     let arena = Bump::new(alloc);
-    for (text, target, segment) in [("1", 0, 1), ("2 1", 2, 1), ("1 nop", 0, 1)] {
-        let found = read_unannotated::<TableInit>(alloc, text, &arena)?;
-        assert_eq!(rt; found.table, numbered(target), "at {text}");
-        assert_eq!(rt; found.elem, numbered(segment), "at {text}");
-        let found = read_unannotated::<MemoryInit>(alloc, text, &arena)?;
-        assert_eq!(rt; found.mem, numbered(target), "at {text}");
-        assert_eq!(rt; found.data, numbered(segment), "at {text}");
-    }
-    assert_eq!(rt;
-        refusal(read_unannotated::<TableInit>(alloc, "nop 1", &arena)),
-        Some((Fault::Unexpected, 0))
-    );
-    Ok(())
+    let table = read_unannotated::<TableInit>(alloc, text, &arena)?;
+    let memory = read_unannotated::<MemoryInit>(alloc, text, &arena)?;
+    Ok([
+        (number_of(table.table), number_of(table.elem)),
+        (number_of(memory.mem), number_of(memory.data)),
+    ])
+}
+
+/// What a `table.copy` and the clone of a `memory.copy` copy to, and from where.
+fn copies_in(alloc: Global, text: &str) -> Result<[(Option<u32>, Option<u32>); 2], Error> {
+    let arena = Bump::new(alloc);
+    let table = read_unannotated::<TableCopy>(alloc, text, &arena)?;
+    let memory = read_unannotated::<MemoryCopy>(alloc, text, &arena)?.clone()?;
+    Ok([
+        (number_of(table.dst), number_of(table.src)),
+        (number_of(memory.dst), number_of(memory.src)),
+    ])
 }
 
 #[test]
-fn tables_and_memories(rt: HostRuntime) -> Result<(), Fail> {
+fn segments_tables_and_memories(rt: HostRuntime) -> Result<(), Fail> {
     let alloc = rt.alloc();
-    let arena = Bump::new(alloc);
-    for (text, dst, src) in [("", 0, 0), ("1 2", 1, 2)] {
-        let found = read_unannotated::<TableCopy>(alloc, text, &arena)?;
-        assert_eq!(rt;
-            (found.dst, found.src),
-            (numbered(dst), numbered(src)),
-            "at {text}"
-        );
-        let found = read_unannotated::<MemoryCopy>(alloc, text, &arena)?.clone()?;
-        assert_eq!(rt;
-            (found.dst, found.src),
-            (numbered(dst), numbered(src)),
-            "at {text}"
-        );
+    for (text, target, segment) in [("1", 0, 1), ("2 1", 2, 1), ("1 nop", 0, 1)] {
+        let wanted = (Some(target), Some(segment));
+        assert_eq!(rt; segments_in(alloc, text)?, [wanted, wanted], "at {text}");
     }
+    for (text, dst, src) in [("", 0, 0), ("1 2", 1, 2)] {
+        let wanted = (Some(dst), Some(src));
+        assert_eq!(rt; copies_in(alloc, text)?, [wanted, wanted], "at {text}");
+    }
+    let arena = Bump::new(alloc);
     let found = read_unannotated::<TableArg>(alloc, "3", &arena)?;
     assert_eq!(rt; found.dst, numbered(3));
     let found = read_unannotated::<MemoryArg>(alloc, "nop", &arena)?;
     assert_eq!(rt; found.mem, numbered(0));
-    assert_eq!(rt;
-        refusal(read_unannotated::<TableCopy>(alloc, "1", &arena)),
-        Some((Fault::Unexpected, 1))
-    );
     Ok(())
 }
 
@@ -91,14 +84,6 @@ fn pairs_of_indices(rt: HostRuntime) -> Result<(), Fail> {
         read_unannotated::<ArrayFill>(alloc, "1 2", &arena)?.array,
         wanted.0
     );
-    assert_eq!(rt;
-        refusal(read_unannotated::<ArrayNewFixed>(alloc, "1 $l", &arena)),
-        Some((Fault::Unexpected, 2))
-    );
-    assert_eq!(rt;
-        refusal(read_unannotated::<Switch>(alloc, "1 4294967296", &arena)),
-        Some((Fault::Range, 2))
-    );
     Ok(())
 }
 
@@ -124,23 +109,14 @@ fn count_up(labels: &[Index<'_>]) -> bool {
 #[test]
 fn labels(rt: HostRuntime) -> Result<(), Fail> {
     let alloc = rt.alloc();
-    let arena = Bump::new(alloc);
     for count in [1, 2, 3, 1001] {
         let text = counted(alloc, count)?;
-        let inner = Bump::new(alloc);
-        let found = read_unannotated::<BrTableIndices>(alloc, &text, &inner)?.clone()?;
+        let arena = Bump::new(alloc);
+        let found = read_unannotated::<BrTableIndices>(alloc, &text, &arena)?.clone()?;
         assert_eq!(rt; found.default, numbered(count - 1), "of {count}");
         assert_eq!(rt; found.labels.len(), count as usize - 1, "of {count}");
         assert!(rt; count_up(found.labels.as_slice()), "of {count}");
     }
-    assert_eq!(rt;
-        refusal(read_unannotated::<BrTableIndices>(alloc, "", &arena)),
-        Some((Fault::Unexpected, 0))
-    );
-    assert_eq!(rt;
-        refusal(read_unannotated::<BrTableIndices>(alloc, "0 -1", &arena)),
-        Some((Fault::Range, 2))
-    );
     Ok(())
 }
 
@@ -175,7 +151,7 @@ fn constants_of_integers(rt: HostRuntime) -> Result<(), Fail> {
 }
 
 #[test]
-fn constants_of_floats(rt: HostRuntime) {
+fn constants_of_floats_and_shuffles(rt: HostRuntime) -> Result<(), Fail> {
     let one = F32 { bits: 0x3f80_0000 };
     let bytes = V128Const::F32x4([one, F32 { bits: 1 }, one, one]).to_le_bytes();
     assert_eq!(rt;
@@ -188,31 +164,6 @@ fn constants_of_floats(rt: HostRuntime) {
     let bytes = V128Const::F64x2([two, F64 { bits: 2 }]).to_le_bytes();
     assert_eq!(rt; bytes, [0, 0, 0, 0, 0, 0, 0, 64, 2, 0, 0, 0, 0, 0, 0, 0]);
     equal_bytes();
-}
-
-#[test]
-fn constants_that_are_refused(rt: HostRuntime) {
-    let alloc = rt.alloc();
-    let arena = Bump::new(alloc);
-    for (text, wanted) in [
-        ("f32x4 1 2 3 4", (Fault::FloatLiteral, 6)),
-        ("f64x2 nan 0", (Fault::FloatLiteral, 6)),
-        ("f64x2 $x", (Fault::Unexpected, 6)),
-        ("i64x2 1", (Fault::Unexpected, 7)),
-        ("i8x16 128 256", (Fault::Range, 10)),
-        ("i32", (Fault::Unexpected, 0)),
-        ("1", (Fault::Unexpected, 0)),
-    ] {
-        assert_eq!(rt;
-            refusal(read_unannotated::<V128Const>(alloc, text, &arena)),
-            Some(wanted),
-            "at {text}"
-        );
-    }
-}
-
-#[test]
-fn shuffles(rt: HostRuntime) -> Result<(), Fail> {
     let alloc = rt.alloc();
     let arena = Bump::new(alloc);
     let text = "0 1 2 3 4 5 6 7 8 9 10 11 12 13 31 255";
@@ -221,9 +172,42 @@ fn shuffles(rt: HostRuntime) -> Result<(), Fail> {
         found.lanes,
         [0, 1, 2, 3, 4, 5, 6, 7, 8, 9, 10, 11, 12, 13, 31, 255]
     );
-    assert_eq!(rt;
-        refusal(read_unannotated::<I8x16Shuffle>(alloc, "0 -1", &arena)),
-        Some((Fault::Range, 2))
-    );
     Ok(())
+}
+
+#[test]
+fn refused(rt: HostRuntime) {
+    let alloc = rt.alloc();
+    let arena = Bump::new(alloc);
+    let rows = &[("nop 1", Fault::Unexpected, 0)];
+    assert_eq!(rt; refused_otherwise::<TableInit>(alloc, &arena, rows), None);
+    let rows = &[("1", Fault::Unexpected, 1)];
+    assert_eq!(rt; refused_otherwise::<TableCopy>(alloc, &arena, rows), None);
+    let rows = &[("1 $l", Fault::Unexpected, 2)];
+    assert_eq!(rt;
+        refused_otherwise::<ArrayNewFixed>(alloc, &arena, rows),
+        None
+    );
+    let rows = &[("1 4294967296", Fault::Range, 2)];
+    assert_eq!(rt; refused_otherwise::<Switch>(alloc, &arena, rows), None);
+    let rows = &[("", Fault::Unexpected, 0), ("0 -1", Fault::Range, 2)];
+    assert_eq!(rt;
+        refused_otherwise::<BrTableIndices>(alloc, &arena, rows),
+        None
+    );
+    let rows = &[("0 -1", Fault::Range, 2)];
+    assert_eq!(rt;
+        refused_otherwise::<I8x16Shuffle>(alloc, &arena, rows),
+        None
+    );
+    let rows = &[
+        ("f32x4 1 2 3 4", Fault::FloatLiteral, 6),
+        ("f64x2 nan 0", Fault::FloatLiteral, 6),
+        ("f64x2 $x", Fault::Unexpected, 6),
+        ("i64x2 1", Fault::Unexpected, 7),
+        ("i8x16 128 256", Fault::Range, 10),
+        ("i32", Fault::Unexpected, 0),
+        ("1", Fault::Unexpected, 0),
+    ];
+    assert_eq!(rt; refused_otherwise::<V128Const>(alloc, &arena, rows), None);
 }

@@ -1,0 +1,5 @@
+pub use Rattle.wat_expr.specs.Expression
+pub mod Local
+pub mod Func
+pub mod Global
+pub mod Tag

@@ -1,0 +1,52 @@
+-- Values of data segments.
+use Rattle.std.specs.Prelude.{◌≤◌, ℕ, Bool, true, List, map}
+use Rattle.std.proofs.Common.{arith}
+use Rattle.wat_tokens.specs.Tests.{more}
+use Rattle.wat_tokens.specs.Production.{Production}
+use Rattle.wat_tokens.specs.Parts.{made, where_else}
+use Rattle.wat_tokens.specs.Many.{many}
+use Rattle.wat_tokens.specs.Groups.{paren}
+use Rattle.wat_tokens.specs.Parses.{no_items}
+use Rattle.wat_tokens.specs.Strings.{string}
+use Rattle.wat_customs.specs.Raw.{begins_lparen}
+use Rattle.wat_segments.specs.Numbers.{number_list}
+use Rattle.wat_segments.specs.declared.data_val.DataVal.{DataVal}
+use Rattle.wat_segments.specs.declared.data_val.DataVal.TheVariants as code
+
+-- ---- what contracts see
+
+-- the bytes of a string, or those of numbers
+pub data DataValTy : Type 0 where
+  written : List ℕ → DataValTy
+  numbers : List ℕ → DataValTy
+
+-- all its bytes, in order
+abbrev pub bytes_in : DataValTy → List ℕ
+bytes_in (written bs) = bs
+bytes_in (numbers bs) = bs
+
+abbrev pub seen_val : DataVal → DataValTy
+seen_val (code.String s) = written s.now
+seen_val (code.Integral v) = numbers v.items
+
+abbrev pub seen_vals : List DataVal → List DataValTy
+seen_vals vs = map seen_val vs
+
+-- no number
+abbrev pub bare_val : DataValTy → Bool
+bare_val (written bs) = true
+bare_val (numbers bs) = no_items bs
+
+-- ---- the grammar
+
+-- where `(` comes next, ( numbers ); else bytes
+unfoldable pub data_val : Production DataValTy
+data_val = where_else begins_lparen (made numbers (paren number_list)) (made written string)
+
+pub data_val_eats : 1 ≤ data_val.least
+unfolding data_val
+data_val_eats = omega arith
+
+-- DataVal*, to the end
+unfoldable pub data_vals : Production (List DataValTy)
+data_vals = many more data_val data_val_eats

@@ -1,0 +1,5 @@
+//! Tests of functions with their locals, of globals and of tags.
+#![tactic(auto)]
+
+#[cfg(test)]
+mod fields;

@@ -1,0 +1,5 @@
+//! Tests of memories and data segments.
+#![tactic(auto)]
+
+#[cfg(test)]
+mod segments;
