@@ -4,3 +4,4 @@ pub mod Payload
 pub mod RefFuncs
 pub mod Elem
 pub mod Table
+pub mod Rows

@@ -5,6 +5,7 @@
 #![tactic(auto)]
 
 pub mod elem;
+pub mod laws;
 pub mod payload;
 pub mod table;
 

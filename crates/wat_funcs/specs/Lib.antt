@@ -3,3 +3,4 @@ pub mod Local
 pub mod Func
 pub mod Global
 pub mod Tag
+pub mod Rows

@@ -7,6 +7,7 @@
 
 pub mod func;
 pub mod global;
+pub mod laws;
 pub mod local;
 pub mod tag;
 

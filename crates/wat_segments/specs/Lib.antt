@@ -5,3 +5,4 @@ pub mod DataVal
 pub mod Offset
 pub mod Data
 pub mod Memory
+pub mod Rows

@@ -6,6 +6,7 @@
 
 pub mod data;
 pub mod data_val;
+pub mod laws;
 pub mod memory;
 mod numbers;
 mod offset;

@@ -55,7 +55,7 @@ fn structure_types(rt: HostRuntime) -> Result<(), Fail> {
         (2, None, None, false, long),
         (3, None, Some("y"), false, float),
     ] {
-        let field = found.fields[i];
+        let field = &found.fields[i];
         assert_eq!(rt; field.id.map(|id| id.name()), id, "at {i}");
         assert_eq!(rt; field.name.map(|name| name.name), name, "at {i}");
         assert_eq!(rt; (field.mutable, field.ty), (mutable, ty), "at {i}");

@@ -71,7 +71,7 @@ fn structures(rt: HostRuntime) -> Result<(), Fail> {
     let text = "(field $x (mut i16)) (field) (field i8 i64)";
     let fields = read_unannotated::<StructType>(alloc, text, &arena)?.fields;
     assert_eq!(rt; fields.len(), 3);
-    let first = fields[0];
+    let first = &fields[0];
     assert_eq!(rt; first.id.map(|id| id.name()), Some("x"));
     assert!(rt; first.mutable && first.ty == StorageType::I16);
     assert_eq!(rt; fields[1].ty, StorageType::I8);

@@ -1,0 +1,11 @@
+use Rattle.wat_elems.proofs.Rows.{declared_func, of_externref, active_functions}
+use Rattle.wat_elems.proofs.laws.rows.Goals as goal
+
+pub returns-clause-declared : goal.returns-clause-declared
+returns-clause-declared c = declared_func
+
+pub returns-clause-of_externref : goal.returns-clause-of_externref
+returns-clause-of_externref c = of_externref
+
+pub returns-clause-active : goal.returns-clause-active
+returns-clause-active c = active_functions
