@@ -1,5 +1,6 @@
 -- Where there is an entry, there is a field.
 use Rattle.std.proofs.Common.{◌≡◌, false, List, [], ◌∷◌, ◌++◌, Some, None, refl}
+use Rattle.wat_tokens.specs.Filled.{filled_before, filled_behind}
 use Rattle.wat_tokens.specs.Production.{Read, bind}
 use Rattle.wat_tokens.specs.Many.{after_front}
 use Rattle.wat_tokens.specs.Parses.{NotBare, no_items}
@@ -7,18 +8,10 @@ use Rattle.wat_customs.specs.Producers.{Named, EntryTy, field_of, fields_of}
 use Rattle.wat_customs.specs.declared.producers.Field.{Field}
 use Rattle.wat_customs.specs.declared.producers.Field.TheVariants.{Language, Sdk, ProcessedBy}
 
-filled_left : {A : Type 0} (xs ys : List A) → no_items xs ≡ false → no_items (xs ++ ys) ≡ false
-filled_left [] ys e = absurd cc
-filled_left (x ∷ xs) ys e = refl
-
-filled_right : {A : Type 0} (xs ys : List A) → no_items ys ≡ false → no_items (xs ++ ys) ≡ false
-filled_right [] ys e = e
-filled_right (x ∷ xs) ys e = refl
-
 first_entry : (f : Field) (n : Named) (es : List EntryTy) → no_items (fields_of ((f, n) ∷ es)) ≡ false
-first_entry Language n es = filled_left (field_of Language ((Language, n) ∷ es) ++ field_of Sdk es) (field_of ProcessedBy es) refl
-first_entry Sdk n es = filled_left (field_of Language es ++ field_of Sdk ((Sdk, n) ∷ es)) (field_of ProcessedBy es) (filled_right (field_of Language es) (field_of Sdk ((Sdk, n) ∷ es)) refl)
-first_entry ProcessedBy n es = filled_right (field_of Language es ++ field_of Sdk es) (field_of ProcessedBy ((ProcessedBy, n) ∷ es)) refl
+first_entry Language n es = filled_before (field_of Language ((Language, n) ∷ es) ++ field_of Sdk es) (field_of ProcessedBy es) refl
+first_entry Sdk n es = filled_before (field_of Language es ++ field_of Sdk ((Sdk, n) ∷ es)) (field_of ProcessedBy es) (filled_behind (field_of Language es) (field_of Sdk ((Sdk, n) ∷ es)) refl)
+first_entry ProcessedBy n es = filled_behind (field_of Language es ++ field_of Sdk es) (field_of ProcessedBy ((ProcessedBy, n) ∷ es)) refl
 
 pub fields_not_bare : (es : List EntryTy) → no_items es ≡ false → no_items (fields_of es) ≡ false
 fields_not_bare [] k = absurd cc

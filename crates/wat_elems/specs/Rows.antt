@@ -6,18 +6,15 @@ use Rattle.wat_tokens.specs.Spelled.{in_parens, Spelled}
 use Rattle.wat_types.specs.Label.{no_label}
 use Rattle.wat_types.specs.Reference.{short}
 use Rattle.wat_types.specs.declared.heap.AbstractHeapType.TheVariants as heap_word
-use Rattle.wat_links.specs.Head.{HeadTy, head_of}
+use Rattle.wat_links.specs.Head.{no_head}
 use Rattle.wat_mnemonics.specs.declared.head.Head.TheVariants as word
 use Rattle.wat_instr.specs.Instruction.{Instr, instr_of}
 use Rattle.wat_instr.specs.Operand as operands
+use Rattle.wat_expr.specs.Alone.{alone}
 use Rattle.wat_expr.specs.Expression.{Expr}
 use Rattle.wat_elems.specs.Elem.{ElemTy, declared, active, elem_of, elem}
 use Rattle.wat_elems.specs.Payload.{indices, exprs, ref_func_of}
 use Rattle.wat_elems.specs.Table.{inline, table_of, table}
-
--- nothing names a field, and it has no export in line
-abbrev pub no_head : HeadTy
-no_head = head_of no_label []
 
 -- `elem declare func 0`
 abbrev pub Declared : Type 0
@@ -35,7 +32,7 @@ abbrev pub zero_const : Instr
 zero_const = instr_of word.i32_const (operands.integer (pos 0))
 
 abbrev pub zero_alone : Expr
-zero_alone = record { instrs = zero_const ∷ []; hints = [] }
+zero_alone = alone zero_const
 
 -- `elem 0 (i32.const 0) 1 2`
 abbrev pub active_text : List Tok

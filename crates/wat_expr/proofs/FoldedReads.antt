@@ -1,6 +1,7 @@
 -- What is read of a folded instruction.
 use Rattle.std.proofs.Common.{◌≡◌, suc, List, [], ◌∷◌, ◌++◌, length, Some, None, false, refl, sym, ap, subst, ◌∙◌, arith}
 use Rattle.wat_tokens.specs.Token.{Tok, LParen}
+use Rattle.wat_tokens.specs.Filled.{filled_behind}
 use Rattle.wat_tokens.specs.Parses.{NotBare, no_items}
 use Rattle.wat_tokens.specs.Parts.{one_reads}
 use Rattle.wat_tokens.specs.Production.{Read, by_read, some_is, none_is_not}
@@ -24,10 +25,6 @@ read_none ts never =
     absurd (never s.0 s.1 y.1 (subst (λ (t : List Tok). is_folded s.0 s.1 t y.1) (sym f.1) s.2))))
     (λ e. e)
 
-some_instrs : (l : List Instr) (i : Instr) → no_items (l ++ i ∷ []) ≡ false
-some_instrs [] i = refl
-some_instrs (x ∷ l) i = refl
-
 not_bare : (x : Read Expr) → ((y : Expr × List Tok) → x ≡ Some y → no_items y.0.instrs ≡ false) → NotBare bare_expression x
 not_bare (Some y) k = k y refl
 not_bare None k = tt
@@ -36,7 +33,7 @@ not_bare None k = tt
 pub read_not_bare : (ts : List Tok) → NotBare bare_expression (folded_reads ts)
 read_not_bare ts =
     not_bare (folded_reads ts) (λ y e. (let s = (folded_sound ts y e).2 in
-    ap (λ (v : Expr). no_items v.instrs) s.3 ∙ some_instrs (plain s.1) s.0))
+    ap (λ (v : Expr). no_items v.instrs) s.3 ∙ filled_behind (plain s.1) (s.0 ∷ []) refl))
 
 -- ---- the first tokens
 

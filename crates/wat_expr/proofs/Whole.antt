@@ -4,6 +4,7 @@ use Rattle.std.proofs.Common.{◌≡◌, ℕ, ◌+◌, ◌≤◌, List, [], ◌�
 use Rattle.std.proofs.lemmas.List.{length-map}
 use Rattle.wat_tokens.specs.Counts.{Carries, Kept}
 use Rattle.wat_tokens.specs.Error.{Error, Fault, Memory}
+use Rattle.wat_tokens.specs.Filled.{filled_before, filled_behind}
 use Rattle.wat_tokens.specs.Parses.{Gives, Accepts, NotBare, no_items}
 use Rattle.wat_tokens.specs.Production.{Read, by_read, some_is}
 use Rattle.wat_tokens.specs.State.{State}
@@ -212,23 +213,15 @@ reads_nothing_listed ts never =
     absurd (never l.0 x.1 (subst (λ (u : List Tok). lists l.0 u x.1) (sym f.1) l.1) l.2)))
     (λ e. e)
 
-no_items_behind : (x y : List Instr) (i : Instr) → no_items (x ++ i ∷ y) ≡ false
-no_items_behind [] y i = refl
-no_items_behind (j ∷ x) y i = refl
-
-no_items_more : (x y : List Instr) → no_items x ≡ false → no_items (x ++ y) ≡ false
-no_items_more [] y e = absurd cc
-no_items_more (j ∷ x) y e = refl
-
 -- items behind a hint, and items of some tokens, have an instruction
 some_listed : (p : Option ℕ) (xs : Items) (ts r : List Tok) → Fits p xs → lists xs ts r → (p ≡ None → ts ≡ r → ⊥) → no_items (unfolded xs) ≡ false
 some_listed None Nil ts r f l n = absurd (n refl l)
 some_listed (Some v) Nil ts r f l n = absurd f
 some_listed p (Plain i xs) ts r f l n = refl
-some_listed p (Folded i ys xs) ts r f l n = no_items_more _ (unfolded xs) (no_items_behind (unfolded ys) [] i)
+some_listed p (Folded i ys xs) ts r f l n = filled_before _ (unfolded xs) (filled_behind (unfolded ys) (i ∷ []) refl)
 some_listed p (Block i ys xs) ts r f l n = refl
-some_listed p (IfThen i ops th xs) ts r f l n = no_items_more _ (unfolded xs) (no_items_behind (unfolded ops) _ i)
-some_listed p (IfElse i ops th el xs) ts r f l n = no_items_more _ (unfolded xs) (no_items_behind (unfolded ops) _ i)
+some_listed p (IfThen i ops th xs) ts r f l n = filled_before _ (unfolded xs) (filled_behind (unfolded ops) (i ∷ _) refl)
+some_listed p (IfElse i ops th el xs) ts r f l n = filled_before _ (unfolded xs) (filled_behind (unfolded ops) (i ∷ _) refl)
 some_listed None (Hinted v xs) ts r f l n = some_listed (Some v) xs l.0 r l.3 l.4 (λ e q. cc)
 some_listed (Some u) (Hinted v xs) ts r f l n = absurd f
 

@@ -3,6 +3,7 @@ pub mod Items
 pub mod Facts
 pub mod Expression
 pub mod Reading
+pub mod Alone
 pub mod Folded
 pub mod Flat
 pub mod FlatForm

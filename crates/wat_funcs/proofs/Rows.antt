@@ -14,42 +14,22 @@ use Rattle.wat_types.specs.Storage.{global_type}
 use Rattle.wat_types.specs.Use.{type_use, use_of}
 use Rattle.wat_types.specs.Value.{i32, i64, f32, val_type}
 use Rattle.wat_links.specs.Export.{inline_export}
-use Rattle.wat_links.specs.Head.{head}
+use Rattle.wat_links.specs.Head.{no_head, head}
 use Rattle.wat_links.specs.Import.{inline_import}
-use Rattle.wat_mnemonics.specs.Word.{head_of, head_of_word}
-use Rattle.wat_mnemonics.specs.declared.head.Head.TheVariants as word
-use Rattle.wat_mnemonics.specs.declared.scalar.ScalarOp.TheVariants as scalar
-use Rattle.wat_instr.specs.Instruction.{instruction}
-use Rattle.wat_instr.specs.Operand.{operand}
-use Rattle.wat_expr.specs.Items.{Nil, Plain, reads}
-use Rattle.wat_expr.specs.Reading.{expression}
+use Rattle.wat_expr.specs.Alone.{alone, nop, nop_read}
 use Rattle.wat_funcs.specs.Func.{inline, func_of, func_inline, func_defined, func, FuncTy}
 use Rattle.wat_funcs.specs.Global.{global_defined, global}
 use Rattle.wat_funcs.specs.Local.{local_of, labelled_local, plain_locals, listed_locals, local_parser, locals}
-use Rattle.wat_funcs.specs.Rows.{no_head, nop, nop_alone, locals_and_body, Locals, ImportedGlobal, PlainTag}
+use Rattle.wat_funcs.specs.Rows.{locals_and_body, Locals, ImportedGlobal, PlainTag}
 use Rattle.wat_funcs.specs.Tag.{tag}
-
-nop_word : head_of (codes "nop") ≡ Some (word.Scalar scalar.nop)
-nop_word = head_of_word (word.Scalar scalar.nop) (codes "nop") refl
-
-abbrev nop_text : List Tok
-nop_text = Keyword (codes "nop") ∷ []
-
-nop_front : reads nop nop_text []
-unfolding instruction operand
-nop_front = instruction.sound nop_text (nop, []) (rw nop_word refl)
-
-nop_read : expression.reads nop_text ≡ Some (nop_alone, [])
-unfolding expression
-nop_read = expression.complete nop_alone nop_text [] (Plain nop Nil, ([], nop_front, refl), refl, refl)
 
 abbrev with_locals : FuncTy
 with_locals =
-    func_of no_head (use_of None None, inline (local_of no_label i32 ∷ local_of no_label i64 ∷ local_of (label_of (Some (codes "x")) None) f32 ∷ []) nop_alone)
+    func_of no_head (use_of None None, inline (local_of no_label i32 ∷ local_of no_label i64 ∷ local_of (label_of (Some (codes "x")) None) f32 ∷ []) (alone nop))
 
 pub locals_of_groups : Locals
 unfolding func func_defined func_inline head inline_export label name_annotation type_use function_groups func_groups locals local_parser listed_locals plain_locals labelled_local val_type many_at many_reads
-locals_of_groups = spelled func (Keyword (codes "func") ∷ locals_and_body) with_locals (rw nop_read refl)
+locals_of_groups = spelled func (Keyword (codes "func") ∷ locals_and_body) with_locals (rw (nop_read [] refl) refl)
 
 pub imported_global : ImportedGlobal
 unfolding global global_defined head inline_export inline_import label name_annotation global_type val_type many_at many_reads is_utf8 chars encode_utf8

@@ -7,27 +7,13 @@ use Rattle.wat_types.specs.Label.{label_of, no_label}
 use Rattle.wat_types.specs.Storage.{plain_global}
 use Rattle.wat_types.specs.Use.{use_of}
 use Rattle.wat_types.specs.Value.{i32, i64, f32}
-use Rattle.wat_links.specs.Head.{HeadTy, head_of}
-use Rattle.wat_mnemonics.specs.declared.head.Head.TheVariants as word
-use Rattle.wat_mnemonics.specs.declared.scalar.ScalarOp.TheVariants as scalar
-use Rattle.wat_instr.specs.Instruction.{Instr, instr_of}
-use Rattle.wat_instr.specs.Operand as operands
-use Rattle.wat_expr.specs.Expression.{Expr}
+use Rattle.wat_links.specs.Head.{no_head, head_of}
+use Rattle.wat_expr.specs.Alone.{alone, nop}
 use Rattle.wat_funcs.specs.Func.{inline, func_of, func}
 use Rattle.wat_funcs.specs.Global.{global_of, global}
 use Rattle.wat_funcs.specs.Global as globals
 use Rattle.wat_funcs.specs.Local.{local_of}
 use Rattle.wat_funcs.specs.Tag.{tag_of, tag}
-
--- nothing names a field, and it has no export in line
-abbrev pub no_head : HeadTy
-no_head = head_of no_label []
-
-abbrev pub nop : Instr
-nop = instr_of (word.Scalar scalar.nop) operands.nothing
-
-abbrev pub nop_alone : Expr
-nop_alone = record { instrs = nop ∷ []; hints = [] }
 
 -- `(local i32 i64) (local $x f32) nop`
 abbrev pub locals_and_body : List Tok
@@ -39,7 +25,7 @@ locals_and_body =
 abbrev pub Locals : Type 0
 Locals =
     Spelled func (Keyword (codes "func") ∷ locals_and_body)
-    (func_of no_head (use_of None None, inline (local_of no_label i32 ∷ local_of no_label i64 ∷ local_of (label_of (Some (codes "x")) None) f32 ∷ []) nop_alone))
+    (func_of no_head (use_of None None, inline (local_of no_label i32 ∷ local_of no_label i64 ∷ local_of (label_of (Some (codes "x")) None) f32 ∷ []) (alone nop)))
 
 -- `global $g (import "a" "b") i32`
 abbrev pub ImportedGlobal : Type 0

@@ -1,9 +1,9 @@
 -- What stands in front of a field's own part.
-use Rattle.std.specs.Prelude.{ℕ, Bool, List}
+use Rattle.std.specs.Prelude.{ℕ, Bool, List, []}
 use Rattle.wat_tokens.specs.Production.{Production}
 use Rattle.wat_tokens.specs.Parts.{seq, made}
 use Rattle.wat_tokens.specs.Parses.{no_items}
-use Rattle.wat_types.specs.Label.{Label, seen_label, label}
+use Rattle.wat_types.specs.Label.{Label, no_label, seen_label, label}
 use Rattle.wat_links.specs.Export.{seen_inline_export, inline_export}
 use Rattle.wat_links.specs.declared.head.Head.{Head}
 
@@ -17,6 +17,10 @@ head_of l e = record { label = l; exports = e }
 
 abbrev pub seen_head : Head → HeadTy
 seen_head h = head_of (seen_label h.id h.name) (seen_inline_export h.exports)
+
+-- nothing names the field, and it has no export in line
+abbrev pub no_head : HeadTy
+no_head = head_of no_label []
 
 -- no export in line
 abbrev pub bare_head : HeadTy → Bool

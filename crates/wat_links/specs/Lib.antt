@@ -5,4 +5,5 @@ pub mod Head
 pub mod Import
 pub mod Item
 pub mod Lend
+pub mod NoImport
 pub mod Rows

@@ -1,6 +1,7 @@
 -- A head that stands behind what follows it.
-use Rattle.std.proofs.Common.{◌≡◌, false, List, [], ◌∷◌, ◌++◌, refl}
-use Rattle.wat_tokens.specs.Parses.{NotBare, no_items}
+use Rattle.std.proofs.Common.{List, [], ◌∷◌, refl}
+use Rattle.wat_tokens.specs.Filled.{filled_behind}
+use Rattle.wat_tokens.specs.Parses.{NotBare}
 use Rattle.wat_tokens.specs.Production.{by_read}
 use Rattle.wat_tokens.specs.Token.{Tok}
 use Rattle.wat_instr.specs.Instruction.{instruction}
@@ -8,16 +9,12 @@ use Rattle.wat_expr.specs.Expression.{bare_expression}
 use Rattle.wat_expr.specs.Reading.{expression}
 use Rattle.wat_segments.specs.Offset.{head_last}
 
-items_before : {A : Type 0} (xs : List A) (v : A) → no_items (xs ++ v ∷ []) ≡ false
-items_before [] v = refl
-items_before (x ∷ xs) v = refl
-
 -- what is read with a head has an instruction
 pub never_bare : (t : List Tok) → NotBare bare_expression (head_last.reads t)
 unfolding head_last
 never_bare t =
     by_read (instruction.reads t)
     (λ x e. rw e (by_read (expression.reads x.1)
-    (λ y f. rw f (items_before y.0.instrs x.0))
+    (λ y f. rw f (filled_behind y.0.instrs (x.0 ∷ []) refl))
     (λ f. rw f tt)))
     (λ e. rw e tt)

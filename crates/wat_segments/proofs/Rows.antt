@@ -16,19 +16,16 @@ use Rattle.wat_links.specs.Head.{head}
 use Rattle.wat_mnemonics.specs.Word.{head_of, head_of_word}
 use Rattle.wat_mnemonics.specs.declared.head.Head.TheVariants as word
 use Rattle.wat_mnemonics.specs.declared.indexed.BlockOp.TheVariants as block
-use Rattle.wat_mnemonics.specs.declared.scalar.ScalarOp.TheVariants as scalar
 use Rattle.wat_operands.specs.Block.{block_type}
 use Rattle.wat_instr.specs.Instruction.{instruction}
 use Rattle.wat_instr.specs.Operand.{operand}
-use Rattle.wat_expr.specs.Expression.{Expr}
-use Rattle.wat_expr.specs.Items.{Nil, Plain, reads}
-use Rattle.wat_expr.specs.Reading.{expression}
+use Rattle.wat_expr.specs.Alone.{nop_read}
 use Rattle.wat_segments.specs.Data.{data_memory, data_active, data_kind, data_segment}
 use Rattle.wat_segments.specs.DataVal.{data_val, data_vals}
 use Rattle.wat_segments.specs.Memory.{inline_memory, memory_kind, memory}
 use Rattle.wat_segments.specs.Numbers.{wide_numbers, number_list}
 use Rattle.wat_segments.specs.Offset.{head_last, offset_inside}
-use Rattle.wat_segments.specs.Rows.{nop, block_text, head_behind_nop, InlineMemory, SharedMemory, PassiveData, HeadLast}
+use Rattle.wat_segments.specs.Rows.{block_text, head_behind_nop, InlineMemory, SharedMemory, PassiveData, HeadLast}
 
 pub inline_memory_of_text : InlineMemory
 unfolding memory memory_kind inline_memory head inline_export label name_annotation is_64 pagesize_or_none pagesize page_exponent exponent data_vals data_val many_at many_reads read
@@ -42,29 +39,12 @@ pub passive_data : PassiveData
 unfolding data_segment data_kind label name_annotation data_vals data_val number_list wide_numbers many_at many_reads read
 passive_data = (spelled data_segment _ _ refl, spelled data_segment _ _ refl)
 
-nop_word : head_of (codes "nop") ≡ Some (word.Scalar scalar.nop)
-nop_word = head_of_word (word.Scalar scalar.nop) (codes "nop") refl
-
 block_word : head_of (codes "block") ≡ Some (word.Block block.block)
 block_word = head_of_word (word.Block block.block) (codes "block") refl
-
-abbrev nop_text : List Tok
-nop_text = Keyword (codes "nop") ∷ []
 
 abbrev closed : List Tok
 closed = RParen ∷ []
 
-abbrev nop_alone : Expr
-nop_alone = record { instrs = nop ∷ []; hints = [] }
-
-nop_front : reads nop (Keyword (codes "nop") ∷ closed) closed
-unfolding instruction operand
-nop_front = instruction.sound (Keyword (codes "nop") ∷ closed) (nop, closed) (rw nop_word refl)
-
-nop_read : expression.reads (Keyword (codes "nop") ∷ closed) ≡ Some (nop_alone, closed)
-unfolding expression
-nop_read = expression.complete nop_alone nop_text closed (Plain nop Nil, (closed, nop_front, refl), refl, refl)
-
 pub head_of_data_last : HeadLast
 unfolding data_segment data_kind data_active data_memory offset_inside head_last instruction operand block_type label name_annotation type_use function_groups func_groups data_vals many_at many_reads
-head_of_data_last = spelled data_segment block_text head_behind_nop (rw (block_word, nop_read) refl)
+head_of_data_last = spelled data_segment block_text head_behind_nop (rw (block_word, nop_read closed refl) refl)

@@ -5,19 +5,15 @@ use Rattle.wat_tokens.specs.Index.{number}
 use Rattle.wat_tokens.specs.Spelled.{in_parens, Spelled}
 use Rattle.wat_types.specs.Label.{no_label}
 use Rattle.wat_types.specs.Use.{use_of}
-use Rattle.wat_links.specs.Head.{HeadTy, head_of}
+use Rattle.wat_links.specs.Head.{no_head}
 use Rattle.wat_mnemonics.specs.declared.head.Head.TheVariants as word
 use Rattle.wat_mnemonics.specs.declared.indexed.BlockOp.TheVariants as block
-use Rattle.wat_mnemonics.specs.declared.scalar.ScalarOp.TheVariants as scalar
 use Rattle.wat_instr.specs.Instruction.{Instr, instr_of}
 use Rattle.wat_instr.specs.Operand as operands
+use Rattle.wat_expr.specs.Alone.{nop}
 use Rattle.wat_segments.specs.Data.{DataTy, passive, active, data_of, data_segment}
 use Rattle.wat_segments.specs.DataVal.{written, numbers}
 use Rattle.wat_segments.specs.Memory.{normal, inline, memory_of, memory}
-
--- nothing names a field, and it has no export in line
-abbrev pub no_head : HeadTy
-no_head = head_of no_label []
 
 -- `memory i64 (pagesize 1) (data "ab")`: addresses of 64 bits, pages of a byte, two bytes
 abbrev pub InlineMemory : Type 0
@@ -38,9 +34,6 @@ PassiveData =
     Spelled data_segment (Keyword (codes "data") ∷ in_parens (Keyword (codes "i32") ∷ Integer (codes "1") ∷ [])) (data_of no_label passive (numbers (1 ∷ 0 ∷ 0 ∷ 0 ∷ []) ∷ []))
     × Spelled data_segment (Keyword (codes "data") ∷ String (codes "ab") ∷ in_parens (Keyword (codes "i16") ∷ Integer (codes "1") ∷ Integer (codes "-1") ∷ []))
     (data_of no_label passive (written (codes "ab") ∷ numbers (1 ∷ 0 ∷ 255 ∷ 255 ∷ []) ∷ []))
-
-abbrev pub nop : Instr
-nop = instr_of (word.Scalar scalar.nop) operands.nothing
 
 abbrev pub plain_block : Instr
 plain_block = instr_of (word.Block block.block) (operands.block (record { label = no_label; ty = use_of None None }))

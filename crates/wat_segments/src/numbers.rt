@@ -36,7 +36,7 @@ impl<'a> Group<'a, u8> for I8Bytes {
         !parser.is_empty()
     }
 
-    #[tactic(auto, using(crate::proofs::Bytes::bytes_again, crate::proofs::Bytes::some_behind))]
+    #[tactic(auto, using(crate::proofs::Bytes::bytes_again, wat_tokens::specs::Filled::filled_behind))]
     fn take(parser: &mut Parser<'a>, out: &mut Vec<u8>) -> Result<()> {
         let number = i8::parse(parser)?;
         append(out, &number.cast_unsigned().to_le_bytes())
@@ -59,7 +59,7 @@ impl<'a> Group<'a, u8> for I16Bytes {
         !parser.is_empty()
     }
 
-    #[tactic(auto, using(crate::proofs::Bytes::bytes_again, crate::proofs::Bytes::some_behind))]
+    #[tactic(auto, using(crate::proofs::Bytes::bytes_again, wat_tokens::specs::Filled::filled_behind))]
     fn take(parser: &mut Parser<'a>, out: &mut Vec<u8>) -> Result<()> {
         let number = i16::parse(parser)?;
         append(out, &number.cast_unsigned().to_le_bytes())
@@ -82,7 +82,7 @@ impl<'a> Group<'a, u8> for I32Bytes {
         !parser.is_empty()
     }
 
-    #[tactic(auto, using(crate::proofs::Bytes::bytes_again, crate::proofs::Bytes::some_behind))]
+    #[tactic(auto, using(crate::proofs::Bytes::bytes_again, wat_tokens::specs::Filled::filled_behind))]
     fn take(parser: &mut Parser<'a>, out: &mut Vec<u8>) -> Result<()> {
         let number = i32::parse(parser)?;
         append(out, &number.cast_unsigned().to_le_bytes())
@@ -105,7 +105,7 @@ impl<'a> Group<'a, u8> for I64Bytes {
         !parser.is_empty()
     }
 
-    #[tactic(auto, using(crate::proofs::Bytes::bytes_again, crate::proofs::Bytes::some_behind))]
+    #[tactic(auto, using(crate::proofs::Bytes::bytes_again, wat_tokens::specs::Filled::filled_behind))]
     fn take(parser: &mut Parser<'a>, out: &mut Vec<u8>) -> Result<()> {
         let number = i64::parse(parser)?;
         append(out, &number.cast_unsigned().to_le_bytes())
@@ -128,7 +128,7 @@ impl<'a> Group<'a, u8> for F32Bytes {
         !parser.is_empty()
     }
 
-    #[tactic(auto, using(crate::proofs::Bytes::bytes_again, crate::proofs::Bytes::some_behind))]
+    #[tactic(auto, using(crate::proofs::Bytes::bytes_again, wat_tokens::specs::Filled::filled_behind))]
     fn take(parser: &mut Parser<'a>, out: &mut Vec<u8>) -> Result<()> {
         let number = F32::parse(parser)?;
         append(out, &number.bits.to_le_bytes())
@@ -151,7 +151,7 @@ impl<'a> Group<'a, u8> for F64Bytes {
         !parser.is_empty()
     }
 
-    #[tactic(auto, using(crate::proofs::Bytes::bytes_again, crate::proofs::Bytes::some_behind))]
+    #[tactic(auto, using(crate::proofs::Bytes::bytes_again, wat_tokens::specs::Filled::filled_behind))]
     fn take(parser: &mut Parser<'a>, out: &mut Vec<u8>) -> Result<()> {
         let number = F64::parse(parser)?;
         append(out, &number.bits.to_le_bytes())
@@ -174,7 +174,7 @@ impl<'a> Group<'a, u8> for V128Bytes {
         !parser.is_empty()
     }
 
-    #[tactic(auto, using(crate::proofs::Bytes::bytes_again, crate::proofs::Bytes::some_behind))]
+    #[tactic(auto, using(crate::proofs::Bytes::bytes_again, wat_tokens::specs::Filled::filled_behind))]
     fn take(parser: &mut Parser<'a>, out: &mut Vec<u8>) -> Result<()> {
         let constant = V128Const::parse(parser)?;
         append(out, &constant.to_le_bytes())

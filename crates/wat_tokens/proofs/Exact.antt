@@ -3,6 +3,7 @@ use Rattle.std.proofs.Common.{◌≡◌, ◌≢◌, Bool, true, false, ℕ, zero
 use Rattle.std.specs.Prelude.{IfErr}
 use Rattle.wat_lexer.specs.Token.{Tok}
 use Rattle.wat_tokens.specs.Error.{Error, Fault, Memory}
+use Rattle.wat_tokens.specs.Filled.{filled_behind}
 use Rattle.wat_tokens.specs.Many.{after_front, many_at, many_reads}
 use Rattle.wat_tokens.specs.Parses.{Gives, Accepts, NotBare, no_items}
 use Rattle.wat_tokens.specs.Production.{Production, Read, bind, by_read, some_is}
@@ -31,12 +32,8 @@ gives_accepts light bare view g (Err e) t left h v c r whole s =
     (λ m. (m, rw read at (h.1 m).1))
     (λ not. (let none : g.reads t ≡ None = h.0 not in cc))
 
-items_after : {A : Type 0} (before : List A) (v : A) (vs : List A) → no_items (before ++ v ∷ vs) ≡ false
-items_after [] v vs = refl
-items_after (x ∷ before) v vs = refl
-
 rest_after : {A : Type 0} (before : List A) (v : A) (x : Read (List A)) → NotBare no_items (after_front before (bind x (λ vs r. Some (v ∷ vs, r))))
-rest_after before v (Some y) = items_after before v y.0
+rest_after before v (Some y) = filled_behind before (v ∷ y.0) refl
 rest_after before v None = tt
 
 begun_after : {A : Type 0} (before : List A) (begins : List Tok → Bool) (g : Production A) (n : ℕ) (t : List Tok) → begins t ≡ true → NotBare no_items (after_front before (many_at begins g n t))

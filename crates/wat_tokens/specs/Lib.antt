@@ -11,6 +11,7 @@ pub mod Begin
 pub mod Copies
 pub mod Counts
 pub mod Error
+pub mod Filled
 pub mod Floats
 pub mod Groups
 pub mod Index
