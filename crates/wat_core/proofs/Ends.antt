@@ -1,0 +1,28 @@
+-- A module reaches to the end of its group.
+use Rattle.std.proofs.Common.{◌≡◌, Bool, true, false, List, [], ◌∷◌, ◌++◌, Some, refl, inl, inr}
+use Rattle.wat_tokens.specs.Many.{many_spells}
+use Rattle.wat_tokens.specs.Production.{Production}
+use Rattle.wat_tokens.specs.Strings.{string}
+use Rattle.wat_tokens.specs.Tests.{ends, more}
+use Rattle.wat_tokens.specs.Token.{Tok, RParen}
+use Rattle.wat_core.specs.Module.{ModuleTy, ModuleKindTy, field_group, fields, pieces, module_kind, module_}
+
+ends_of : (r : List Tok) → more r ≡ false → ends r ≡ true
+ends_of [] e = refl
+ends_of (RParen ∷ r) e = refl
+ends_of (_ ∷ r) e = absurd cc
+
+many_ends : {A : Type 0} (g : Production A) (vs : List A) (c r : List Tok) → many_spells more g vs c r → ends r ≡ true
+many_ends g [] c r s = ends_of r s.1
+many_ends g (v ∷ vs) c r s = many_ends g vs s.1 r s.5
+
+kind_ends : (v : ModuleKindTy) (c r : List Tok) → module_kind.spells v c r → ends r ≡ true
+unfolding module_kind fields pieces
+kind_ends v c r (inl s) = let w = s.1.1 in many_ends string w.0.1 w.1.1 r w.1.4
+kind_ends v c r (inr s) = many_ends field_group s.1.0 c r s.1.1
+
+pub module_ends : (t : List Tok) (v : ModuleTy) (r : List Tok) → module_.reads t ≡ Some (v, r) → ends r ≡ true
+unfolding module_
+module_ends t v r e =
+    let y = module_.sound t (v, r) e in
+    kind_ends _ _ r y.2.1.4.1.4

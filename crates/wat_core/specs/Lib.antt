@@ -1,0 +1,3 @@
+pub use Rattle.wat_types.specs.Production
+pub mod Field
+pub mod Module

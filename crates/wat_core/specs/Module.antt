@@ -1,0 +1,79 @@
+-- Modules.
+use Rattle.std.specs.Prelude.{◌≤◌, ℕ, Bool, List, codes, map}
+use Rattle.std.specs.Borrow.{Bor}
+use Rattle.std.proofs.Common.{lit≤, arith}
+use Rattle.wat_tokens.specs.Groups.{paren}
+use Rattle.wat_tokens.specs.Many.{many}
+use Rattle.wat_tokens.specs.Parses.{no_items}
+use Rattle.wat_tokens.specs.Parts.{seq, made, where_else}
+use Rattle.wat_tokens.specs.Production.{Production}
+use Rattle.wat_tokens.specs.Strings.{string}
+use Rattle.wat_tokens.specs.Tests.{begins_word, more}
+use Rattle.wat_types.specs.Define.{behind}
+use Rattle.wat_types.specs.Label.{Label, seen_label, label}
+use Rattle.wat_core.specs.Field.{FieldTy, seen_field, module_field}
+use Rattle.wat_core.specs.declared.field.ModuleField.{ModuleField}
+use Rattle.wat_core.specs.declared.module.«Module».{«Module»}
+use Rattle.wat_core.specs.declared.module.ModuleKindOf.{ModuleKindOf}
+use Rattle.wat_core.specs.declared.module.ModuleKindOf.TheVariants as code
+
+-- ---- what contracts see
+
+-- its fields, or the pieces of its binary form
+pub data ModuleKindTy : Type 0 where
+  text : List FieldTy → ModuleKindTy
+  binary : List (List ℕ) → ModuleKindTy
+
+pub record ModuleTy : Type 0 where
+  pub label : Label
+  pub kind : ModuleKindTy
+
+abbrev pub module_of : Label → ModuleKindTy → ModuleTy
+module_of l k = record { label = l; kind = k }
+
+-- a reference to the bytes of a piece
+abbrev pub Piece : Type 0
+Piece = Bor (List ℕ)
+
+abbrev pub seen_fields : List ModuleField → List FieldTy
+seen_fields fs = map seen_field fs
+
+abbrev pub seen_module_kind : ModuleKindOf ModuleField Piece → ModuleKindTy
+seen_module_kind (code.Text fs) = text (seen_fields fs.items)
+seen_module_kind (code.Binary ss) = binary (map (λ s. s.now) ss.items)
+
+abbrev pub seen_module : «Module» → ModuleTy
+seen_module m = module_of (seen_label m.id m.name) (seen_module_kind m.kind)
+
+-- no field and no piece
+abbrev pub bare_module_kind : ModuleKindTy → Bool
+bare_module_kind (text fs) = no_items fs
+bare_module_kind (binary ss) = no_items ss
+
+abbrev pub bare_module : ModuleTy → Bool
+bare_module m = bare_module_kind m.kind
+
+-- ---- the grammar
+
+-- ( ModuleField )
+abbrev pub field_group : Production FieldTy
+field_group = paren module_field
+
+pub field_group_eats : 1 ≤ field_group.least
+field_group_eats = omega arith
+
+-- ( ModuleField )*, to the end
+unfoldable pub fields : Production (List FieldTy)
+fields = many more field_group field_group_eats
+
+-- bytes*, to the end
+unfoldable pub pieces : Production (List (List ℕ))
+pieces = many more string (lit≤ tt)
+
+-- `binary` bytes*, where `binary` comes next; else ( ModuleField )*
+unfoldable pub module_kind : Production ModuleKindTy
+module_kind = where_else (begins_word (codes "binary")) (made binary (behind (codes "binary") pieces)) (made text fields)
+
+-- `module id? name?`, and then its kind
+unfoldable pub module_ : Production ModuleTy
+module_ = behind (codes "module") (made (λ v. module_of v.0 v.1) (seq label module_kind))

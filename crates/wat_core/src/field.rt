@@ -1,0 +1,136 @@
+//! Fields of a module.
+
+ghost use Rattle.std.specs.Prelude.{◌≡◌, false};
+ghost use Rattle.wat_tokens.specs.Index.{seen_index};
+ghost use Rattle.wat_tokens.specs.Reads.{ReadsIf, ReadsLight};
+ghost use Rattle.wat_core.specs.Field.{FieldTy, seen_field, bare_field, start, last_field, further_field, defined_field, module_field};
+
+use wat_elems::{Elem, Table};
+use wat_funcs::{Func, Global, Tag};
+use wat_links::{Custom, Export, Imports};
+use wat_segments::{Data, Memory};
+use wat_tokens::{Index, Parse, Parser, Result};
+use wat_types::{Rec, Type};
+
+/// A field of a module (WebAssembly Core Specification, Text Format, "Modules").
+#[derive(Debug, Drop)]
+pub enum ModuleField<'a> {
+    /// A type.
+    Type(Type<'a>),
+    /// Types that may name one another.
+    Rec(Rec<'a>),
+    /// Imports of one module.
+    Import(Imports<'a>),
+    /// A function.
+    Func(Func<'a>),
+    /// A table.
+    Table(Table<'a>),
+    /// A memory.
+    Memory(Memory<'a>),
+    /// A global.
+    Global(Global<'a>),
+    /// An export.
+    Export(Export<'a>),
+    /// The function that is called first.
+    Start(Index<'a>),
+    /// An element segment.
+    Elem(Elem<'a>),
+    /// A data segment.
+    Data(Data<'a>),
+    /// A tag.
+    Tag(Tag<'a>),
+    /// A custom section.
+    Custom(Custom<'a>),
+}
+
+/// `start`, and an index.
+#[tactic(auto, unfolding(crate::specs::Field::start))]
+fn read_start<'a>(parser: &mut Parser<'a>) -> Result<Index<'a>>
+    ensures reads { ReadsLight seen_index result (start.reads parser.old.left) parser.old parser.new }
+{
+    parser.keyword("start")?;
+    Index::parse(parser)
+}
+
+/// The function to start with, an element or data segment, or a custom section.
+#[tactic(auto, unfolding(crate::specs::Field::last_field))]
+fn read_last<'a>(parser: &mut Parser<'a>) -> Result<ModuleField<'a>>
+    ensures reads { ReadsIf false false bare_field seen_field result (last_field.reads parser.old.left) parser.old parser.new }
+{
+    if parser.next_is("start") {
+        return Ok(ModuleField::Start(read_start(parser)?));
+    }
+    if parser.next_is("elem") {
+        return Ok(ModuleField::Elem(Elem::parse(parser)?));
+    }
+    if parser.next_is("data") {
+        return Ok(ModuleField::Data(Data::parse(parser)?));
+    }
+    Ok(ModuleField::Custom(Custom::parse(parser)?))
+}
+
+/// A global, an export, a tag, or one of the last.
+#[tactic(auto, unfolding(crate::specs::Field::further_field))]
+fn read_further<'a>(parser: &mut Parser<'a>) -> Result<ModuleField<'a>>
+    ensures reads { ReadsIf false false bare_field seen_field result (further_field.reads parser.old.left) parser.old parser.new }
+{
+    if parser.next_is("global") {
+        return Ok(ModuleField::Global(Global::parse(parser)?));
+    }
+    if parser.next_is("export") {
+        return Ok(ModuleField::Export(Export::parse(parser)?));
+    }
+    if parser.next_is("tag") {
+        return Ok(ModuleField::Tag(Tag::parse(parser)?));
+    }
+    read_last(parser)
+}
+
+/// A function, a table, a memory, or one of the further.
+#[tactic(auto, unfolding(crate::specs::Field::defined_field))]
+fn read_defined<'a>(parser: &mut Parser<'a>) -> Result<ModuleField<'a>>
+    ensures reads { ReadsIf false false bare_field seen_field result (defined_field.reads parser.old.left) parser.old parser.new }
+{
+    if parser.next_is("func") {
+        return Ok(ModuleField::Func(Func::parse(parser)?));
+    }
+    if parser.next_is("table") {
+        return Ok(ModuleField::Table(Table::parse(parser)?));
+    }
+    if parser.next_is("memory") {
+        return Ok(ModuleField::Memory(Memory::parse(parser)?));
+    }
+    read_further(parser)
+}
+
+/// The field that the word in front names, or, where the annotation `custom`, `producers` or `dylink.0` stands there, a custom
+/// section. Anything else in front is refused with Unexpected, at the token.
+impl<'a> Parse<'a> for ModuleField<'a> {
+    ghost Seen = { FieldTy };
+
+    ghost seen = { seen_field };
+
+    ghost light = { false };
+
+    ghost bare = { bare_field };
+
+    ghost quiet = { false };
+
+    ghost stays = { false };
+
+    ghost grammar = { module_field };
+
+    #[tactic(auto, unfolding(crate::specs::Field::module_field))]
+    fn parse(parser: &mut Parser<'a>) -> Result<Self> {
+        if parser.next_is("type") {
+            return Ok(ModuleField::Type(Type::parse(parser)?));
+        }
+        if parser.next_is("rec") {
+            return Ok(ModuleField::Rec(Rec::parse(parser)?));
+        }
+        if parser.next_is("import") {
+            return Ok(ModuleField::Import(Imports::parse(parser)?));
+        }
+        read_defined(parser)
+    }
+}

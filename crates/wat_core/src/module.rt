@@ -1,0 +1,159 @@
+//! Modules.
+
+ghost use Rattle.std.specs.Prelude.{◌≡◌, ◌≢◌, ◌≤◌, ◌+◌, ◌++◌, List, length, max, true, false, IfOk, IfErr};
+ghost use Rattle.wat_tokens.specs.Counts.{Counted, Turned, Kept};
+ghost use Rattle.wat_tokens.specs.Error.{Memory};
+ghost use Rattle.wat_tokens.specs.Parens.{nest};
+ghost use Rattle.wat_tokens.specs.Parses.{Gives, Accepts};
+ghost use Rattle.wat_tokens.specs.Production.{Front};
+ghost use Rattle.wat_tokens.specs.Reads.{ReadsIf};
+ghost use Rattle.wat_tokens.specs.Sight.{as_seen};
+ghost use Rattle.wat_tokens.specs.State.{behind, lit};
+ghost use Rattle.wat_tokens.specs.Tests.{ends, more};
+ghost use Rattle.wat_tokens.specs.Token.{Tok};
+ghost use Rattle.wat_core.specs.Field.{FieldTy, seen_field, bare_field};
+ghost use Rattle.wat_core.specs.Module.{ModuleTy, seen_module_kind, bare_module_kind, field_group, module_kind, seen_module, bare_module, module_};
+
+use crate::field::ModuleField;
+use wat_tokens::repeat::{Part, all_parts, all_to_end};
+use wat_tokens::whole::in_group;
+use wat_tokens::{Id, NameAnnotation, Parse, Parser, Result, Span};
+
+/// A module (WebAssembly Core Specification, Text Format, "Modules").
+#[derive(Debug, Drop)]
+pub struct Module<'a> {
+    /// Where the word `module` begins.
+    pub span: Span,
+    /// Its identifier.
+    pub id: Option<Id<'a>>,
+    /// The name that an annotation gives.
+    pub name: Option<NameAnnotation<'a>>,
+    /// What is in it.
+    pub kind: ModuleKind<'a>,
+}
+
+/// What is in a module, with its fields as an F and its pieces as a P: see [`ModuleKind`].
+#[derive(Debug, Drop)]
+pub enum ModuleKindOf<F, P> {
+    /// Its fields.
+    Text(Vec<F>),
+    /// The pieces of its binary form.
+    Binary(Vec<P>),
+}
+
+/// What is in a module.
+pub type ModuleKind<'a> = ModuleKindOf<ModuleField<'a>, &'a [u8]>;
+
+/// A field in its group.
+struct FieldGroup;
+
+impl<'a> Part<'a, ModuleField<'a>> for FieldGroup {
+    ghost Seen = { FieldTy };
+
+    ghost seen = { seen_field };
+
+    ghost light = { false };
+
+    ghost bare = { bare_field };
+
+    ghost quiet = { false };
+
+    ghost grammar = { field_group };
+
+    ghost follows = { more };
+
+    fn follows(parser: &Parser<'a>) -> bool {
+        !parser.is_empty()
+    }
+
+    fn take(parser: &mut Parser<'a>) -> Result<ModuleField<'a>> {
+        in_group(parser)
+    }
+}
+
+/// `binary` and strings, or fields in their groups.
+#[tactic(auto, using(crate::specs::Module::field_group_eats), unfolding(crate::specs::Module::module_kind, crate::specs::Module::fields, crate::specs::Module::pieces))]
+fn read_kind<'a>(parser: &mut Parser<'a>) -> Result<ModuleKind<'a>>
+    ensures reads { ReadsIf false false bare_module_kind seen_module_kind result (module_kind.reads parser.old.left) parser.old parser.new }
+{
+    if parser.next_is("binary") {
+        parser.keyword("binary")?;
+        return Ok(ModuleKind::Binary(all_to_end(parser)?));
+    }
+    Ok(ModuleKind::Text(all_parts::<_, FieldGroup>(parser)?))
+}
+
+/// A module, read with the names that are known.
+#[derive(Drop)]
+struct Named<'a>(Module<'a>);
+
+impl<'a> Parse<'a> for Named<'a> {
+    ghost Seen = { ModuleTy };
+
+    ghost seen = { λ m. seen_module m.0 };
+
+    ghost light = { false };
+
+    ghost bare = { bare_module };
+
+    ghost quiet = { false };
+
+    ghost stays = { false };
+
+    ghost grammar = { module_ };
+
+    #[tactic(auto, unfolding(crate::specs::Module::module_, wat_types::specs::Label::label))]
+    fn parse(parser: &mut Parser<'a>) -> Result<Self> {
+        let span = parser.keyword("module")?;
+        let id = Option::<Id>::parse(parser)?;
+        let name = Option::<NameAnnotation>::parse(parser)?;
+        let kind = read_kind(parser)?;
+        Ok(Named(Module {
+            span,
+            id,
+            name,
+            kind,
+        }))
+    }
+}
+
+impl<'a> Module<'a> {
+    /// Takes a module, from the word `module` to the end of its group, whose parentheses are the caller's, with the five
+    /// standard annotations known: `custom`, `producers`, `name`, `dylink.0` and `metadata.code.branch_hint`. What was known
+    /// of them before is known again.
+    ///
+    /// Where no module stands in front, it is refused with the first fault that is met. Another token in front than the word
+    /// `module` is refused with Unexpected, at the token, and so is one behind it that begins no field's group. Memory may be
+    /// answered where the module has a field or a piece.
+    #[tactic(auto, using(wat_tokens::specs::State::lit_is, crate::proofs::Ends::module_ends))]
+    pub fn parse(parser: &mut Parser<'a>) -> Result<Module<'a>>
+        // The tokens that were taken, seen with the five names, spell the module.
+        ensures sound { IfOk result (λ m. Front module_.spells (lit parser.old).left (seen_module m, (lit parser.new).left)) }
+        // Where tokens in front spell a module, it is that one, or memory ran out.
+        ensures accepts { (v : ModuleTy) (c r : List Tok) → (lit parser.old).left ≡ c ++ r → module_.spells v c r → Accepts seen_module bare_module result v (lit parser.new).left r }
+        // A fault other than Memory means that no tokens in front spell a module.
+        ensures refused { IfErr result (λ e. e.fault ≢ Memory → (v : ModuleTy) (c r : List Tok) → (lit parser.old).left ≡ c ++ r → module_.spells v c r → ⊥) }
+        // What is left is nothing, or begins with `)`.
+        ensures ends { IfOk result (λ _. ends (lit parser.new).left ≡ true) }
+        // No loop over an expression turned more than once beyond the tokens that were taken.
+        ensures turned { Turned result parser.old parser.new }
+        // `taken` rises by the number of tokens that were taken, and never by more than stood in front.
+        ensures taken { (c : List Tok) → (lit parser.old).left ≡ c ++ (lit parser.new).left → parser.new.taken ≡ parser.old.taken + length c }
+        ensures within { parser.new.taken + length (lit parser.new).left ≡ parser.old.taken + length (lit parser.old).left }
+        // `peak` is at most the greater of what it was and how the tokens that were taken nest.
+        ensures peak { (c : List Tok) → (lit parser.old).left ≡ c ++ (lit parser.new).left → parser.new.peak ≤ max parser.old.peak (nest c) }
+        // The parser stands directly behind them, and what is left is seen as before.
+        ensures stands { (c : List Tok) → (lit parser.old).left ≡ c ++ (lit parser.new).left → parser.new.rest ≡ behind true (length c) parser.old.rest }
+        ensures seen { parser.new.left ≡ as_seen parser.new.known parser.new.rest }
+        ensures names { Kept parser.old parser.new }
+    {
+        let was = parser.known();
+        parser.with_standard_annotations(true);
+        let found = parser.parse::<Named>();
+        parser.with_standard_annotations(was);
+        match found {
+            Ok(named) => Ok(named.0),
+            Err(error) => Err(error),
+        }
+    }
+}
