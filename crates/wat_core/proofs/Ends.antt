@@ -1,5 +1,5 @@
 -- A module reaches to the end of its group.
-use Rattle.std.proofs.Common.{◌≡◌, Bool, true, false, List, [], ◌∷◌, ◌++◌, Some, refl, inl, inr}
+use Rattle.std.proofs.Common.{◌≡◌, true, false, List, [], ◌∷◌, Some, refl, inl, inr}
 use Rattle.wat_tokens.specs.Many.{many_spells}
 use Rattle.wat_tokens.specs.Production.{Production}
 use Rattle.wat_tokens.specs.Strings.{string}
@@ -21,8 +21,13 @@ unfolding module_kind fields pieces
 kind_ends v c r (inl s) = let w = s.1.1 in many_ends string w.0.1 w.1.1 r w.1.4
 kind_ends v c r (inr s) = many_ends field_group s.1.0 c r s.1.1
 
-pub module_ends : (t : List Tok) (v : ModuleTy) (r : List Tok) → module_.reads t ≡ Some (v, r) → ends r ≡ true
+-- what is spelled is spelled in front of an end alone
+pub spelled_ends : (v : ModuleTy) (c r : List Tok) → module_.spells v c r → ends r ≡ true
 unfolding module_
+spelled_ends v c r s = kind_ends _ _ r s.1.4.1.4
+
+-- an end is left where one is read
+pub module_ends : (t : List Tok) (v : ModuleTy) (r : List Tok) → module_.reads t ≡ Some (v, r) → ends r ≡ true
 module_ends t v r e =
     let y = module_.sound t (v, r) e in
-    kind_ends _ _ r y.2.1.4.1.4
+    spelled_ends v y.0 r y.2

@@ -1,0 +1,118 @@
+-- Imports, exports and custom sections are calm.
+use Rattle.std.proofs.Common.{ℕ, true, List, refl}
+use Rattle.wat_tokens.specs.Production.{Production}
+use Rattle.wat_customs.specs.Custom.{custom}
+use Rattle.wat_customs.specs.Raw.{annotation, raw_place, raw_data, raw_custom}
+use Rattle.wat_customs.specs.Place.{section, before, after, custom_place}
+use Rattle.wat_customs.specs.Place as place
+use Rattle.wat_customs.specs.Producers.{field_word, producer_entry, producer_entries, producers}
+use Rattle.wat_customs.specs.Flags.{flag_bits, flag_list, symbol_flags}
+use Rattle.wat_customs.specs.Dylink.{sizes, mem_info_entry, names_entry, lone_entry, export_entry, import_entry, subsection, subsections}
+use Rattle.wat_customs.specs.Cutting.{cut_subsections, dylink}
+use Rattle.wat_links.specs.Item.{KindTy, func_use, func_kind, labelled, global_or_tag, item_sig}
+use Rattle.wat_links.specs.Import.{typed_item, named_item, shared_sig, single_item, typed_list, named_list, typed_items, named_items, import_choice, inline_import}
+use Rattle.wat_links.specs.Forms.{import_items, imports}
+use Rattle.wat_links.specs.Export.{export_kind, export_, inline_name, inline_export}
+use Rattle.wat_links.specs.Head.{head}
+use Rattle.wat_core.proofs.Calm.Productions.{Calm, calm, one_calm, made_calm, seq_calm, behind_calm}
+use Rattle.wat_core.proofs.Calm.Types.{label_calm, use_calm, begins_func_test, function_calm, tag_calm, table_calm, memory_calm, global_calm}
+
+-- ---- signatures
+
+pub func_use_calm : Calm true func_use
+func_use_calm = search (calm, use_calm, begins_func_test, function_calm) depth 40
+
+func_kind_calm : Calm true func_kind
+unfolding func_kind
+func_kind_calm = search (calm, func_use_calm) depth 40
+
+labelled_calm : {w : List ℕ} {k : Production KindTy} → Calm true k → Calm true (labelled w k)
+labelled_calm p = made_calm (behind_calm (seq_calm label_calm p))
+
+item_calm : Calm true item_sig
+unfolding item_sig global_or_tag
+item_calm = search (calm, labelled_calm, func_kind_calm, table_calm, memory_calm, global_calm, tag_calm) depth 40
+
+-- ---- imports
+
+choice_calm : Calm true import_choice
+unfolding import_choice typed_items typed_list typed_item named_items named_list named_item shared_sig single_item
+choice_calm = search (calm, item_calm) depth 40
+
+pub imports_calm : Calm true imports
+unfolding imports import_items
+imports_calm = search (calm, choice_calm) depth 40
+
+pub inline_import_calm : Calm true inline_import
+unfolding inline_import
+inline_import_calm = search calm depth 40
+
+-- ---- exports
+
+pub export_calm : Calm true export_
+unfolding export_ export_kind
+export_calm = search calm depth 40
+
+inline_export_calm : Calm true inline_export
+unfolding inline_export inline_name
+inline_export_calm = search calm depth 40
+
+pub head_calm : Calm true head
+unfolding head
+head_calm = search (calm, label_calm, inline_export_calm) depth 40
+
+-- ---- custom sections
+
+place_behind_calm : {A : Type 0} {g : Production A} {w : List ℕ} → Calm true g → Calm true (place.behind w g)
+place_behind_calm p = made_calm (seq_calm (one_calm (refl, refl)) p)
+
+place_calm : Calm true custom_place
+unfolding custom_place before after section
+place_calm = search (calm, place_behind_calm) depth 40
+
+annotated_calm : {A : Type 0} {g : Production A} {w : List ℕ} → Calm true g → Calm true (annotation w g)
+annotated_calm p = made_calm (seq_calm (one_calm (refl, refl)) p)
+
+raw_calm : Calm true raw_custom
+unfolding raw_custom raw_place raw_data
+raw_calm = search (calm, annotated_calm, place_calm) depth 40
+
+producers_calm : Calm true producers
+unfolding producers producer_entries producer_entry field_word
+producers_calm = search (calm, annotated_calm) depth 40
+
+flags_calm : Calm true symbol_flags
+unfolding symbol_flags flag_list flag_bits
+flags_calm = search calm depth 40
+
+sizes_calm : (w : List ℕ) → Calm true (sizes w)
+unfolding sizes
+sizes_calm w = search calm depth 40
+
+names_calm : (w : List ℕ) → Calm true (names_entry w)
+unfolding names_entry
+names_calm w = search calm depth 40
+
+lone_calm : Calm true lone_entry
+unfolding lone_entry mem_info_entry
+lone_calm = search (calm, sizes_calm, names_calm) depth 40
+
+export_entry_calm : Calm true export_entry
+unfolding export_entry
+export_entry_calm = search (calm, flags_calm) depth 40
+
+import_entry_calm : Calm true import_entry
+unfolding import_entry
+import_entry_calm = search (calm, flags_calm) depth 40
+
+subsection_calm : Calm true subsection
+unfolding subsection
+subsection_calm = search (calm, export_entry_calm, import_entry_calm, lone_calm) depth 40
+
+dylink_calm : Calm true dylink
+unfolding dylink cut_subsections subsections
+dylink_calm = search (calm, annotated_calm, subsection_calm) depth 40
+
+pub custom_calm : Calm true custom
+unfolding custom
+custom_calm = search (calm, producers_calm, dylink_calm, raw_calm) depth 40
