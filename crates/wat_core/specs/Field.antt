@@ -9,7 +9,7 @@ use Rattle.wat_types.specs.Define.{behind, TypeTy, seen_type, bare_type, type_, 
 use Rattle.wat_customs.specs.Custom.{CustomTy, seen_custom, bare_custom, custom}
 use Rattle.wat_links.specs.Export.{ExportTy, seen_export, export_}
 use Rattle.wat_links.specs.Forms.{imports}
-use Rattle.wat_links.specs.Import.{ImportsTy, seen_imports, bare_imports}
+use Rattle.wat_links.specs.Import.{Name, ImportsTy, seen_imports, bare_imports}
 use Rattle.wat_funcs.specs.Func.{FuncTy, seen_func, bare_func, func}
 use Rattle.wat_funcs.specs.Global.{GlobalTy, seen_global, bare_global, global}
 use Rattle.wat_funcs.specs.Tag.{TagTy, seen_tag, bare_tag, tag}
@@ -17,8 +17,22 @@ use Rattle.wat_segments.specs.Data.{DataTy, seen_data, bare_data, data_segment}
 use Rattle.wat_segments.specs.Memory.{MemoryTy, seen_memory, bare_memory, memory}
 use Rattle.wat_elems.specs.Elem.{ElemTy, seen_elem, bare_elem, elem}
 use Rattle.wat_elems.specs.Table.{TableTy, seen_table, bare_table, table}
-use Rattle.wat_core.specs.declared.field.ModuleField.{ModuleField}
-use Rattle.wat_core.specs.declared.field.ModuleField.TheVariants as code
+use Rattle.wat_types.specs.declared.define.«Type».{«Type»}
+use Rattle.wat_types.specs.declared.define.Rec.{Rec}
+use Rattle.wat_tokens.specs.declared.index.Index.{Index}
+use Rattle.wat_customs.specs.declared.custom.Custom.{Custom}
+use Rattle.wat_links.specs.declared.export.Export.{Export}
+use Rattle.wat_links.specs.declared.import.ImportsOf.{ImportsOf}
+use Rattle.wat_links.specs.declared.item.ItemSig.{ItemSig}
+use Rattle.wat_funcs.specs.declared.func.Func.{Func}
+use Rattle.wat_funcs.specs.declared.global.Global.{Global}
+use Rattle.wat_funcs.specs.declared.tag.Tag.{Tag}
+use Rattle.wat_segments.specs.declared.data.Data.{Data}
+use Rattle.wat_segments.specs.declared.memory.Memory.{Memory}
+use Rattle.wat_elems.specs.declared.elem.Elem.{Elem}
+use Rattle.wat_elems.specs.declared.table.Table.{Table}
+use Rattle.wat_core.specs.declared.field.ModuleFieldOf.{ModuleFieldOf}
+use Rattle.wat_core.specs.declared.field.ModuleFieldOf.TheVariants as code
 
 -- ---- what contracts see
 
@@ -37,6 +51,10 @@ pub data FieldTy : Type 0 where
   a_data : DataTy → FieldTy
   a_tag : TagTy → FieldTy
   a_custom : CustomTy → FieldTy
+
+-- a field as the code has it
+abbrev pub ModuleField : Type 0
+ModuleField = ModuleFieldOf «Type» Rec (ImportsOf Name ItemSig) Func Table Memory Global Export Index Elem Data Tag Custom
 
 abbrev pub seen_field : ModuleField → FieldTy
 seen_field (code.«Type» t) = a_type (seen_type t)

@@ -11,8 +11,7 @@ use Rattle.wat_tokens.specs.Strings.{string}
 use Rattle.wat_tokens.specs.Tests.{begins_word, more}
 use Rattle.wat_types.specs.Define.{behind}
 use Rattle.wat_types.specs.Label.{Label, seen_label, label}
-use Rattle.wat_core.specs.Field.{FieldTy, seen_field, module_field}
-use Rattle.wat_core.specs.declared.field.ModuleField.{ModuleField}
+use Rattle.wat_core.specs.Field.{FieldTy, ModuleField, seen_field, module_field}
 use Rattle.wat_core.specs.declared.module.«Module».{«Module»}
 use Rattle.wat_core.specs.declared.module.ModuleKindOf.{ModuleKindOf}
 use Rattle.wat_core.specs.declared.module.ModuleKindOf.TheVariants as code

@@ -12,36 +12,53 @@ use wat_segments::{Data, Memory};
 use wat_tokens::{Index, Parse, Parser, Result};
 use wat_types::{Rec, Type};
 
-/// A field of a module (WebAssembly Core Specification, Text Format, "Modules").
+/// A field of a module, generic in what each kind of field is: see [`ModuleField`].
 #[derive(Debug, Drop)]
-pub enum ModuleField<'a> {
+pub enum ModuleFieldOf<T, R, I, F, B, M, G, X, N, E, D, U, C> {
     /// A type.
-    Type(Type<'a>),
+    Type(T),
     /// Types that may name one another.
-    Rec(Rec<'a>),
+    Rec(R),
     /// Imports of one module.
-    Import(Imports<'a>),
+    Import(I),
     /// A function.
-    Func(Func<'a>),
+    Func(F),
     /// A table.
-    Table(Table<'a>),
+    Table(B),
     /// A memory.
-    Memory(Memory<'a>),
+    Memory(M),
     /// A global.
-    Global(Global<'a>),
+    Global(G),
     /// An export.
-    Export(Export<'a>),
+    Export(X),
     /// The function that is called first.
-    Start(Index<'a>),
+    Start(N),
     /// An element segment.
-    Elem(Elem<'a>),
+    Elem(E),
     /// A data segment.
-    Data(Data<'a>),
+    Data(D),
     /// A tag.
-    Tag(Tag<'a>),
+    Tag(U),
     /// A custom section.
-    Custom(Custom<'a>),
+    Custom(C),
 }
+
+/// A field of a module (WebAssembly Core Specification, Text Format, "Modules").
+pub type ModuleField<'a> = ModuleFieldOf<
+    Type<'a>,
+    Rec<'a>,
+    Imports<'a>,
+    Func<'a>,
+    Table<'a>,
+    Memory<'a>,
+    Global<'a>,
+    Export<'a>,
+    Index<'a>,
+    Elem<'a>,
+    Data<'a>,
+    Tag<'a>,
+    Custom<'a>,
+>;
 
 /// `start`, and an index.
 #[tactic(auto, unfolding(crate::specs::Field::start))]

@@ -11,6 +11,7 @@ pub mod laws;
 pub mod module;
 
 pub use field::ModuleField;
+pub use field::ModuleFieldOf;
 pub use module::Module;
 pub use module::ModuleKind;
 pub use module::ModuleKindOf;
