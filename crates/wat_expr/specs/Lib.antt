@@ -3,8 +3,8 @@ pub mod Items
 pub mod Facts
 pub mod Expression
 pub mod Reading
-pub mod Alone
 pub mod Folded
+pub mod Alone
 pub mod Flat
 pub mod FlatForm
 pub mod Levels

@@ -9,7 +9,7 @@ use wat_tokens::{Index, Parse, Parser, Result};
 
 /// The operands of `struct.get`, `struct.set` and the like (WebAssembly Core Specification, Text Format, Instructions,
 /// "Aggregate Instructions").
-#[derive(Clone, Copy, Debug)]
+#[derive(Clone, Debug, Drop)]
 pub struct StructAccess<'a> {
     /// The structure type.
     pub struct_: Index<'a>,
@@ -19,7 +19,7 @@ pub struct StructAccess<'a> {
 
 /// The operands of `cont.bind` (WebAssembly Core Specification, Text Format, Instructions, "Control Instructions", with
 /// the proposal on stack switching).
-#[derive(Clone, Copy, Debug)]
+#[derive(Clone, Debug, Drop)]
 pub struct ContBind<'a> {
     /// The continuation type that is taken.
     pub argument_index: Index<'a>,
@@ -29,7 +29,7 @@ pub struct ContBind<'a> {
 
 /// The operands of `switch` (WebAssembly Core Specification, Text Format, Instructions, "Control Instructions", with
 /// the proposal on stack switching).
-#[derive(Clone, Copy, Debug)]
+#[derive(Clone, Debug, Drop)]
 pub struct Switch<'a> {
     /// The continuation type.
     pub type_index: Index<'a>,
@@ -38,14 +38,14 @@ pub struct Switch<'a> {
 }
 
 /// The operand of `array.fill` (WebAssembly Core Specification, Text Format, Instructions, "Aggregate Instructions").
-#[derive(Clone, Copy, Debug)]
+#[derive(Clone, Debug, Drop)]
 pub struct ArrayFill<'a> {
     /// The array type.
     pub array: Index<'a>,
 }
 
 /// The operands of `array.copy` (WebAssembly Core Specification, Text Format, Instructions, "Aggregate Instructions").
-#[derive(Clone, Copy, Debug)]
+#[derive(Clone, Debug, Drop)]
 pub struct ArrayCopy<'a> {
     /// The type of the array that is written.
     pub dest_array: Index<'a>,
@@ -55,7 +55,7 @@ pub struct ArrayCopy<'a> {
 
 /// The operands of `array.init_data` and `array.init_elem` (WebAssembly Core Specification, Text Format, Instructions,
 /// "Aggregate Instructions").
-#[derive(Clone, Copy, Debug)]
+#[derive(Clone, Debug, Drop)]
 pub struct ArrayInit<'a> {
     /// The array type.
     pub array: Index<'a>,
@@ -65,7 +65,7 @@ pub struct ArrayInit<'a> {
 
 /// The operands of `array.new_fixed` (WebAssembly Core Specification, Text Format, Instructions, "Aggregate
 /// Instructions").
-#[derive(Clone, Copy, Debug)]
+#[derive(Clone, Debug, Drop)]
 pub struct ArrayNewFixed<'a> {
     /// The array type.
     pub array: Index<'a>,
@@ -75,7 +75,7 @@ pub struct ArrayNewFixed<'a> {
 
 /// The operands of `array.new_data` (WebAssembly Core Specification, Text Format, Instructions, "Aggregate
 /// Instructions").
-#[derive(Clone, Copy, Debug)]
+#[derive(Clone, Debug, Drop)]
 pub struct ArrayNewData<'a> {
     /// The array type.
     pub array: Index<'a>,
@@ -85,7 +85,7 @@ pub struct ArrayNewData<'a> {
 
 /// The operands of `array.new_elem` (WebAssembly Core Specification, Text Format, Instructions, "Aggregate
 /// Instructions").
-#[derive(Clone, Copy, Debug)]
+#[derive(Clone, Debug, Drop)]
 pub struct ArrayNewElem<'a> {
     /// The array type.
     pub array: Index<'a>,

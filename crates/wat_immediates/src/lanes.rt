@@ -10,7 +10,7 @@ use crate::tables::zero;
 use wat_tokens::{Cursor, Error, Fault, Parse, Parser, Result};
 
 /// A lane of a vector (WebAssembly Core Specification, Text Format, Instructions, "Vector Instructions").
-#[derive(Clone, Copy, Debug)]
+#[derive(Clone, Debug, Drop)]
 pub struct LaneArg {
     /// Its number.
     pub lane: u8,
@@ -18,7 +18,7 @@ pub struct LaneArg {
 
 /// The operands of an instruction that loads or stores one lane, with what is accessed as an `M` (WebAssembly Core
 /// Specification, Text Format, Instructions, "Memory Instructions").
-#[derive(Clone, Copy, Debug)]
+#[derive(Clone, Debug, Drop)]
 pub struct LaneOf<M> {
     /// What is accessed.
     pub memarg: M,

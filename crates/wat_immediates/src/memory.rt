@@ -12,7 +12,7 @@ use wat_tokens::{Cursor, Error, Fault, Index, Integer, Parse, Parser, Result, Sp
 
 /// What an instruction accesses (WebAssembly Core Specification, Text Format, Instructions, "Memory Instructions"; that
 /// it may be an array is a proposal).
-#[derive(Clone, Copy, Debug)]
+#[derive(Clone, Debug, Drop)]
 pub enum MemArgTarget<'a> {
     /// A memory.
     Memory(Index<'a>),
@@ -32,7 +32,7 @@ pub enum MemArgOrdering {
 
 /// What an access to a memory or an array is given (WebAssembly Core Specification, Text Format, Instructions, "Memory
 /// Instructions").
-#[derive(Clone, Copy, Debug)]
+#[derive(Clone, Debug, Drop)]
 pub struct MemArg<'a> {
     /// The alignment in bytes, as it is written: a power of two, and not its exponent.
     pub align: u64,

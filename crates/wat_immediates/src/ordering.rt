@@ -20,7 +20,7 @@ pub enum Ordering {
 
 /// An operand with the ordering of its access in front (WebAssembly Core Specification, Text Format, "Instructions",
 /// with the proposals on threads).
-#[derive(Clone, Copy, Debug)]
+#[derive(Clone, Debug, Drop)]
 pub struct Ordered<T> {
     /// The ordering.
     pub ordering: Ordering,

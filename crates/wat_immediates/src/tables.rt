@@ -9,7 +9,7 @@ use wat_tokens::{Index, Parse, Parser, Result};
 
 /// The table of an instruction that names one (WebAssembly Core Specification, Text Format, Instructions, "Table
 /// Instructions").
-#[derive(Clone, Copy, Debug)]
+#[derive(Clone, Debug, Drop)]
 pub struct TableArg<'a> {
     /// The table.
     pub dst: Index<'a>,
@@ -17,14 +17,14 @@ pub struct TableArg<'a> {
 
 /// The memory of an instruction that names one (WebAssembly Core Specification, Text Format, Instructions, "Memory
 /// Instructions").
-#[derive(Clone, Copy, Debug)]
+#[derive(Clone, Debug, Drop)]
 pub struct MemoryArg<'a> {
     /// The memory.
     pub mem: Index<'a>,
 }
 
 /// The operands of `table.init` (WebAssembly Core Specification, Text Format, Instructions, "Table Instructions").
-#[derive(Clone, Copy, Debug)]
+#[derive(Clone, Debug, Drop)]
 pub struct TableInit<'a> {
     /// The table that is written.
     pub table: Index<'a>,
@@ -33,7 +33,7 @@ pub struct TableInit<'a> {
 }
 
 /// The operands of `memory.init` (WebAssembly Core Specification, Text Format, Instructions, "Memory Instructions").
-#[derive(Clone, Copy, Debug)]
+#[derive(Clone, Debug, Drop)]
 pub struct MemoryInit<'a> {
     /// The data segment that is read.
     pub data: Index<'a>,
@@ -42,7 +42,7 @@ pub struct MemoryInit<'a> {
 }
 
 /// The operands of `table.copy` (WebAssembly Core Specification, Text Format, Instructions, "Table Instructions").
-#[derive(Clone, Copy, Debug)]
+#[derive(Clone, Debug, Drop)]
 pub struct TableCopy<'a> {
     /// The table that is written.
     pub dst: Index<'a>,
@@ -51,7 +51,7 @@ pub struct TableCopy<'a> {
 }
 
 /// The operands of `memory.copy` (WebAssembly Core Specification, Text Format, Instructions, "Memory Instructions").
-#[derive(Clone, Copy, Debug)]
+#[derive(Clone, Debug, Drop)]
 pub struct MemoryCopy<'a> {
     /// The memory that is read.
     pub src: Index<'a>,

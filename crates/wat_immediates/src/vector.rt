@@ -10,7 +10,7 @@ use wat_tokens::{F32, F64, Parse, Parser, Result};
 
 /// A constant of 128 bits, as lanes of a shape (WebAssembly Core Specification, Text Format, Instructions, "Vector
 /// Instructions").
-#[derive(Clone, Copy, Debug)]
+#[derive(Clone, Debug, Drop)]
 pub enum V128Const {
     /// 16 integers of 8 bits.
     I8x16([i8; 16]),
@@ -28,7 +28,7 @@ pub enum V128Const {
 
 /// The lanes that `i8x16.shuffle` takes (WebAssembly Core Specification, Text Format, Instructions, "Vector
 /// Instructions").
-#[derive(Clone, Copy, Debug)]
+#[derive(Clone, Debug, Drop)]
 pub struct I8x16Shuffle {
     /// For each lane of the result, the number of the lane that it takes.
     pub lanes: [u8; 16],

@@ -1,6 +1,8 @@
 //! The same instruction once more.
 
-ghost use Rattle.std.specs.Prelude.{false};
+ghost use Rattle.std.specs.Prelude.{true, false};
+ghost use Rattle.wat_tokens.specs.Index.{name_of};
+ghost use Rattle.wat_tokens.specs.Parses.{seen_option};
 ghost use Rattle.wat_immediates.specs.Branch.{seen_br_table, bare_br_table};
 ghost use Rattle.wat_operands.specs.Block.{seen_block};
 ghost use Rattle.wat_operands.specs.Call.{seen_call};
@@ -14,12 +16,12 @@ ghost use Rattle.wat_instr.specs.Instruction.{seen_instruction, bare_instruction
 ghost use Rattle.wat_instr.specs.Reading.{Copied};
 
 use crate::instruction::Instruction;
-use wat_mnemonics::{BlockOp, CallIndirectOp};
+use wat_mnemonics::{BlockOp, CallIndirectOp, LabelOp};
 use wat_operands::{
     BlockType, BrOnCast, BrOnCastDescEq, BrOnCastDescEqFail, BrOnCastFail, BrTableIndices,
     CallIndirect, Resume, ResumeThrow, ResumeThrowRef, SelectTypes, TryTable,
 };
-use wat_tokens::Result;
+use wat_tokens::{Id, Result};
 
 impl<'a> Instruction<'a> {
     /// The same instruction once more. Memory may be answered where its operand is in a box or has a list that isn't
@@ -29,37 +31,37 @@ impl<'a> Instruction<'a> {
     {
         match self {
             Instruction::Block(op, x) => clone_block(*op, x),
-            Instruction::Label(op, x) => Ok(Instruction::Label(*op, *x)),
+            Instruction::Label(op, x) => clone_label(*op, x),
             Instruction::Scalar(op) => Ok(Instruction::Scalar(*op)),
             Instruction::Indexed(op, x) => Ok(Instruction::Indexed(*op, *x)),
             Instruction::CallIndirect(op, x) => clone_call_indirect(*op, x),
-            Instruction::Table(op, x) => Ok(Instruction::Table(*op, *x)),
-            Instruction::Access(op, x) => Ok(Instruction::Access(*op, *x)),
-            Instruction::Memory(op, x) => Ok(Instruction::Memory(*op, *x)),
-            Instruction::Struct(op, x) => Ok(Instruction::Struct(*op, *x)),
-            Instruction::ArrayInit(op, x) => Ok(Instruction::ArrayInit(*op, *x)),
-            Instruction::AtomicAccess(op, x) => Ok(Instruction::AtomicAccess(*op, *x)),
-            Instruction::RmwAccess(op, x) => Ok(Instruction::RmwAccess(*op, *x)),
-            Instruction::OrderedIndex(op, x) => Ok(Instruction::OrderedIndex(*op, *x)),
-            Instruction::OrderedTable(op, x) => Ok(Instruction::OrderedTable(*op, *x)),
-            Instruction::OrderedStruct(op, x) => Ok(Instruction::OrderedStruct(*op, *x)),
-            Instruction::LaneAccess(op, x) => Ok(Instruction::LaneAccess(*op, *x)),
-            Instruction::Lane(op, x) => Ok(Instruction::Lane(*op, *x)),
+            Instruction::Table(op, x) => Ok(Instruction::Table(*op, x.clone()?)),
+            Instruction::Access(op, x) => Ok(Instruction::Access(*op, x.clone()?)),
+            Instruction::Memory(op, x) => Ok(Instruction::Memory(*op, x.clone()?)),
+            Instruction::Struct(op, x) => Ok(Instruction::Struct(*op, x.clone()?)),
+            Instruction::ArrayInit(op, x) => Ok(Instruction::ArrayInit(*op, x.clone()?)),
+            Instruction::AtomicAccess(op, x) => Ok(Instruction::AtomicAccess(*op, x.clone()?)),
+            Instruction::RmwAccess(op, x) => Ok(Instruction::RmwAccess(*op, x.clone()?)),
+            Instruction::OrderedIndex(op, x) => Ok(Instruction::OrderedIndex(*op, x.clone()?)),
+            Instruction::OrderedTable(op, x) => Ok(Instruction::OrderedTable(*op, x.clone()?)),
+            Instruction::OrderedStruct(op, x) => Ok(Instruction::OrderedStruct(*op, x.clone()?)),
+            Instruction::LaneAccess(op, x) => Ok(Instruction::LaneAccess(*op, x.clone()?)),
+            Instruction::Lane(op, x) => Ok(Instruction::Lane(*op, x.clone()?)),
             Instruction::Vector(op) => Ok(Instruction::Vector(*op)),
             Instruction::br_table(x) => clone_br_table(x),
             Instruction::select(x) => clone_select(x),
-            Instruction::memory_init(x) => Ok(Instruction::memory_init(*x)),
-            Instruction::memory_copy(x) => Ok(Instruction::memory_copy(*x)),
-            Instruction::table_init(x) => Ok(Instruction::table_init(*x)),
-            Instruction::table_copy(x) => Ok(Instruction::table_copy(*x)),
+            Instruction::memory_init(x) => Ok(Instruction::memory_init(x.clone()?)),
+            Instruction::memory_copy(x) => Ok(Instruction::memory_copy(x.clone()?)),
+            Instruction::table_init(x) => Ok(Instruction::table_init(x.clone()?)),
+            Instruction::table_copy(x) => Ok(Instruction::table_copy(x.clone()?)),
             Instruction::ref_null(x) => Ok(Instruction::ref_null(*x)),
-            Instruction::array_new_fixed(x) => Ok(Instruction::array_new_fixed(*x)),
-            Instruction::array_new_data(x) => Ok(Instruction::array_new_data(*x)),
-            Instruction::array_new_elem(x) => Ok(Instruction::array_new_elem(*x)),
-            Instruction::array_fill(x) => Ok(Instruction::array_fill(*x)),
-            Instruction::array_copy(x) => Ok(Instruction::array_copy(*x)),
-            Instruction::ref_test(x) => Ok(Instruction::ref_test(*x)),
-            Instruction::ref_cast(x) => Ok(Instruction::ref_cast(*x)),
+            Instruction::array_new_fixed(x) => Ok(Instruction::array_new_fixed(x.clone()?)),
+            Instruction::array_new_data(x) => Ok(Instruction::array_new_data(x.clone()?)),
+            Instruction::array_new_elem(x) => Ok(Instruction::array_new_elem(x.clone()?)),
+            Instruction::array_fill(x) => Ok(Instruction::array_fill(x.clone()?)),
+            Instruction::array_copy(x) => Ok(Instruction::array_copy(x.clone()?)),
+            Instruction::ref_test(x) => Ok(Instruction::ref_test(x.clone()?)),
+            Instruction::ref_cast(x) => Ok(Instruction::ref_cast(x.clone()?)),
             Instruction::br_on_cast(x) => clone_br_on_cast(x),
             Instruction::br_on_cast_fail(x) => clone_br_on_cast_fail(x),
             Instruction::i32_const(x) => Ok(Instruction::i32_const(*x)),
@@ -67,15 +69,15 @@ impl<'a> Instruction<'a> {
             Instruction::f32_const(x) => Ok(Instruction::f32_const(*x)),
             Instruction::f64_const(x) => Ok(Instruction::f64_const(*x)),
             Instruction::atomic_fence(x) => Ok(Instruction::atomic_fence(*x)),
-            Instruction::v128_const(x) => Ok(Instruction::v128_const(*x)),
-            Instruction::i8x16_shuffle(x) => Ok(Instruction::i8x16_shuffle(*x)),
+            Instruction::v128_const(x) => Ok(Instruction::v128_const(x.clone()?)),
+            Instruction::i8x16_shuffle(x) => Ok(Instruction::i8x16_shuffle(x.clone()?)),
             Instruction::try_table(x) => clone_try_table(x),
-            Instruction::cont_bind(x) => Ok(Instruction::cont_bind(*x)),
+            Instruction::cont_bind(x) => Ok(Instruction::cont_bind(x.clone()?)),
             Instruction::resume(x) => clone_resume(x),
             Instruction::resume_throw(x) => clone_resume_throw(x),
             Instruction::resume_throw_ref(x) => clone_resume_throw_ref(x),
-            Instruction::switch(x) => Ok(Instruction::switch(*x)),
-            Instruction::ref_cast_desc_eq(x) => Ok(Instruction::ref_cast_desc_eq(*x)),
+            Instruction::switch(x) => Ok(Instruction::switch(x.clone()?)),
+            Instruction::ref_cast_desc_eq(x) => Ok(Instruction::ref_cast_desc_eq(x.clone()?)),
             Instruction::br_on_cast_desc_eq(x) => clone_br_on_cast_desc_eq(x),
             Instruction::br_on_cast_desc_eq_fail(x) => clone_br_on_cast_desc_eq_fail(x),
         }
@@ -88,6 +90,13 @@ fn clone_block<'a>(op: BlockOp, x: &Box<BlockType<'a>>) -> Result<Instruction<'a
 {
     let same = BlockType::clone(x)?;
     Ok(Instruction::Block(op, Box::new(*Box::allocator(x), same)?))
+}
+
+/// `else`, `end` or another instruction that may name a label, once more.
+fn clone_label<'a>(op: LabelOp, x: &Option<Id<'a>>) -> Result<Instruction<'a>>
+    ensures { Copied (instr_of (head.Label op) (operands.label (seen_option name_of x.now))) true result }
+{
+    Ok(Instruction::Label(op, *x))
 }
 
 /// An indirect call, once more.

@@ -9,28 +9,28 @@ use wat_tokens::{Index, Parse, Parser, Result};
 use wat_types::RefType;
 
 /// The operand of `ref.test`.
-#[derive(Clone, Copy, Debug)]
+#[derive(Clone, Debug, Drop)]
 pub struct RefTest<'a> {
     /// The type that is tested for.
     pub type_: RefType<'a>,
 }
 
 /// The operand of `ref.cast`.
-#[derive(Clone, Copy, Debug)]
+#[derive(Clone, Debug, Drop)]
 pub struct RefCast<'a> {
     /// The type that is cast to.
     pub type_: RefType<'a>,
 }
 
 /// The operand of `ref.cast_desc_eq`.
-#[derive(Clone, Copy, Debug)]
+#[derive(Clone, Debug, Drop)]
 pub struct RefCastDescEq<'a> {
     /// The type that is cast to.
     pub type_: RefType<'a>,
 }
 
 /// The operand of `br_on_cast`.
-#[derive(Clone, Copy, Debug)]
+#[derive(Clone, Debug, Drop)]
 pub struct BrOnCast<'a> {
     /// The label that it branches to.
     pub label: Index<'a>,
@@ -41,7 +41,7 @@ pub struct BrOnCast<'a> {
 }
 
 /// The operand of `br_on_cast_fail`.
-#[derive(Clone, Copy, Debug)]
+#[derive(Clone, Debug, Drop)]
 pub struct BrOnCastFail<'a> {
     /// The label that it branches to.
     pub label: Index<'a>,
@@ -52,7 +52,7 @@ pub struct BrOnCastFail<'a> {
 }
 
 /// The operand of `br_on_cast_desc_eq`.
-#[derive(Clone, Copy, Debug)]
+#[derive(Clone, Debug, Drop)]
 pub struct BrOnCastDescEq<'a> {
     /// The label that it branches to.
     pub label: Index<'a>,
@@ -63,7 +63,7 @@ pub struct BrOnCastDescEq<'a> {
 }
 
 /// The operand of `br_on_cast_desc_eq_fail`.
-#[derive(Clone, Copy, Debug)]
+#[derive(Clone, Debug, Drop)]
 pub struct BrOnCastDescEqFail<'a> {
     /// The label that it branches to.
     pub label: Index<'a>,

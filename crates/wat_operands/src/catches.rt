@@ -15,7 +15,7 @@ use wat_tokens::{Cursor, Fault, Index, Parse, Parser, Peek, Result};
 
 /// What a clause catches, with its tag as an `I` (WebAssembly Core Specification, Text Format, Instructions, "Control
 /// Instructions").
-#[derive(Clone, Copy, Debug)]
+#[derive(Clone, Debug, Drop)]
 pub enum CatchKind<I> {
     /// An exception of the tag, without a reference to it.
     Catch(I),
@@ -46,7 +46,7 @@ impl<I> CatchKind<I> {
 }
 
 /// A clause of a `try_table` (WebAssembly Core Specification, Text Format, Instructions, "Control Instructions").
-#[derive(Clone, Copy, Debug)]
+#[derive(Clone, Debug, Drop)]
 pub struct TryTableCatch<'a> {
     /// What it catches.
     pub kind: TryTableCatchKind<'a>,

@@ -10,7 +10,7 @@ use wat_tokens::repeat::while_begun;
 use wat_tokens::{Cursor, Fault, Index, Parse, Parser, Peek, Result};
 
 /// What is done at a suspension (stack switching, Text Format, "Instructions").
-#[derive(Clone, Copy, Debug)]
+#[derive(Clone, Debug, Drop)]
 pub enum Handle<'a> {
     /// It branches to the label.
     OnLabel {
