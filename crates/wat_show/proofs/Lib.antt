@@ -1,2 +1,4 @@
+pub mod Enclosed
 pub mod Showing
 pub mod Lines
+pub mod Lists

@@ -9,7 +9,7 @@ use Rattle.wat_expr.specs.declared.expression.BranchHint.{BranchHint}
 use Rattle.wat_expr.specs.declared.expression.Expression.{Expression}
 use Rattle.wat_instr.specs.Instruction.{Instr, Instruction, head_in, operand_in, seen_instruction}
 use Rattle.wat_mnemonics.specs.Heads.{head_word}
-use Rattle.wat_show.specs.Expressions.{hint_at, line, lines, AreMarks, expression_text}
+use Rattle.wat_show.specs.Expressions.{hint_at, line, lines, AreMarks, lines_of}
 use Rattle.wat_show.specs.Instructions.{instr_text, instruction_text, shown_operand}
 use Rattle.wat_tokens.specs.Production.{by_test}
 
@@ -75,36 +75,41 @@ module _ (hs : List (ℕ × ℕ)) (marks : List (Option ℕ)) (i v : ℕ) where
 pub marks_more : (hints : List BranchHint) (n : ℕ) (d : BranchHint) (marks : List (Option ℕ)) → n < length hints → AreMarks (map seen_hint (take n hints) ++ seen_hint (get_or hints n d) ∷ []) marks → AreMarks (map seen_hint (take (n + 1) hints)) marks
 marks_more hints n d marks lt are = subst (λ (hs : List (ℕ × ℕ)). AreMarks hs marks) (sym (map_more seen_hint hints n d lt)) are
 
--- one more instruction is one more line
-pub lines_more : (hint : ℕ → Option ℕ) (k : ℕ) (is : List Instr) (i : Instr) (n : ℕ) → k + length is ≡ n → lines hint k (is ++ i ∷ []) ≡ lines hint k is ++ line i (hint n)
-lines_more hint k [] i n e = let f : k ≡ n = omega arith in rw f (append-nil (line i (hint n)))
-lines_more hint k (j ∷ is) i n e =
-    rw (lines_more hint (k + 1) is i n (omega arith)) (sym (append_assoc (line j (hint k)) (lines hint (k + 1) is) (line i (hint n))))
+module _ (front : List ℕ) where
+  -- one more instruction is one more line
+  pub lines_more : (hint : ℕ → Option ℕ) (k : ℕ) (is : List Instr) (i : Instr) (n : ℕ) → k + length is ≡ n → lines front hint k (is ++ i ∷ []) ≡ lines front hint k is ++ line front i (hint n)
+  lines_more hint k [] i n e = let f : k ≡ n = omega arith in rw f (append-nil (line front i (hint n)))
+  lines_more hint k (j ∷ is) i n e =
+      rw (lines_more hint (k + 1) is i n (omega arith)) (sym (append_assoc (line front j (hint k)) (lines front hint (k + 1) is) (line front i (hint n))))
 
-module _ (hint : ℕ → Option ℕ) (old out new : List ℕ) (instrs : List Instruction) (n : ℕ) (x : Instruction) where
-  pub added_line : n < length instrs → x ≡ get_or instrs n x → out ≡ old ++ lines hint 0 (map seen_instruction (take n instrs)) → new ≡ out ++ line (seen_instruction x) (hint n) → new ≡ old ++ lines hint 0 (map seen_instruction (take (n + 1) instrs))
-  added_line lt is was adds =
-      let front = map seen_instruction (take n instrs) in
-      let count : 0 + length front ≡ n = omega (arith, length-map (take n instrs) seen_instruction, length-take-le n instrs (omega arith)) in
-      let whole : front ++ seen_instruction x ∷ [] ≡ map seen_instruction (take (n + 1) instrs) = ap (λ (y : Instruction). front ++ seen_instruction y ∷ []) is ∙ sym (map_more seen_instruction instrs n x lt) in
-      let text : lines hint 0 (map seen_instruction (take (n + 1) instrs)) ≡ lines hint 0 front ++ line (seen_instruction x) (hint n) = ap (λ (l : List Instr). lines hint 0 l) (sym whole) ∙ lines_more hint 0 front (seen_instruction x) n count in
-      adds ∙ ap (λ (l : List ℕ). l ++ line (seen_instruction x) (hint n)) was ∙ append_assoc old (lines hint 0 front) (line (seen_instruction x) (hint n)) ∙ ap (λ (l : List ℕ). old ++ l) (sym text)
+  pub added_line : (hint : ℕ → Option ℕ) (old out new : List ℕ) (instrs : List Instruction) (n : ℕ) (x : Instruction) → n < length instrs → x ≡ get_or instrs n x → out ≡ old ++ lines front hint 0 (map seen_instruction (take n instrs)) → new ≡ out ++ line front (seen_instruction x) (hint n) → new ≡ old ++ lines front hint 0 (map seen_instruction (take (n + 1) instrs))
+  added_line hint old out new instrs n x lt is was adds =
+      let before = map seen_instruction (take n instrs) in
+      let count : 0 + length before ≡ n = omega (arith, length-map (take n instrs) seen_instruction, length-take-le n instrs (omega arith)) in
+      let whole : before ++ seen_instruction x ∷ [] ≡ map seen_instruction (take (n + 1) instrs) = ap (λ (y : Instruction). before ++ seen_instruction y ∷ []) is ∙ sym (map_more seen_instruction instrs n x lt) in
+      let text : lines front hint 0 (map seen_instruction (take (n + 1) instrs)) ≡ lines front hint 0 before ++ line front (seen_instruction x) (hint n) = ap (λ (l : List Instr). lines front hint 0 l) (sym whole) ∙ lines_more hint 0 before (seen_instruction x) n count in
+      adds ∙ ap (λ (l : List ℕ). l ++ line front (seen_instruction x) (hint n)) was ∙ append_assoc old (lines front hint 0 before) (line front (seen_instruction x) (hint n)) ∙ ap (λ (l : List ℕ). old ++ l) (sym text)
 
--- lines are one where the hints below their number are
-pub lines_agree : (f g : ℕ → Option ℕ) (k : ℕ) (is : List Instr) → ((j : ℕ) → j < k + length is → f j ≡ g j) → lines f k is ≡ lines g k is
-lines_agree f g k [] same = refl
-lines_agree f g k (i ∷ is) same =
-    rw (same k (omega arith), lines_agree f g (k + 1) is (λ j l. same j (omega arith))) refl
+  -- lines are one where the hints below their number are
+  pub lines_agree : (f g : ℕ → Option ℕ) (k : ℕ) (is : List Instr) → ((j : ℕ) → j < k + length is → f j ≡ g j) → lines front f k is ≡ lines front g k is
+  lines_agree f g k [] same = refl
+  lines_agree f g k (i ∷ is) same =
+      rw (same k (omega arith), lines_agree f g (k + 1) is (λ j l. same j (omega arith))) refl
 
--- what is added of an instruction, and of an expression
+  -- what is added of an expression
+  pub expression_added : {X E : Type 0} (r : Result X E) (e : Expression) (old new : List ℕ) (marks : List (Option ℕ)) → length marks ≡ length e.instrs.items → AreMarks (map seen_hint e.branch_hints.items) marks → OnOk r (new ≡ old ++ lines front (λ k. get_or marks k None) 0 (map seen_instruction e.instrs.items)) → OnOk r (new ≡ old ++ lines_of front (seen_expression e))
+  unfolding lines_of
+  expression_added (Ok x) e old new marks count are adds =
+      let same : lines front (λ k. get_or marks k None) 0 (map seen_instruction e.instrs.items) ≡ lines front (hint_at (map seen_hint e.branch_hints.items)) 0 (map seen_instruction e.instrs.items) = lines_agree (λ k. get_or marks k None) (hint_at (map seen_hint e.branch_hints.items)) 0 (map seen_instruction e.instrs.items) (λ j l. are j (omega (arith, length-map e.instrs.items seen_instruction))) in
+      adds ∙ ap (λ (l : List ℕ). old ++ l) same
+  expression_added (Err x) e old new marks count are adds = tt
+
+-- two additions are one
+pub added_both : {X E : Type 0} (r : Result X E) (old mid new a b : List ℕ) → mid ≡ old ++ a → OnOk r (new ≡ mid ++ b) → OnOk r (new ≡ old ++ (a ++ b))
+added_both (Ok x) old mid new a b was adds = adds ∙ ap (λ (l : List ℕ). l ++ b) was ∙ append_assoc old a b
+added_both (Err x) old mid new a b was adds = tt
+
+-- what is added of an instruction
 pub instruction_added : {X E : Type 0} (r : Result X E) (i : Instruction) (old mid new : List ℕ) → mid ≡ old ++ head_word (head_in i) → OnOk r (new ≡ mid ++ shown_operand (head_in i) (operand_in i)) → OnOk r (new ≡ old ++ instr_text (seen_instruction i))
-instruction_added (Ok x) i old mid new was adds =
-    adds ∙ ap (λ (l : List ℕ). l ++ shown_operand (head_in i) (operand_in i)) was ∙ append_assoc old (head_word (head_in i)) (shown_operand (head_in i) (operand_in i)) ∙ ap (λ (l : List ℕ). old ++ l) (sym (instruction_text i))
-instruction_added (Err x) i old mid new was adds = tt
-
-pub expression_added : {X E : Type 0} (r : Result X E) (e : Expression) (old new : List ℕ) (marks : List (Option ℕ)) → length marks ≡ length e.instrs.items → AreMarks (map seen_hint e.branch_hints.items) marks → OnOk r (new ≡ old ++ lines (λ k. get_or marks k None) 0 (map seen_instruction e.instrs.items)) → OnOk r (new ≡ old ++ expression_text (seen_expression e))
-unfolding expression_text
-expression_added (Ok x) e old new marks count are adds =
-    let same : lines (λ k. get_or marks k None) 0 (map seen_instruction e.instrs.items) ≡ lines (hint_at (map seen_hint e.branch_hints.items)) 0 (map seen_instruction e.instrs.items) = lines_agree (λ k. get_or marks k None) (hint_at (map seen_hint e.branch_hints.items)) 0 (map seen_instruction e.instrs.items) (λ j l. are j (omega (arith, length-map e.instrs.items seen_instruction))) in
-    adds ∙ ap (λ (l : List ℕ). old ++ l) same
-expression_added (Err x) e old new marks count are adds = tt
+instruction_added r i old mid new was adds =
+    subst (λ (l : List ℕ). OnOk r (new ≡ old ++ l)) (sym (instruction_text i)) (added_both r old mid new (head_word (head_in i)) (shown_operand (head_in i) (operand_in i)) was adds)

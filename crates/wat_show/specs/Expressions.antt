@@ -15,18 +15,26 @@ abbrev pub hint_text : Option ℕ → List ℕ
 hint_text None = []
 hint_text (Some v) = codes " hint " ++ decimal v
 
--- an instruction and its hint, on a line
-abbrev pub line : Instr → Option ℕ → List ℕ
-line i hint = instr_text i ++ (hint_text hint ++ codes "\n")
+-- a front, an instruction and its hint, on a line
+abbrev pub line : List ℕ → Instr → Option ℕ → List ℕ
+line front i hint = front ++ (instr_text i ++ (hint_text hint ++ codes "\n"))
 
--- Instructions, one a line, the first of which has the index k; each with what hint says of its index.
-abbrev pub lines : (ℕ → Option ℕ) → ℕ → List Instr → List ℕ
-lines hint k [] = []
-lines hint k (i ∷ is) = line i (hint k) ++ lines hint (k + 1) is
+-- Instructions, one a line behind the front, the first of which has the index k; each with what hint says of its index.
+abbrev pub lines : List ℕ → (ℕ → Option ℕ) → ℕ → List Instr → List ℕ
+lines front hint k [] = []
+lines front hint k (i ∷ is) = line front i (hint k) ++ lines front hint (k + 1) is
 
--- its instructions, one a line, each with the hint that has its index
-unfoldable pub expression_text : Expr → List ℕ
-expression_text e = lines (hint_at e.hints) 0 e.instrs
+-- its instructions, one a line behind the front, each with the hint that has its index
+unfoldable pub lines_of : List ℕ → Expr → List ℕ
+lines_of front e = lines front (hint_at e.hints) 0 e.instrs
+
+-- its instructions, one a line
+abbrev pub expression_text : Expr → List ℕ
+expression_text e = lines_of [] e
+
+-- the same below another line: each behind two spaces
+abbrev pub below : Expr → List ℕ
+below e = lines_of (codes "  ") e
 
 -- for each index below their number, the hint that has it
 abbrev pub AreMarks : List (ℕ × ℕ) → List (Option ℕ) → Type 0

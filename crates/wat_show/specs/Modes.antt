@@ -5,9 +5,11 @@ use Rattle.wat_expr.specs.Folded.{folded_instruction}
 use Rattle.wat_expr.specs.Reading.{expression}
 use Rattle.wat_show.specs.Expressions.{expression_text}
 use Rattle.wat_show.specs.Listing.{function_text}
+use Rattle.wat_show.specs.Modules.{module_text}
 use Rattle.wat_show.specs.Shown.{ShowsText, ShowsBytes}
+use Rattle.wat_show.specs.Whole.{Spelled, SpelledModule}
 use Rattle.wat_show.specs.declared.mode.Mode.{Mode}
-use Rattle.wat_show.specs.declared.mode.Mode.TheVariants.{FuncType, Expr, Folded}
+use Rattle.wat_show.specs.declared.mode.Mode.TheVariants.{FuncType, Expr, Folded, «Module»}
 use Rattle.wat_types.specs.Function.{function_type}
 
 -- the mode that a word names
@@ -16,16 +18,16 @@ mode_of word =
     if bytes_eq word (codes "functype") then Some FuncType
     else if bytes_eq word (codes "expr") then Some Expr
     else if bytes_eq word (codes "folded") then Some Folded
+    else if bytes_eq word (codes "module") then Some «Module»
     else None
 
 -- The output and the status are right for the text.
 abbrev pub ShownText : Mode → List ℕ → List ℕ → ℕ → Type 0
-ShownText FuncType text out status = ShowsText function_type function_text text out status
-ShownText Expr text out status = ShowsText expression expression_text text out status
-ShownText Folded text out status = ShowsText folded_instruction expression_text text out status
+ShownText FuncType text out status = ShowsText (Spelled function_type) function_text text out status
+ShownText Expr text out status = ShowsText (Spelled expression) expression_text text out status
+ShownText Folded text out status = ShowsText (Spelled folded_instruction) expression_text text out status
+ShownText «Module» text out status = ShowsText SpelledModule module_text text out status
 
 -- The output and the status are right for the bytes.
 abbrev pub Shown : Mode → List ℕ → List ℕ → ℕ → Type 0
-Shown FuncType bytes out status = ShowsBytes function_type function_text bytes out status
-Shown Expr bytes out status = ShowsBytes expression expression_text bytes out status
-Shown Folded bytes out status = ShowsBytes folded_instruction expression_text bytes out status
+Shown mode bytes out status = ShowsBytes (ShownText mode) bytes out status

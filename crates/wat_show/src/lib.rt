@@ -1,16 +1,21 @@
 //! What the program `watshow` shows: it reads all bytes, makes its whole output from them, and writes that.
 #![tactic(auto)]
 
+pub mod entries;
 pub mod error;
 pub mod expressions;
+pub mod fields;
 pub mod input;
 pub mod instructions;
 pub mod listing;
 pub mod mode;
+pub mod modules;
 pub mod output;
+pub mod pieces;
 pub mod show;
 pub mod shown;
 pub mod text;
+pub mod value;
 pub mod watched;
 pub mod whole;
 

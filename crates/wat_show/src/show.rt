@@ -1,7 +1,6 @@
 //! A run: reads everything, makes the whole output of it, and writes that.
-ghost use Rattle.std.specs.Prelude.{◌≡◌, ◌↔◌, ◌⊎◌, ℕ, List, IsTrue, IsFalse, IfOk, IsErrOf};
-ghost use Rattle.std.specs.Io.KnownBytes.{Appends};
-ghost use Rattle.wat_show.specs.Streams.{ReadsAll, ReadsOn, AppendsBeginning};
+ghost use Rattle.std.specs.Prelude.{ℕ, List, IsFalse, IfOk};
+ghost use Rattle.wat_show.specs.Run.{Runs};
 
 use crate::error::RunError;
 use crate::input::read_all;
@@ -29,28 +28,7 @@ pub fn run_shows<S: Shows, R: Read, W: Write>(
 ) -> Result<u8, RunError>
     requires reader_works { IsFalse reader.old.failed }
     requires writer_works { IsFalse writer.old.failed }
-
-    // The reader was read to its end, and what is shown of its bytes was written.
-    ensures shown { IfOk result (λ status. (bytes : List ℕ) × (out : List ℕ)
-        × S.shown shows.now bytes out status
-        × ReadsAll (R.remaining reader.old.inner) (R.remaining reader.new.inner) bytes
-        × Appends (W.contents writer.old.inner) (W.contents writer.new.inner) out) }
-
-    // A write failed after a beginning of that.
-    ensures cut_short { IsErrOf result RunError.Write
-        → (bytes : List ℕ) × (out : List ℕ) × (status : ℕ)
-        × S.shown shows.now bytes out status
-        × ReadsAll (R.remaining reader.old.inner) (R.remaining reader.new.inner) bytes
-        × AppendsBeginning (W.contents writer.old.inner) (W.contents writer.new.inner) out }
-
-    // At another error nothing was written.
-    ensures unwritten { IsErrOf result RunError.Read ⊎ IsErrOf result RunError.Memory
-        → writer.new ≡ writer.old }
-    ensures read_on { ReadsOn (R.remaining reader.old.inner) (R.remaining reader.new.inner) }
-
-    // The error tells which call failed.
-    ensures read { IsTrue reader.new.failed ↔ IsErrOf result RunError.Read }
-    ensures write { IsTrue writer.new.failed ↔ IsErrOf result RunError.Write }
+    ensures { Runs R.remaining W.contents (S.shown shows.now) result reader.old reader.new writer.old writer.new }
 {
     let bytes = read_all(alloc, reader)?;
     let (out, status) = shows.show(alloc, &bytes)?;

@@ -2,6 +2,7 @@
 
 ghost use Rattle.std.specs.Prelude.{◌≡◌, ◌++◌, OnOk, decimal};
 ghost use Rattle.std.specs.Fmt.{signed_decimal};
+ghost use Rattle.wat_show.specs.Fields.{counted};
 
 use std::alloc::AllocError;
 
@@ -26,4 +27,14 @@ pub fn add_signed(out: &mut Vec<u8>, number: i64) -> Result<(), AllocError>
 {
     let digits = format!(in *out.allocator(); "{number}")?;
     add(out, digits.as_str())
+}
+
+/// Adds words and a number in decimal digits, on a line.
+pub fn add_counted(out: &mut Vec<u8>, words: &str, number: u128) -> Result<(), AllocError>
+    ensures { OnOk result (out.new.items ≡ out.old.items ++ counted words.now number) }
+{
+    add(out, words)?;
+    let digits = format!(in *out.allocator(); "{number}")?;
+    add(out, digits.as_str())?;
+    add(out, "\n")
 }

@@ -1,11 +1,14 @@
 //! Reading a value that is a whole text.
 
-ghost use Rattle.std.specs.Prelude.{◌≡◌, ◌≢◌, IfOk, IfErr};
-ghost use Rattle.wat_show.specs.Whole.{Spelled};
+ghost use Rattle.std.specs.Prelude.{◌≡◌, ◌≢◌, [], ◌∷◌, IfOk, IfErr};
+ghost use Rattle.wat_core.specs.Module.{ModuleTy, seen_module};
+ghost use Rattle.wat_show.specs.Whole.{Spelled, SpelledModule};
 ghost use Rattle.wat_tokens.specs.Error.{Memory};
+ghost use Rattle.wat_tokens.specs.Token.{RParen};
 
 use bumpalo::Bump;
 use std::alloc::Global;
+use wat_core::Module;
 use wat_tokens::{Error, Parse, Parser, one_cut};
 
 /// Reads the value that the whole text spells. A token that is left over is Unexpected.
@@ -24,4 +27,29 @@ pub fn read_whole<'a, T: Parse<'a> + Drop>(
         return Err(parser.unexpected());
     }
     Ok(value)
+}
+
+/// Takes what closes the group of a value, and nothing may be left. The value is passed on.
+fn closed<'a, T: Drop>(parser: &mut Parser<'a>, value: T) -> Result<T, Error>
+    ensures value { IfOk result (λ v. v ≡ value) }
+    ensures stands { IfOk result (λ _. parser.old.left ≡ RParen ∷ []) }
+    ensures refused { IfErr result (λ _. parser.old.left ≢ RParen ∷ []) }
+{
+    parser.close()?;
+    if !parser.at_end() {
+        return Err(parser.unexpected());
+    }
+    Ok(value)
+}
+
+/// Reads the module that the whole text spells, between its parentheses. A token that is left over is Unexpected.
+pub fn read_module<'a>(alloc: Global, text: &'a str, arena: &'a Bump) -> Result<Module<'a>, Error>
+    ensures found { IfOk result (λ m. SpelledModule text.now (seen_module m)) }
+    ensures none { IfErr result (λ e. e.fault ≢ Memory → (m : ModuleTy) → SpelledModule text.now m → ⊥) }
+{
+    one_cut();
+    let mut parser = Parser::new(alloc, text, arena)?;
+    parser.open()?;
+    let module = Module::parse(&mut parser)?;
+    closed(&mut parser, module)
 }

@@ -10,6 +10,8 @@ mod functype;
 #[cfg(test)]
 mod listing;
 #[cfg(test)]
+mod modules;
+#[cfg(test)]
 mod put_last;
 #[cfg(test)]
 mod shown;

@@ -173,7 +173,8 @@ fn words_of_modes(rt: HostRuntime) {
     assert_eq!(rt; Mode::of("functype"), Some(Mode::FuncType));
     assert_eq!(rt; Mode::of("expr"), Some(Mode::Expr));
     assert_eq!(rt; Mode::of("folded"), Some(Mode::Folded));
-    for word in ["", "exp", "exprs", "Folded", "module"] {
+    assert_eq!(rt; Mode::of("module"), Some(Mode::Module));
+    for word in ["", "exp", "exprs", "Folded", "modules"] {
         assert_eq!(rt; Mode::of(word), None, "{word}");
     }
 }

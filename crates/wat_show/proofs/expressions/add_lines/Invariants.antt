@@ -5,4 +5,4 @@ use Rattle.wat_show.specs.Expressions.{lines}
 use Rattle.wat_show.proofs.expressions.add_lines.Given as goal
 
 abbrev pub invariant-loop-index : goal.invariant-loop-index
-invariant-loop-index l = l.out.items ≡ l.fn.out.items ++ lines (λ k. get_or l.marks k None) 0 (map seen_instruction (take l.index l.instrs))
+invariant-loop-index l = l.out.items ≡ l.fn.out.items ++ lines l.front (λ k. get_or l.marks k None) 0 (map seen_instruction (take l.index l.instrs))

@@ -1,0 +1,27 @@
+-- How modules are listed.
+use Rattle.std.specs.Prelude.{List, ℕ, ◌++◌, length, map, flat_map, codes}
+use Rattle.wat_core.specs.Module.{ModuleTy, ModuleKindTy, text, binary}
+use Rattle.wat_core.specs.declared.module.ModuleKindOf.{ModuleKindOf}
+use Rattle.wat_core.specs.declared.module.ModuleKindOf.TheVariants as code
+use Rattle.wat_show.specs.Fields.{counted, byte_count, field_text}
+
+-- `text`, how many fields, and below that what is listed of them
+abbrev pub text_lines : ℕ → List ℕ → List ℕ
+text_lines count fields = counted (codes "module text ") count ++ fields
+
+-- `binary`, and how many bytes the pieces have together
+abbrev pub binary_line : List (List ℕ) → List ℕ
+binary_line pieces = counted (codes "module binary ") (byte_count pieces)
+
+-- the fields in order, or the pieces
+abbrev pub kind_text : ModuleKindTy → List ℕ
+kind_text (text fs) = text_lines (length fs) (flat_map field_text fs)
+kind_text (binary pieces) = binary_line pieces
+
+abbrev pub module_text : ModuleTy → List ℕ
+module_text m = kind_text m.kind
+
+-- the same of values in the code: `line` is what is added of a field, and `bytes` are those of a piece
+abbrev pub kind_listing : {F P : Type 0} → (F → List ℕ) → (P → List ℕ) → ModuleKindOf F P → List ℕ
+kind_listing line bytes (code.Text fs) = text_lines (length fs.items) (flat_map line fs.items)
+kind_listing line bytes (code.Binary ps) = binary_line (map bytes ps.items)

@@ -1,0 +1,226 @@
+//! How the fields of a module are listed.
+
+ghost use Rattle.std.specs.Prelude.{◌≡◌, ◌++◌, OnOk};
+ghost use Rattle.wat_core.specs.Field.{seen_field};
+ghost use Rattle.wat_customs.specs.Custom.{seen_custom};
+ghost use Rattle.wat_elems.specs.Elem.{seen_elem_kind};
+ghost use Rattle.wat_elems.specs.Payload.{seen_payload};
+ghost use Rattle.wat_elems.specs.Table.{seen_table_kind};
+ghost use Rattle.wat_funcs.specs.Func.{seen_func_kind};
+ghost use Rattle.wat_funcs.specs.Global.{seen_global_kind};
+ghost use Rattle.wat_funcs.specs.Tag.{seen_tag_kind};
+ghost use Rattle.wat_links.specs.Import.{seen_items};
+ghost use Rattle.wat_segments.specs.Data.{seen_data_kind};
+ghost use Rattle.wat_segments.specs.DataVal.{seen_vals};
+ghost use Rattle.wat_segments.specs.Memory.{seen_memory_kind};
+ghost use Rattle.wat_tokens.specs.Index.{seen_index};
+ghost use Rattle.wat_show.specs.Fields.{import_text, export_text, func_text, global_text, tag_text, payload_line, payload_lines, table_text, elem_word, elem_offset, elem_text, start_text, memory_text, data_text, custom_text, field_text};
+
+use crate::entries::add_entries;
+use crate::expressions::add_below;
+use crate::listing::add_index;
+use crate::pieces::total;
+use crate::text::{add, add_counted};
+use std::alloc::AllocError;
+use wat_core::ModuleField;
+use wat_elems::{ElemKind, ElemPayload, TableKind};
+use wat_funcs::{FuncKind, GlobalKind, TagKind};
+use wat_links::{Custom, ExportKind, ImportItems};
+use wat_segments::{DataKind, DataVal, MemoryKind};
+use wat_tokens::Index;
+
+fn add_import(out: &mut Vec<u8>, items: &ImportItems) -> Result<(), AllocError>
+    ensures { OnOk result (out.new.items ≡ out.old.items ++ import_text (seen_items items.now)) }
+{
+    match items {
+        ImportItems::Single { .. } => add_counted(out, "import single ", 1),
+        ImportItems::Group1 { items, .. } => {
+            add_counted(out, "import group1 ", items.len() as u128)
+        }
+        ImportItems::Group2 { items, .. } => {
+            add_counted(out, "import group2 ", items.len() as u128)
+        }
+    }
+}
+
+fn add_export(out: &mut Vec<u8>, kind: ExportKind) -> Result<(), AllocError>
+    ensures { OnOk result (out.new.items ≡ out.old.items ++ export_text kind) }
+{
+    match kind {
+        ExportKind::Func => add(out, "export func\n"),
+        ExportKind::Table => add(out, "export table\n"),
+        ExportKind::Memory => add(out, "export memory\n"),
+        ExportKind::Global => add(out, "export global\n"),
+        ExportKind::Tag => add(out, "export tag\n"),
+    }
+}
+
+fn add_func(out: &mut Vec<u8>, kind: &FuncKind) -> Result<(), AllocError>
+    ensures { OnOk result (out.new.items ≡ out.old.items ++ func_text (seen_func_kind kind.now)) }
+{
+    match kind {
+        FuncKind::Import(_, _) => add(out, "func import\n"),
+        FuncKind::Inline { locals, expression } => {
+            add_counted(out, "func inline ", locals.len() as u128)?;
+            add_below(out, expression)
+        }
+    }
+}
+
+fn add_global(out: &mut Vec<u8>, kind: &GlobalKind) -> Result<(), AllocError>
+    ensures { OnOk result (out.new.items ≡ out.old.items ++ global_text (seen_global_kind kind.now)) }
+{
+    match kind {
+        GlobalKind::Import(_) => add(out, "global import\n"),
+        GlobalKind::Inline(expression) => {
+            add(out, "global inline\n")?;
+            add_below(out, expression)
+        }
+    }
+}
+
+fn add_tag(out: &mut Vec<u8>, kind: &TagKind) -> Result<(), AllocError>
+    ensures { OnOk result (out.new.items ≡ out.old.items ++ tag_text (seen_tag_kind kind.now)) }
+{
+    match kind {
+        TagKind::Import(_) => add(out, "tag import\n"),
+        TagKind::Inline() => add(out, "tag inline\n"),
+    }
+}
+
+/// Adds what a payload holds, indices or expressions, and how many.
+fn add_payload_line(out: &mut Vec<u8>, payload: &ElemPayload) -> Result<(), AllocError>
+    ensures { OnOk result (out.new.items ≡ out.old.items ++ payload_line (seen_payload payload.now)) }
+{
+    match payload {
+        ElemPayload::Indices(indices) => add_counted(out, "indices ", indices.len() as u128),
+        ElemPayload::Exprs { exprs, .. } => add_counted(out, "exprs ", exprs.len() as u128),
+    }
+}
+
+/// Adds the lines of a payload's expressions.
+#[tactic(auto, using(crate::proofs::Lists::of_seen))]
+fn add_payload_lines(out: &mut Vec<u8>, payload: &ElemPayload) -> Result<(), AllocError>
+    ensures { OnOk result (out.new.items ≡ out.old.items ++ payload_lines (seen_payload payload.now)) }
+{
+    match payload {
+        ElemPayload::Indices(_) => Ok(()),
+        ElemPayload::Exprs { exprs, .. } => add_entries(out, exprs),
+    }
+}
+
+fn add_table(out: &mut Vec<u8>, kind: &TableKind) -> Result<(), AllocError>
+    ensures { OnOk result (out.new.items ≡ out.old.items ++ table_text (seen_table_kind kind.now)) }
+{
+    match kind {
+        TableKind::Import { .. } => add(out, "table import\n"),
+        TableKind::Normal { init_expr, .. } => {
+            add(out, "table normal\n")?;
+            match init_expr {
+                Some(expression) => add_below(out, expression),
+                None => Ok(()),
+            }
+        }
+        TableKind::Inline { payload, .. } => {
+            add(out, "table inline ")?;
+            add_payload_line(out, payload)?;
+            add_payload_lines(out, payload)
+        }
+    }
+}
+
+/// Adds the word of where a segment is put.
+fn add_elem_word(out: &mut Vec<u8>, kind: &ElemKind) -> Result<(), AllocError>
+    ensures { OnOk result (out.new.items ≡ out.old.items ++ elem_word (seen_elem_kind kind.now)) }
+{
+    match kind {
+        ElemKind::Passive => add(out, "elem passive "),
+        ElemKind::Declared => add(out, "elem declared "),
+        ElemKind::Active { .. } => add(out, "elem active "),
+    }
+}
+
+/// Adds the lines of a segment's offset.
+fn add_elem_offset(out: &mut Vec<u8>, kind: &ElemKind) -> Result<(), AllocError>
+    ensures { OnOk result (out.new.items ≡ out.old.items ++ elem_offset (seen_elem_kind kind.now)) }
+{
+    match kind {
+        ElemKind::Passive | ElemKind::Declared => Ok(()),
+        ElemKind::Active { offset, .. } => add_below(out, offset),
+    }
+}
+
+fn add_elem(out: &mut Vec<u8>, kind: &ElemKind, payload: &ElemPayload) -> Result<(), AllocError>
+    ensures { OnOk result (out.new.items ≡ out.old.items ++ elem_text (seen_elem_kind kind.now, seen_payload payload.now)) }
+{
+    add_elem_word(out, kind)?;
+    add_payload_line(out, payload)?;
+    add_elem_offset(out, kind)?;
+    add_payload_lines(out, payload)
+}
+
+fn add_memory(out: &mut Vec<u8>, kind: &MemoryKind) -> Result<(), AllocError>
+    ensures { OnOk result (out.new.items ≡ out.old.items ++ memory_text (seen_memory_kind kind.now)) }
+{
+    match kind {
+        MemoryKind::Import { .. } => add(out, "memory import\n"),
+        MemoryKind::Normal(_) => add(out, "memory normal\n"),
+        MemoryKind::Inline { data, .. } => add_counted(out, "memory inline ", total(data)),
+    }
+}
+
+fn add_data(out: &mut Vec<u8>, kind: &DataKind, values: &[DataVal]) -> Result<(), AllocError>
+    ensures { OnOk result (out.new.items ≡ out.old.items ++ data_text (seen_data_kind kind.now) (seen_vals values.now)) }
+{
+    match kind {
+        DataKind::Passive => add_counted(out, "data passive ", total(values)),
+        DataKind::Active { offset, .. } => {
+            add_counted(out, "data active ", total(values))?;
+            add_below(out, offset)
+        }
+    }
+}
+
+fn add_custom(out: &mut Vec<u8>, custom: &Custom) -> Result<(), AllocError>
+    ensures { OnOk result (out.new.items ≡ out.old.items ++ custom_text (seen_custom custom.now)) }
+{
+    match custom {
+        Custom::Raw(raw) => add_counted(out, "custom raw ", total(&raw.data)),
+        Custom::Producers(producers) => {
+            add_counted(out, "custom producers ", producers.fields.len() as u128)
+        }
+        Custom::Dylink0(dylink) => {
+            add_counted(out, "custom dylink.0 ", dylink.subsections.len() as u128)
+        }
+    }
+}
+
+fn add_start(out: &mut Vec<u8>, index: &Index) -> Result<(), AllocError>
+    ensures { OnOk result (out.new.items ≡ out.old.items ++ start_text (seen_index index.now)) }
+{
+    add(out, "start ")?;
+    add_index(out, index)?;
+    add(out, "\n")
+}
+
+/// Adds the line of a field, and below it the lines of its expressions.
+#[tactic(auto, unfolding(crate::specs::Fields::field_text))]
+pub fn add_field(out: &mut Vec<u8>, field: &ModuleField) -> Result<(), AllocError>
+    ensures { OnOk result (out.new.items ≡ out.old.items ++ field_text (seen_field field.now)) }
+{
+    match field {
+        ModuleField::Type(_) => add(out, "type\n"),
+        ModuleField::Rec(rec) => add_counted(out, "rec ", rec.types.len() as u128),
+        ModuleField::Import(import) => add_import(out, &import.items),
+        ModuleField::Func(func) => add_func(out, &func.kind),
+        ModuleField::Table(table) => add_table(out, &table.kind),
+        ModuleField::Memory(memory) => add_memory(out, &memory.kind),
+        ModuleField::Global(global) => add_global(out, &global.kind),
+        ModuleField::Export(export) => add_export(out, export.kind),
+        ModuleField::Start(index) => add_start(out, index),
+        ModuleField::Elem(elem) => add_elem(out, &elem.kind, &elem.payload),
+        ModuleField::Data(data) => add_data(out, &data.kind, &data.data),
+        ModuleField::Tag(tag) => add_tag(out, &tag.kind),
+        ModuleField::Custom(custom) => add_custom(out, custom),
+    }
+}

@@ -1,0 +1,140 @@
+//! What is shown of a text that is to be a value.
+
+ghost use Rattle.std.specs.Prelude.{◌≡◌, ◌≢◌, ◌++◌, ℕ, List, OnOk, IfOk, IfErr};
+ghost use Rattle.wat_core.specs.Module.{ModuleTy, seen_module};
+ghost use Rattle.wat_expr.specs.Expression.{Expr, seen_expression};
+ghost use Rattle.wat_expr.specs.Folded.{folded_instruction};
+ghost use Rattle.wat_expr.specs.Reading.{expression};
+ghost use Rattle.wat_show.specs.Expressions.{expression_text};
+ghost use Rattle.wat_show.specs.Listing.{function_text};
+ghost use Rattle.wat_show.specs.Modules.{module_text};
+ghost use Rattle.wat_show.specs.Shown.{ShowsText};
+ghost use Rattle.wat_show.specs.Whole.{Spelled, SpelledModule};
+ghost use Rattle.wat_tokens.specs.Error.{Memory};
+ghost use Rattle.wat_types.specs.Function.{seen_function, function_type};
+ghost use Rattle.wat_types.specs.Group.{FuncTy};
+
+use crate::expressions::add_expression;
+use crate::listing::add_function;
+use crate::modules::add_module;
+use crate::shown::refused;
+use crate::whole::{read_module, read_whole};
+use bumpalo::Bump;
+use std::alloc::{AllocError, Global};
+use wat_core::Module;
+use wat_expr::{Expression, FoldedInstruction};
+use wat_tokens::Error;
+use wat_types::FunctionType;
+
+/// A type whose values are read from a text and listed.
+pub trait Listed<'a>: Sized {
+    /// What contracts see of a value.
+    ghost Seen: { Type 0 };
+
+    ghost seen: { Self → Seen };
+
+    /// The text spells the value.
+    ghost spelled: { List ℕ → Seen → Type 0 };
+
+    /// What is listed of the value.
+    ghost listing: { Seen → List ℕ };
+
+    /// Reads the value that the text spells. It is refused with the first fault that is met.
+    fn read(alloc: Global, text: &'a str, arena: &'a Bump) -> Result<Self, Error>
+        ensures found { IfOk result (λ v. spelled text.now (seen v)) }
+        ensures none { IfErr result (λ e. e.fault ≢ Memory → (v : Seen) → spelled text.now v → ⊥) };
+
+    /// Adds the listing of the value.
+    fn list(&self, out: &mut Vec<u8>) -> Result<(), AllocError>
+        ensures { OnOk result (out.new.items ≡ out.old.items ++ listing (seen self.now)) };
+}
+
+impl<'a> Listed<'a> for FunctionType<'a> {
+    ghost Seen = { FuncTy };
+
+    ghost seen = { seen_function };
+
+    ghost spelled = { Spelled function_type };
+
+    ghost listing = { function_text };
+
+    fn read(alloc: Global, text: &'a str, arena: &'a Bump) -> Result<Self, Error> {
+        read_whole(alloc, text, arena)
+    }
+
+    fn list(&self, out: &mut Vec<u8>) -> Result<(), AllocError> {
+        add_function(out, self)
+    }
+}
+
+impl<'a> Listed<'a> for Expression<'a> {
+    ghost Seen = { Expr };
+
+    ghost seen = { seen_expression };
+
+    ghost spelled = { Spelled expression };
+
+    ghost listing = { expression_text };
+
+    fn read(alloc: Global, text: &'a str, arena: &'a Bump) -> Result<Self, Error> {
+        read_whole(alloc, text, arena)
+    }
+
+    fn list(&self, out: &mut Vec<u8>) -> Result<(), AllocError> {
+        add_expression(out, self)
+    }
+}
+
+impl<'a> Listed<'a> for FoldedInstruction<'a> {
+    ghost Seen = { Expr };
+
+    ghost seen = { λ folded. seen_expression folded.0 };
+
+    ghost spelled = { Spelled folded_instruction };
+
+    ghost listing = { expression_text };
+
+    fn read(alloc: Global, text: &'a str, arena: &'a Bump) -> Result<Self, Error> {
+        read_whole(alloc, text, arena)
+    }
+
+    fn list(&self, out: &mut Vec<u8>) -> Result<(), AllocError> {
+        add_expression(out, &self.0)
+    }
+}
+
+impl<'a> Listed<'a> for Module<'a> {
+    ghost Seen = { ModuleTy };
+
+    ghost seen = { seen_module };
+
+    ghost spelled = { SpelledModule };
+
+    ghost listing = { module_text };
+
+    fn read(alloc: Global, text: &'a str, arena: &'a Bump) -> Result<Self, Error> {
+        read_module(alloc, text, arena)
+    }
+
+    fn list(&self, out: &mut Vec<u8>) -> Result<(), AllocError> {
+        add_module(out, self)
+    }
+}
+
+/// What is shown of a text that is to be a value of the type.
+pub fn show_value<'a, T: Listed<'a> + Drop>(
+    alloc: Global,
+    text: &'a str,
+    arena: &'a Bump,
+) -> Result<(Vec<u8>, u8), AllocError>
+    ensures { IfOk result (λ made. ShowsText T.spelled T.listing text.now made.0.items made.1) }
+{
+    match T::read(alloc, text, arena) {
+        Ok(value) => {
+            let mut out = Vec::new(alloc);
+            value.list(&mut out)?;
+            Ok((out, 0))
+        }
+        Err(error) => refused(alloc, error),
+    }
+}
