@@ -4,8 +4,8 @@ use bumpalo::Bump;
 use std::alloc::Global as Allocator;
 use std::test::Fail;
 use wat_core::{
-    Custom, ElemPayload, Expression, Fault, FuncKind, Instruction, MemoryKind, Module, ModuleField,
-    ModuleKind, Parser, ScalarOp, hand,
+    Custom, ElemPayload, Expression, Fault, FuncKind, Imports, InnerTypeKind, Instruction, MemArg,
+    MemoryKind, Module, ModuleField, ModuleKind, Parser, ScalarOp, hand,
 };
 
 /// The word of a field's kind.
@@ -27,30 +27,45 @@ fn kind_of(field: &ModuleField<'_>) -> &'static str {
     }
 }
 
-/// Whether each instruction is a `nop`.
-fn are_nops(expression: &Expression<'_>) -> bool {
+/// Whether each instruction is a `nop`, or accesses a memory with the alignment 4.
+fn are_plain(expression: &Expression<'_>) -> bool {
     for instr in &expression.instrs {
         match instr {
             Instruction::Scalar(ScalarOp::nop) => {}
+            Instruction::Access(_, MemArg { align: 4, .. }) => {}
             _ => return false,
         }
     }
     true
 }
 
-/// A number that a field holds, one of each layer: locals of a function of `nop`s, pages of a memory, imported items, elements
-/// that are listed by index, subsections of a custom section. 99 of every other.
+/// How many parameters a function type has.
+fn params_of(kind: &InnerTypeKind<'_>) -> usize {
+    match kind {
+        InnerTypeKind::Func(function) => function.params.len(),
+        _ => 99,
+    }
+}
+
+/// How many items are imported.
+fn items_of(imports: &Imports<'_>) -> usize {
+    imports.num_items()
+}
+
+/// A number that a field holds, one of each layer: parameters of a type, locals of a function of plain instructions, values of a memory, imported
+/// items, elements that are listed by index, subsections of a custom section. 99 of every other.
 fn count_of(field: &ModuleField<'_>) -> usize {
     match field {
         ModuleField::Func(func) => match &func.kind {
-            FuncKind::Inline { locals, expression } if are_nops(expression) => locals.len(),
+            FuncKind::Inline { locals, expression } if are_plain(expression) => locals.len(),
             _ => 99,
         },
         ModuleField::Memory(memory) => match &memory.kind {
             MemoryKind::Inline { data, .. } => data.len(),
             _ => 99,
         },
-        ModuleField::Import(imports) => imports.num_items(),
+        ModuleField::Type(ty) => params_of(&ty.def.kind),
+        ModuleField::Import(imports) => items_of(imports),
         ModuleField::Elem(elem) => match &elem.payload {
             ElemPayload::Indices(indices) => indices.len(),
             _ => 99,
@@ -176,7 +191,8 @@ fn modules_have_their_fields(rt: HostRuntime) -> Result<(), Fail> {
 #[test]
 fn fields_hold_their_parts(rt: HostRuntime) -> Result<(), Fail> {
     for (text, expected) in [
-        ("(module (func (local i32 i64) nop nop))", 2),
+        ("(module (type (func (param i32 i64 f32))))", 3),
+        ("(module (func (local i32 i64) nop i32.load))", 2),
         ("(module (func (local i32 i64) drop))", 99),
         ("(module (memory (data \"a\" \"b\" \"c\")))", 3),
         (
