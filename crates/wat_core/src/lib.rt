@@ -2,8 +2,8 @@
 //! them.
 //!
 //! [`Module::parse`] takes a module from the tokens of a [`Parser`]. Indices stay as they are written: nothing is resolved, and
-//! nothing is checked for validity. This crate has the name of every public item of the crates that it stands on, so that a
-//! user needs it alone.
+//! nothing is checked for validity. This crate has the names of the types of the crates that it stands on, and of
+//! what reads them, so that a user needs it alone.
 #![tactic(auto)]
 
 pub mod field;
