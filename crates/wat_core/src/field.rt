@@ -14,33 +14,47 @@ use wat_types::{Rec, Type};
 
 /// A field of a module, generic in what each kind of field is: see [`ModuleField`].
 #[derive(Debug, Drop)]
-pub enum ModuleFieldOf<T, R, I, F, B, M, G, X, N, E, D, U, C> {
+pub enum ModuleFieldOf<
+    Type,
+    Rec,
+    Imports,
+    Func,
+    Table,
+    Memory,
+    Global,
+    Export,
+    Index,
+    Elem,
+    Data,
+    Tag,
+    Custom,
+> {
     /// A type.
-    Type(T),
+    Type(Type),
     /// Types that may name one another.
-    Rec(R),
+    Rec(Rec),
     /// Imports of one module.
-    Import(I),
+    Import(Imports),
     /// A function.
-    Func(F),
+    Func(Func),
     /// A table.
-    Table(B),
+    Table(Table),
     /// A memory.
-    Memory(M),
+    Memory(Memory),
     /// A global.
-    Global(G),
+    Global(Global),
     /// An export.
-    Export(X),
+    Export(Export),
     /// The function that is called first.
-    Start(N),
+    Start(Index),
     /// An element segment.
-    Elem(E),
+    Elem(Elem),
     /// A data segment.
-    Data(D),
+    Data(Data),
     /// A tag.
-    Tag(U),
+    Tag(Tag),
     /// A custom section.
-    Custom(C),
+    Custom(Custom),
 }
 
 /// A field of a module (WebAssembly Core Specification, Text Format, "Modules").

@@ -3,7 +3,8 @@
 //!
 //! [`Module::parse`] takes a module from the tokens of a [`Parser`]. Indices stay as they are written: nothing is resolved, and
 //! nothing is checked for validity. This crate has the names of the types of the crates that it stands on, and of
-//! what reads them, so that a user needs it alone.
+//! what reads them, so that a user needs it alone; what else is public there is reached by the crate's own name, as
+//! `wat_core::wat_mnemonics::find`.
 #![tactic(auto)]
 
 pub mod field;
@@ -15,14 +16,18 @@ pub use field::ModuleFieldOf;
 pub use module::Module;
 pub use module::ModuleKind;
 pub use module::ModuleKindOf;
+pub use wat_customs;
+pub use wat_elems;
 pub use wat_elems::Elem;
 pub use wat_elems::ElemKind;
 pub use wat_elems::ElemPayload;
 pub use wat_elems::Table;
 pub use wat_elems::TableKind;
+pub use wat_expr;
 pub use wat_expr::BranchHint;
 pub use wat_expr::Expression;
 pub use wat_expr::FoldedInstruction;
+pub use wat_funcs;
 pub use wat_funcs::Func;
 pub use wat_funcs::FuncKind;
 pub use wat_funcs::Global;
@@ -31,6 +36,8 @@ pub use wat_funcs::Local;
 pub use wat_funcs::LocalParser;
 pub use wat_funcs::Tag;
 pub use wat_funcs::TagKind;
+pub use wat_immediates;
+pub use wat_instr;
 pub use wat_instr::AccessOp;
 pub use wat_instr::ArrayInitOp;
 pub use wat_instr::AtomicAccessOp;
@@ -53,6 +60,8 @@ pub use wat_instr::ScalarOp;
 pub use wat_instr::StructOp;
 pub use wat_instr::TableOp;
 pub use wat_instr::VectorOp;
+pub use wat_lexer;
+pub use wat_links;
 pub use wat_links::Custom;
 pub use wat_links::CustomPlace;
 pub use wat_links::CustomPlaceAnchor;
@@ -76,6 +85,8 @@ pub use wat_links::ItemKind;
 pub use wat_links::ItemSig;
 pub use wat_links::Producers;
 pub use wat_links::RawCustomSection;
+pub use wat_mnemonics;
+pub use wat_operands;
 pub use wat_operands::ArrayCopy;
 pub use wat_operands::ArrayFill;
 pub use wat_operands::ArrayInit;
@@ -121,11 +132,13 @@ pub use wat_operands::TryTable;
 pub use wat_operands::TryTableCatch;
 pub use wat_operands::TryTableCatchKind;
 pub use wat_operands::V128Const;
+pub use wat_segments;
 pub use wat_segments::Data;
 pub use wat_segments::DataKind;
 pub use wat_segments::DataVal;
 pub use wat_segments::Memory;
 pub use wat_segments::MemoryKind;
+pub use wat_tokens;
 pub use wat_tokens::Cursor;
 pub use wat_tokens::Error;
 pub use wat_tokens::F32;
@@ -148,6 +161,7 @@ pub use wat_tokens::one_cut;
 pub use wat_tokens::one_outcome;
 pub use wat_tokens::repeat;
 pub use wat_tokens::whole;
+pub use wat_types;
 pub use wat_types::AbstractHeapType;
 pub use wat_types::ArrayType;
 pub use wat_types::ContType;

@@ -32,13 +32,13 @@ pub struct Module<'a> {
     pub kind: ModuleKind<'a>,
 }
 
-/// What is in a module, with its fields as an F and its pieces as a P: see [`ModuleKind`].
+/// What is in a module, generic in what a field and a piece are: see [`ModuleKind`].
 #[derive(Debug, Drop)]
-pub enum ModuleKindOf<F, P> {
+pub enum ModuleKindOf<Field, Piece> {
     /// Its fields.
-    Text(Vec<F>),
+    Text(Vec<Field>),
     /// The pieces of its binary form.
-    Binary(Vec<P>),
+    Binary(Vec<Piece>),
 }
 
 /// What is in a module.

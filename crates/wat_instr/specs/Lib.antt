@@ -6,3 +6,4 @@ pub mod Operand
 pub mod Reading
 pub mod Rows
 pub mod Follows
+pub mod Same

@@ -1,5 +1,5 @@
 -- The bytes of an opcode.
-use Rattle.std.specs.Prelude.{◌≡◌, ℕ, ◌+◌, ◌%◌, ◌/◌, nat_lt, if◌then◌else◌, List, [], ◌∷◌, ◌++◌, length, Option, Some, None, Result, Ok, Err}
+use Rattle.std.specs.Prelude.{◌≡◌, ℕ, ◌+◌, ◌%◌, ◌/◌, nat_lt, if◌then◌else◌, List, [], ◌∷◌, ◌++◌, length, Option, Some, None, IsSome, Result, Ok, Err}
 use Rattle.wat_tokens.specs.Error.{Error, Memory}
 use Rattle.wat_mnemonics.specs.declared.opcode.Opcode.{Opcode}
 use Rattle.wat_mnemonics.specs.declared.opcode.Opcode.TheVariants as o
@@ -19,6 +19,7 @@ abbrev pub Written : Option (List ℕ) → List ℕ → List ℕ → Option ℕ 
 Written None before after n = (after ≡ before) × (n ≡ None)
 Written (Some b) before after n = (after ≡ before ++ b) × (n ≡ Some (length b))
 
+-- that, or nothing and memory is refused, which it isn't where nothing is to be appended
 abbrev pub Appends : Option (List ℕ) → List ℕ → List ℕ → Result (Option ℕ) Error → Type 0
 Appends b before after (Ok n) = Written b before after n
-Appends b before after (Err e) = (after ≡ before) × (e.fault ≡ Memory)
+Appends b before after (Err e) = (after ≡ before) × (e.fault ≡ Memory) × (IsSome b)

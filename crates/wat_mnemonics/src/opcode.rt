@@ -1,9 +1,9 @@
 //! Opcodes.
 
-ghost use Rattle.std.specs.Prelude.{◌≡◌, ◌++◌, length, Some, IfOk, IfErr};
+ghost use Rattle.std.specs.Prelude.{Some};
 ghost use Rattle.wat_mnemonics.specs.Opcodes.{bytes, Appends};
 
-use wat_tokens::{Error, Fault, Result};
+use wat_tokens::Result;
 
 /// How a binary module tells an instruction without an operand (Core Specification 2.0, "Index of Instructions").
 #[derive(Clone, Copy, Debug, PartialEq, Eq)]
@@ -21,7 +21,7 @@ pub enum Opcode {
 impl Opcode {
     /// Appends the bytes and answers how many they are, or answers None and appends nothing where there are none.
     ///
-    /// Where memory is refused, nothing is appended.
+    /// Where memory is refused, nothing is appended. It isn't where there is nothing to append.
     pub fn write(self, out: &mut Vec<u8>) -> Result<Option<usize>>
         ensures { Appends (bytes self) out.old.items out.new.items result }
     {

@@ -3,9 +3,11 @@
 use bumpalo::Bump;
 use std::alloc::Global as Allocator;
 use std::test::Fail;
+use wat_core::wat_mnemonics::find::find;
+use wat_core::wat_types::limits::take_is64;
 use wat_core::{
     Custom, ElemPayload, Expression, Fault, FuncKind, Imports, InnerTypeKind, Instruction, MemArg,
-    MemoryKind, Module, ModuleField, ModuleKind, Parser, ScalarOp, hand,
+    MemoryKind, Mnemonic, Module, ModuleField, ModuleKind, Parser, ScalarOp, hand,
 };
 
 /// The word of a field's kind.
@@ -234,6 +236,25 @@ fn other_texts_are_refused(rt: HostRuntime) -> Result<(), Fail> {
         let found = refusal_of(rt.alloc(), text)?;
         assert_eq!(rt; found, expected);
     }
+    Ok(())
+}
+
+/// The mnemonic that a word is, found by a call that stands in a crate below, and whether flags of 64 bits are in front of
+/// a text.
+fn found_below(alloc: Allocator, word: &str) -> Result<(Option<Mnemonic>, bool), Fail> {
+    let arena = Bump::new(alloc);
+    let mut parser = Parser::new(alloc, "i64 nop", &arena)?;
+    let head = find(&mut parser, word);
+    let is64 = take_is64(&mut parser)?;
+    Ok((head, is64))
+}
+
+#[test]
+fn crates_below_are_reached(rt: HostRuntime) -> Result<(), Fail> {
+    let (head, is64) = found_below(rt.alloc(), "nop")?;
+    assert!(rt; head == Some(Mnemonic::Scalar(ScalarOp::nop)) && is64);
+    let (head, _) = found_below(rt.alloc(), "nope")?;
+    assert!(rt; head.is_none());
     Ok(())
 }
 
