@@ -84,3 +84,15 @@ pub fn repeated(
     text.push_str(last)?;
     Ok(text)
 }
+
+/// So many times the first part, and then so many times the second.
+pub fn nested(
+    alloc: Global,
+    first: &str,
+    times: usize,
+    second: &str,
+    more: usize,
+) -> Result<String, AllocError> {
+    let opened = repeated(alloc, "", first, times, "")?;
+    repeated(alloc, &opened, second, more, "")
+}

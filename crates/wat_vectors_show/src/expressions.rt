@@ -1,6 +1,5 @@
 //! Expressions as they are read, with their hints and spans, and their faults with the offset.
 
-use crate::deep::{TIMES, nested};
 use bumpalo::Bump;
 use std::alloc::Global;
 use std::process::Abort;
@@ -8,7 +7,10 @@ use std::test::Fail;
 use wat_expr::Expression;
 use wat_instr::{Instruction, LabelOp};
 use wat_tokens::{Error, Fault, Parse, Parser};
-use wat_vectors::reading::{parser_of, read_unannotated, refusal};
+use wat_vectors::reading::{nested, parser_of, read_unannotated, refusal};
+
+/// How many parts are nested.
+const TIMES: usize = 100_000;
 
 /// How a text is read.
 #[derive(Clone, Copy)]

@@ -2,8 +2,6 @@
 #![tactic(auto)]
 
 #[cfg(test)]
-mod deep;
-#[cfg(test)]
 mod expressions;
 #[cfg(test)]
 mod functype;
@@ -15,5 +13,3 @@ mod modules;
 mod put_last;
 #[cfg(test)]
 mod shown;
-#[cfg(test)]
-mod streams;

@@ -6,6 +6,9 @@ use std::rt::Env;
 use std::{env, io};
 use wat_show::{Mode, RunError, Watched, run};
 
+/// What is said of arguments that name no mode.
+const USAGE: &str = "usage: watshow functype|expr|folded|module";
+
 /// The mode that the one argument names.
 fn mode_of_arguments(rt: &(impl Env + Alloc)) -> io::Result<Option<Mode>> {
     let mut words = env::args(rt)?.skip(1);
@@ -28,8 +31,10 @@ fn failed(rt: &impl Eprint, words: &str) -> ExitCode {
 fn main(rt: HostRuntime) -> ExitCode {
     let mode = match mode_of_arguments(&rt) {
         Ok(Some(mode)) => mode,
-        Ok(None) => return failed(&rt, "usage: watshow functype|expr|folded|module"),
-        Err(_) => return failed(&rt, "watshow: out of memory"),
+        Err(error) if error.kind() == io::ErrorKind::OutOfMemory => {
+            return failed(&rt, "watshow: out of memory");
+        }
+        Ok(None) | Err(_) => return failed(&rt, USAGE),
     };
     let mut reader = Watched::new(rt.stdin());
     let mut writer = Watched::new(rt.stdout());

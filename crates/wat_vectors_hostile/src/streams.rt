@@ -7,11 +7,11 @@ use std::io::{Read, Write};
 use std::process::Abort;
 use std::test::Fail;
 use wat_show::input::read_all;
-use wat_show::output::write_all_of;
 use wat_show::show::{Shows, run_shows};
 use wat_show::{RunError, Watched};
 
-fn broken() -> io::Error {
+/// A call's failure.
+pub fn broken() -> io::Error {
     io::Error::from(io::ErrorKind::BrokenPipe)
 }
 
@@ -52,7 +52,7 @@ fn make_pieces(text: &[u8], most: usize, cut: Option<usize>) -> Pieces<'_> {
 
 /// What a writer does once it is full.
 #[derive(Clone, Copy)]
-enum Full {
+pub enum Full {
     Fails,
     TakesNothing,
 }
@@ -64,7 +64,6 @@ struct Sink {
     most: usize,
     room: usize,
     full: Full,
-    flush_fails: bool,
     flushes: usize,
 }
 
@@ -84,11 +83,7 @@ impl Write for Sink {
 
     fn flush(&mut self) -> io::Result<()> {
         self.flushes = self.flushes.saturating_add(1);
-        if self.flush_fails {
-            Err(broken())
-        } else {
-            Ok(())
-        }
+        Ok(())
     }
 }
 
@@ -98,7 +93,6 @@ fn make_sink(alloc: Global, most: usize, room: usize, full: Full) -> Sink {
         most,
         room,
         full,
-        flush_fails: false,
         flushes: 0,
     }
 }
@@ -212,21 +206,6 @@ fn is_cut_short(rt: &impl Abort, alloc: Global, full: Full) -> Result<(), Fail> 
 fn a_write_that_fails_or_takes_nothing(rt: HostRuntime) -> Result<(), Fail> {
     is_cut_short(&rt, rt.alloc(), Full::Fails)?;
     is_cut_short(&rt, rt.alloc(), Full::TakesNothing)
-}
-
-#[test]
-fn a_flush_that_fails(rt: HostRuntime) {
-    let mut writer = Watched::new(Sink {
-        taken: Vec::new(rt.alloc()),
-        most: 3,
-        room: 100,
-        full: Full::Fails,
-        flush_fails: true,
-        flushes: 0,
-    });
-    assert_eq!(rt; write_all_of(&mut writer, b"text"), Err(RunError::Write));
-    assert!(rt; writer.failed());
-    assert_eq!(rt; writer.into_inner().taken.as_slice(), b"text".as_slice());
 }
 
 #[test]

@@ -1,0 +1,53 @@
+/* A library that tests/refused_calls puts in front of the C library, so that one call of a program is refused, or each from that
+   one on: of those that ask for memory (REFUSE_MEMORY is the number of the call, the first being 1), or of those that read standard
+   input or write standard output (REFUSE_IO). Where REFUSE_LASTS is set, each call behind that one is refused too. A byte is written
+   to the file of the number REFUSE_TELLS where a call was refused. No headers are needed to compile it. */
+
+typedef unsigned long size;
+
+enum { INPUT_OUTPUT_ERROR = 5, NO_MEMORY = 12 };
+
+extern void *__libc_malloc(size bytes);
+extern void *__libc_realloc(void *old, size bytes);
+extern long __read(int file, void *to, size bytes);
+extern long __write(int file, const void *from, size bytes);
+extern char *getenv(const char *name);
+extern int *__errno_location(void);
+
+/* The number that a variable of the environment is, 0 where it isn't set. */
+static long number_of(const char *name) {
+    const char *digits = getenv(name);
+    long number = 0;
+    for (; digits && *digits; digits++)
+        number = 10 * number + (*digits - '0');
+    return number;
+}
+
+/* Counts a call, and answers whether it is refused. */
+static int is_refused(const char *name, long *calls, int error) {
+    long refused = number_of(name);
+    *calls += 1;
+    if (!refused || *calls < refused || (*calls > refused && !number_of("REFUSE_LASTS")))
+        return 0;
+    __write((int)number_of("REFUSE_TELLS"), "!", 1);
+    *__errno_location() = error;
+    return 1;
+}
+
+static long memory_calls, io_calls;
+
+void *malloc(size bytes) {
+    return is_refused("REFUSE_MEMORY", &memory_calls, NO_MEMORY) ? 0 : __libc_malloc(bytes);
+}
+
+void *realloc(void *old, size bytes) {
+    return is_refused("REFUSE_MEMORY", &memory_calls, NO_MEMORY) ? 0 : __libc_realloc(old, bytes);
+}
+
+long read(int file, void *to, size bytes) {
+    return file == 0 && is_refused("REFUSE_IO", &io_calls, INPUT_OUTPUT_ERROR) ? -1 : __read(file, to, bytes);
+}
+
+long write(int file, const void *from, size bytes) {
+    return file == 1 && is_refused("REFUSE_IO", &io_calls, INPUT_OUTPUT_ERROR) ? -1 : __write(file, from, bytes);
+}
