@@ -1,0 +1,111 @@
+//! What tests read texts by that have to be read, and values by that have to be cloned: memory is ample, so that a
+//! refusal for want of it is wrong too.
+
+use bumpalo::Bump;
+use std::fmt::Debug;
+use wat_tokens::{Error, Parse};
+use wat_vectors::reading::{parser_of, repeated};
+
+/// Calls the inherent `clone` of a T.
+pub trait Clones<T> {
+    /// The same once more.
+    fn clone_of(found: &T) -> Result<T, Error>;
+}
+
+/// Adds a text that isn't read as a whole, and why.
+fn add_if_unread<'a, T: Parse<'a> + Drop>(
+    wrong: &mut String,
+    arena: &'a Bump,
+    text: &'a str,
+) -> Result<(), Error> {
+    let mut parser = parser_of(*wrong.allocator(), text, arena)?;
+    match parser.parse::<T>() {
+        Ok(_) if parser.at_end() => {}
+        Ok(_) => write!(wrong, "{text}: more behind it\n")?,
+        Err(error) => write!(wrong, "{text}: {error}\n")?,
+    }
+    Ok(())
+}
+
+/// Adds each text that isn't read as a whole, and why.
+pub fn add_unread<'a, T: Parse<'a> + Drop>(
+    wrong: &mut String,
+    arena: &'a Bump,
+    texts: &[&'a str],
+) -> Result<(), Error> {
+    for text in texts {
+        add_if_unread::<T>(wrong, arena, text)?;
+    }
+    Ok(())
+}
+
+/// The same, where each part stands between the first text and the last.
+pub fn add_unread_between<'a, T: Parse<'a> + Drop>(
+    wrong: &mut String,
+    arena: &'a Bump,
+    first: &str,
+    parts: &[&str],
+    last: &str,
+) -> Result<(), Error> {
+    for part in parts {
+        let text = repeated(*wrong.allocator(), first, part, 1, last)?;
+        add_if_unread::<T>(wrong, arena, arena.try_alloc_str(&text)?)?;
+    }
+    Ok(())
+}
+
+/// The same, where the part stands 0, 1, 2 and 1,000 times between the first text and the last.
+pub fn add_unread_times<'a, T: Parse<'a> + Drop>(
+    wrong: &mut String,
+    arena: &'a Bump,
+    (first, part, last): (&str, &str, &str),
+) -> Result<(), Error> {
+    for times in [0, 1, 2, 1000] {
+        let text = repeated(*wrong.allocator(), first, part, times, last)?;
+        add_if_unread::<T>(wrong, arena, arena.try_alloc_str(&text)?)?;
+    }
+    Ok(())
+}
+
+/// Adds a text whose value's clone isn't shown as the value itself is, or that isn't read as a whole.
+fn add_if_uncloned<'a, T: Parse<'a> + Debug + Drop, C: Clones<T>>(
+    wrong: &mut String,
+    arena: &'a Bump,
+    text: &'a str,
+) -> Result<(), Error> {
+    let alloc = *wrong.allocator();
+    let mut parser = parser_of(alloc, text, arena)?;
+    let found = parser.parse::<T>()?;
+    let shown = format!(in alloc; "{found:?}")?;
+    let copy = C::clone_of(&found)?;
+    let again = format!(in alloc; "{copy:?}")?;
+    if shown != again || !parser.at_end() {
+        write!(wrong, "{text}: {shown} cloned as {again}\n")?;
+    }
+    Ok(())
+}
+
+/// Adds each text whose value's clone isn't shown as the value itself is, or that isn't read as a whole.
+pub fn add_uncloned<'a, T: Parse<'a> + Debug + Drop, C: Clones<T>>(
+    wrong: &mut String,
+    arena: &'a Bump,
+    texts: &[&'a str],
+) -> Result<(), Error> {
+    for text in texts {
+        add_if_uncloned::<T, C>(wrong, arena, text)?;
+    }
+    Ok(())
+}
+
+/// The same, where the part stands 0, 1, 2 and 1,000 times between the first text and the last.
+pub fn add_uncloned_times<'a, T: Parse<'a> + Debug + Drop, C: Clones<T>>(
+    wrong: &mut String,
+    arena: &'a Bump,
+    (first, part, last): (&str, &str, &str),
+) -> Result<(), Error> {
+    for times in [0, 1, 2, 1000] {
+        let text = repeated(*wrong.allocator(), first, part, times, last)?;
+        add_if_uncloned::<T, C>(wrong, arena, arena.try_alloc_str(&text)?)?;
+    }
+    Ok(())
+}
