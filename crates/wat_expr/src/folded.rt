@@ -29,7 +29,10 @@ fn turn<'a>(
 {
     if take_open(parser) {
         let span = parser.cur_span();
-        let instr = take_instr(parser)?;
+        let instr = match take_instr(parser) {
+            Ok(instr) => instr,
+            Err(refused) => return Err(refused),
+        };
         return levels.push(Level::Folded(Head {
             instr,
             span,

@@ -59,7 +59,10 @@ fn take_suited<'a>(
     ensures exact { ReadsSuited hint result parser.old.left parser.new.left }
     ensures steady { Steady parser.old parser.new }
 {
-    let instr = take_instr(parser)?;
+    let instr = match take_instr(parser) {
+        Ok(instr) => instr,
+        Err(refused) => return Err(refused),
+    };
     if suits(hint, &instr) {
         return Ok(instr);
     }
@@ -129,7 +132,10 @@ impl<'a> Reader<'a> {
             return Err(misplaced(parser));
         }
         let span = parser.cur_span();
-        let instr = take_suited(parser, self.pending, span)?;
+        let instr = match take_suited(parser, self.pending, span) {
+            Ok(instr) => instr,
+            Err(refused) => return Err(refused),
+        };
         let hint = self.pending.take();
         self.out.push(hint, instr, span)
     }
@@ -249,7 +255,10 @@ impl<'a> Reader<'a> {
             return self.hint(parser);
         }
         let span = parser.cur_span();
-        let instr = take_suited(parser, self.pending, span)?;
+        let instr = match take_suited(parser, self.pending, span) {
+            Ok(instr) => instr,
+            Err(refused) => return Err(refused),
+        };
         let hint = self.pending.take();
         if instr.is_block() {
             self.out.push(hint, instr, span)?;
