@@ -2,6 +2,7 @@
 //! refusal for want of it is wrong too.
 
 use bumpalo::Bump;
+use std::alloc::Global;
 use std::fmt::Debug;
 use wat_tokens::{Error, Parse};
 use wat_vectors::reading::{parser_of, repeated};
@@ -54,17 +55,28 @@ pub fn add_unread_between<'a, T: Parse<'a> + Drop>(
     Ok(())
 }
 
+/// The texts in which a part stands 0, 1, 2 and 1,000 times between the first text and the last.
+fn texts_of_times<'a>(
+    alloc: Global,
+    arena: &'a Bump,
+    (first, part, last): (&str, &str, &str),
+) -> Result<Vec<&'a str>, Error> {
+    let mut texts = Vec::new(alloc);
+    for times in [0, 1, 2, 1000] {
+        let text: &'a str = arena.try_alloc_str(&repeated(alloc, first, part, times, last)?)?;
+        texts.push(text)?;
+    }
+    Ok(texts)
+}
+
 /// The same, where the part stands 0, 1, 2 and 1,000 times between the first text and the last.
 pub fn add_unread_times<'a, T: Parse<'a> + Drop>(
     wrong: &mut String,
     arena: &'a Bump,
-    (first, part, last): (&str, &str, &str),
+    parts: (&str, &str, &str),
 ) -> Result<(), Error> {
-    for times in [0, 1, 2, 1000] {
-        let text = repeated(*wrong.allocator(), first, part, times, last)?;
-        add_if_unread::<T>(wrong, arena, arena.try_alloc_str(&text)?)?;
-    }
-    Ok(())
+    let texts = texts_of_times(*wrong.allocator(), arena, parts)?;
+    add_unread::<T>(wrong, arena, &texts)
 }
 
 /// Adds a text whose value's clone isn't shown as the value itself is, or that isn't read as a whole.
@@ -101,11 +113,8 @@ pub fn add_uncloned<'a, T: Parse<'a> + Debug + Drop, C: Clones<T>>(
 pub fn add_uncloned_times<'a, T: Parse<'a> + Debug + Drop, C: Clones<T>>(
     wrong: &mut String,
     arena: &'a Bump,
-    (first, part, last): (&str, &str, &str),
+    parts: (&str, &str, &str),
 ) -> Result<(), Error> {
-    for times in [0, 1, 2, 1000] {
-        let text = repeated(*wrong.allocator(), first, part, times, last)?;
-        add_if_uncloned::<T, C>(wrong, arena, arena.try_alloc_str(&text)?)?;
-    }
-    Ok(())
+    let texts = texts_of_times(*wrong.allocator(), arena, parts)?;
+    add_uncloned::<T, C>(wrong, arena, &texts)
 }

@@ -1,6 +1,8 @@
 //! Each choice of each operand's, import's, export's and custom section's row is read with ample memory, and what has a
 //! `clone` of its own is cloned.
 
+use crate::ample::Clones;
+use crate::findings::Findings;
 use bumpalo::Bump;
 use std::alloc::Global;
 use std::test::Fail;
@@ -16,8 +18,6 @@ use wat_operands::{
     TryTable,
 };
 use wat_tokens::Error;
-use crate::ample::Clones;
-use crate::findings::Findings;
 use wat_vectors::reading::{read, repeated};
 
 /// The inherent `clone` of operands, imports and exports.

@@ -5,7 +5,8 @@ use bumpalo::Bump;
 use std::alloc::Global;
 use std::test::Fail;
 use wat_core::{
-    Data, Elem, Expression, Func, Global as GlobalField, Index, Memory, Module, ModuleField, ModuleKind, Parser, Table, Tag,
+    Data, Elem, Expression, Func, Global as GlobalField, Index, Memory, Module, ModuleField,
+    ModuleKind, Parser, Table, Tag,
 };
 
 #[test]

@@ -1,6 +1,8 @@
 //! Where what is read of a text behind blanks stands, with its identifiers and indices, and where it is refused.
 
+use crate::findings::Findings;
 use crate::operands_shown::add_operand;
+use crate::reading::places_in;
 use bumpalo::Bump;
 use std::alloc::Global;
 use std::test::Fail;
@@ -20,8 +22,6 @@ use wat_operands::{
 use wat_tokens::Fault::{
     Alignment, FloatLiteral, ImportId, ImportMixed, Operator, Range, Unexpected, Utf8,
 };
-use crate::findings::Findings;
-use crate::reading::places_in;
 use wat_vectors::reading::read;
 
 #[test]

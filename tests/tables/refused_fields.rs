@@ -7,8 +7,8 @@ use wat_core::Fault::{
     Unexpected, Utf8,
 };
 use wat_core::{
-    Data, Elem, Expression, FoldedInstruction, Func, Global, LocalParser, Memory, ModuleField, Table,
-    Tag,
+    Data, Elem, Expression, FoldedInstruction, Func, Global, LocalParser, Memory, ModuleField,
+    Table, Tag,
 };
 
 #[test]
@@ -35,7 +35,11 @@ fn refused_functions_globals_and_tags(rt: HostRuntime) {
     );
     out.misrefused::<LocalParser>(
         &arena,
-        &[("i32", Unexpected, 0), ("local $x", Unexpected, 8), ("local i32 x", Unexpected, 10)],
+        &[
+            ("i32", Unexpected, 0),
+            ("local $x", Unexpected, 8),
+            ("local i32 x", Unexpected, 10),
+        ],
     );
     out.misrefused::<Global>(
         &arena,

@@ -1,7 +1,7 @@
 //! Each row of the list of instructions: its word, operand, default alignment and opcode.
 
-use crate::rows::ROWS;
 use crate::operands_shown::add_operand;
+use crate::rows::ROWS;
 use bumpalo::Bump;
 use std::alloc::Global;
 use std::test::Fail;

@@ -20,7 +20,10 @@ fn values_are_put_behind_a_byte(rt: HostRuntime) -> Result<(), Fail> {
         ("(f32)", "AA"),
         ("(f64)", "AA"),
         ("(v128)", "AA"),
-        ("(v128 i16x8 1 2 3 4 5 6 7 -1)", "AA0100020003000400050006000700FFFF"),
+        (
+            "(v128 i16x8 1 2 3 4 5 6 7 -1)",
+            "AA0100020003000400050006000700FFFF",
+        ),
     ] {
         let value = read::<DataVal>(alloc, text, &arena)?;
         let mut bytes = Vec::new(alloc);
