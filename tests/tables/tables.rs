@@ -1,6 +1,6 @@
 //! Tables as they are read, and their faults with the offset.
 
-use crate::shown::shown_table;
+use crate::elements_shown::shown_table;
 use bumpalo::Bump;
 use std::alloc::Global;
 use std::test::Fail;

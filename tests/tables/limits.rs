@@ -1,7 +1,6 @@
 //! Storage, global, table and memory types as they are read, and each of their faults with the offset.
 
 use crate::hashing::hash_of;
-use crate::reading::{read_unannotated, refusal};
 use bumpalo::Bump;
 use std::alloc::Global;
 use std::test::Fail;
@@ -10,6 +9,7 @@ use wat_types::{
     AbstractHeapType, GlobalType, HeapType, Limits, MemoryType, RefType, StorageType, TableType,
     ValType, page_size,
 };
+use wat_vectors::reading::{read_unannotated, refusal};
 
 /// Reads the size of a page.
 fn read_page_size(alloc: Global, text: &str, arena: &Bump) -> Result<Option<u32>, Error> {

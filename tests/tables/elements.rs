@@ -1,6 +1,6 @@
 //! Element segments as they are read, and their faults with the offset.
 
-use crate::shown::shown_elem;
+use crate::elements_shown::shown_elem;
 use bumpalo::Bump;
 use std::alloc::Global;
 use std::test::Fail;

@@ -1,5 +1,0 @@
-//! Tests of memories and data segments.
-#![tactic(auto)]
-
-#[cfg(test)]
-mod segments;
