@@ -3,11 +3,11 @@ use Rattle.std.proofs.Common.{◌≡◌, List, map, refl, subst, sym, IsTrue}
 use Rattle.wat_mnemonics.specs.Heads.{head_word}
 use Rattle.wat_mnemonics.specs.Order.{rises}
 use Rattle.wat_mnemonics.specs.Places.{in_order}
-use Rattle.wat_mnemonics.specs.Table.{TABLE}
+use Rattle.wat_mnemonics.specs.Table.{all_heads}
 use Rattle.wat_mnemonics.specs.declared.head.Head.{Head}
 use Rattle.wat_mnemonics.specs.declared.table.TheConstants.{HEADS}
 
-pub heads_are : HEADS ≡ TABLE
+pub heads_are : HEADS ≡ all_heads
 heads_are = refl
 
 pub heads_in_order : IsTrue (rises (map head_word HEADS))

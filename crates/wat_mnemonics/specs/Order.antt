@@ -12,7 +12,7 @@ use Rattle.wat_mnemonics.specs.Heads.{head_word}
 use Rattle.wat_mnemonics.specs.declared.head.Head.{Head}
 use Rattle.wat_mnemonics.specs.declared.head.Head.TheVariants as h
 use Rattle.wat_mnemonics.specs.declared.indexed.BlockOp.TheVariants as block
-use Rattle.wat_mnemonics.specs.Table.{TABLE}
+use Rattle.wat_mnemonics.specs.Table.{all_heads}
 
 -- what reading past the end gives
 abbrev pub first : Head
@@ -36,7 +36,7 @@ rises (x ∷ (y ∷ ys)) = is_lt (cmp x y) && rises (y ∷ ys)
 
 -- the words of the table
 abbrev pub words : List (List ℕ)
-words = map head_word TABLE
+words = map head_word all_heads
 
 less_from : (o : Ordering) → IsTrue (is_lt o) → o ≡ Less
 less_from Less h = refl

@@ -5,7 +5,7 @@ use Rattle.wat_mnemonics.specs.Heads.{head_word, head_row}
 use Rattle.wat_mnemonics.specs.Order.{rises, words, first, same_place}
 use Rattle.wat_mnemonics.specs.declared.head.Head.{Head}
 use Rattle.wat_mnemonics.specs.declared.head.Head.TheVariants as h
-use Rattle.wat_mnemonics.specs.Table.{TABLE}
+use Rattle.wat_mnemonics.specs.Table.{all_heads}
 use Rattle.wat_mnemonics.specs.declared.indexed.BlockOp.{BlockOp}
 use Rattle.wat_mnemonics.specs.declared.indexed.BlockOp.TheVariants as block
 use Rattle.wat_mnemonics.specs.declared.indexed.LabelOp.{LabelOp}
@@ -44,18 +44,18 @@ use Rattle.wat_mnemonics.specs.declared.vector.VectorOp.{VectorOp}
 use Rattle.wat_mnemonics.specs.declared.vector.VectorOp.TheVariants as vector
 
 -- the place of each row
-abbrev pub PLACES : List ℕ
-PLACES = 27 ∷ 520 ∷ 48 ∷ 524 ∷ 49 ∷ 592 ∷ 534 ∷ 28 ∷ 29 ∷ 36 ∷ 551 ∷ 37 ∷ 38 ∷ 552 ∷ 553 ∷ 39 ∷ 554 ∷ 46 ∷ 555 ∷ 521 ∷ 522 ∷ 523 ∷ 180 ∷ 181 ∷ 583 ∷ 586 ∷ 277 ∷ 415 ∷ 67 ∷ 126 ∷ 280 ∷ 281 ∷ 278 ∷ 279 ∷ 420 ∷ 421 ∷ 416 ∷ 417 ∷ 418 ∷ 419 ∷ 296 ∷ 438 ∷ 77 ∷ 137 ∷ 298 ∷ 297 ∷ 441 ∷ 439 ∷ 440 ∷ 533 ∷ 531 ∷ 532 ∷ 528 ∷ 530 ∷ 529 ∷ 44 ∷ 47 ∷ 585 ∷ 581 ∷ 582 ∷ 587 ∷ 584 ∷ 545 ∷ 544 ∷ 540 ∷ 536 ∷ 35 ∷ 34 ∷ 539 ∷ 570 ∷ 571 ∷ 567 ∷ 568 ∷ 569 ∷ 574 ∷ 20 ∷ 22 ∷ 24 ∷ 21 ∷ 23 ∷ 14 ∷ 15 ∷ 16 ∷ 25 ∷ 19 ∷ 13 ∷ 12 ∷ 17 ∷ 18 ∷ 542 ∷ 231 ∷ 232 ∷ 546 ∷ 537 ∷ 30 ∷ 33 ∷ 0 ∷ 50 ∷ 263 ∷ 398 ∷ 54 ∷ 114 ∷ 262 ∷ 264 ∷ 287 ∷ 233 ∷ 299 ∷ 284 ∷ 265 ∷ 266 ∷ 289 ∷ 290 ∷ 234 ∷ 286 ∷ 309 ∷ 293 ∷ 294 ∷ 295 ∷ 291 ∷ 292 ∷ 397 ∷ 399 ∷ 429 ∷ 358 ∷ 442 ∷ 424 ∷ 400 ∷ 401 ∷ 431 ∷ 432 ∷ 360 ∷ 428 ∷ 452 ∷ 435 ∷ 436 ∷ 437 ∷ 433 ∷ 434 ∷ 51 ∷ 74 ∷ 53 ∷ 63 ∷ 79 ∷ 73 ∷ 76 ∷ 52 ∷ 78 ∷ 71 ∷ 61 ∷ 70 ∷ 69 ∷ 59 ∷ 111 ∷ 133 ∷ 113 ∷ 122 ∷ 139 ∷ 132 ∷ 136 ∷ 112 ∷ 138 ∷ 130 ∷ 120 ∷ 129 ∷ 128 ∷ 119 ∷ 268 ∷ 267 ∷ 285 ∷ 282 ∷ 283 ∷ 273 ∷ 274 ∷ 275 ∷ 276 ∷ 271 ∷ 272 ∷ 403 ∷ 402 ∷ 427 ∷ 422 ∷ 423 ∷ 411 ∷ 412 ∷ 413 ∷ 414 ∷ 409 ∷ 410 ∷ 62 ∷ 72 ∷ 68 ∷ 65 ∷ 66 ∷ 64 ∷ 121 ∷ 131 ∷ 127 ∷ 124 ∷ 125 ∷ 123 ∷ 308 ∷ 300 ∷ 301 ∷ 302 ∷ 303 ∷ 407 ∷ 408 ∷ 444 ∷ 445 ∷ 446 ∷ 447 ∷ 55 ∷ 56 ∷ 57 ∷ 58 ∷ 60 ∷ 115 ∷ 116 ∷ 117 ∷ 118 ∷ 134 ∷ 288 ∷ 430 ∷ 75 ∷ 135 ∷ 304 ∷ 305 ∷ 306 ∷ 307 ∷ 448 ∷ 449 ∷ 450 ∷ 451 ∷ 270 ∷ 269 ∷ 406 ∷ 404 ∷ 405 ∷ 525 ∷ 526 ∷ 527 ∷ 26 ∷ 535 ∷ 235 ∷ 361 ∷ 237 ∷ 236 ∷ 364 ∷ 362 ∷ 363 ∷ 259 ∷ 393 ∷ 261 ∷ 260 ∷ 396 ∷ 394 ∷ 395 ∷ 238 ∷ 365 ∷ 252 ∷ 245 ∷ 386 ∷ 372 ∷ 379 ∷ 242 ∷ 369 ∷ 256 ∷ 249 ∷ 390 ∷ 376 ∷ 383 ∷ 239 ∷ 366 ∷ 253 ∷ 246 ∷ 387 ∷ 373 ∷ 380 ∷ 241 ∷ 368 ∷ 255 ∷ 248 ∷ 389 ∷ 375 ∷ 382 ∷ 244 ∷ 371 ∷ 258 ∷ 251 ∷ 392 ∷ 378 ∷ 385 ∷ 243 ∷ 370 ∷ 257 ∷ 250 ∷ 391 ∷ 377 ∷ 384 ∷ 240 ∷ 367 ∷ 254 ∷ 247 ∷ 388 ∷ 374 ∷ 381 ∷ 171 ∷ 179 ∷ 172 ∷ 176 ∷ 173 ∷ 175 ∷ 178 ∷ 177 ∷ 174 ∷ 577 ∷ 580 ∷ 579 ∷ 578 ∷ 556 ∷ 557 ∷ 558 ∷ 566 ∷ 559 ∷ 563 ∷ 560 ∷ 562 ∷ 565 ∷ 564 ∷ 561 ∷ 1 ∷ 2 ∷ 3 ∷ 11 ∷ 4 ∷ 8 ∷ 5 ∷ 7 ∷ 10 ∷ 9 ∷ 6 ∷ 543 ∷ 598 ∷ 613 ∷ 614 ∷ 601 ∷ 602 ∷ 606 ∷ 607 ∷ 612 ∷ 600 ∷ 604 ∷ 609 ∷ 605 ∷ 610 ∷ 617 ∷ 611 ∷ 599 ∷ 603 ∷ 608 ∷ 621 ∷ 618 ∷ 619 ∷ 620 ∷ 597 ∷ 514 ∷ 489 ∷ 490 ∷ 510 ∷ 200 ∷ 201 ∷ 223 ∷ 326 ∷ 348 ∷ 466 ∷ 475 ∷ 88 ∷ 106 ∷ 147 ∷ 166 ∷ 519 ∷ 515 ∷ 227 ∷ 352 ∷ 479 ∷ 107 ∷ 167 ∷ 488 ∷ 505 ∷ 497 ∷ 498 ∷ 493 ∷ 494 ∷ 495 ∷ 496 ∷ 491 ∷ 492 ∷ 189 ∷ 217 ∷ 208 ∷ 209 ∷ 204 ∷ 205 ∷ 206 ∷ 207 ∷ 202 ∷ 203 ∷ 315 ∷ 340 ∷ 333 ∷ 334 ∷ 329 ∷ 330 ∷ 331 ∷ 332 ∷ 327 ∷ 328 ∷ 457 ∷ 472 ∷ 470 ∷ 468 ∷ 469 ∷ 467 ∷ 87 ∷ 97 ∷ 93 ∷ 91 ∷ 92 ∷ 90 ∷ 146 ∷ 156 ∷ 152 ∷ 150 ∷ 151 ∷ 149 ∷ 615 ∷ 593 ∷ 594 ∷ 616 ∷ 622 ∷ 596 ∷ 595 ∷ 481 ∷ 506 ∷ 507 ∷ 485 ∷ 487 ∷ 503 ∷ 504 ∷ 511 ∷ 512 ∷ 513 ∷ 482 ∷ 483 ∷ 484 ∷ 516 ∷ 517 ∷ 518 ∷ 501 ∷ 502 ∷ 499 ∷ 500 ∷ 486 ∷ 190 ∷ 191 ∷ 182 ∷ 218 ∷ 219 ∷ 186 ∷ 188 ∷ 215 ∷ 216 ∷ 194 ∷ 192 ∷ 195 ∷ 193 ∷ 224 ∷ 225 ∷ 226 ∷ 183 ∷ 184 ∷ 185 ∷ 228 ∷ 229 ∷ 230 ∷ 214 ∷ 212 ∷ 213 ∷ 210 ∷ 211 ∷ 187 ∷ 198 ∷ 196 ∷ 199 ∷ 197 ∷ 316 ∷ 317 ∷ 310 ∷ 341 ∷ 312 ∷ 313 ∷ 320 ∷ 318 ∷ 321 ∷ 319 ∷ 349 ∷ 350 ∷ 351 ∷ 311 ∷ 353 ∷ 339 ∷ 337 ∷ 338 ∷ 335 ∷ 336 ∷ 314 ∷ 324 ∷ 322 ∷ 325 ∷ 323 ∷ 453 ∷ 473 ∷ 455 ∷ 456 ∷ 460 ∷ 458 ∷ 461 ∷ 459 ∷ 476 ∷ 477 ∷ 478 ∷ 454 ∷ 480 ∷ 471 ∷ 464 ∷ 462 ∷ 465 ∷ 463 ∷ 82 ∷ 89 ∷ 110 ∷ 98 ∷ 80 ∷ 99 ∷ 108 ∷ 81 ∷ 109 ∷ 96 ∷ 86 ∷ 95 ∷ 94 ∷ 101 ∷ 100 ∷ 142 ∷ 148 ∷ 170 ∷ 157 ∷ 140 ∷ 158 ∷ 168 ∷ 141 ∷ 169 ∷ 155 ∷ 145 ∷ 154 ∷ 153 ∷ 160 ∷ 159 ∷ 354 ∷ 355 ∷ 83 ∷ 84 ∷ 356 ∷ 357 ∷ 143 ∷ 144 ∷ 85 ∷ 161 ∷ 589 ∷ 591 ∷ 588 ∷ 590 ∷ 40 ∷ 550 ∷ 45 ∷ 41 ∷ 509 ∷ 344 ∷ 345 ∷ 346 ∷ 347 ∷ 102 ∷ 105 ∷ 162 ∷ 165 ∷ 508 ∷ 221 ∷ 343 ∷ 474 ∷ 104 ∷ 103 ∷ 164 ∷ 163 ∷ 222 ∷ 220 ∷ 342 ∷ 43 ∷ 42 ∷ 575 ∷ 547 ∷ 548 ∷ 549 ∷ 576 ∷ 359 ∷ 443 ∷ 425 ∷ 426 ∷ 573 ∷ 572 ∷ 541 ∷ 538 ∷ 31 ∷ 32 ∷ []
+abbrev pub places_of_rows : List ℕ
+places_of_rows = 27 ∷ 520 ∷ 48 ∷ 524 ∷ 49 ∷ 592 ∷ 534 ∷ 28 ∷ 29 ∷ 36 ∷ 551 ∷ 37 ∷ 38 ∷ 552 ∷ 553 ∷ 39 ∷ 554 ∷ 46 ∷ 555 ∷ 521 ∷ 522 ∷ 523 ∷ 180 ∷ 181 ∷ 583 ∷ 586 ∷ 277 ∷ 415 ∷ 67 ∷ 126 ∷ 280 ∷ 281 ∷ 278 ∷ 279 ∷ 420 ∷ 421 ∷ 416 ∷ 417 ∷ 418 ∷ 419 ∷ 296 ∷ 438 ∷ 77 ∷ 137 ∷ 298 ∷ 297 ∷ 441 ∷ 439 ∷ 440 ∷ 533 ∷ 531 ∷ 532 ∷ 528 ∷ 530 ∷ 529 ∷ 44 ∷ 47 ∷ 585 ∷ 581 ∷ 582 ∷ 587 ∷ 584 ∷ 545 ∷ 544 ∷ 540 ∷ 536 ∷ 35 ∷ 34 ∷ 539 ∷ 570 ∷ 571 ∷ 567 ∷ 568 ∷ 569 ∷ 574 ∷ 20 ∷ 22 ∷ 24 ∷ 21 ∷ 23 ∷ 14 ∷ 15 ∷ 16 ∷ 25 ∷ 19 ∷ 13 ∷ 12 ∷ 17 ∷ 18 ∷ 542 ∷ 231 ∷ 232 ∷ 546 ∷ 537 ∷ 30 ∷ 33 ∷ 0 ∷ 50 ∷ 263 ∷ 398 ∷ 54 ∷ 114 ∷ 262 ∷ 264 ∷ 287 ∷ 233 ∷ 299 ∷ 284 ∷ 265 ∷ 266 ∷ 289 ∷ 290 ∷ 234 ∷ 286 ∷ 309 ∷ 293 ∷ 294 ∷ 295 ∷ 291 ∷ 292 ∷ 397 ∷ 399 ∷ 429 ∷ 358 ∷ 442 ∷ 424 ∷ 400 ∷ 401 ∷ 431 ∷ 432 ∷ 360 ∷ 428 ∷ 452 ∷ 435 ∷ 436 ∷ 437 ∷ 433 ∷ 434 ∷ 51 ∷ 74 ∷ 53 ∷ 63 ∷ 79 ∷ 73 ∷ 76 ∷ 52 ∷ 78 ∷ 71 ∷ 61 ∷ 70 ∷ 69 ∷ 59 ∷ 111 ∷ 133 ∷ 113 ∷ 122 ∷ 139 ∷ 132 ∷ 136 ∷ 112 ∷ 138 ∷ 130 ∷ 120 ∷ 129 ∷ 128 ∷ 119 ∷ 268 ∷ 267 ∷ 285 ∷ 282 ∷ 283 ∷ 273 ∷ 274 ∷ 275 ∷ 276 ∷ 271 ∷ 272 ∷ 403 ∷ 402 ∷ 427 ∷ 422 ∷ 423 ∷ 411 ∷ 412 ∷ 413 ∷ 414 ∷ 409 ∷ 410 ∷ 62 ∷ 72 ∷ 68 ∷ 65 ∷ 66 ∷ 64 ∷ 121 ∷ 131 ∷ 127 ∷ 124 ∷ 125 ∷ 123 ∷ 308 ∷ 300 ∷ 301 ∷ 302 ∷ 303 ∷ 407 ∷ 408 ∷ 444 ∷ 445 ∷ 446 ∷ 447 ∷ 55 ∷ 56 ∷ 57 ∷ 58 ∷ 60 ∷ 115 ∷ 116 ∷ 117 ∷ 118 ∷ 134 ∷ 288 ∷ 430 ∷ 75 ∷ 135 ∷ 304 ∷ 305 ∷ 306 ∷ 307 ∷ 448 ∷ 449 ∷ 450 ∷ 451 ∷ 270 ∷ 269 ∷ 406 ∷ 404 ∷ 405 ∷ 525 ∷ 526 ∷ 527 ∷ 26 ∷ 535 ∷ 235 ∷ 361 ∷ 237 ∷ 236 ∷ 364 ∷ 362 ∷ 363 ∷ 259 ∷ 393 ∷ 261 ∷ 260 ∷ 396 ∷ 394 ∷ 395 ∷ 238 ∷ 365 ∷ 252 ∷ 245 ∷ 386 ∷ 372 ∷ 379 ∷ 242 ∷ 369 ∷ 256 ∷ 249 ∷ 390 ∷ 376 ∷ 383 ∷ 239 ∷ 366 ∷ 253 ∷ 246 ∷ 387 ∷ 373 ∷ 380 ∷ 241 ∷ 368 ∷ 255 ∷ 248 ∷ 389 ∷ 375 ∷ 382 ∷ 244 ∷ 371 ∷ 258 ∷ 251 ∷ 392 ∷ 378 ∷ 385 ∷ 243 ∷ 370 ∷ 257 ∷ 250 ∷ 391 ∷ 377 ∷ 384 ∷ 240 ∷ 367 ∷ 254 ∷ 247 ∷ 388 ∷ 374 ∷ 381 ∷ 171 ∷ 179 ∷ 172 ∷ 176 ∷ 173 ∷ 175 ∷ 178 ∷ 177 ∷ 174 ∷ 577 ∷ 580 ∷ 579 ∷ 578 ∷ 556 ∷ 557 ∷ 558 ∷ 566 ∷ 559 ∷ 563 ∷ 560 ∷ 562 ∷ 565 ∷ 564 ∷ 561 ∷ 1 ∷ 2 ∷ 3 ∷ 11 ∷ 4 ∷ 8 ∷ 5 ∷ 7 ∷ 10 ∷ 9 ∷ 6 ∷ 543 ∷ 598 ∷ 613 ∷ 614 ∷ 601 ∷ 602 ∷ 606 ∷ 607 ∷ 612 ∷ 600 ∷ 604 ∷ 609 ∷ 605 ∷ 610 ∷ 617 ∷ 611 ∷ 599 ∷ 603 ∷ 608 ∷ 621 ∷ 618 ∷ 619 ∷ 620 ∷ 597 ∷ 514 ∷ 489 ∷ 490 ∷ 510 ∷ 200 ∷ 201 ∷ 223 ∷ 326 ∷ 348 ∷ 466 ∷ 475 ∷ 88 ∷ 106 ∷ 147 ∷ 166 ∷ 519 ∷ 515 ∷ 227 ∷ 352 ∷ 479 ∷ 107 ∷ 167 ∷ 488 ∷ 505 ∷ 497 ∷ 498 ∷ 493 ∷ 494 ∷ 495 ∷ 496 ∷ 491 ∷ 492 ∷ 189 ∷ 217 ∷ 208 ∷ 209 ∷ 204 ∷ 205 ∷ 206 ∷ 207 ∷ 202 ∷ 203 ∷ 315 ∷ 340 ∷ 333 ∷ 334 ∷ 329 ∷ 330 ∷ 331 ∷ 332 ∷ 327 ∷ 328 ∷ 457 ∷ 472 ∷ 470 ∷ 468 ∷ 469 ∷ 467 ∷ 87 ∷ 97 ∷ 93 ∷ 91 ∷ 92 ∷ 90 ∷ 146 ∷ 156 ∷ 152 ∷ 150 ∷ 151 ∷ 149 ∷ 615 ∷ 593 ∷ 594 ∷ 616 ∷ 622 ∷ 596 ∷ 595 ∷ 481 ∷ 506 ∷ 507 ∷ 485 ∷ 487 ∷ 503 ∷ 504 ∷ 511 ∷ 512 ∷ 513 ∷ 482 ∷ 483 ∷ 484 ∷ 516 ∷ 517 ∷ 518 ∷ 501 ∷ 502 ∷ 499 ∷ 500 ∷ 486 ∷ 190 ∷ 191 ∷ 182 ∷ 218 ∷ 219 ∷ 186 ∷ 188 ∷ 215 ∷ 216 ∷ 194 ∷ 192 ∷ 195 ∷ 193 ∷ 224 ∷ 225 ∷ 226 ∷ 183 ∷ 184 ∷ 185 ∷ 228 ∷ 229 ∷ 230 ∷ 214 ∷ 212 ∷ 213 ∷ 210 ∷ 211 ∷ 187 ∷ 198 ∷ 196 ∷ 199 ∷ 197 ∷ 316 ∷ 317 ∷ 310 ∷ 341 ∷ 312 ∷ 313 ∷ 320 ∷ 318 ∷ 321 ∷ 319 ∷ 349 ∷ 350 ∷ 351 ∷ 311 ∷ 353 ∷ 339 ∷ 337 ∷ 338 ∷ 335 ∷ 336 ∷ 314 ∷ 324 ∷ 322 ∷ 325 ∷ 323 ∷ 453 ∷ 473 ∷ 455 ∷ 456 ∷ 460 ∷ 458 ∷ 461 ∷ 459 ∷ 476 ∷ 477 ∷ 478 ∷ 454 ∷ 480 ∷ 471 ∷ 464 ∷ 462 ∷ 465 ∷ 463 ∷ 82 ∷ 89 ∷ 110 ∷ 98 ∷ 80 ∷ 99 ∷ 108 ∷ 81 ∷ 109 ∷ 96 ∷ 86 ∷ 95 ∷ 94 ∷ 101 ∷ 100 ∷ 142 ∷ 148 ∷ 170 ∷ 157 ∷ 140 ∷ 158 ∷ 168 ∷ 141 ∷ 169 ∷ 155 ∷ 145 ∷ 154 ∷ 153 ∷ 160 ∷ 159 ∷ 354 ∷ 355 ∷ 83 ∷ 84 ∷ 356 ∷ 357 ∷ 143 ∷ 144 ∷ 85 ∷ 161 ∷ 589 ∷ 591 ∷ 588 ∷ 590 ∷ 40 ∷ 550 ∷ 45 ∷ 41 ∷ 509 ∷ 344 ∷ 345 ∷ 346 ∷ 347 ∷ 102 ∷ 105 ∷ 162 ∷ 165 ∷ 508 ∷ 221 ∷ 343 ∷ 474 ∷ 104 ∷ 103 ∷ 164 ∷ 163 ∷ 222 ∷ 220 ∷ 342 ∷ 43 ∷ 42 ∷ 575 ∷ 547 ∷ 548 ∷ 549 ∷ 576 ∷ 359 ∷ 443 ∷ 425 ∷ 426 ∷ 573 ∷ 572 ∷ 541 ∷ 538 ∷ 31 ∷ 32 ∷ []
 
 abbrev pub place_of_row : ℕ → ℕ
-place_of_row n = get_or PLACES n 0
+place_of_row n = get_or places_of_rows n 0
 
 abbrev pub place : Head → ℕ
 place x = place_of_row (head_row x)
 
 -- the instruction of a row
 abbrev pub head_of_row : ℕ → Head
-head_of_row n = get_or TABLE (place_of_row n) first
+head_of_row n = get_or all_heads (place_of_row n) first
 
 -- the words rise strictly
 pub in_order : IsTrue (rises words)
@@ -64,11 +64,11 @@ in_order = refl
 pub words_length : length words ≡ 623
 words_length = refl
 
-pub table_length : length TABLE ≡ 623
+pub table_length : length all_heads ≡ 623
 table_length = refl
 
-block_there : (x : BlockOp) → get_or TABLE (place (h.Block x)) first ≡ h.Block x
-block_there x = elim x as (λ y. get_or TABLE (place (h.Block y)) first ≡ h.Block y) [ block.block ↦ refl | _ ↦ refl ]
+block_there : (x : BlockOp) → get_or all_heads (place (h.Block x)) first ≡ h.Block x
+block_there x = elim x as (λ y. get_or all_heads (place (h.Block y)) first ≡ h.Block y) [ block.block ↦ refl | _ ↦ refl ]
 
 block_below : (x : BlockOp) → place (h.Block x) < 623
 block_below x = elim x as (λ y. place (h.Block y) < 623) [ block.block ↦ lit< tt | _ ↦ lit< tt ]
@@ -76,8 +76,8 @@ block_below x = elim x as (λ y. place (h.Block y) < 623) [ block.block ↦ lit<
 block_row_below : (x : BlockOp) → head_row (h.Block x) < 623
 block_row_below x = elim x as (λ y. head_row (h.Block y) < 623) [ block.block ↦ lit< tt | _ ↦ lit< tt ]
 
-label_there : (x : LabelOp) → get_or TABLE (place (h.Label x)) first ≡ h.Label x
-label_there x = elim x as (λ y. get_or TABLE (place (h.Label y)) first ≡ h.Label y) [ label.else_ ↦ refl | _ ↦ refl ]
+label_there : (x : LabelOp) → get_or all_heads (place (h.Label x)) first ≡ h.Label x
+label_there x = elim x as (λ y. get_or all_heads (place (h.Label y)) first ≡ h.Label y) [ label.else_ ↦ refl | _ ↦ refl ]
 
 label_below : (x : LabelOp) → place (h.Label x) < 623
 label_below x = elim x as (λ y. place (h.Label y) < 623) [ label.else_ ↦ lit< tt | _ ↦ lit< tt ]
@@ -85,8 +85,8 @@ label_below x = elim x as (λ y. place (h.Label y) < 623) [ label.else_ ↦ lit<
 label_row_below : (x : LabelOp) → head_row (h.Label x) < 623
 label_row_below x = elim x as (λ y. head_row (h.Label y) < 623) [ label.else_ ↦ lit< tt | _ ↦ lit< tt ]
 
-scalar_there : (x : ScalarOp) → get_or TABLE (place (h.Scalar x)) first ≡ h.Scalar x
-scalar_there x = elim x as (λ y. get_or TABLE (place (h.Scalar y)) first ≡ h.Scalar y) [ scalar.unreachable ↦ refl | _ ↦ refl ]
+scalar_there : (x : ScalarOp) → get_or all_heads (place (h.Scalar x)) first ≡ h.Scalar x
+scalar_there x = elim x as (λ y. get_or all_heads (place (h.Scalar y)) first ≡ h.Scalar y) [ scalar.unreachable ↦ refl | _ ↦ refl ]
 
 scalar_below : (x : ScalarOp) → place (h.Scalar x) < 623
 scalar_below x = elim x as (λ y. place (h.Scalar y) < 623) [ scalar.unreachable ↦ lit< tt | _ ↦ lit< tt ]
@@ -94,8 +94,8 @@ scalar_below x = elim x as (λ y. place (h.Scalar y) < 623) [ scalar.unreachable
 scalar_row_below : (x : ScalarOp) → head_row (h.Scalar x) < 623
 scalar_row_below x = elim x as (λ y. head_row (h.Scalar y) < 623) [ scalar.unreachable ↦ lit< tt | _ ↦ lit< tt ]
 
-indexed_there : (x : IndexedOp) → get_or TABLE (place (h.Indexed x)) first ≡ h.Indexed x
-indexed_there x = elim x as (λ y. get_or TABLE (place (h.Indexed y)) first ≡ h.Indexed y) [ indexed.br ↦ refl | _ ↦ refl ]
+indexed_there : (x : IndexedOp) → get_or all_heads (place (h.Indexed x)) first ≡ h.Indexed x
+indexed_there x = elim x as (λ y. get_or all_heads (place (h.Indexed y)) first ≡ h.Indexed y) [ indexed.br ↦ refl | _ ↦ refl ]
 
 indexed_below : (x : IndexedOp) → place (h.Indexed x) < 623
 indexed_below x = elim x as (λ y. place (h.Indexed y) < 623) [ indexed.br ↦ lit< tt | _ ↦ lit< tt ]
@@ -103,8 +103,8 @@ indexed_below x = elim x as (λ y. place (h.Indexed y) < 623) [ indexed.br ↦ l
 indexed_row_below : (x : IndexedOp) → head_row (h.Indexed x) < 623
 indexed_row_below x = elim x as (λ y. head_row (h.Indexed y) < 623) [ indexed.br ↦ lit< tt | _ ↦ lit< tt ]
 
-call_indirect_there : (x : CallIndirectOp) → get_or TABLE (place (h.CallIndirect x)) first ≡ h.CallIndirect x
-call_indirect_there x = elim x as (λ y. get_or TABLE (place (h.CallIndirect y)) first ≡ h.CallIndirect y) [ call_indirect.call_indirect ↦ refl | _ ↦ refl ]
+call_indirect_there : (x : CallIndirectOp) → get_or all_heads (place (h.CallIndirect x)) first ≡ h.CallIndirect x
+call_indirect_there x = elim x as (λ y. get_or all_heads (place (h.CallIndirect y)) first ≡ h.CallIndirect y) [ call_indirect.call_indirect ↦ refl | _ ↦ refl ]
 
 call_indirect_below : (x : CallIndirectOp) → place (h.CallIndirect x) < 623
 call_indirect_below x = elim x as (λ y. place (h.CallIndirect y) < 623) [ call_indirect.call_indirect ↦ lit< tt | _ ↦ lit< tt ]
@@ -112,8 +112,8 @@ call_indirect_below x = elim x as (λ y. place (h.CallIndirect y) < 623) [ call_
 call_indirect_row_below : (x : CallIndirectOp) → head_row (h.CallIndirect x) < 623
 call_indirect_row_below x = elim x as (λ y. head_row (h.CallIndirect y) < 623) [ call_indirect.call_indirect ↦ lit< tt | _ ↦ lit< tt ]
 
-table_there : (x : TableOp) → get_or TABLE (place (h.Table x)) first ≡ h.Table x
-table_there x = elim x as (λ y. get_or TABLE (place (h.Table y)) first ≡ h.Table y) [ table.table_get ↦ refl | _ ↦ refl ]
+table_there : (x : TableOp) → get_or all_heads (place (h.Table x)) first ≡ h.Table x
+table_there x = elim x as (λ y. get_or all_heads (place (h.Table y)) first ≡ h.Table y) [ table.table_get ↦ refl | _ ↦ refl ]
 
 table_below : (x : TableOp) → place (h.Table x) < 623
 table_below x = elim x as (λ y. place (h.Table y) < 623) [ table.table_get ↦ lit< tt | _ ↦ lit< tt ]
@@ -121,8 +121,8 @@ table_below x = elim x as (λ y. place (h.Table y) < 623) [ table.table_get ↦ 
 table_row_below : (x : TableOp) → head_row (h.Table x) < 623
 table_row_below x = elim x as (λ y. head_row (h.Table y) < 623) [ table.table_get ↦ lit< tt | _ ↦ lit< tt ]
 
-access_there : (x : AccessOp) → get_or TABLE (place (h.Access x)) first ≡ h.Access x
-access_there x = elim x as (λ y. get_or TABLE (place (h.Access y)) first ≡ h.Access y) [ access.i32_load ↦ refl | _ ↦ refl ]
+access_there : (x : AccessOp) → get_or all_heads (place (h.Access x)) first ≡ h.Access x
+access_there x = elim x as (λ y. get_or all_heads (place (h.Access y)) first ≡ h.Access y) [ access.i32_load ↦ refl | _ ↦ refl ]
 
 access_below : (x : AccessOp) → place (h.Access x) < 623
 access_below x = elim x as (λ y. place (h.Access y) < 623) [ access.i32_load ↦ lit< tt | _ ↦ lit< tt ]
@@ -130,8 +130,8 @@ access_below x = elim x as (λ y. place (h.Access y) < 623) [ access.i32_load �
 access_row_below : (x : AccessOp) → head_row (h.Access x) < 623
 access_row_below x = elim x as (λ y. head_row (h.Access y) < 623) [ access.i32_load ↦ lit< tt | _ ↦ lit< tt ]
 
-memory_there : (x : MemoryOp) → get_or TABLE (place (h.Memory x)) first ≡ h.Memory x
-memory_there x = elim x as (λ y. get_or TABLE (place (h.Memory y)) first ≡ h.Memory y) [ memory.memory_size ↦ refl | _ ↦ refl ]
+memory_there : (x : MemoryOp) → get_or all_heads (place (h.Memory x)) first ≡ h.Memory x
+memory_there x = elim x as (λ y. get_or all_heads (place (h.Memory y)) first ≡ h.Memory y) [ memory.memory_size ↦ refl | _ ↦ refl ]
 
 memory_below : (x : MemoryOp) → place (h.Memory x) < 623
 memory_below x = elim x as (λ y. place (h.Memory y) < 623) [ memory.memory_size ↦ lit< tt | _ ↦ lit< tt ]
@@ -139,8 +139,8 @@ memory_below x = elim x as (λ y. place (h.Memory y) < 623) [ memory.memory_size
 memory_row_below : (x : MemoryOp) → head_row (h.Memory x) < 623
 memory_row_below x = elim x as (λ y. head_row (h.Memory y) < 623) [ memory.memory_size ↦ lit< tt | _ ↦ lit< tt ]
 
-struct_there : (x : StructOp) → get_or TABLE (place (h.Struct x)) first ≡ h.Struct x
-struct_there x = elim x as (λ y. get_or TABLE (place (h.Struct y)) first ≡ h.Struct y) [ struct.struct_get ↦ refl | _ ↦ refl ]
+struct_there : (x : StructOp) → get_or all_heads (place (h.Struct x)) first ≡ h.Struct x
+struct_there x = elim x as (λ y. get_or all_heads (place (h.Struct y)) first ≡ h.Struct y) [ struct.struct_get ↦ refl | _ ↦ refl ]
 
 struct_below : (x : StructOp) → place (h.Struct x) < 623
 struct_below x = elim x as (λ y. place (h.Struct y) < 623) [ struct.struct_get ↦ lit< tt | _ ↦ lit< tt ]
@@ -148,8 +148,8 @@ struct_below x = elim x as (λ y. place (h.Struct y) < 623) [ struct.struct_get 
 struct_row_below : (x : StructOp) → head_row (h.Struct x) < 623
 struct_row_below x = elim x as (λ y. head_row (h.Struct y) < 623) [ struct.struct_get ↦ lit< tt | _ ↦ lit< tt ]
 
-array_init_there : (x : ArrayInitOp) → get_or TABLE (place (h.ArrayInit x)) first ≡ h.ArrayInit x
-array_init_there x = elim x as (λ y. get_or TABLE (place (h.ArrayInit y)) first ≡ h.ArrayInit y) [ array_init.array_init_data ↦ refl | _ ↦ refl ]
+array_init_there : (x : ArrayInitOp) → get_or all_heads (place (h.ArrayInit x)) first ≡ h.ArrayInit x
+array_init_there x = elim x as (λ y. get_or all_heads (place (h.ArrayInit y)) first ≡ h.ArrayInit y) [ array_init.array_init_data ↦ refl | _ ↦ refl ]
 
 array_init_below : (x : ArrayInitOp) → place (h.ArrayInit x) < 623
 array_init_below x = elim x as (λ y. place (h.ArrayInit y) < 623) [ array_init.array_init_data ↦ lit< tt | _ ↦ lit< tt ]
@@ -157,8 +157,8 @@ array_init_below x = elim x as (λ y. place (h.ArrayInit y) < 623) [ array_init.
 array_init_row_below : (x : ArrayInitOp) → head_row (h.ArrayInit x) < 623
 array_init_row_below x = elim x as (λ y. head_row (h.ArrayInit y) < 623) [ array_init.array_init_data ↦ lit< tt | _ ↦ lit< tt ]
 
-atomic_access_there : (x : AtomicAccessOp) → get_or TABLE (place (h.AtomicAccess x)) first ≡ h.AtomicAccess x
-atomic_access_there x = elim x as (λ y. get_or TABLE (place (h.AtomicAccess y)) first ≡ h.AtomicAccess y) [ atomic_access.i32_atomic_load ↦ refl | _ ↦ refl ]
+atomic_access_there : (x : AtomicAccessOp) → get_or all_heads (place (h.AtomicAccess x)) first ≡ h.AtomicAccess x
+atomic_access_there x = elim x as (λ y. get_or all_heads (place (h.AtomicAccess y)) first ≡ h.AtomicAccess y) [ atomic_access.i32_atomic_load ↦ refl | _ ↦ refl ]
 
 atomic_access_below : (x : AtomicAccessOp) → place (h.AtomicAccess x) < 623
 atomic_access_below x = elim x as (λ y. place (h.AtomicAccess y) < 623) [ atomic_access.i32_atomic_load ↦ lit< tt | _ ↦ lit< tt ]
@@ -166,8 +166,8 @@ atomic_access_below x = elim x as (λ y. place (h.AtomicAccess y) < 623) [ atomi
 atomic_access_row_below : (x : AtomicAccessOp) → head_row (h.AtomicAccess x) < 623
 atomic_access_row_below x = elim x as (λ y. head_row (h.AtomicAccess y) < 623) [ atomic_access.i32_atomic_load ↦ lit< tt | _ ↦ lit< tt ]
 
-rmw_access_there : (x : RmwAccessOp) → get_or TABLE (place (h.RmwAccess x)) first ≡ h.RmwAccess x
-rmw_access_there x = elim x as (λ y. get_or TABLE (place (h.RmwAccess y)) first ≡ h.RmwAccess y) [ rmw_access.i32_atomic_rmw_add ↦ refl | _ ↦ refl ]
+rmw_access_there : (x : RmwAccessOp) → get_or all_heads (place (h.RmwAccess x)) first ≡ h.RmwAccess x
+rmw_access_there x = elim x as (λ y. get_or all_heads (place (h.RmwAccess y)) first ≡ h.RmwAccess y) [ rmw_access.i32_atomic_rmw_add ↦ refl | _ ↦ refl ]
 
 rmw_access_below : (x : RmwAccessOp) → place (h.RmwAccess x) < 623
 rmw_access_below x = elim x as (λ y. place (h.RmwAccess y) < 623) [ rmw_access.i32_atomic_rmw_add ↦ lit< tt | _ ↦ lit< tt ]
@@ -175,8 +175,8 @@ rmw_access_below x = elim x as (λ y. place (h.RmwAccess y) < 623) [ rmw_access.
 rmw_access_row_below : (x : RmwAccessOp) → head_row (h.RmwAccess x) < 623
 rmw_access_row_below x = elim x as (λ y. head_row (h.RmwAccess y) < 623) [ rmw_access.i32_atomic_rmw_add ↦ lit< tt | _ ↦ lit< tt ]
 
-ordered_index_there : (x : OrderedIndexOp) → get_or TABLE (place (h.OrderedIndex x)) first ≡ h.OrderedIndex x
-ordered_index_there x = elim x as (λ y. get_or TABLE (place (h.OrderedIndex y)) first ≡ h.OrderedIndex y) [ ordered_index.global_atomic_get ↦ refl | _ ↦ refl ]
+ordered_index_there : (x : OrderedIndexOp) → get_or all_heads (place (h.OrderedIndex x)) first ≡ h.OrderedIndex x
+ordered_index_there x = elim x as (λ y. get_or all_heads (place (h.OrderedIndex y)) first ≡ h.OrderedIndex y) [ ordered_index.global_atomic_get ↦ refl | _ ↦ refl ]
 
 ordered_index_below : (x : OrderedIndexOp) → place (h.OrderedIndex x) < 623
 ordered_index_below x = elim x as (λ y. place (h.OrderedIndex y) < 623) [ ordered_index.global_atomic_get ↦ lit< tt | _ ↦ lit< tt ]
@@ -184,8 +184,8 @@ ordered_index_below x = elim x as (λ y. place (h.OrderedIndex y) < 623) [ order
 ordered_index_row_below : (x : OrderedIndexOp) → head_row (h.OrderedIndex x) < 623
 ordered_index_row_below x = elim x as (λ y. head_row (h.OrderedIndex y) < 623) [ ordered_index.global_atomic_get ↦ lit< tt | _ ↦ lit< tt ]
 
-ordered_table_there : (x : OrderedTableOp) → get_or TABLE (place (h.OrderedTable x)) first ≡ h.OrderedTable x
-ordered_table_there x = elim x as (λ y. get_or TABLE (place (h.OrderedTable y)) first ≡ h.OrderedTable y) [ ordered_table.table_atomic_get ↦ refl | _ ↦ refl ]
+ordered_table_there : (x : OrderedTableOp) → get_or all_heads (place (h.OrderedTable x)) first ≡ h.OrderedTable x
+ordered_table_there x = elim x as (λ y. get_or all_heads (place (h.OrderedTable y)) first ≡ h.OrderedTable y) [ ordered_table.table_atomic_get ↦ refl | _ ↦ refl ]
 
 ordered_table_below : (x : OrderedTableOp) → place (h.OrderedTable x) < 623
 ordered_table_below x = elim x as (λ y. place (h.OrderedTable y) < 623) [ ordered_table.table_atomic_get ↦ lit< tt | _ ↦ lit< tt ]
@@ -193,8 +193,8 @@ ordered_table_below x = elim x as (λ y. place (h.OrderedTable y) < 623) [ order
 ordered_table_row_below : (x : OrderedTableOp) → head_row (h.OrderedTable x) < 623
 ordered_table_row_below x = elim x as (λ y. head_row (h.OrderedTable y) < 623) [ ordered_table.table_atomic_get ↦ lit< tt | _ ↦ lit< tt ]
 
-ordered_struct_there : (x : OrderedStructOp) → get_or TABLE (place (h.OrderedStruct x)) first ≡ h.OrderedStruct x
-ordered_struct_there x = elim x as (λ y. get_or TABLE (place (h.OrderedStruct y)) first ≡ h.OrderedStruct y) [ ordered_struct.struct_atomic_get ↦ refl | _ ↦ refl ]
+ordered_struct_there : (x : OrderedStructOp) → get_or all_heads (place (h.OrderedStruct x)) first ≡ h.OrderedStruct x
+ordered_struct_there x = elim x as (λ y. get_or all_heads (place (h.OrderedStruct y)) first ≡ h.OrderedStruct y) [ ordered_struct.struct_atomic_get ↦ refl | _ ↦ refl ]
 
 ordered_struct_below : (x : OrderedStructOp) → place (h.OrderedStruct x) < 623
 ordered_struct_below x = elim x as (λ y. place (h.OrderedStruct y) < 623) [ ordered_struct.struct_atomic_get ↦ lit< tt | _ ↦ lit< tt ]
@@ -202,8 +202,8 @@ ordered_struct_below x = elim x as (λ y. place (h.OrderedStruct y) < 623) [ ord
 ordered_struct_row_below : (x : OrderedStructOp) → head_row (h.OrderedStruct x) < 623
 ordered_struct_row_below x = elim x as (λ y. head_row (h.OrderedStruct y) < 623) [ ordered_struct.struct_atomic_get ↦ lit< tt | _ ↦ lit< tt ]
 
-lane_access_there : (x : LaneAccessOp) → get_or TABLE (place (h.LaneAccess x)) first ≡ h.LaneAccess x
-lane_access_there x = elim x as (λ y. get_or TABLE (place (h.LaneAccess y)) first ≡ h.LaneAccess y) [ lane_access.v128_load8_lane ↦ refl | _ ↦ refl ]
+lane_access_there : (x : LaneAccessOp) → get_or all_heads (place (h.LaneAccess x)) first ≡ h.LaneAccess x
+lane_access_there x = elim x as (λ y. get_or all_heads (place (h.LaneAccess y)) first ≡ h.LaneAccess y) [ lane_access.v128_load8_lane ↦ refl | _ ↦ refl ]
 
 lane_access_below : (x : LaneAccessOp) → place (h.LaneAccess x) < 623
 lane_access_below x = elim x as (λ y. place (h.LaneAccess y) < 623) [ lane_access.v128_load8_lane ↦ lit< tt | _ ↦ lit< tt ]
@@ -211,8 +211,8 @@ lane_access_below x = elim x as (λ y. place (h.LaneAccess y) < 623) [ lane_acce
 lane_access_row_below : (x : LaneAccessOp) → head_row (h.LaneAccess x) < 623
 lane_access_row_below x = elim x as (λ y. head_row (h.LaneAccess y) < 623) [ lane_access.v128_load8_lane ↦ lit< tt | _ ↦ lit< tt ]
 
-lane_there : (x : LaneOp) → get_or TABLE (place (h.Lane x)) first ≡ h.Lane x
-lane_there x = elim x as (λ y. get_or TABLE (place (h.Lane y)) first ≡ h.Lane y) [ lane.i8x16_extract_lane_s ↦ refl | _ ↦ refl ]
+lane_there : (x : LaneOp) → get_or all_heads (place (h.Lane x)) first ≡ h.Lane x
+lane_there x = elim x as (λ y. get_or all_heads (place (h.Lane y)) first ≡ h.Lane y) [ lane.i8x16_extract_lane_s ↦ refl | _ ↦ refl ]
 
 lane_below : (x : LaneOp) → place (h.Lane x) < 623
 lane_below x = elim x as (λ y. place (h.Lane y) < 623) [ lane.i8x16_extract_lane_s ↦ lit< tt | _ ↦ lit< tt ]
@@ -220,8 +220,8 @@ lane_below x = elim x as (λ y. place (h.Lane y) < 623) [ lane.i8x16_extract_lan
 lane_row_below : (x : LaneOp) → head_row (h.Lane x) < 623
 lane_row_below x = elim x as (λ y. head_row (h.Lane y) < 623) [ lane.i8x16_extract_lane_s ↦ lit< tt | _ ↦ lit< tt ]
 
-vector_there : (x : VectorOp) → get_or TABLE (place (h.Vector x)) first ≡ h.Vector x
-vector_there x = elim x as (λ y. get_or TABLE (place (h.Vector y)) first ≡ h.Vector y) [ vector.i8x16_swizzle ↦ refl | _ ↦ refl ]
+vector_there : (x : VectorOp) → get_or all_heads (place (h.Vector x)) first ≡ h.Vector x
+vector_there x = elim x as (λ y. get_or all_heads (place (h.Vector y)) first ≡ h.Vector y) [ vector.i8x16_swizzle ↦ refl | _ ↦ refl ]
 
 vector_below : (x : VectorOp) → place (h.Vector x) < 623
 vector_below x = elim x as (λ y. place (h.Vector y) < 623) [ vector.i8x16_swizzle ↦ lit< tt | _ ↦ lit< tt ]
@@ -230,7 +230,7 @@ vector_row_below : (x : VectorOp) → head_row (h.Vector x) < 623
 vector_row_below x = elim x as (λ y. head_row (h.Vector y) < 623) [ vector.i8x16_swizzle ↦ lit< tt | _ ↦ lit< tt ]
 
 -- each instruction stands at its place
-pub there : (x : Head) → get_or TABLE (place x) first ≡ x
+pub there : (x : Head) → get_or all_heads (place x) first ≡ x
 there (h.Block x) = block_there x
 there (h.Label x) = label_there x
 there (h.Scalar x) = scalar_there x
@@ -294,12 +294,12 @@ row_below (h.Vector x) = vector_row_below x
 row_below _ = lit< tt
 
 -- the word at a place is that of the instruction there
-pub entry_at : (k : ℕ) → k < 623 → get_or words k [] ≡ head_word (get_or TABLE k first)
-entry_at k l = get_or-map head_word TABLE k first [] (let e = table_length in omega arith)
+pub entry_at : (k : ℕ) → k < 623 → get_or words k [] ≡ head_word (get_or all_heads k first)
+entry_at k l = get_or-map head_word all_heads k first [] (let e = table_length in omega arith)
 
 -- two instructions at one place are one
 pub one_place : (x y : Head) → place x ≡ place y → x ≡ y
-one_place x y e = sym (there x) ∙ ap (λ (k : ℕ). get_or TABLE k first) e ∙ there y
+one_place x y e = sym (there x) ∙ ap (λ (k : ℕ). get_or all_heads k first) e ∙ there y
 
 -- two instructions of one row are one
 pub one_row : (x y : Head) → head_row x ≡ head_row y → x ≡ y

@@ -12,7 +12,7 @@ use Rattle.wat_mnemonics.specs.Heads.{head_word}
 use Rattle.wat_mnemonics.specs.Order.{first}
 use Rattle.wat_mnemonics.specs.Places.{place, there, below, one_word, table_length}
 use Rattle.wat_mnemonics.specs.declared.head.Head.{Head}
-use Rattle.wat_mnemonics.specs.Table.{TABLE}
+use Rattle.wat_mnemonics.specs.Table.{all_heads}
 
 -- the first of the heads with the word
 abbrev pub first_with : List ℕ → List Head → Option Head
@@ -21,7 +21,7 @@ first_with w (x ∷ xs) = if bytes_eq (head_word x) w then Some x else first_wit
 
 -- the instruction of a word
 unfoldable pub head_of : List ℕ → Option Head
-head_of w = first_with w TABLE
+head_of w = first_with w all_heads
 
 some_head : (x y : Head) → Some x ≡ Some y → x ≡ y
 some_head x y e = cc
@@ -51,17 +51,17 @@ first_none w (y ∷ ys) f =
 
 pub head_of_is : (w : List ℕ) (x : Head) → head_of w ≡ Some x → head_word x ≡ w
 unfolding head_of
-head_of_is w x e = first_is w TABLE x e
+head_of_is w x e = first_is w all_heads x e
 
 pub head_of_word : (x : Head) (w : List ℕ) → head_word x ≡ w → head_of w ≡ Some x
 unfolding head_of
 head_of_word x w e =
-    let p = first_there w TABLE (place x) (let l = table_length in let b = below x in omega arith) (ap head_word (there x) ∙ e) in
-    p.1 ∙ ap (λ (u : Head). Some u) (one_word p.0 x (first_is w TABLE p.0 p.1 ∙ sym e))
+    let p = first_there w all_heads (place x) (let l = table_length in let b = below x in omega arith) (ap head_word (there x) ∙ e) in
+    p.1 ∙ ap (λ (u : Head). Some u) (one_word p.0 x (first_is w all_heads p.0 p.1 ∙ sym e))
 
 pub head_of_none : (w : List ℕ) → ((x : Head) → head_word x ≡ w → ⊥) → head_of w ≡ None
 unfolding head_of
-head_of_none w f = first_none w TABLE f
+head_of_none w f = first_none w all_heads f
 
 -- ---- the production
 

@@ -5,7 +5,7 @@ ghost use Rattle.wat_tokens.specs.Token.{Tok, Keyword};
 ghost use Rattle.wat_mnemonics.specs.Heads.{head_word};
 ghost use Rattle.wat_mnemonics.specs.Order.{first};
 ghost use Rattle.wat_mnemonics.specs.Probes.{ReadsWord, AtMostTen};
-ghost use Rattle.wat_mnemonics.specs.Table.{TABLE};
+ghost use Rattle.wat_mnemonics.specs.Table.{all_heads};
 ghost use Rattle.wat_mnemonics.specs.declared.head.Head.{Head as AnyHead};
 ghost use Rattle.wat_tokens.specs.Counts.{Carries};
 
@@ -17,7 +17,7 @@ use wat_tokens::{Error, Fault, Parser, Result};
 /// An entry of the table.
 fn head_at(place: usize) -> Head
     requires { place < 623 }
-    ensures { result ≡ slice_index_or TABLE place first }
+    ensures { result ≡ slice_index_or all_heads place first }
 {
     HEADS[place]
 }

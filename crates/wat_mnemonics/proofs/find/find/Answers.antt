@@ -4,7 +4,7 @@ use Rattle.wat_mnemonics.specs.Heads.{head_word}
 use Rattle.wat_mnemonics.specs.Order.{words, first, cmp, below_less, above_greater, absent}
 use Rattle.wat_mnemonics.specs.Places.{in_order, words_length, entry_at, found_at}
 use Rattle.wat_mnemonics.specs.declared.head.Head.{Head}
-use Rattle.wat_mnemonics.specs.Table.{TABLE}
+use Rattle.wat_mnemonics.specs.Table.{all_heads}
 use Rattle.wat_mnemonics.proofs.Halves.{few_above, few_below, made_one, probed_only}
 use Rattle.wat_tokens.specs.State.{State}
 use Rattle.wat_mnemonics.proofs.find.find.Goals as goal
@@ -12,7 +12,7 @@ use Rattle.wat_mnemonics.proofs.find.find.Goals as goal
 mid_below : (a b : ℕ) → a < b → b ≤ 623 → a + (b - a) / 2 < 623
 mid_below a b h k = omega arith
 
-middle_is : (m : ℕ) (r : Head) (w t : List ℕ) → m < 623 → r ≡ get_or TABLE m first → w ≡ head_word r → cmp w t ≡ cmp (get_or words m []) t
+middle_is : (m : ℕ) (r : Head) (w t : List ℕ) → m < 623 → r ≡ get_or all_heads m first → w ≡ head_word r → cmp w t ≡ cmp (get_or words m []) t
 middle_is m r w t h e f = ap (λ (x : List ℕ). cmp x t) (f ∙ ap head_word e ∙ sym (entry_at m h))
 
 pub halves-preserved-in-Less : goal.halves-preserved-in-Less
