@@ -1,5 +1,5 @@
-//! What tests read texts by that have to be read, and values by that have to be cloned: memory is ample, so that a
-//! refusal for want of it is wrong too.
+//! What tests read texts by that have to be read, and values by that have to be cloned: memory is
+//! ample, so that a refusal for want of it is wrong too.
 
 use bumpalo::Bump;
 use std::alloc::Global;
@@ -79,7 +79,8 @@ pub fn add_unread_times<'a, T: Parse<'a> + Drop>(
     add_unread::<T>(wrong, arena, &texts)
 }
 
-/// Adds a text whose value's clone isn't shown as the value itself is, or that isn't read as a whole.
+/// Adds a text whose value's clone isn't shown as the value itself is, or that isn't read as a
+/// whole.
 fn add_if_uncloned<'a, T: Parse<'a> + Debug + Drop, C: Clones<T>>(
     wrong: &mut String,
     arena: &'a Bump,
@@ -97,7 +98,8 @@ fn add_if_uncloned<'a, T: Parse<'a> + Debug + Drop, C: Clones<T>>(
     Ok(())
 }
 
-/// Adds each text whose value's clone isn't shown as the value itself is, or that isn't read as a whole.
+/// Adds each text whose value's clone isn't shown as the value itself is, or that isn't read as a
+/// whole.
 pub fn add_uncloned<'a, T: Parse<'a> + Debug + Drop, C: Clones<T>>(
     wrong: &mut String,
     arena: &'a Bump,

@@ -1,4 +1,5 @@
-//! Blocks, calls, what is caught and handlers as they are read and cloned, and their faults with the offset.
+//! Blocks, calls, what is caught and handlers as they are read and cloned, and their faults with
+//! the offset.
 
 use bumpalo::Bump;
 use std::alloc::Global;
@@ -211,7 +212,8 @@ fn resumed(alloc: Global, text: &str, count: usize) -> Result<(Option<u32>, bool
     Ok((number_of(found.type_index), is_wanted))
 }
 
-/// The type and the tag of the clone of a `resume_throw`, and whether it has so many handlers, each `on 7 switch`.
+/// The type and the tag of the clone of a `resume_throw`, and whether it has so many handlers, each
+/// `on 7 switch`.
 fn thrown(
     alloc: Global,
     text: &str,
@@ -227,7 +229,8 @@ fn thrown(
     ))
 }
 
-/// Whether the clone of a `resume_throw_ref` has the type `$k`, and so many handlers, each `on 7 switch`.
+/// Whether the clone of a `resume_throw_ref` has the type `$k`, and so many handlers, each `on 7
+/// switch`.
 fn thrown_again(alloc: Global, text: &str, count: usize) -> Result<bool, Error> {
     let arena = Bump::new(alloc);
     let found = read::<ResumeThrowRef>(alloc, text, &arena)?.clone()?;

@@ -22,7 +22,8 @@ fn add_index(out: &mut String, index: Index<'_>) -> Result<(), Fail> {
     Ok(())
 }
 
-/// Adds ` [`, the words of the instructions, each with its operand where that is an index, and ` ]`.
+/// Adds ` [`, the words of the instructions, each with its operand where that is an index, and `
+/// ]`.
 fn add_expression(out: &mut String, found: &Expression<'_>) -> Result<(), Fail> {
     out.push_str(" [")?;
     for instr in &found.instrs {
@@ -65,7 +66,8 @@ fn add_expressions(out: &mut String, found: &Vec<Expression<'_>>) -> Result<(), 
     Ok(())
 }
 
-/// Adds what a segment holds: ` indices` and the indices, or the type of expressions, ` exprs` and the expressions.
+/// Adds what a segment holds: ` indices` and the indices, or the type of expressions, ` exprs` and
+/// the expressions.
 fn add_payload(out: &mut String, found: &ElemPayload<'_>) -> Result<(), Fail> {
     match found {
         ElemPayload::Indices(indices) => add_indices(out, indices),
@@ -76,7 +78,8 @@ fn add_payload(out: &mut String, found: &ElemPayload<'_>) -> Result<(), Fail> {
     }
 }
 
-/// Adds where a segment is put: its kind, and the table, where one is written, and the offset of one that is active.
+/// Adds where a segment is put: its kind, and the table, where one is written, and the offset of
+/// one that is active.
 fn add_kind(out: &mut String, found: &ElemKind<'_>) -> Result<(), Fail> {
     match found {
         ElemKind::Passive => out.push_str("passive")?,
@@ -110,7 +113,8 @@ fn add_where(out: &mut String, holds: bool, word: &str) -> Result<(), Fail> {
     Ok(())
 }
 
-/// Adds a type: whether it is shared, and has addresses of 64 bits; its limits, and the type of an element.
+/// Adds a type: whether it is shared, and has addresses of 64 bits; its limits, and the type of an
+/// element.
 fn add_type(out: &mut String, ty: &TableType<'_>) -> Result<(), Fail> {
     add_where(out, ty.shared, " shared")?;
     add_where(out, ty.limits.is64, " i64")?;

@@ -1,4 +1,5 @@
-//! Each choice of each row of expressions and of a module's fields is read with ample memory: the program lists the text.
+//! Each choice of each row of expressions and of a module's fields is read with ample memory: the
+//! program lists the text.
 
 use std::alloc::Global;
 use std::test::Fail;
@@ -23,7 +24,8 @@ fn add_if_refused(wrong: &mut String, mode: Mode, text: &str) -> Result<(), Fail
     Ok(())
 }
 
-/// Adds each text, made of a part between the first text and the last, that the program refuses, and what it writes.
+/// Adds each text, made of a part between the first text and the last, that the program refuses,
+/// and what it writes.
 fn add_refused(
     wrong: &mut String,
     mode: Mode,

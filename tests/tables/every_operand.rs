@@ -1,5 +1,5 @@
-//! Each choice of each operand's, import's, export's and custom section's row is read with ample memory, and what has a
-//! `clone` of its own is cloned.
+//! Each choice of each operand's, import's, export's and custom section's row is read with ample
+//! memory, and what has a `clone` of its own is cloned.
 
 use crate::ample::Clones;
 use crate::findings::Findings;
@@ -244,7 +244,8 @@ const ITEMS: &[&str] = &[
     "tag (type 1) (param i32)",
 ];
 
-/// How many signatures the imports of a text give, and whether their clones, and their parts', are shown as they are.
+/// How many signatures the imports of a text give, and whether their clones, and their parts', are
+/// shown as they are.
 fn sigs_of(alloc: Global, text: &str) -> Result<(usize, bool), Fail> {
     let arena = Bump::new(alloc);
     let found = read::<Imports>(alloc, text, &arena)?;
@@ -262,7 +263,8 @@ fn kind_is_cloned(alloc: Global, text: &str) -> Result<bool, Fail> {
     Ok(kind == copy)
 }
 
-/// Whether the clone of the first item of an import's list, each with its type, is shown as the item is.
+/// Whether the clone of the first item of an import's list, each with its type, is shown as the
+/// item is.
 fn item_is_cloned(alloc: Global, text: &str) -> Result<bool, Fail> {
     let arena = Bump::new(alloc);
     let found = read::<Imports>(alloc, text, &arena)?;

@@ -1,4 +1,5 @@
-//! Each choice of each type's row is read with ample memory, and what has a `clone` of its own is cloned.
+//! Each choice of each type's row is read with ample memory, and what has a `clone` of its own is
+//! cloned.
 
 use crate::ample::Clones;
 use crate::findings::Findings;

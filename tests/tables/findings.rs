@@ -1,5 +1,5 @@
-//! What tables of texts find wrong. Each call notes what it finds and answers nothing, so that a test of many tables has
-//! one assertion.
+//! What tables of texts find wrong. Each call notes what it finds and answers nothing, so that a
+//! test of many tables has one assertion.
 
 use crate::ample::{
     Clones, add_uncloned, add_uncloned_times, add_unread, add_unread_between, add_unread_times,
@@ -26,7 +26,8 @@ impl Findings {
         }
     }
 
-    /// All that was found wrong; where a call was refused, its texts are not all tried, and this says so.
+    /// All that was found wrong; where a call was refused, its texts are not all tried, and this
+    /// says so.
     pub fn all(&self) -> &str {
         if self.is_whole || !self.text.is_empty() {
             self.text.as_str()

@@ -10,7 +10,8 @@ use wat_tokens::{Error, Fault, Id, NameAnnotation, Parse};
 use wat_types::{FunctionType, GlobalType, TagType, TypeUse, ValType};
 use wat_vectors::reading::{number_of, parser_of, read_unannotated, refusal, repeated};
 
-/// Reads a whole text as a T; the standard annotations are known and spans are kept. What is left over is refused.
+/// Reads a whole text as a T; the standard annotations are known and spans are kept. What is left
+/// over is refused.
 fn read_whole<'a, T: Parse<'a> + Drop>(
     alloc: Allocator,
     text: &'a str,

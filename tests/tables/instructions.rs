@@ -1,4 +1,5 @@
-//! Every mnemonic with the least operand that it takes, and instructions as they are read, cloned and written.
+//! Every mnemonic with the least operand that it takes, and instructions as they are read, cloned
+//! and written.
 
 use bumpalo::Bump;
 use std::alloc::Global;
@@ -184,7 +185,8 @@ fn alignment_of(found: &Instruction<'_>) -> Option<u64> {
     }
 }
 
-/// The alignment of the access of the instruction that is read after it was set, or None where there is no access.
+/// The alignment of the access of the instruction that is read after it was set, or None where
+/// there is no access.
 fn aligned(alloc: Global, text: &str, arena: &Bump) -> Result<Option<u64>, Error> {
     let mut found = read::<Instruction>(alloc, text, arena)?;
     if align(&mut found, 16) {

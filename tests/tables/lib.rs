@@ -1,4 +1,5 @@
-//! Tests that are run and not proved: texts, what is read of them, where its parts stand, and what is refused and where.
+//! Tests that are run and not proved: texts, what is read of them, where its parts stand, and what
+//! is refused and where.
 #![tactic(auto)]
 
 #[cfg(test)]

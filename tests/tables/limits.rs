@@ -1,4 +1,5 @@
-//! Storage, global, table and memory types as they are read, and each of their faults with the offset.
+//! Storage, global, table and memory types as they are read, and each of their faults with the
+//! offset.
 
 use crate::hashing::hash_of;
 use bumpalo::Bump;

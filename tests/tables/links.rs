@@ -1,4 +1,5 @@
-//! Imports and exports as they are read, counted, changed and cloned, and their faults with the offset.
+//! Imports and exports as they are read, counted, changed and cloned, and their faults with the
+//! offset.
 
 use bumpalo::Bump;
 use std::alloc::Global;

@@ -164,7 +164,8 @@ fn looks(rt: &impl Abort, parser: &Parser) {
     }
 }
 
-// Where a lookup passed over the hidden tokens one at a time, this would take more than the time that a test has.
+// Where a lookup passed over the hidden tokens one at a time, this would take more than the time
+// that a test has.
 #[test]
 fn hidden_groups_are_passed_over_at_once(rt: HostRuntime) -> Result<(), Fail> {
     let arena = Bump::new(rt.alloc());

@@ -165,7 +165,8 @@ fn place_of(index: &Index<'_>) -> usize {
     }
 }
 
-/// Where the word `module` stands, its identifier, and the index of its first field where that is a start.
+/// Where the word `module` stands, its identifier, and the index of its first field where that is a
+/// start.
 fn places_of(module: &Module<'_>) -> (usize, Option<usize>, Option<usize>) {
     let start = match &module.kind {
         ModuleKind::Text(fields) => match fields.first() {

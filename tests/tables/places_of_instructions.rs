@@ -1,4 +1,5 @@
-//! Where what is read of a text behind blanks stands, with its identifiers and indices, and where it is refused.
+//! Where what is read of a text behind blanks stands, with its identifiers and indices, and where
+//! it is refused.
 
 use crate::findings::Findings;
 use crate::operands_shown::add_operand;

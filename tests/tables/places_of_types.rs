@@ -1,4 +1,5 @@
-//! Where the types of a text behind blanks stand, with their identifiers and indices, and where they are refused.
+//! Where the types of a text behind blanks stand, with their identifiers and indices, and where
+//! they are refused.
 
 use crate::findings::Findings;
 use bumpalo::Bump;

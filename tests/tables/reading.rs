@@ -23,8 +23,9 @@ fn refusal_behind_blanks<'a, T: Parse<'a> + Drop>(
     Ok(found.map(|(fault, offset)| (fault, offset.wrapping_sub(3))))
 }
 
-/// The first text that isn't refused with the fault at the offset of its row, and what it gives; None where each is
-/// refused so, whether or not the standard annotations are known, and three further on behind three blanks.
+/// The first text that isn't refused with the fault at the offset of its row, and what it gives;
+/// None where each is refused so, whether or not the standard annotations are known, and three
+/// further on behind three blanks.
 pub fn refused_otherwise<'a, T: Parse<'a> + Drop>(
     alloc: Global,
     arena: &'a Bump,
@@ -45,8 +46,8 @@ pub fn refused_otherwise<'a, T: Parse<'a> + Drop>(
     Ok(None)
 }
 
-/// What Debug writes of the value in front of a text, or in the group there; the standard annotations are known, and
-/// spans are kept.
+/// What Debug writes of the value in front of a text, or in the group there; the standard
+/// annotations are known, and spans are kept.
 pub fn shown<'a, T: Parse<'a> + Debug + Drop>(
     alloc: Global,
     is_group: bool,
@@ -63,7 +64,8 @@ pub fn shown<'a, T: Parse<'a> + Debug + Drop>(
     Ok(format!(in alloc; "{found:?}")?)
 }
 
-/// The offsets of the spans in what Debug writes of a value, in the order of its fields, each behind a space.
+/// The offsets of the spans in what Debug writes of a value, in the order of its fields, each
+/// behind a space.
 pub fn places_in(alloc: Global, shown: &str) -> Result<String, AllocError> {
     let mut places = String::new(alloc);
     let mut rest = shown;
@@ -81,7 +83,8 @@ pub fn places_in(alloc: Global, shown: &str) -> Result<String, AllocError> {
     Ok(places)
 }
 
-/// Adds each text whose value, or group, has its spans elsewhere than its row says, and where they are.
+/// Adds each text whose value, or group, has its spans elsewhere than its row says, and where they
+/// are.
 pub fn add_misplaced<'a, T: Parse<'a> + Debug + Drop>(
     wrong: &mut String,
     arena: &'a Bump,

@@ -1,10 +1,11 @@
 //! The list of the 623 instructions, in the order of the Rust crate's.
 
-/// A line for each instruction: a text that it reads as a whole; then, behind a colon, what names it, the bytes of its
-/// opcode where Core Specification 2.0 has some, and of an access the default alignment in bytes and the ordering.
+/// A line for each instruction: a text that it reads as a whole; then, behind a colon, what names
+/// it, the bytes of its opcode where Core Specification 2.0 has some, and of an access the default
+/// alignment in bytes and the ordering.
 ///
-/// It was made from the Rust crate's list of instructions and the specification's index of opcodes, and from nothing
-/// of this repository.
+/// It was made from the Rust crate's list of instructions and the specification's index of opcodes,
+/// and from nothing of this repository.
 pub const ROWS: &str = "block $l (result i32) : Block(block) -
 if $l (result i32) : Block(if_) -
 else $l : Label(else_) -

@@ -35,7 +35,8 @@ fn access_of<'f, 'a>(found: &'f Instruction<'a>) -> Option<&'f MemArg<'a>> {
     }
 }
 
-/// Adds the alignment and the ordering of an access, and whether the instruction is another than the word's.
+/// Adds the alignment and the ordering of an access, and whether the instruction is another than
+/// the word's.
 fn add_instruction(out: &mut String, head: Head, found: &Instruction<'_>) -> Result<(), Fail> {
     if let Some(access) = access_of(found) {
         let align = access.align;

@@ -84,7 +84,8 @@ fn gathered(alloc: Global, values: &[DataVal<'_>]) -> Result<Vec<u8>, Error> {
     Ok(bytes)
 }
 
-/// Adds whether a segment is active, and then its memory, and the instructions of its offset with their places.
+/// Adds whether a segment is active, and then its memory, and the instructions of its offset with
+/// their places.
 fn add_kind(out: &mut String, kind: &DataKind<'_>) -> Result<(), Fail> {
     match kind {
         DataKind::Passive => out.push_str("passive")?,

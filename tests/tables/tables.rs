@@ -130,7 +130,8 @@ fn tables_that_are_refused(rt: HostRuntime) {
     }
 }
 
-/// Where the table in front of a text begins, its identifier, and the name that an annotation gives.
+/// Where the table in front of a text begins, its identifier, and the name that an annotation
+/// gives.
 fn named<'a>(found: &Table<'a>) -> (usize, Option<&'a str>, Option<&'a str>) {
     (
         found.span.offset(),

@@ -124,7 +124,8 @@ fn peeks(rt: HostRuntime) -> Result<(), Fail> {
     Ok(())
 }
 
-/// Wants three parameters, of which the first has the identifier `$x`, and that name, and one result.
+/// Wants three parameters, of which the first has the identifier `$x`, and that name, and one
+/// result.
 fn is_listed(rt: &impl Abort, found: &FunctionType<'_>, wanted: Option<&str>) {
     assert_eq!(rt; found.params.len(), 3);
     let (id, name, ty) = found.params[0];

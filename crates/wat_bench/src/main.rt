@@ -1,9 +1,11 @@
-//! Measures the cut of standard input into tokens, a lookup in front of them, and what reads instructions.
+//! Measures the cut of standard input into tokens, a lookup in front of them, and what reads
+//! instructions.
 //!
-//! With no argument it prints the number of tokens. With a number of rounds it cuts the text as often, and also prints the
-//! nanoseconds of the fastest round, the bytes that a token takes, the nanoseconds of a million lookups, the number of
-//! mnemonics that stand in front one behind the other and the nanoseconds of taking them, and the number of instructions and
-//! the nanoseconds of reading the text as an expression.
+//! With no argument it prints the number of tokens. With a number of rounds it cuts the text as
+//! often, and also prints the nanoseconds of the fastest round, the bytes that a token takes, the
+//! nanoseconds of a million lookups, the number of mnemonics that stand in front one behind the
+//! other and the nanoseconds of taking them, and the number of instructions and the nanoseconds of
+//! reading the text as an expression.
 #![tactic(auto)]
 
 use bumpalo::Bump;
@@ -56,7 +58,8 @@ fn lookups(rt: &impl Clock, alloc: Global, text: &str) -> io::Result<u128> {
     Ok(start.elapsed(rt)?.as_nanos())
 }
 
-/// Takes the mnemonics that stand in front one behind the other, at most so many: how many, and the nanoseconds.
+/// Takes the mnemonics that stand in front one behind the other, at most so many: how many, and the
+/// nanoseconds.
 fn words(rt: &impl Clock, alloc: Global, text: &str, most: usize) -> io::Result<(usize, u128)> {
     let arena = Bump::new(alloc);
     let mut count = 0usize;
@@ -74,7 +77,8 @@ fn words(rt: &impl Clock, alloc: Global, text: &str, most: usize) -> io::Result<
     Ok((count, taken))
 }
 
-/// Reads the text as an expression: how many instructions it has, and the nanoseconds without those of the cut.
+/// Reads the text as an expression: how many instructions it has, and the nanoseconds without those
+/// of the cut.
 fn expression(rt: &impl Clock, alloc: Global, text: &str) -> io::Result<(usize, u128)> {
     let arena = Bump::new(alloc);
     let mut count = 0;

@@ -134,8 +134,9 @@ fn read_defined<'a>(parser: &mut Parser<'a>) -> Result<ModuleField<'a>>
     read_further(parser)
 }
 
-/// The field that the word in front names, or, where the annotation `custom`, `producers` or `dylink.0` stands there, a custom
-/// section. Anything else in front is refused with Unexpected, at the token.
+/// The field that the word in front names, or, where the annotation `custom`, `producers` or
+/// `dylink.0` stands there, a custom section. Anything else in front is refused with Unexpected, at
+/// the token.
 impl<'a> Parse<'a> for ModuleField<'a> {
     ghost Seen = { FieldTy };
 

@@ -1,4 +1,5 @@
-//! Laws of the grammar: functions that do nothing, whose contracts say what holds of its definitions.
+//! Laws of the grammar: functions that do nothing, whose contracts say what holds of its
+//! definitions.
 
 ghost use Rattle.std.specs.Prelude.{◌≡◌, ℕ, Bool, List, true};
 ghost use Rattle.wat_tokens.specs.Once.{HasOneReading};
@@ -14,8 +15,9 @@ pub use wat_expr::laws::{flat_again, flat_form, hints_in_order, no_more_than_tok
 pub use wat_mnemonics::laws::{no_prefix, one_mnemonic, words_in_order};
 use wat_tokens::Parse;
 
-/// No two fronts of one token list spell values, unless they are one front and one value, spans aside: of any type that can be
-/// read, of a module, and of what the calls read that are no type's own.
+/// No two fronts of one token list spell values, unless they are one front and one value, spans
+/// aside: of any type that can be read, of a module, and of what the calls read that are no type's
+/// own.
 #[tactic(auto, using(wat_tokens::specs::Once::reads_once))]
 pub fn one_reading<'a, T: Parse<'a>>()
     ensures value { HasOneReading T.grammar }

@@ -1,9 +1,10 @@
-//! Modules of the WebAssembly text format (WebAssembly Core Specification, Text Format, "Modules"), and everything that is in
-//! them.
+//! Modules of the WebAssembly text format (WebAssembly Core Specification, Text Format, "Modules"),
+//! and everything that is in them.
 //!
-//! [`Module::parse`] takes a module from the tokens of a [`Parser`]. Indices stay as they are written: nothing is resolved, and
-//! nothing is checked for validity. This crate has the names of the types of the crates that it stands on, and of
-//! what reads them, so that a user needs it alone; what else is public there is reached by the crate's own name, as
+//! [`Module::parse`] takes a module from the tokens of a [`Parser`]. Indices stay as they are
+//! written: nothing is resolved, and nothing is checked for validity. This crate has the names of
+//! the types of the crates that it stands on, and of what reads them, so that a user needs it
+//! alone; what else is public there is reached by the crate's own name, as
 //! `wat_core::wat_mnemonics::find`.
 #![tactic(auto)]
 

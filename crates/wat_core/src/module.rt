@@ -118,13 +118,14 @@ impl<'a> Parse<'a> for Named<'a> {
 }
 
 impl<'a> Module<'a> {
-    /// Takes a module, from the word `module` to the end of its group, whose parentheses are the caller's, with the five
-    /// standard annotations known: `custom`, `producers`, `name`, `dylink.0` and `metadata.code.branch_hint`. What was known
-    /// of them before is known again.
+    /// Takes a module, from the word `module` to the end of its group, whose parentheses are the
+    /// caller's, with the five standard annotations known: `custom`, `producers`, `name`,
+    /// `dylink.0` and `metadata.code.branch_hint`. What was known of them before is known again.
     ///
-    /// Where no module stands in front, it is refused with the first fault that is met. Another token in front than the word
-    /// `module` is refused with Unexpected, at the token, and so is one behind it that begins no field's group. Memory may be
-    /// answered where the module has a field or a piece.
+    /// Where no module stands in front, it is refused with the first fault that is met. Another
+    /// token in front than the word `module` is refused with Unexpected, at the token, and so is
+    /// one behind it that begins no field's group. Memory may be answered where the module has a
+    /// field or a piece.
     #[tactic(auto, using(wat_tokens::specs::State::lit_is, crate::proofs::Ends::module_ends))]
     pub fn parse(parser: &mut Parser<'a>) -> Result<Module<'a>>
         // The tokens that were taken, seen with the five names, spell the module.
@@ -137,7 +138,8 @@ impl<'a> Module<'a> {
         ensures ends { IfOk result (λ _. ends (lit parser.new).left ≡ true) }
         // No loop over an expression turned more than once beyond the tokens that were taken.
         ensures turned { Turned result parser.old parser.new }
-        // `taken` rises by the number of tokens that were taken, and never by more than stood in front.
+        // `taken` rises by the number of tokens that were taken, and never by more than stood in
+        // front.
         ensures taken { (c : List Tok) → (lit parser.old).left ≡ c ++ (lit parser.new).left → parser.new.taken ≡ parser.old.taken + length c }
         ensures within { parser.new.taken + length (lit parser.new).left ≡ parser.old.taken + length (lit parser.old).left }
         // `peak` is at most the greater of what it was and how the tokens that were taken nest.

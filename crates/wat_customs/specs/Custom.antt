@@ -14,7 +14,8 @@ use Rattle.wat_customs.specs.declared.place.CustomPlace.TheVariants.{BeforeFirst
 use Rattle.wat_customs.specs.declared.custom.Custom.{Custom}
 use Rattle.wat_customs.specs.declared.custom.Custom.TheVariants as code
 
--- the bytes of one of any name, the fields of a `producers` section, or the subsections of a `dylink.0` section
+-- the bytes of one of any name, the fields of a `producers` section, or the subsections of a
+-- `dylink.0` section
 pub data CustomTy : Type 0 where
   raw : RawTy → CustomTy
   produced : List (List ℕ × List Named) → CustomTy

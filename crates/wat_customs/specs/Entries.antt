@@ -50,6 +50,7 @@ abbrev pub AreCut : List SubsectionTy → Type 0
 AreCut [] = ⊤
 AreCut (s ∷ ss) = IsFilled s × IsApart s ss × AreCut ss
 
--- the tokens spell the entries of all subsections, one behind the other, and the subsections are cut
+-- the tokens spell the entries of all subsections, one behind the other, and the subsections are
+-- cut
 abbrev pub CutSpells : List SubsectionTy → List Tok → List Tok → Type 0
 CutSpells ss c r = entries.spells (flat_map entries_in ss) c r × AreCut ss

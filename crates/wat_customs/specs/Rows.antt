@@ -19,7 +19,8 @@ entry_text w ts = in_parens (w ++ ts)
 abbrev export_word : List Tok
 export_word = Keyword (codes "export-info") ∷ []
 
--- `@dylink.0 (export-info "a" tls) (export-info "b" 3) (needed "x") (export-info "c")`: exports that stand behind one another share a subsection
+-- `@dylink.0 (export-info "a" tls) (export-info "b" 3) (needed "x") (export-info "c")`: exports
+-- that stand behind one another share a subsection
 abbrev pub Exports : Type 0
 Exports =
     Spelled custom

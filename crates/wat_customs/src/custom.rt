@@ -21,7 +21,8 @@ pub enum Custom<'a> {
 }
 
 impl<'a> Custom<'a> {
-    /// Where it stands: a `producers` section behind the last section, a `dylink.0` section before the first.
+    /// Where it stands: a `producers` section behind the last section, a `dylink.0` section before
+    /// the first.
     pub fn place(&self) -> CustomPlace
         ensures { result ≡ place_of self.now }
     {
@@ -54,8 +55,8 @@ fn annotation_next(parser: &Parser<'_>, name: &str) -> bool
     }
 }
 
-/// A [`Producers`] where the annotation `producers` stands in front, a [`Dylink0`] where `dylink.0` does, else a
-/// [`RawCustomSection`]. The parser stands behind the `(` of the annotation's group.
+/// A [`Producers`] where the annotation `producers` stands in front, a [`Dylink0`] where `dylink.0`
+/// does, else a [`RawCustomSection`]. The parser stands behind the `(` of the annotation's group.
 impl<'a> Parse<'a> for Custom<'a> {
     ghost Seen = { CustomTy };
 

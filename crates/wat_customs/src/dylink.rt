@@ -11,19 +11,20 @@ use crate::flags::read_flags;
 use wat_tokens::repeat::{Part, parts, rest_of_group};
 use wat_tokens::{Parse, Parser, Result};
 
-/// The `dylink.0` section, which a dynamically linked module carries (WebAssembly Core Specification, Text Format, "Custom
-/// Annotation", and the tool conventions on dynamic linking).
+/// The `dylink.0` section, which a dynamically linked module carries (WebAssembly Core
+/// Specification, Text Format, "Custom Annotation", and the tool conventions on dynamic linking).
 #[derive(Debug, Drop)]
 pub struct Dylink0<'a> {
-    /// Its subsections: export entries that stand side by side make one, and so do import entries; every other entry is
-    /// one of its own.
+    /// Its subsections: export entries that stand side by side make one, and so do import entries;
+    /// every other entry is one of its own.
     pub subsections: Vec<Dylink0Subsection<'a>>,
 }
 
 /// A subsection of the `dylink.0` section.
 #[derive(Debug, Drop)]
 pub enum Dylink0Subsection<'a> {
-    /// `mem-info`: what the module needs of the memory and of the table, 0 where that isn't written.
+    /// `mem-info`: what the module needs of the memory and of the table, 0 where that isn't
+    /// written.
     MemInfo {
         /// How many bytes of the memory.
         memory_size: u32,
@@ -243,10 +244,10 @@ impl<'a> Part<'a, Dylink0Subsection<'a>> for Subsection {
     }
 }
 
-/// `@dylink.0`, and entries up to the end of the group: `( mem-info ( memory u32 u32 ) ( table u32 u32 ) )`, where each
-/// inner group may be left out, `( needed name* )`, `( export-info name flags )`, `( import-info module name flags )`,
-/// `( runtime-path name* )` and `( target-arch name )`. Flags are numbers and words, joined by or; another word is refused
-/// with Unexpected, at the word.
+/// `@dylink.0`, and entries up to the end of the group: `( mem-info ( memory u32 u32 ) ( table u32
+/// u32 ) )`, where each inner group may be left out, `( needed name* )`, `( export-info name flags
+/// )`, `( import-info module name flags )`, `( runtime-path name* )` and `( target-arch name )`.
+/// Flags are numbers and words, joined by or; another word is refused with Unexpected, at the word.
 impl<'a> Parse<'a> for Dylink0<'a> {
     ghost Seen = { List SubsectionTy };
 

@@ -2,8 +2,8 @@
 
 ghost use Rattle.wat_customs.specs.Rows.{Places, Exports, Sizes};
 
-/// Texts that spell custom sections, as facts over the definitions alone: an error that a reader and its definition share would
-/// show here.
+/// Texts that spell custom sections, as facts over the definitions alone: an error that a reader
+/// and its definition share would show here.
 pub fn rows()
     ensures places { Places }
     ensures exports { Exports }

@@ -1,7 +1,8 @@
-//! Custom sections of the WebAssembly text format (WebAssembly Core Specification, Text Format, "Custom Annotation").
+//! Custom sections of the WebAssembly text format (WebAssembly Core Specification, Text Format,
+//! "Custom Annotation").
 //!
-//! They are written as annotations, which a parser sees only where they are known: it then stands in front of the
-//! annotation, directly behind its `(`.
+//! They are written as annotations, which a parser sees only where they are known: it then stands
+//! in front of the annotation, directly behind its `(`.
 #![tactic(auto)]
 
 pub mod custom;

@@ -7,8 +7,8 @@ ghost use Rattle.wat_customs.specs.Place.{anchor_words, before, after};
 
 use wat_tokens::{Error, Fault, Parse, Parser, Result};
 
-/// Where among the sections of a binary module a custom section stands (WebAssembly Core Specification, Text Format,
-/// "Custom Annotation").
+/// Where among the sections of a binary module a custom section stands (WebAssembly Core
+/// Specification, Text Format, "Custom Annotation").
 #[derive(Clone, Copy, Debug, PartialEq)]
 pub enum CustomPlace {
     /// `before first`: before the first section.
@@ -21,8 +21,8 @@ pub enum CustomPlace {
     AfterLast,
 }
 
-/// A known section of a binary module (WebAssembly Core Specification, Text Format, "Custom Annotation"). Each variant
-/// has the name of its word.
+/// A known section of a binary module (WebAssembly Core Specification, Text Format, "Custom
+/// Annotation"). Each variant has the name of its word.
 #[derive(Clone, Copy, Debug, PartialEq, Eq)]
 pub enum CustomPlaceAnchor {
     /// `type`

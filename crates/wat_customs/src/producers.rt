@@ -9,12 +9,12 @@ use std::alloc::Global;
 use wat_tokens::repeat::rest_of_group;
 use wat_tokens::{Error, Fault, Parse, Parser, Result};
 
-/// The `producers` section: by which languages and tools a module was made (WebAssembly Core Specification, Text Format,
-/// "Custom Annotation", and the tool conventions on this section).
+/// The `producers` section: by which languages and tools a module was made (WebAssembly Core
+/// Specification, Text Format, "Custom Annotation", and the tool conventions on this section).
 #[derive(Debug, Drop)]
 pub struct Producers<'a> {
-    /// The fields `language`, `sdk` and `processed-by`, in this order, each with its entries in the order of the text:
-    /// a name and a version. A field without an entry is left out.
+    /// The fields `language`, `sdk` and `processed-by`, in this order, each with its entries in the
+    /// order of the text: a name and a version. A field without an entry is left out.
     pub fields: Vec<(&'a str, Vec<(&'a str, &'a str)>)>,
 }
 
@@ -176,8 +176,8 @@ fn fields_of<'a>(
     Ok(fields)
 }
 
-/// `@producers`, and entries up to the end of the group. Each is the word of a field, a name and a version, in
-/// parentheses.
+/// `@producers`, and entries up to the end of the group. Each is the word of a field, a name and a
+/// version, in parentheses.
 impl<'a> Parse<'a> for Producers<'a> {
     ghost Seen = { List (List ℕ × List Named) };
 

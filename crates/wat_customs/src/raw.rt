@@ -8,7 +8,8 @@ use crate::place::CustomPlace;
 use wat_tokens::repeat::rest_of_group;
 use wat_tokens::{Parse, Parser, Result, Span};
 
-/// A custom section, as its bytes (WebAssembly Core Specification, Text Format, "Custom Annotation").
+/// A custom section, as its bytes (WebAssembly Core Specification, Text Format, "Custom
+/// Annotation").
 #[derive(Debug, Drop)]
 pub struct RawCustomSection<'a> {
     /// Where the annotation begins.

@@ -91,11 +91,13 @@ passive_segment = made (λ p. (passive, p)) payload
 abbrev pub begins_active : List Tok → Bool
 begins_active t = begins_integer t || (begins_lparen t && not (begins_ref t))
 
--- in the table that is written, where `(` and `table` come next; else in that of the number, or in one that isn't written
+-- in the table that is written, where `(` and `table` come next; else in that of the number, or in
+-- one that isn't written
 unfoldable pub active_segment : Production Segment
 active_segment = where_else (begins_group (codes "table")) in_table in_some_table
 
--- declared where `declare` comes next; active where an Integer comes next, or `(` that begins no RefType; else passive
+-- declared where `declare` comes next; active where an Integer comes next, or `(` that begins no
+-- RefType; else passive
 unfoldable pub segment : Production Segment
 segment =
     where_else (begins_word (codes "declare")) declared_segment

@@ -82,7 +82,8 @@ pub data ListedTy : Type 0 where
   by_index : List Idx → ListedTy
   by_item : List Expr → ListedTy
 
--- what is listed, as a payload of the type: indices are indices where it is `funcref`, and else a `ref.func` of each
+-- what is listed, as a payload of the type: indices are indices where it is `funcref`, and else a
+-- `ref.func` of each
 abbrev pub of_type : RefTy → ListedTy → PayloadTy
 of_type t (by_index is) = if is_funcref t then indices is else exprs t (map ref_func_of is)
 of_type t (by_item es) = exprs t es

@@ -1,4 +1,5 @@
--- Indices that are read as expressions of one `ref.func` each. Private functions' contracts need it alone.
+-- Indices that are read as expressions of one `ref.func` each. Private functions' contracts need it
+-- alone.
 use Rattle.std.specs.Prelude.{◌≤◌, List}
 use Rattle.std.proofs.Common.{lit≤}
 use Rattle.wat_tokens.specs.Tests.{more}

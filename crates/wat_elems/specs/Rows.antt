@@ -65,7 +65,8 @@ items_text =
 abbrev pub two_items : ElemTy
 two_items = elem_of no_label (passive, exprs (short false heap_word.Func) (ref_func_of (number 0) ∷ alone null_func ∷ []))
 
--- `elem funcref (item ref.func 0) (ref.null func)`: an item that is written out, and a folded one, put nowhere
+-- `elem funcref (item ref.func 0) (ref.null func)`: an item that is written out, and a folded one,
+-- put nowhere
 abbrev pub OfItems : Type 0
 OfItems = Spelled elem items_text two_items
 

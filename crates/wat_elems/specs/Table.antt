@@ -22,8 +22,9 @@ use Rattle.wat_elems.specs.declared.table.TableKind.TheVariants as code
 
 -- ---- what contracts see
 
--- imported, by the names of the import and a type; by its type, with the expression of each element or without; or in line:
--- the type of its elements, whether its addresses have 64 bits, whether it is shared, and what it holds
+-- imported, by the names of the import and a type; by its type, with the expression of each element
+-- or without; or in line: the type of its elements, whether its addresses have 64 bits, whether it
+-- is shared, and what it holds
 pub data TableKindTy : Type 0 where
   imported : List ℕ × List ℕ → TableTypeTy → TableKindTy
   normal : TableTypeTy → Option Expr → TableKindTy
@@ -82,8 +83,8 @@ normal_table = made (λ v. normal v.0 v.1) (seq table_type (opt more expression)
 unfoldable pub imported_table : Production TableKindTy
 imported_table = made (λ v. imported v.0 v.1) (seq inline_import table_type)
 
--- in line where a RefType comes next, or one of `shared`, `i32`, `i64` and then a RefType; by its type where one of these
--- words or an Integer comes next; else imported
+-- in line where a RefType comes next, or one of `shared`, `i32`, `i64` and then a RefType; by its
+-- type where one of these words or an Integer comes next; else imported
 unfoldable pub table_kind : Production TableKindTy
 table_kind = where_else begins_inline inline_table (where_else begins_normal normal_table imported_table)
 

@@ -13,7 +13,8 @@ use wat_expr::Expression;
 use wat_tokens::{Fault, Id, Index, NameAnnotation, Parse, Parser, Result, Span};
 use wat_types::RefType;
 
-/// An element segment of a module (WebAssembly Core Specification, Text Format, Modules, "Element Segments").
+/// An element segment of a module (WebAssembly Core Specification, Text Format, Modules, "Element
+/// Segments").
 #[derive(Debug, Drop)]
 pub struct Elem<'a> {
     /// Where the word `elem` begins.
@@ -28,7 +29,8 @@ pub struct Elem<'a> {
     pub payload: ElemPayload<'a>,
 }
 
-/// Where an element segment is put (WebAssembly Core Specification, Text Format, Modules, "Element Segments").
+/// Where an element segment is put (WebAssembly Core Specification, Text Format, Modules, "Element
+/// Segments").
 #[derive(Debug, Drop)]
 pub enum ElemKind<'a> {
     /// Nowhere by itself.
@@ -37,7 +39,8 @@ pub enum ElemKind<'a> {
     Declared,
     /// Into a table, at first.
     Active {
-        /// Which table, where one is written. A number without the word `table` stands where the word `elem` begins.
+        /// Which table, where one is written. A number without the word `table` stands where the
+        /// word `elem` begins.
         table: Option<Index<'a>>,
         /// At which offset.
         offset: Expression<'a>,
@@ -149,14 +152,15 @@ fn read_segment<'a>(parser: &mut Parser<'a>, span: Span) -> Result<Segment<'a>>
 
 /// `elem id? name?`, a kind, and what the segment holds.
 ///
-/// It is declared where `declare` stands in front; active where an integer, or a `(` that begins no reference type, does: in
-/// the table of the number, of `( table idx )`, or in one that isn't written, and at `( offset Expression )` or at a folded
-/// instruction; else it is passive. It holds `func` and indices, or a type and items, each `( item Expression )` or a folded
-/// instruction; behind an offset without `( table idx )` also indices alone.
+/// It is declared where `declare` stands in front; active where an integer, or a `(` that begins no
+/// reference type, does: in the table of the number, of `( table idx )`, or in one that isn't
+/// written, and at `( offset Expression )` or at a folded instruction; else it is passive. It holds
+/// `func` and indices, or a type and items, each `( item Expression )` or a folded instruction;
+/// behind an offset without `( table idx )` also indices alone.
 ///
-/// Refused are, at the token in front: a number of a table that is too large or has a `-`, with Range; what is no
-/// instruction's word where one is needed, with Operator; what an expression refuses, with its fault; anything else, with
-/// Unexpected.
+/// Refused are, at the token in front: a number of a table that is too large or has a `-`, with
+/// Range; what is no instruction's word where one is needed, with Operator; what an expression
+/// refuses, with its fault; anything else, with Unexpected.
 impl<'a> Parse<'a> for Elem<'a> {
     ghost Seen = { ElemTy };
 

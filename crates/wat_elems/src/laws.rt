@@ -2,8 +2,8 @@
 
 ghost use Rattle.wat_elems.specs.Rows.{Declared, OfExternref, Active, OfNulls, OfItems};
 
-/// Texts that spell element segments and tables, as facts over the definitions alone: an error that a reader and its definition share
-/// would show here.
+/// Texts that spell element segments and tables, as facts over the definitions alone: an error that
+/// a reader and its definition share would show here.
 pub fn rows()
     ensures declared { Declared }
     ensures of_externref { OfExternref }

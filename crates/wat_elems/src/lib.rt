@@ -1,7 +1,8 @@
-//! Element segments and tables of the WebAssembly text format (WebAssembly Core Specification, Text Format, Modules,
-//! "Element Segments" and "Tables").
+//! Element segments and tables of the WebAssembly text format (WebAssembly Core Specification, Text
+//! Format, Modules, "Element Segments" and "Tables").
 //!
-//! Each is read from tokens by [`wat_tokens::Parse`]. Indices stay as they are written: nothing is resolved.
+//! Each is read from tokens by [`wat_tokens::Parse`]. Indices stay as they are written: nothing is
+//! resolved.
 #![tactic(auto)]
 
 pub mod elem;

@@ -18,7 +18,8 @@ use wat_tokens::repeat::{Part, all_parts, all_to_end};
 use wat_tokens::{Fault, Index, Parse, Parser, Result};
 use wat_types::{AbstractHeapType, HeapType, RefType};
 
-/// What an element segment holds (WebAssembly Core Specification, Text Format, Modules, "Element Segments").
+/// What an element segment holds (WebAssembly Core Specification, Text Format, Modules, "Element
+/// Segments").
 #[derive(Debug, Drop)]
 pub enum ElemPayload<'a> {
     /// Functions, by their indices.
@@ -170,8 +171,8 @@ fn read_indices_of<'a>(parser: &mut Parser<'a>, ty: RefType<'a>) -> Result<ElemP
     read_ref_funcs(parser, ty)
 }
 
-/// Items where `(` stands in front, else indices; as a payload of the type. An index is there as itself where the type is
-/// `funcref`, and else as an expression of the one instruction `ref.func`.
+/// Items where `(` stands in front, else indices; as a payload of the type. An index is there as
+/// itself where the type is `funcref`, and else as an expression of the one instruction `ref.func`.
 #[tactic(auto, unfolding(crate::specs::Payload::listed, crate::specs::RefFuncs::indices_of))]
 pub(crate) fn read_listed<'a>(parser: &mut Parser<'a>, ty: RefType<'a>) -> Result<ElemPayload<'a>>
     ensures reads { ReadsIf false false bare_payload seen_payload result ((made (of_type (seen_ref ty.entry)) listed).reads parser.old.left) parser.old parser.new }

@@ -26,7 +26,8 @@ pub struct Table<'a> {
     pub kind: TableKind<'a>,
 }
 
-/// How a table is defined (WebAssembly Core Specification, Text Format, Modules, "Tables", with its abbreviations).
+/// How a table is defined (WebAssembly Core Specification, Text Format, Modules, "Tables", with its
+/// abbreviations).
 #[derive(Debug, Drop)]
 pub enum TableKind<'a> {
     /// It is imported.
@@ -143,14 +144,14 @@ fn read_kind<'a>(parser: &mut Parser<'a>) -> Result<TableKind<'a>>
 
 /// `table`, a head, and how it is defined.
 ///
-/// What it holds is written in line where a reference type stands in front, or one of `shared`, `i32` and `i64` and then a
-/// reference type: the type, and `( elem .. )` with items or indices. Where one of these words or an integer stands in
-/// front, it is a table type, and then an expression, unless nothing is left. Else it is `( import name name )` and a table
-/// type.
+/// What it holds is written in line where a reference type stands in front, or one of `shared`,
+/// `i32` and `i64` and then a reference type: the type, and `( elem .. )` with items or indices.
+/// Where one of these words or an integer stands in front, it is a table type, and then an
+/// expression, unless nothing is left. Else it is `( import name name )` and a table type.
 ///
-/// Refused are, at the token in front: a number that is too large or has a `-`, with Range; what is no instruction's word
-/// where one is needed, with Operator; what an expression refuses, with its fault; anything else, with Unexpected: also, at
-/// its `(`, what is no import of two names.
+/// Refused are, at the token in front: a number that is too large or has a `-`, with Range; what is
+/// no instruction's word where one is needed, with Operator; what an expression refuses, with its
+/// fault; anything else, with Unexpected: also, at its `(`, what is no import of two names.
 impl<'a> Parse<'a> for Table<'a> {
     ghost Seen = { TableTy };
 

@@ -36,7 +36,8 @@ pub nop_read : (r : List Tok) → ends r ≡ true → expression.reads (nop_text
 unfolding instruction operand
 nop_read r k = alone_read nop nop_text r (rw nop_word refl) k
 
--- where an instruction that opens no block stands alone in a group, and then an end, the expression is that instruction
+-- where an instruction that opens no block stands alone in a group, and then an end, the expression
+-- is that instruction
 pub grouped_read : (i : Instr) (c r : List Tok) → instruction.reads (c ++ RParen ∷ r) ≡ Some (i, RParen ∷ r) → sort i ≡ IsOther → ends r ≡ true → expression.reads (in_parens c ++ r) ≡ Some (alone i, r)
 unfolding expression
 grouped_read i c r e s k =

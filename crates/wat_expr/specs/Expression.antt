@@ -28,8 +28,8 @@ bare_expression e = no_items e.instrs
 abbrev pub value_of : Items → Expr
 value_of xs = record { instrs = unfolded xs; hints = hints xs 0 }
 
--- in front of the rest r, which is empty or begins with `)`, the tokens c list items, and the expression is what they
--- unfold to, with their hints
+-- in front of the rest r, which is empty or begins with `)`, the tokens c list items, and the
+-- expression is what they unfold to, with their hints
 abbrev pub expression_spells : Expr → List Tok → List Tok → Type 0
 expression_spells e c r = (xs : Items) × lists xs (c ++ r) r × (ends r ≡ true) × (e ≡ value_of xs)
 

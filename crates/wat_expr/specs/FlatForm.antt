@@ -19,9 +19,9 @@ AreInstrs xs = Only (Unit {0}) ⊥ xs
 abbrev pub own : List Tok → List Tok → List Tok
 own ts m = take (length ts - length m) ts
 
--- The own tokens of what `unfolded` lists, in its order, with the words `else` and `end` for the instructions that it
--- adds. Parentheses, `then` and `else` behind a parenthesis, and hints are left out: of `( if ( i32.const 1 ) ( then nop ) )`
--- these are `i32.const 1 if nop end`.
+-- The own tokens of what `unfolded` lists, in its order, with the words `else` and `end` for the
+-- instructions that it adds. Parentheses, `then` and `else` behind a parenthesis, and hints are
+-- left out: of `( if ( i32.const 1 ) ( then nop ) )` these are `i32.const 1 if nop end`.
 abbrev pub flat_tokens : (xs : Items) (ts r : List Tok) → lists xs ts r → List Tok
 flat_tokens Nil ts r l = []
 flat_tokens (Plain i xs) ts r (m, h, l) = own ts m ++ flat_tokens xs m r l
@@ -53,7 +53,8 @@ abbrev pub number : (Tok → Bool) → List Tok → ℕ
 number test [] = 0
 number test (x ∷ ts) = (if test x then 1 else 0) + number test ts
 
--- the test passes none of the tokens that groups and hints are written with, nor the words that are added
+-- the test passes none of the tokens that groups and hints are written with, nor the words that are
+-- added
 abbrev pub PassesOwnAlone : (Tok → Bool) → Type 0
 PassesOwnAlone test =
     (test LParen ≡ false) × (test RParen ≡ false) × (test (word (codes "then")) ≡ false) × (test (word (codes "else")) ≡ false) × (test (word (codes "end")) ≡ false)

@@ -98,8 +98,8 @@ folded_between i gs ts r (a, b, e, h, l) = groups_between (Group i gs NoGroup) t
 
 -- ---- the production
 
--- in front of the rest r the tokens c list one group, and the expression is its instructions, each behind those of its
--- groups, without a hint
+-- in front of the rest r the tokens c list one group, and the expression is its instructions, each
+-- behind those of its groups, without a hint
 abbrev pub folded_spells : Expr → List Tok → List Tok → Type 0
 folded_spells e c r = (i : Instr) × (gs : Groups) × is_folded i gs (c ++ r) r × (e ≡ folded_value i gs)
 

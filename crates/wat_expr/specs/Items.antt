@@ -23,7 +23,8 @@ sort i = sort_of (is_block i.row) (is_if i.row)
 abbrev pub reads : Instr → List Tok → List Tok → Type 0
 reads i ts r = Front instruction.spells ts (i, r)
 
--- A list of items: its first item, and last the items after it. A hint stands in front of the items after it.
+-- A list of items: its first item, and last the items after it. A hint stands in front of the items
+-- after it.
 pub data Items : Type 0 where
   Nil : Items
   Plain : Instr → Items → Items
@@ -90,8 +91,8 @@ lists (IfElse i ops th el xs) ts r =
 lists (Hinted v xs) ts r =
     (d : List Tok) × (ts ≡ LParen ∷ hint_name ∷ String (v ∷ []) ∷ RParen ∷ d) × (v < 2) × BeginsWithBranch xs × lists xs d r
 
--- The instructions in the order of a flat list: a folded one behind its operands, a block's and an `if`'s in front of
--- what it holds, with `else` and `end` added.
+-- The instructions in the order of a flat list: a folded one behind its operands, a block's and an
+-- `if`'s in front of what it holds, with `else` and `end` added.
 abbrev pub unfolded : Items → List Instr
 unfolded Nil = []
 unfolded (Plain i xs) = i ∷ unfolded xs
@@ -107,7 +108,8 @@ abbrev pub mark : Option ℕ → ℕ → List (ℕ × ℕ)
 mark None head = []
 mark (Some v) head = (head, v) ∷ []
 
--- The hints of items that unfold from the index b on, where p is the hint that stands directly before the first.
+-- The hints of items that unfold from the index b on, where p is the hint that stands directly
+-- before the first.
 abbrev pub hints_behind : Option ℕ → Items → ℕ → List (ℕ × ℕ)
 hints_behind p Nil b = []
 hints_behind p (Plain i xs) b = mark p b ++ hints_behind None xs (b + 1)
@@ -125,8 +127,8 @@ hints_behind p (IfElse i ops th el xs) b =
     (hints_behind None ops b ++ (mark p head ++ (hints_behind None th (head + 1) ++ hints_behind None el other))) ++ hints_behind None xs (other + length (unfolded el) + 1)
 hints_behind p (Hinted v xs) b = hints_behind (Some v) xs b
 
--- Each hint of the items, with the index of the instruction of the item that it stands before; the items unfold from
--- the index b on.
+-- Each hint of the items, with the index of the instruction of the item that it stands before; the
+-- items unfold from the index b on.
 abbrev pub hints : Items → ℕ → List (ℕ × ℕ)
 hints xs b = hints_behind None xs b
 
@@ -162,8 +164,8 @@ depth (IfThen i ops th xs) = max (suc (max (depth ops) (depth th))) (depth xs)
 depth (IfElse i ops th el xs) = max (suc (max (depth ops) (max (depth th) (depth el)))) (depth xs)
 depth (Hinted v xs) = depth xs
 
--- how many instructions wait at once for the end of their operands: those of folded groups, and of an `if` for its
--- operands alone
+-- how many instructions wait at once for the end of their operands: those of folded groups, and of
+-- an `if` for its operands alone
 abbrev pub deep : Items → ℕ
 deep Nil = 0
 deep (Plain i xs) = deep xs

@@ -8,9 +8,10 @@ use Rattle.wat_expr.specs.Expression.{seen_expression, value_of}
 use Rattle.wat_expr.specs.Items.{Items, lists, count, depth, deep}
 use Rattle.wat_expr.specs.Folded.{Groups, is_folded, folded_value, count_groups, depth_groups}
 
--- The tokens from a to b list items, to the end, and the expression is what these unfold to, with their hints.
--- Over them `turns` rose by at least the number of the items, `peak` is at least how deep they stand, and `held` is the
--- greater of what it was and how many instructions waited at once.
+-- The tokens from a to b list items, to the end, and the expression is what these unfold to, with
+-- their hints. Over them `turns` rose by at least the number of the items, `peak` is at least how
+-- deep they stand, and `held` is the greater of what it was and how many instructions waited at
+-- once.
 pub record IsListed (a b : State) (e : Expression) : Type 0 where
   pub items : Items
   pub listed : lists items a.left b.left

@@ -27,7 +27,8 @@ counted f = record { out = f.out; items = suc f.items; peak = f.peak; held = f.h
 abbrev pub noted : ℕ → ℕ → Counted → Counted
 noted k h f = record { out = f.out; items = f.items; peak = max f.peak k; held = max f.held h }
 
--- What the items come to, turn by turn, in k levels that hold h heads, where p stands directly before the first item.
+-- What the items come to, turn by turn, in k levels that hold h heads, where p stands directly
+-- before the first item.
 abbrev pub emit : ℕ → ℕ → Option ℕ → Items → Counted → Counted
 emit k h p Nil f = f
 emit k h p (Plain i xs) f = emit k h None xs (noted k h (add p i (counted f)))
@@ -159,7 +160,8 @@ risen n s c = record { items = n; peak = max c.peak (length s); held = max c.hel
 abbrev pub Balanced : ℕ → List Tok → ℕ → List Tok → Type 0
 Balanced k ts l us = l + closes ts + opens us ≡ k + opens ts + closes us
 
--- As much is left to do as before, with at most one item more; some token was taken, and the levels follow the parentheses.
+-- As much is left to do as before, with at most one item more; some token was taken, and the levels
+-- follow the parentheses.
 pub record Turn (s t : Stand) : Type 0 where
   pub same : (c : Tallies) → (n : ℕ) × (n ≤ suc c.items) × Same (standing s c) (standing t (risen n t.levels c))
   pub shorter : length t.left < length s.left

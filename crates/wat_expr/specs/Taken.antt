@@ -16,7 +16,8 @@ abbrev pub ReadsInstr : Result Instruction Error → List Tok → List Tok → T
 ReadsInstr (Ok i) ts r = reads (seen_instruction i) ts r
 ReadsInstr (Err e) ts r = e.fault ≢ Memory → (i : Instr) (m : List Tok) → reads i ts m → ⊥
 
--- an instruction was read that suits the pending hint, or, unless memory ran out, none that does stands in front
+-- an instruction was read that suits the pending hint, or, unless memory ran out, none that does
+-- stands in front
 abbrev pub ReadsSuited : Option ℕ → Result Instruction Error → List Tok → List Tok → Type 0
 ReadsSuited p (Ok i) ts r = reads (seen_instruction i) ts r × (suits p (seen_instruction i) ≡ true)
 ReadsSuited p (Err e) ts r = e.fault ≢ Memory → (i : Instr) (m : List Tok) → reads i ts m → suits p i ≡ true → ⊥

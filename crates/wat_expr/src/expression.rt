@@ -28,22 +28,24 @@ pub struct BranchHint {
     pub value: u32,
 }
 
-/// Instructions as one flat list (WebAssembly Core Specification, Text Format, Instructions, "Expressions").
+/// Instructions as one flat list (WebAssembly Core Specification, Text Format, Instructions,
+/// "Expressions").
 ///
-/// Folded instructions stand behind their operands, and a block that was written as a group is followed by `end`
-/// (Text Format, "Folded Instructions").
+/// Folded instructions stand behind their operands, and a block that was written as a group is
+/// followed by `end` (Text Format, "Folded Instructions").
 #[derive(Debug, Drop)]
 pub struct Expression<'a> {
     /// The instructions, in order.
     pub instrs: Vec<Instruction<'a>>,
     /// The hints, in rising order of their instructions.
     pub branch_hints: Vec<BranchHint>,
-    /// Where each instruction's word begins, where the parser was told to keep it. An `end` that was added begins at the
-    /// `)` of its group.
+    /// Where each instruction's word begins, where the parser was told to keep it. An `end` that
+    /// was added begins at the `)` of its group.
     pub instr_spans: Option<Vec<Span>>,
 }
 
-/// Puts a hint behind the others, where there is one; `index` is that of its instruction. Memory refuses it.
+/// Puts a hint behind the others, where there is one; `index` is that of its instruction. Memory
+/// refuses it.
 fn add_hint(hints: &mut Vec<BranchHint>, hint: Option<u32>, index: usize) -> Result<()>
     ensures { MatchResult result (λ _. map seen_hint hints.new.items ≡ map seen_hint hints.old.items ++ mark hint index) (λ e. e.fault ≡ Fault.Memory) }
 {
@@ -99,8 +101,8 @@ impl<'a> Expression<'a> {
         })
     }
 
-    /// Puts an instruction behind the others, without a hint, and its span, where spans are kept. Memory refuses it, and then
-    /// the expression is as it was.
+    /// Puts an instruction behind the others, without a hint, and its span, where spans are kept.
+    /// Memory refuses it, and then the expression is as it was.
     pub fn put_last(&mut self, instr: Instruction<'a>, span: Span) -> Result<()>
         ensures instrs { MatchResult result (λ _. self.new.instrs.items ≡ self.old.instrs.items ++ instr.entry ∷ []) (λ _. self.new.instrs.items ≡ self.old.instrs.items) }
         ensures spans { MatchResult result (λ _. kept_spans self.new.instr_spans ≡ and_span span (kept_spans self.old.instr_spans)) (λ _. kept_spans self.new.instr_spans ≡ kept_spans self.old.instr_spans) }
@@ -128,7 +130,8 @@ impl<'a> Expression<'a> {
         }
     }
 
-    /// Puts an instruction behind the others, with the hint that stands directly before its item. Memory refuses it.
+    /// Puts an instruction behind the others, with the hint that stands directly before its item.
+    /// Memory refuses it.
     pub(crate) fn push(
         &mut self,
         hint: Option<u32>,
@@ -144,7 +147,8 @@ impl<'a> Expression<'a> {
         Ok(())
     }
 
-    /// Puts an `end` behind the others; `span` is where the `)` stands that it is added for. Memory refuses it.
+    /// Puts an `end` behind the others; `span` is where the `)` stands that it is added for. Memory
+    /// refuses it.
     pub(crate) fn push_end(&mut self, span: Span) -> Result<()>
         ensures { MatchResult result (λ _. flat self.new ≡ push None end_instr (flat self.old)) (λ e. e.fault ≡ Fault.Memory) }
     {
@@ -152,17 +156,21 @@ impl<'a> Expression<'a> {
     }
 }
 
-/// Items up to the end of the group (WebAssembly Core Specification, Text Format, Instructions, "Expressions").
+/// Items up to the end of the group (WebAssembly Core Specification, Text Format, Instructions,
+/// "Expressions").
 ///
-/// An item is an instruction alone, or a group `(`, an instruction, items, `)`: a block, `if` with its groups, `( then`
-/// items `)` and `( else` items `)`, or a folded instruction. Where the standard annotations are known, an item of `br_if` or
-/// `if` may have a branch hint `(@metadata.code.branch_hint "v")` before it, `v` being the byte 0 or 1.
+/// An item is an instruction alone, or a group `(`, an instruction, items, `)`: a block, `if` with
+/// its groups, `( then` items `)` and `( else` items `)`, or a folded instruction. Where the
+/// standard annotations are known, an item of `br_if` or `if` may have a branch hint
+/// `(@metadata.code.branch_hint "v")` before it, `v` being the byte 0 or 1.
 ///
-/// Refused are, at the token in front: what is no instruction's word where one is needed, and the end of the text in an open
-/// `if`, but behind the `(` of an arm, with Operator; an `if` that closes without `( then`, with IfWithoutThen; a group behind its `( else .. )`, with
-/// IfTooMany; the string of a hint that isn't such a byte, with HintValue, or that has a hint directly before it, with
-/// HintTwice; a hint with no item behind it, with HintPlace; anything else, with Unexpected. An instruction behind a hint that
-/// is neither `br_if` nor `if` is refused with HintTarget, at its word; a fault in its operand comes before that.
+/// Refused are, at the token in front: what is no instruction's word where one is needed, and the
+/// end of the text in an open `if`, but behind the `(` of an arm, with Operator; an `if` that
+/// closes without `( then`, with IfWithoutThen; a group behind its `( else .. )`, with IfTooMany;
+/// the string of a hint that isn't such a byte, with HintValue, or that has a hint directly before
+/// it, with HintTwice; a hint with no item behind it, with HintPlace; anything else, with
+/// Unexpected. An instruction behind a hint that is neither `br_if` nor `if` is refused with
+/// HintTarget, at its word; a fault in its operand comes before that.
 impl<'a> Parse<'a> for Expression<'a> {
     ghost Seen = { Expr };
 
@@ -180,7 +188,8 @@ impl<'a> Parse<'a> for Expression<'a> {
 
     fn parse(parser: &mut Parser<'a>) -> Result<Self>
         ensures exact { Gives false bare_expression seen_expression result (expression.reads parser.old.left) parser.new.left }
-        // The tokens that were taken list items, and these are their unfolding, their hints and their counts.
+        // The tokens that were taken list items, and these are their unfolding, their hints and
+        // their counts.
         ensures listed { IfOk result (λ e. IsListed parser.old parser.new e) }
         // Where tokens in front list items, to the end, these are answered, unless memory ran out.
         ensures only { (xs : Items) (r : List Tok) → lists xs parser.old.left r → ends r ≡ true → Accepts seen_expression bare_expression result (value_of xs) parser.new.left r }

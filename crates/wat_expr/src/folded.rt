@@ -18,7 +18,8 @@ use crate::take::{take_close, take_instr, take_open};
 use wat_tokens::hand::let_go;
 use wat_tokens::{Parse, Parser, Result};
 
-/// One turn: a group opens, or the innermost one closes and its instruction is put behind the others.
+/// One turn: a group opens, or the innermost one closes and its instruction is put behind the
+/// others.
 fn turn<'a>(
     levels: &mut Levels<'a>,
     out: &mut Expression<'a>,
@@ -52,14 +53,16 @@ fn turn<'a>(
 }
 
 impl<'a> Expression<'a> {
-    /// Reads one folded instruction: `(`, an instruction of any kind, folded instructions, and `)` (WebAssembly Core
-    /// Specification, Text Format, "Folded Instructions", as the elements of a segment are abbreviated).
+    /// Reads one folded instruction: `(`, an instruction of any kind, folded instructions, and `)`
+    /// (WebAssembly Core Specification, Text Format, "Folded Instructions", as the elements of a
+    /// segment are abbreviated).
     ///
-    /// Each instruction stands behind those of its group; a block gets no `end`, and there are no hints. Where anything but
-    /// a `(` or a `)` stands between, it is refused with Unexpected at it; where an instruction's word is needed, with
-    /// Operator.
+    /// Each instruction stands behind those of its group; a block gets no `end`, and there are no
+    /// hints. Where anything but a `(` or a `)` stands between, it is refused with Unexpected at
+    /// it; where an instruction's word is needed, with Operator.
     pub fn parse_folded_instruction(parser: &mut Parser<'a>) -> Result<Expression<'a>>
-        // What tokens in front spell is answered, and leaves what is behind them; memory alone may refuse it.
+        // What tokens in front spell is answered, and leaves what is behind them; memory alone may
+        // refuse it.
         ensures exact { Gives false bare_expression seen_expression result (folded_instruction.reads parser.old.left) parser.new.left }
         // Where tokens in front list one group, it is the answer, unless memory ran out.
         ensures only { (i : Instr) (gs : Groups) (r : List Tok) → is_folded i gs parser.old.left r → Accepts seen_expression bare_expression result (folded_value i gs) parser.new.left r }

@@ -1,4 +1,5 @@
-//! Expressions of the WebAssembly text format: their instructions as one flat list, with branch hints.
+//! Expressions of the WebAssembly text format: their instructions as one flat list, with branch
+//! hints.
 #![tactic(auto)]
 
 pub mod expression;

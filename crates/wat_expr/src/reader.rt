@@ -49,8 +49,8 @@ fn suits(hint: Option<u32>, instr: &Instruction<'_>) -> bool
     }
 }
 
-/// Takes the instruction that stands in front, with its operand; `span` is where its word begins. One that the waiting hint
-/// can't stand before is refused with HintTarget, there.
+/// Takes the instruction that stands in front, with its operand; `span` is where its word begins.
+/// One that the waiting hint can't stand before is refused with HintTarget, there.
 fn take_suited<'a>(
     parser: &mut Parser<'a>,
     hint: Option<u32>,
@@ -73,7 +73,8 @@ fn take_suited<'a>(
     })
 }
 
-/// The refusal where no instruction can stand alone: Operator at the end of the text, and else Unexpected.
+/// The refusal where no instruction can stand alone: Operator at the end of the text, and else
+/// Unexpected.
 fn misplaced(parser: &Parser<'_>) -> Error {
     if parser.at_end() {
         return Error {
@@ -229,8 +230,8 @@ impl<'a> Reader<'a> {
             return Err(parser.unexpected());
         }
         let span = parser.prev_span();
-        // No hint waits here: none is read behind `( then .. )`, and one inside it is refused at its `)`. The contract doesn't
-        // say so, and a hint that waited would have no place.
+        // No hint waits here: none is read behind `( then .. )`, and one inside it is refused at
+        // its `)`. The contract doesn't say so, and a hint that waited would have no place.
         if let Some(_) = self.pending {
             return Err(Error {
                 fault: Fault::HintPlace,

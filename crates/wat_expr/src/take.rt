@@ -41,7 +41,8 @@ pub fn take_hint_name(parser: &mut Parser<'_>) -> bool
     parser.take_annotation("metadata.code.branch_hint").is_ok()
 }
 
-/// Takes the instruction that stands in front, with its operand, or refuses as its own `parse` does.
+/// Takes the instruction that stands in front, with its operand, or refuses as its own `parse`
+/// does.
 pub fn take_instr<'a>(parser: &mut Parser<'a>) -> Result<Instruction<'a>>
     ensures exact { ReadsInstr result parser.old.left parser.new.left }
     ensures steady { Steady parser.old parser.new }

@@ -44,7 +44,8 @@ pub enum FuncKind<'a> {
 /// What stands behind a function's head: its type, and how it is defined.
 type Defined<'a> = (TypeUse<'a, FunctionType<'a>>, FuncKind<'a>);
 
-/// Where the second token is `exact`, a type use in `( exact .. )`, else a type use; and whether it is exact.
+/// Where the second token is `exact`, a type use in `( exact .. )`, else a type use; and whether it
+/// is exact.
 #[tactic(auto, unfolding(crate::specs::Func::exact_use))]
 fn read_exact_use<'a>(parser: &mut Parser<'a>) -> Result<(TypeUse<'a, FunctionType<'a>>, bool)>
     ensures reads { Reads (λ u. bare_func_use u.0) (λ u. (seen_func_use u.0, u.1)) result (exact_use.reads parser.old.left) parser.old parser.new }
@@ -92,13 +93,13 @@ fn read_defined<'a>(parser: &mut Parser<'a>) -> Result<Defined<'a>>
     }
 }
 
-/// `func`, a head, and then, where `(`, `import`, two strings and `)` come next, an import in line and a type use, that in
-/// `( exact .. )` where the second token behind the import is `exact`; else a type use, groups of locals, as long as the second
-/// token is `local`, and an [`Expression`].
+/// `func`, a head, and then, where `(`, `import`, two strings and `)` come next, an import in line
+/// and a type use, that in `( exact .. )` where the second token behind the import is `exact`; else
+/// a type use, groups of locals, as long as the second token is `local`, and an [`Expression`].
 ///
-/// Another token in front than the word is refused with Unexpected, at the token, and so is what stands in the place of a `(`
-/// in front of `exact` or `local`. Behind the locals the faults are those of an expression: a group that is none of
-/// the above is refused with Operator, at its word.
+/// Another token in front than the word is refused with Unexpected, at the token, and so is what
+/// stands in the place of a `(` in front of `exact` or `local`. Behind the locals the faults are
+/// those of an expression: a group that is none of the above is refused with Operator, at its word.
 impl<'a> Parse<'a> for Func<'a> {
     ghost Seen = { FuncTy };
 

@@ -50,11 +50,12 @@ fn read_defined<'a>(parser: &mut Parser<'a>) -> Result<(GlobalType<'a>, GlobalKi
     Ok((ty, GlobalKind::Inline(expression)))
 }
 
-/// `global`, a head, and then, where `(`, `import`, two strings and `)` come next, an import in line and a global type; else
-/// a global type and an [`Expression`].
+/// `global`, a head, and then, where `(`, `import`, two strings and `)` come next, an import in
+/// line and a global type; else a global type and an [`Expression`].
 ///
-/// Another token in front than the word is refused with Unexpected, at the token. Behind the type the faults are those of an
-/// expression: an import in line that stands there is refused with Operator, at the word `import`.
+/// Another token in front than the word is refused with Unexpected, at the token. Behind the type
+/// the faults are those of an expression: an import in line that stands there is refused with
+/// Operator, at the word `import`.
 impl<'a> Parse<'a> for Global<'a> {
     ghost Seen = { GlobalTy };
 

@@ -22,7 +22,8 @@ pub struct Local<'a> {
     pub ty: ValType<'a>,
 }
 
-/// The locals of one group `( local .. )` (WebAssembly Core Specification, Text Format, Modules, "Functions", Abbreviations).
+/// The locals of one group `( local .. )` (WebAssembly Core Specification, Text Format, Modules,
+/// "Functions", Abbreviations).
 #[derive(Debug, Drop)]
 pub struct LocalParser<'a> {
     /// The locals, in order.
@@ -80,8 +81,8 @@ fn read_listed<'a>(parser: &mut Parser<'a>, out: &mut Vec<Local<'a>>) -> Result<
     parts::<_, PlainLocal>(parser, out)
 }
 
-/// `local`, and then an identifier, a name or both, and a value type; or, without a label, value types to the end. Another
-/// token in front than the word is refused with Unexpected, at the token.
+/// `local`, and then an identifier, a name or both, and a value type; or, without a label, value
+/// types to the end. Another token in front than the word is refused with Unexpected, at the token.
 impl<'a> Parse<'a> for LocalParser<'a> {
     ghost Seen = { List LocalTy };
 
@@ -129,8 +130,8 @@ impl<'a> Group<'a, Local<'a>> for LocalGroup {
 }
 
 impl<'a> Local<'a> {
-    /// The locals of all groups, in order: groups go on as long as the second token is `local`, whatever the first is. Where
-    /// that is no `(`, it is refused with Unexpected, at the first.
+    /// The locals of all groups, in order: groups go on as long as the second token is `local`,
+    /// whatever the first is. Where that is no `(`, it is refused with Unexpected, at the first.
     #[tactic(auto, using(wat_tokens::specs::Joined::joined_reads, crate::specs::Local::local_group_eats), unfolding(crate::specs::Local::locals))]
     pub(crate) fn parse_remainder(parser: &mut Parser<'a>) -> Result<Vec<Local<'a>>>
         ensures reads { Reads no_items (λ ls. seen_locals ls.items) result (locals.reads parser.old.left) parser.old parser.new }

@@ -45,8 +45,8 @@ fn kind_of(import: Option<InlineImport<'_>>) -> TagKind<'_>
     }
 }
 
-/// `tag`, a head, an import in line, where `(`, `import`, two strings and `)` come next, and a [`TagType`]. Another token in
-/// front than the word is refused with Unexpected, at the token.
+/// `tag`, a head, an import in line, where `(`, `import`, two strings and `)` come next, and a
+/// [`TagType`]. Another token in front than the word is refused with Unexpected, at the token.
 impl<'a> Parse<'a> for Tag<'a> {
     ghost Seen = { TagTy };
 

@@ -46,7 +46,8 @@ lane_alone a lane = access_of (mem_arg_of (memory (number 0), (0, a)), lane)
 abbrev pub goes_on : List Tok → Bool
 goes_on t = begins_integer t || (begins_with (codes "offset=") t || begins_with (codes "align=") t)
 
--- the first token is an Integer, and the next is neither an Integer nor a Keyword that begins with `offset=` or `align=`
+-- the first token is an Integer, and the next is neither an Integer nor a Keyword that begins with
+-- `offset=` or `align=`
 abbrev pub is_alone : List Tok → Bool
 is_alone (Integer text ∷ r) = not (goes_on r)
 is_alone _ = false

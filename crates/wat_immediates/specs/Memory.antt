@@ -1,4 +1,5 @@
--- What an access to a memory or an array is given: its target, an offset, an alignment and an ordering.
+-- What an access to a memory or an array is given: its target, an offset, an alignment and an
+-- ordering.
 use Rattle.std.specs.Prelude.{ℕ, ◌==◌, Bool, false, if◌then◌else◌, List, [], ◌∷◌, codes, Option, None, Some, is_some, option_map, unwrap_or, refl}
 use Rattle.std.specs.Int.{is_power_of_two}
 use Rattle.wat_tokens.specs.Number.{unsigned_value}
@@ -55,7 +56,8 @@ abbrev pub value_of : Option (List ℕ) → Option ℕ
 value_of (Some text) = unsigned_value 64 text
 value_of None = None
 
--- a keyword that begins so and goes on with an integer: what this reads as without a sign, in 64 bits
+-- a keyword that begins so and goes on with an integer: what this reads as without a sign, in 64
+-- bits
 abbrev pub number_behind : List ℕ → Tok → Option ℕ
 number_behind front (Keyword w) = value_of (behind front w)
 number_behind front _ = None

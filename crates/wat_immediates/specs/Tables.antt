@@ -43,7 +43,8 @@ seen_memory_init i = (seen_index i.mem, seen_index i.«data»)
 abbrev pub into_0 : Idx → Idx × Idx
 into_0 segment = (number 0, segment)
 
--- where the second token is an Id or Integer: idx (target) idx (segment); else idx (segment), target 0
+-- where the second token is an Id or Integer: idx (target) idx (segment); else idx (segment),
+-- target 0
 unfoldable pub init : Production (Idx × Idx)
 init = where_else (second begins_index) index_pair (made into_0 index)
 

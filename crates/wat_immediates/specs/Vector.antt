@@ -59,7 +59,8 @@ f64x2_of lanes = F64x2 (map f64_of lanes)
 abbrev pub shaped : {A : Type 0} → List ℕ → (List A → V128Const) → Production (List A) → Production V128Const
 shaped w f g = made (λ v. f v.1) (seq (word w) g)
 
--- `f32x4` with 4 numbers or `f64x2` with 2: no tokens are read as one, so these two have no spelling
+-- `f32x4` with 4 numbers or `f64x2` with 2: no tokens are read as one, so these two have no
+-- spelling
 unfoldable pub float_const : Production V128Const
 float_const = where_else (begins_word (codes "f32x4")) (shaped (codes "f32x4") f32x4_of (four none)) (shaped (codes "f64x2") f64x2_of (two none))
 
@@ -70,7 +71,8 @@ wide_const =
     (where_else (begins_word (codes "i64x2")) (shaped (codes "i64x2") I64x2 (two (signed 64)))
     float_const)
 
--- `i8x16` with 16 i8, `i16x8` with 8 i16, `i32x4` with 4 i32, `i64x2` with 2 i64; `f32x4` and `f64x2` have no spelling
+-- `i8x16` with 16 i8, `i16x8` with 8 i16, `i32x4` with 4 i32, `i64x2` with 2 i64; `f32x4` and
+-- `f64x2` have no spelling
 unfoldable pub v128_const : Production V128Const
 v128_const =
     where_else (begins_word (codes "i8x16")) (shaped (codes "i8x16") I8x16 (sixteen (signed 8)))
@@ -79,7 +81,8 @@ v128_const =
 
 -- ---- bytes
 
--- the lanes as unsigned numbers: a negative one by two's complement, one of floating point by its bits
+-- the lanes as unsigned numbers: a negative one by two's complement, one of floating point by its
+-- bits
 abbrev pub lane_numbers : V128Const → List ℕ
 lane_numbers (I8x16 lanes) = map (cast_unsigned w8) lanes
 lane_numbers (I16x8 lanes) = map (cast_unsigned w16) lanes

@@ -7,8 +7,8 @@ ghost use Rattle.wat_immediates.specs.Tables.{index_pair};
 
 use wat_tokens::{Index, Parse, Parser, Result};
 
-/// The operands of `struct.get`, `struct.set` and the like (WebAssembly Core Specification, Text Format, Instructions,
-/// "Aggregate Instructions").
+/// The operands of `struct.get`, `struct.set` and the like (WebAssembly Core Specification, Text
+/// Format, Instructions, "Aggregate Instructions").
 #[derive(Clone, Debug, Drop)]
 pub struct StructAccess<'a> {
     /// The structure type.
@@ -17,8 +17,8 @@ pub struct StructAccess<'a> {
     pub field: Index<'a>,
 }
 
-/// The operands of `cont.bind` (WebAssembly Core Specification, Text Format, Instructions, "Control Instructions", with
-/// the proposal on stack switching).
+/// The operands of `cont.bind` (WebAssembly Core Specification, Text Format, Instructions, "Control
+/// Instructions", with the proposal on stack switching).
 #[derive(Clone, Debug, Drop)]
 pub struct ContBind<'a> {
     /// The continuation type that is taken.
@@ -27,8 +27,8 @@ pub struct ContBind<'a> {
     pub result_index: Index<'a>,
 }
 
-/// The operands of `switch` (WebAssembly Core Specification, Text Format, Instructions, "Control Instructions", with
-/// the proposal on stack switching).
+/// The operands of `switch` (WebAssembly Core Specification, Text Format, Instructions, "Control
+/// Instructions", with the proposal on stack switching).
 #[derive(Clone, Debug, Drop)]
 pub struct Switch<'a> {
     /// The continuation type.
@@ -37,14 +37,16 @@ pub struct Switch<'a> {
     pub tag_index: Index<'a>,
 }
 
-/// The operand of `array.fill` (WebAssembly Core Specification, Text Format, Instructions, "Aggregate Instructions").
+/// The operand of `array.fill` (WebAssembly Core Specification, Text Format, Instructions,
+/// "Aggregate Instructions").
 #[derive(Clone, Debug, Drop)]
 pub struct ArrayFill<'a> {
     /// The array type.
     pub array: Index<'a>,
 }
 
-/// The operands of `array.copy` (WebAssembly Core Specification, Text Format, Instructions, "Aggregate Instructions").
+/// The operands of `array.copy` (WebAssembly Core Specification, Text Format, Instructions,
+/// "Aggregate Instructions").
 #[derive(Clone, Debug, Drop)]
 pub struct ArrayCopy<'a> {
     /// The type of the array that is written.
@@ -53,8 +55,8 @@ pub struct ArrayCopy<'a> {
     pub src_array: Index<'a>,
 }
 
-/// The operands of `array.init_data` and `array.init_elem` (WebAssembly Core Specification, Text Format, Instructions,
-/// "Aggregate Instructions").
+/// The operands of `array.init_data` and `array.init_elem` (WebAssembly Core Specification, Text
+/// Format, Instructions, "Aggregate Instructions").
 #[derive(Clone, Debug, Drop)]
 pub struct ArrayInit<'a> {
     /// The array type.
@@ -63,8 +65,8 @@ pub struct ArrayInit<'a> {
     pub segment: Index<'a>,
 }
 
-/// The operands of `array.new_fixed` (WebAssembly Core Specification, Text Format, Instructions, "Aggregate
-/// Instructions").
+/// The operands of `array.new_fixed` (WebAssembly Core Specification, Text Format, Instructions,
+/// "Aggregate Instructions").
 #[derive(Clone, Debug, Drop)]
 pub struct ArrayNewFixed<'a> {
     /// The array type.
@@ -73,8 +75,8 @@ pub struct ArrayNewFixed<'a> {
     pub length: u32,
 }
 
-/// The operands of `array.new_data` (WebAssembly Core Specification, Text Format, Instructions, "Aggregate
-/// Instructions").
+/// The operands of `array.new_data` (WebAssembly Core Specification, Text Format, Instructions,
+/// "Aggregate Instructions").
 #[derive(Clone, Debug, Drop)]
 pub struct ArrayNewData<'a> {
     /// The array type.
@@ -83,8 +85,8 @@ pub struct ArrayNewData<'a> {
     pub data_idx: Index<'a>,
 }
 
-/// The operands of `array.new_elem` (WebAssembly Core Specification, Text Format, Instructions, "Aggregate
-/// Instructions").
+/// The operands of `array.new_elem` (WebAssembly Core Specification, Text Format, Instructions,
+/// "Aggregate Instructions").
 #[derive(Clone, Debug, Drop)]
 pub struct ArrayNewElem<'a> {
     /// The array type.
@@ -208,8 +210,8 @@ impl<'a> Parse<'a> for ArrayInit<'a> {
     }
 }
 
-/// An array type, and a number, which is read without a sign in 32 bits: it is refused with Range, at the number, where it
-/// is too large or a `-` is written.
+/// An array type, and a number, which is read without a sign in 32 bits: it is refused with Range,
+/// at the number, where it is too large or a `-` is written.
 impl<'a> Parse<'a> for ArrayNewFixed<'a> {
     ghost Seen = { Idx × ℕ };
 

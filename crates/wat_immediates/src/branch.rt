@@ -7,8 +7,8 @@ ghost use Rattle.wat_immediates.specs.Branch.{BrTableTy, seen_br_table, bare_br_
 use wat_tokens::repeat::while_begun;
 use wat_tokens::{Fault, Index, Parse, Parser, Result};
 
-/// The labels that `br_table` may branch to (WebAssembly Core Specification, Text Format, Instructions, "Control
-/// Instructions").
+/// The labels that `br_table` may branch to (WebAssembly Core Specification, Text Format,
+/// Instructions, "Control Instructions").
 #[derive(Debug, Drop)]
 pub struct BrTableIndices<'a> {
     /// The labels that a number chooses from.

@@ -9,15 +9,16 @@ use crate::memory::{MemArg, MemArgTarget, begins_with};
 use crate::tables::zero;
 use wat_tokens::{Cursor, Error, Fault, Parse, Parser, Result};
 
-/// A lane of a vector (WebAssembly Core Specification, Text Format, Instructions, "Vector Instructions").
+/// A lane of a vector (WebAssembly Core Specification, Text Format, Instructions, "Vector
+/// Instructions").
 #[derive(Clone, Debug, Drop)]
 pub struct LaneArg {
     /// Its number.
     pub lane: u8,
 }
 
-/// The operands of an instruction that loads or stores one lane, with what is accessed as an `M` (WebAssembly Core
-/// Specification, Text Format, Instructions, "Memory Instructions").
+/// The operands of an instruction that loads or stores one lane, with what is accessed as an `M`
+/// (WebAssembly Core Specification, Text Format, Instructions, "Memory Instructions").
 #[derive(Clone, Debug, Drop)]
 pub struct LaneOf<M> {
     /// What is accessed.
@@ -29,8 +30,8 @@ pub struct LaneOf<M> {
 /// The operands of an instruction that loads or stores one lane.
 pub type LoadOrStoreLane<'a> = LaneOf<MemArg<'a>>;
 
-/// An integer without a sign, 0 to 255. One that has a sign is refused with Unexpected, and one that is too large with
-/// Range, each at the integer.
+/// An integer without a sign, 0 to 255. One that has a sign is refused with Unexpected, and one
+/// that is too large with Range, each at the integer.
 impl<'a> Parse<'a> for LaneArg {
     ghost use Rattle.wat_immediates.specs.declared.lanes.LaneArg.{LaneArg};
 
@@ -80,13 +81,13 @@ fn is_alone(cursor: Cursor<'_>) -> bool
 }
 
 impl<'a> LoadOrStoreLane<'a> {
-    /// Takes what an access to one lane is given; `align` is the alignment that is meant where none is written. It takes
-    /// no memory.
+    /// Takes what an access to one lane is given; `align` is the alignment that is meant where none
+    /// is written. It takes no memory.
     ///
-    /// Where the first token is an integer, and the next is neither an integer nor a keyword that begins with `offset=`
-    /// or `align=`, it takes a lane alone: the memory is 0, and the offset. Else it takes what [`MemArg::read`] takes,
-    /// and then a lane, each with its faults. (WebAssembly Core Specification, Text Format, Instructions, "Memory
-    /// Instructions".)
+    /// Where the first token is an integer, and the next is neither an integer nor a keyword that
+    /// begins with `offset=` or `align=`, it takes a lane alone: the memory is 0, and the offset.
+    /// Else it takes what [`MemArg::read`] takes, and then a lane, each with its faults.
+    /// (WebAssembly Core Specification, Text Format, Instructions, "Memory Instructions".)
     #[tactic(auto, unfolding(crate::specs::Lanes::lane_access))]
     pub fn read(parser: &mut Parser<'a>, align: u64) -> Result<LoadOrStoreLane<'a>>
         ensures reads { ReadsLight seen_lane_access result ((lane_access align).reads parser.old.left) parser.old parser.new }

@@ -6,8 +6,8 @@ ghost use Rattle.wat_immediates.specs.Memory.{mem_arg, atomic_mem_arg};
 ghost use Rattle.wat_immediates.specs.Rows.{Accesses, AtomicAccesses, LaneAccesses, TableInits, TableCopies, Vector, OrderedTable};
 ghost use Rattle.std.specs.Prelude.{ℕ, Bool};
 
-/// No two fronts of one token list spell a memory access, unless they are one front and one access: of one default alignment,
-/// and of one kind of atomic instruction.
+/// No two fronts of one token list spell a memory access, unless they are one front and one access:
+/// of one default alignment, and of one kind of atomic instruction.
 #[tactic(auto, using(wat_tokens::specs::Once::reads_once))]
 pub fn one_reading()
     ensures access { (align : ℕ) → HasOneReading (mem_arg align) }
@@ -15,8 +15,8 @@ pub fn one_reading()
     ensures lane { (align : ℕ) → HasOneReading (lane_access align) }
 {}
 
-/// Texts that spell operands, as facts over the definitions alone: an error that a reader and its definition share would show
-/// here.
+/// Texts that spell operands, as facts over the definitions alone: an error that a reader and its
+/// definition share would show here.
 pub fn rows()
     ensures accesses { Accesses }
     ensures atomic_accesses { AtomicAccesses }

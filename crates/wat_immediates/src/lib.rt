@@ -1,8 +1,8 @@
-//! Operands of instructions in the WebAssembly text format, those that hold no types (WebAssembly Core Specification,
-//! Text Format, "Instructions").
+//! Operands of instructions in the WebAssembly text format, those that hold no types (WebAssembly
+//! Core Specification, Text Format, "Instructions").
 //!
-//! Each is read from tokens by [`wat_tokens::Parse`], or by a call of its own where a default alignment is wanted.
-//! Indices stay as they are written: nothing is resolved.
+//! Each is read from tokens by [`wat_tokens::Parse`], or by a call of its own where a default
+//! alignment is wanted. Indices stay as they are written: nothing is resolved.
 #![tactic(auto)]
 
 pub mod aggregates;

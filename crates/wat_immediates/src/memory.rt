@@ -1,4 +1,5 @@
-//! What an access to a memory or an array is given: its target, an offset, an alignment and an ordering.
+//! What an access to a memory or an array is given: its target, an offset, an alignment and an
+//! ordering.
 
 ghost use Rattle.std.specs.Prelude.{◌≡◌, ◌≢◌, None, Some, option_map, MatchResult};
 ghost use Rattle.wat_tokens.specs.Lookup.{front};
@@ -10,8 +11,8 @@ use crate::ordering::Ordering;
 use crate::tables::index_or_zero;
 use wat_tokens::{Cursor, Error, Fault, Index, Integer, Parse, Parser, Result, Span};
 
-/// What an instruction accesses (WebAssembly Core Specification, Text Format, Instructions, "Memory Instructions"; that
-/// it may be an array is a proposal).
+/// What an instruction accesses (WebAssembly Core Specification, Text Format, Instructions, "Memory
+/// Instructions"; that it may be an array is a proposal).
 #[derive(Clone, Debug, Drop)]
 pub enum MemArgTarget<'a> {
     /// A memory.
@@ -20,8 +21,8 @@ pub enum MemArgTarget<'a> {
     Array(Index<'a>),
 }
 
-/// The ordering of an atomic access (WebAssembly Core Specification, Text Format, Instructions, "Memory Instructions",
-/// with the proposals on threads).
+/// The ordering of an atomic access (WebAssembly Core Specification, Text Format, Instructions,
+/// "Memory Instructions", with the proposals on threads).
 #[derive(Clone, Copy, Debug, PartialEq, Eq, Hash)]
 pub enum MemArgOrdering {
     /// Of a load or a store.
@@ -30,8 +31,8 @@ pub enum MemArgOrdering {
     Rmw(Ordering),
 }
 
-/// What an access to a memory or an array is given (WebAssembly Core Specification, Text Format, Instructions, "Memory
-/// Instructions").
+/// What an access to a memory or an array is given (WebAssembly Core Specification, Text Format,
+/// Instructions, "Memory Instructions").
 #[derive(Clone, Debug, Drop)]
 pub struct MemArg<'a> {
     /// The alignment in bytes, as it is written: a power of two, and not its exponent.
@@ -61,8 +62,8 @@ pub fn begins_with(cursor: Cursor<'_>, start: &str) -> bool
     }
 }
 
-/// The number that a text reads as without a sign in 64 bits. It is refused with Unexpected where it is no integer, and
-/// with Range where it is too large or a `-` is written, each at the place.
+/// The number that a text reads as without a sign in 64 bits. It is refused with Unexpected where
+/// it is no integer, and with Range where it is too large or a `-` is written, each at the place.
 fn number(text: &str, span: Span) -> Result<u64>
     ensures { MatchResult result (λ n. unsigned_value 64 text.now ≡ Some n) (λ e. (unsigned_value 64 text.now ≡ None) × (e.fault ≢ Fault.Memory)) }
 {
@@ -154,14 +155,15 @@ fn read_target<'a>(parser: &mut Parser<'a>) -> Result<MemArgTarget<'a>>
 }
 
 impl<'a> MemArg<'a> {
-    /// Takes what an access is given: a target, then an offset, then an alignment; `align` is the alignment that is
-    /// meant where none is written. It takes no memory.
+    /// Takes what an access is given: a target, then an offset, then an alignment; `align` is the
+    /// alignment that is meant where none is written. It takes no memory.
     ///
-    /// The target is, where the second token is `type`, `( type idx )`, an array; else an index, a memory, or nothing:
-    /// memory 0. The offset is a word such as `offset=8`, by default 0, and the alignment one such as `align=4`. A word
-    /// that begins with `offset=` or `align=` is refused, at the word: with Unexpected where no integer follows the `=`,
-    /// with Range where the integer is too large for 64 bits or has a `-`, and with Alignment where the alignment is no
-    /// power of two. (WebAssembly Core Specification, Text Format, Instructions, "Memory Instructions".)
+    /// The target is, where the second token is `type`, `( type idx )`, an array; else an index, a
+    /// memory, or nothing: memory 0. The offset is a word such as `offset=8`, by default 0, and the
+    /// alignment one such as `align=4`. A word that begins with `offset=` or `align=` is refused,
+    /// at the word: with Unexpected where no integer follows the `=`, with Range where the integer
+    /// is too large for 64 bits or has a `-`, and with Alignment where the alignment is no power of
+    /// two. (WebAssembly Core Specification, Text Format, Instructions, "Memory Instructions".)
     #[tactic(auto, unfolding(crate::specs::Memory::mem_arg))]
     pub fn read(parser: &mut Parser<'a>, align: u64) -> Result<MemArg<'a>>
         ensures reads { ReadsLight seen_mem_arg result ((mem_arg align).reads parser.old.left) parser.old parser.new }
@@ -177,10 +179,11 @@ impl<'a> MemArg<'a> {
         })
     }
 
-    /// Takes what an atomic access is given: the same, and then an ordering or none. `rmw` says whether the instruction
-    /// reads, changes and writes; the ordering is kept as [`MemArgOrdering::Rmw`] then, and else as
-    /// [`MemArgOrdering::Op`]. (WebAssembly Core Specification, Text Format, Instructions, "Memory Instructions", with
-    /// the proposals on threads.)
+    /// Takes what an atomic access is given: the same, and then an ordering or none. `rmw` says
+    /// whether the instruction reads, changes and writes; the ordering is kept as
+    /// [`MemArgOrdering::Rmw`] then, and else as [`MemArgOrdering::Op`]. (WebAssembly Core
+    /// Specification, Text Format, Instructions, "Memory Instructions", with the proposals on
+    /// threads.)
     #[tactic(auto, unfolding(crate::specs::Memory::atomic_mem_arg))]
     pub fn read_atomic(parser: &mut Parser<'a>, align: u64, rmw: bool) -> Result<MemArg<'a>>
         ensures reads { ReadsLight seen_mem_arg result ((atomic_mem_arg align rmw).reads parser.old.left) parser.old parser.new }

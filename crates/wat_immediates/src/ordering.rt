@@ -7,19 +7,19 @@ ghost use Rattle.wat_immediates.specs.Ordering.{ordering, begins_ordering, seen_
 
 use wat_tokens::{Cursor, Parse, Parser, Peek, Result};
 
-/// In which order other threads may see an atomic access (WebAssembly Core Specification, Text Format, Instructions,
-/// "Memory Instructions", with the proposals on threads).
+/// In which order other threads may see an atomic access (WebAssembly Core Specification, Text
+/// Format, Instructions, "Memory Instructions", with the proposals on threads).
 #[derive(Clone, Copy, Debug, PartialEq, Eq, Hash)]
 pub enum Ordering {
-    /// `acqrel`: a load acquires, which orders all operations before the last store that releases; a store releases,
-    /// which orders all operations before it at the next load that acquires.
+    /// `acqrel`: a load acquires, which orders all operations before the last store that releases;
+    /// a store releases, which orders all operations before it at the next load that acquires.
     AcqRel,
     /// `seqcst`: as `acqrel`, and all threads see all accesses of this ordering in one order.
     SeqCst,
 }
 
-/// An operand with the ordering of its access in front (WebAssembly Core Specification, Text Format, "Instructions",
-/// with the proposals on threads).
+/// An operand with the ordering of its access in front (WebAssembly Core Specification, Text
+/// Format, "Instructions", with the proposals on threads).
 #[derive(Clone, Debug, Drop)]
 pub struct Ordered<T> {
     /// The ordering.

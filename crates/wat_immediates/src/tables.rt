@@ -7,23 +7,24 @@ ghost use Rattle.wat_immediates.specs.Tables.{index_or_0, seen_table_arg, seen_m
 
 use wat_tokens::{Index, Parse, Parser, Result};
 
-/// The table of an instruction that names one (WebAssembly Core Specification, Text Format, Instructions, "Table
-/// Instructions").
+/// The table of an instruction that names one (WebAssembly Core Specification, Text Format,
+/// Instructions, "Table Instructions").
 #[derive(Clone, Debug, Drop)]
 pub struct TableArg<'a> {
     /// The table.
     pub dst: Index<'a>,
 }
 
-/// The memory of an instruction that names one (WebAssembly Core Specification, Text Format, Instructions, "Memory
-/// Instructions").
+/// The memory of an instruction that names one (WebAssembly Core Specification, Text Format,
+/// Instructions, "Memory Instructions").
 #[derive(Clone, Debug, Drop)]
 pub struct MemoryArg<'a> {
     /// The memory.
     pub mem: Index<'a>,
 }
 
-/// The operands of `table.init` (WebAssembly Core Specification, Text Format, Instructions, "Table Instructions").
+/// The operands of `table.init` (WebAssembly Core Specification, Text Format, Instructions, "Table
+/// Instructions").
 #[derive(Clone, Debug, Drop)]
 pub struct TableInit<'a> {
     /// The table that is written.
@@ -32,7 +33,8 @@ pub struct TableInit<'a> {
     pub elem: Index<'a>,
 }
 
-/// The operands of `memory.init` (WebAssembly Core Specification, Text Format, Instructions, "Memory Instructions").
+/// The operands of `memory.init` (WebAssembly Core Specification, Text Format, Instructions,
+/// "Memory Instructions").
 #[derive(Clone, Debug, Drop)]
 pub struct MemoryInit<'a> {
     /// The data segment that is read.
@@ -41,7 +43,8 @@ pub struct MemoryInit<'a> {
     pub mem: Index<'a>,
 }
 
-/// The operands of `table.copy` (WebAssembly Core Specification, Text Format, Instructions, "Table Instructions").
+/// The operands of `table.copy` (WebAssembly Core Specification, Text Format, Instructions, "Table
+/// Instructions").
 #[derive(Clone, Debug, Drop)]
 pub struct TableCopy<'a> {
     /// The table that is written.
@@ -50,7 +53,8 @@ pub struct TableCopy<'a> {
     pub src: Index<'a>,
 }
 
-/// The operands of `memory.copy` (WebAssembly Core Specification, Text Format, Instructions, "Memory Instructions").
+/// The operands of `memory.copy` (WebAssembly Core Specification, Text Format, Instructions,
+/// "Memory Instructions").
 #[derive(Clone, Debug, Drop)]
 pub struct MemoryCopy<'a> {
     /// The memory that is read.
@@ -78,7 +82,8 @@ pub fn index_or_zero<'a>(parser: &mut Parser<'a>) -> Result<Index<'a>>
     }
 }
 
-/// Where the second token is an index, takes a target and a segment; else takes a segment, and the target is 0.
+/// Where the second token is an index, takes a target and a segment; else takes a segment, and the
+/// target is 0.
 #[tactic(auto, unfolding(crate::specs::Tables::init, crate::specs::Tables::index_pair))]
 fn target_and_segment<'a>(parser: &mut Parser<'a>) -> Result<(Index<'a>, Index<'a>)>
     ensures reads { ReadsLight (λ p. (seen_index p.0, seen_index p.1)) result (init.reads parser.old.left) parser.old parser.new }
@@ -139,8 +144,8 @@ impl<'a> Parse<'a> for MemoryArg<'a> {
     }
 }
 
-/// Where the second token is an identifier or an integer, a table and an element segment; else an element segment, and
-/// table 0.
+/// Where the second token is an identifier or an integer, a table and an element segment; else an
+/// element segment, and table 0.
 impl<'a> Parse<'a> for TableInit<'a> {
     ghost Seen = { Idx × Idx };
 
@@ -156,8 +161,8 @@ impl<'a> Parse<'a> for TableInit<'a> {
     }
 }
 
-/// Where the second token is an identifier or an integer, a memory and a data segment; else a data segment, and
-/// memory 0.
+/// Where the second token is an identifier or an integer, a memory and a data segment; else a data
+/// segment, and memory 0.
 impl<'a> Parse<'a> for MemoryInit<'a> {
     ghost Seen = { Idx × Idx };
 

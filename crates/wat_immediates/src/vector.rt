@@ -8,8 +8,8 @@ ghost use Rattle.wat_immediates.specs.declared.vector.V128Const.{V128Const};
 
 use wat_tokens::{F32, F64, Parse, Parser, Result};
 
-/// A constant of 128 bits, as lanes of a shape (WebAssembly Core Specification, Text Format, Instructions, "Vector
-/// Instructions").
+/// A constant of 128 bits, as lanes of a shape (WebAssembly Core Specification, Text Format,
+/// Instructions, "Vector Instructions").
 #[derive(Clone, Debug, Drop)]
 pub enum V128Const {
     /// 16 integers of 8 bits.
@@ -26,8 +26,8 @@ pub enum V128Const {
     F64x2([F64; 2]),
 }
 
-/// The lanes that `i8x16.shuffle` takes (WebAssembly Core Specification, Text Format, Instructions, "Vector
-/// Instructions").
+/// The lanes that `i8x16.shuffle` takes (WebAssembly Core Specification, Text Format, Instructions,
+/// "Vector Instructions").
 #[derive(Clone, Debug, Drop)]
 pub struct I8x16Shuffle {
     /// For each lane of the result, the number of the lane that it takes.
@@ -132,9 +132,10 @@ fn read_wide<'a>(parser: &mut Parser<'a>) -> Result<V128Const>
     read_floats(parser)
 }
 
-/// `i8x16` with 16 integers of 8 bits, `i16x8` with 8 of 16 bits, `i32x4` with 4 of 32 bits or `i64x2` with 2 of 64 bits.
-/// An integer is read with a sign: it is refused with Range, at the integer, where it is out of range. Behind `f32x4` and
-/// `f64x2` the first number is refused with FloatLiteral.
+/// `i8x16` with 16 integers of 8 bits, `i16x8` with 8 of 16 bits, `i32x4` with 4 of 32 bits or
+/// `i64x2` with 2 of 64 bits. An integer is read with a sign: it is refused with Range, at the
+/// integer, where it is out of range. Behind `f32x4` and `f64x2` the first number is refused with
+/// FloatLiteral.
 impl<'a> Parse<'a> for V128Const {
     ghost use Rattle.wat_immediates.specs.declared.vector.V128Const.{V128Const};
 
@@ -160,8 +161,8 @@ impl<'a> Parse<'a> for V128Const {
     }
 }
 
-/// 16 numbers, each read without a sign in 8 bits: one is refused with Range, at the number, where it is too large or a
-/// `-` is written.
+/// 16 numbers, each read without a sign in 8 bits: one is refused with Range, at the number, where
+/// it is too large or a `-` is written.
 impl<'a> Parse<'a> for I8x16Shuffle {
     ghost use Rattle.wat_immediates.specs.declared.vector.I8x16Shuffle.{I8x16Shuffle};
 
@@ -261,8 +262,8 @@ fn f64x2_bytes(lanes: [F64; 2]) -> [u8; 16]
 }
 
 impl V128Const {
-    /// The 16 bytes of the constant: the lanes in order, each with its lowest byte first (WebAssembly Core
-    /// Specification, Text Format, Instructions, "Vector Instructions").
+    /// The 16 bytes of the constant: the lanes in order, each with its lowest byte first
+    /// (WebAssembly Core Specification, Text Format, Instructions, "Vector Instructions").
     pub fn to_le_bytes(&self) -> [u8; 16]
         ensures { result ≡ bytes_of self.now }
     {

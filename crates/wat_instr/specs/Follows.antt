@@ -14,7 +14,7 @@ NoTypeSecond s =
 abbrev pub BeginsMnemonic : List Tok → Type 0
 BeginsMnemonic s = (x : Head) × (t : List Tok) × (s ≡ Keyword (head_word x) ∷ t)
 
--- it begins with a mnemonic, or is empty or begins with `)`; and its second token is none of the words `type`, `param`
--- and `result`
+-- it begins with a mnemonic, or is empty or begins with `)`; and its second token is none of the
+-- words `type`, `param` and `result`
 abbrev pub MayFollow : List Tok → Type 0
 MayFollow s = (BeginsMnemonic s ⊎ (ends s ≡ true)) × NoTypeSecond s

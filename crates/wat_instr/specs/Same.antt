@@ -7,7 +7,8 @@ use Rattle.wat_operands.specs.Select.{SameTypes}
 use Rattle.wat_instr.specs.Instruction.{Instruction}
 use Rattle.wat_instr.specs.declared.instruction.InstructionOf.TheVariants as code
 
--- every part is the same, the places too: boxes and lists hold the same, and any other instruction is that one
+-- every part is the same, the places too: boxes and lists hold the same, and any other instruction
+-- is that one
 abbrev pub SameInstruction : Instruction → Instruction → Type 0
 SameInstruction (code.Block op x) (code.Block op' y) = (op' ≡ op) × SameBlock x.value y.value
 SameInstruction (code.CallIndirect op x) (code.CallIndirect op' y) = (op' ≡ op) × SameCall x.value y.value

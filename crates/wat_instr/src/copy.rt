@@ -14,8 +14,8 @@ use wat_operands::{
 use wat_tokens::{Error, Id, Index, Result};
 
 impl<'a> Instruction<'a> {
-    /// The same instruction once more. Memory may be answered where its operand is in a box or has a list that isn't
-    /// empty.
+    /// The same instruction once more. Memory may be answered where its operand is in a box or has
+    /// a list that isn't empty.
     pub fn clone(&self) -> Result<Instruction<'a>>
         ensures copies { Copies SameInstruction seen_instruction bare_instruction result self.now }
     {

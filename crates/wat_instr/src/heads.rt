@@ -77,8 +77,9 @@ impl Instruction<'_> {
         self.head().mnemonic()
     }
 
-    /// Appends the bytes that stand for it in a binary module, and answers how many they are; answers None and appends
-    /// nothing where it has an operand, or is none of Core Specification 2.0 ("Index of Instructions").
+    /// Appends the bytes that stand for it in a binary module, and answers how many they are;
+    /// answers None and appends nothing where it has an operand, or is none of Core Specification
+    /// 2.0 ("Index of Instructions").
     ///
     /// Where memory is refused, nothing is appended. It isn't where there is nothing to append.
     pub fn write_opcode(&self, out: &mut Vec<u8>) -> Result<Option<usize>>

@@ -12,10 +12,12 @@ use wat_types::HeapType;
 
 /// An instruction (WebAssembly Core Specification, Text Format, "Instructions").
 ///
-/// An instruction that shares its kind of operand with others is a value of an enumeration of words and the operand; one
-/// that is alone in its kind has its own variant. Words are written with `_` for `.`.
+/// An instruction that shares its kind of operand with others is a value of an enumeration of words
+/// and the operand; one that is alone in its kind has its own variant. Words are written with `_`
+/// for `.`.
 ///
-/// It is generic in the types of the operands that hold a part of a text; [`Instruction`] is that of a text.
+/// It is generic in the types of the operands that hold a part of a text; [`Instruction`] is that
+/// of a text.
 #[derive(Drop)]
 #[allow(non_camel_case_types)]
 pub enum InstructionOf<
@@ -156,7 +158,8 @@ pub enum InstructionOf<
     br_on_cast_desc_eq_fail(Box<BrOnCastDescEqFail>),
 }
 
-/// An instruction of a text that lives for `'a` (WebAssembly Core Specification, Text Format, "Instructions").
+/// An instruction of a text that lives for `'a` (WebAssembly Core Specification, Text Format,
+/// "Instructions").
 pub type Instruction<'a> = InstructionOf<
     BlockType<'a>,
     Id<'a>,
@@ -265,8 +268,8 @@ impl<
     BrOnCastDescEq,
     BrOnCastDescEqFail,
 > {
-    /// The access of an instruction that accesses a memory, also of one to a lane, and else None. What is written through
-    /// it changes the access alone.
+    /// The access of an instruction that accesses a memory, also of one to a lane, and else None.
+    /// What is written through it changes the access alone.
     pub fn memarg_mut(&mut self) -> Option<&mut MemArg>
         ensures* writes_back { sem 𝓛 (LendsAccess BlockType.row Id.row Index.row CallIndirect.row TableArg.row MemArg.row MemoryArg.row StructAccess.row ArrayInit.row BrTableIndices.row SelectTypes.row MemoryInit.row MemoryCopy.row TableInit.row TableCopy.row HeapType.row ArrayNewFixed.row ArrayNewData.row ArrayNewElem.row ArrayFill.row ArrayCopy.row RefTest.row RefCast.row BrOnCast.row BrOnCastFail.row TryTable.row ContBind.row Resume.row ResumeThrow.row ResumeThrowRef.row Switch.row RefCastDescEq.row BrOnCastDescEq.row BrOnCastDescEqFail.row self.entry result) }
         ensures value { access_in self.old ≡ option_map (λ r. r.now) result }

@@ -98,7 +98,8 @@ impl<'a> Parse<'a> for Instruction<'a> {
         // No turn and no height is counted.
         ensures stays { IsTrue true → Stays parser.old parser.new }
         ensures names { Kept parser.old parser.new }
-        // The word is compared at most ten times, and at least once where a keyword stands in front.
+        // The word is compared at most ten times, and at least once where a keyword stands in
+        // front.
         ensures probes { AtMostTen parser.old parser.new }
         ensures probed { (w : List ℕ) (r : List Tok) → parser.old.left ≡ Keyword w ∷ r → parser.old.probes + 1 ≤ parser.new.probes }
         ensures word { mnemonic.reads parser.old.left ≡ None → IfErr result (λ e. e.fault ≡ Fault.Operator) }

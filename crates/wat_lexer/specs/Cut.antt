@@ -103,7 +103,8 @@ Token behind x rest t = Run x × Begins in_no_run rest × Classed behind x t
 
 -- TEXTS
 
--- the text is cut into the tokens with their places; n is the length of the whole text, of which this is an end; the flag says that a `(` stands directly before it
+-- the text is cut into the tokens with their places; n is the length of the whole text, of which
+-- this is an end; the flag says that a `(` stands directly before it
 pub data Cuts : ℕ → Bool → List ℕ → List Placed → Type 0 where
   done : (n : ℕ) (behind : Bool) → Cuts n behind [] []
   blank : (n : ℕ) (behind : Bool) (text x rest : List ℕ) (ts : List Placed) → text ≡ x ++ rest → Blank x rest → Cuts n false rest ts → Cuts n behind text ts
@@ -125,8 +126,9 @@ IsCut text ts = Cuts (length text) false text ts × Closed (tokens_of ts)
 
 -- FAULTS
 
--- No blank and no token stands in front of the text. The fault, and the text from its place on: a character that begins
--- none, the `(` of a comment that isn't closed, or the quote of a string in a run that is none.
+-- No blank and no token stands in front of the text. The fault, and the text from its place on: a
+-- character that begins none, the `(` of a comment that isn't closed, or the quote of a string in a
+-- run that is none.
 pub data Broken : List ℕ → Fault → List ℕ → Type 0 where
   wrong_char : (b : ℕ) (rest : List ℕ) → is_space b ≡ false → in_no_run b ≡ true → (b == 40) ≡ false → (b == 41) ≡ false → (b == 59) && begins 59 rest ≡ false → Broken (b ∷ rest) LexChar (b ∷ rest)
   open_comment : (rest : List ℕ) → ((x more : List ℕ) → rest ≡ x ++ more → Inside 0 x → ⊥) → Broken (40 ∷ 59 ∷ rest) LexComment (40 ∷ 59 ∷ rest)
@@ -142,7 +144,8 @@ pub data Fails : Bool → List ℕ → Fault → List ℕ → Type 0 where
 abbrev pub FirstUnclosed : List Placed → ℕ → Type 0
 FirstUnclosed ts offset = (i : ℕ) × (t : Placed) × (slice_get ts i ≡ Some t) × (offset ≡ t.offset) × Unclosed (tokens_of ts) i × ((j : ℕ) → j < i → Unclosed (tokens_of ts) j → ⊥)
 
--- The text's first fault from the left, and its offset; a group that isn't closed comes after all others.
+-- The text's first fault from the left, and its offset; a group that isn't closed comes after all
+-- others.
 pub data FirstFault : List ℕ → Fault → ℕ → Type 0 where
   cutting : (text : List ℕ) (f : Fault) (at : List ℕ) → Fails false text f at → FirstFault text f (length text - length at)
   closing : (text : List ℕ) (ts : List Placed) (offset : ℕ) → Cuts (length text) false text ts → FirstUnclosed ts offset → FirstFault text LexAnnotation offset

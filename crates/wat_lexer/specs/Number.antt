@@ -1,5 +1,5 @@
--- What an integer is, and what it reads as in a number of bits.
--- An integer is a sign, if there is one, and then digits, or `0x` and hex digits, with single `_` between digits.
+-- What an integer is, and what it reads as in a number of bits. An integer is a sign, if there is
+-- one, and then digits, or `0x` and hex digits, with single `_` between digits.
 use Rattle.std.specs.Prelude.{ℕ, ◌+◌, ◌-◌, ◌*◌, ◌^◌, Bool, true, false, List, [], ◌∷◌, drop, Option, Some, None, option_map, is_some, ◌==◌, ◌&&◌, ◌||◌, nat_lt, nat_le, if◌then◌else◌, ℤ, pos, neg_ℤ, ◌-ℤ◌}
 use Rattle.std.specs.Char.{digit_value}
 use Rattle.wat_lexer.specs.declared.number.Sign.{Sign}
@@ -7,8 +7,8 @@ use Rattle.wat_lexer.specs.declared.number.Sign.TheVariants.{Plus, Minus}
 
 -- DIGITS
 
--- Reads on, where the digits so far have the value n. The flag says that a digit stands directly before.
--- A digit is always right, a `_` (95) only directly behind a digit, and the end too.
+-- Reads on, where the digits so far have the value n. The flag says that a digit stands directly
+-- before. A digit is always right, a `_` (95) only directly behind a digit, and the end too.
 unfoldable pub read : ℕ → Bool → ℕ → List ℕ → Option ℕ
 read base behind n [] = if behind then Some n else None
 read base behind n (c ∷ t) =
@@ -68,8 +68,8 @@ unsigned_value bits x = unsigned_by (sign_of x) bits (magnitude (without_sign x)
 abbrev pub twos_complement : ℕ → ℕ → ℤ
 twos_complement bits n = if nat_lt n (2 ^ (bits - 1)) then pos n else pos n -ℤ pos (2 ^ bits)
 
--- The value of an integer that is read with a sign. With `-` it is the negative of at most 2^(bits-1);
--- else it is that of an unsigned number with the same bits.
+-- The value of an integer that is read with a sign. With `-` it is the negative of at most
+-- 2^(bits-1); else it is that of an unsigned number with the same bits.
 abbrev pub signed_by : Option Sign → ℕ → Option ℕ → Option ℤ
 signed_by None bits n = option_map (twos_complement bits) (up_to (2 ^ bits - 1) n)
 signed_by (Some Plus) bits n = option_map (twos_complement bits) (up_to (2 ^ bits - 1) n)

@@ -22,8 +22,9 @@ behind_comment depth (a ∷ b ∷ t) =
     else (if (a == 59) && (b == 41) then (if depth == 0 then Some t else behind_comment (depth - 1) t)
     else behind_comment depth (b ∷ t))
 
--- Where a place lies within a string: between two elements, behind a backslash, behind a backslash and a hex digit, behind
--- `\u`, behind `\u{` and digits of this value. The flag says that a digit stands directly before.
+-- Where a place lies within a string: between two elements, behind a backslash, behind a backslash
+-- and a hex digit, behind `\u`, behind `\u{` and digits of this value. The flag says that a digit
+-- stands directly before.
 pub data Mode : Type 0 where
   Raw : Mode
   Escape : Mode

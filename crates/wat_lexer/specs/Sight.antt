@@ -1,4 +1,5 @@
--- Groups in parentheses, and what lookups and parsers see of the tokens: groups of annotations that aren't known are left out.
+-- Groups in parentheses, and what lookups and parsers see of the tokens: groups of annotations that
+-- aren't known are left out.
 use Rattle.std.specs.Prelude.{ℕ, zero, suc, ◌+◌, ◌-◌, Bool, true, false, not, ◌&&◌, ◌||◌, if◌then◌else◌, List, [], ◌∷◌, Option, Some, None, codes}
 use Rattle.std.specs.Str.{bytes_eq}
 use Rattle.wat_lexer.specs.Token.{Tok, LParen, RParen, Annotation}
@@ -36,7 +37,8 @@ annotation_name _ = []
 abbrev pub hides : Bool → List Tok → Bool
 hides known t = annotated t && not (known && is_standard (annotation_name t))
 
--- The tokens without each group that is hidden. `Some depth` is within such a group, in which `depth` more lie open.
+-- The tokens without each group that is hidden. `Some depth` is within such a group, in which
+-- `depth` more lie open.
 unfoldable pub visible : Bool → Option ℕ → List Tok → List Tok
 visible known place [] = []
 visible known None (x ∷ r) = if hides known (x ∷ r) then visible known (Some 0) r else x ∷ visible known None r

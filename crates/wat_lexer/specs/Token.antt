@@ -1,7 +1,8 @@
 -- Tokens as contracts see them.
 use Rattle.std.specs.Prelude.{ℕ, Bool, true, false, List, [], ◌∷◌, ◌||◌, map}
 
--- A token, without its place. Names are those of the ids and annotations, an integer is its text, a string its content.
+-- A token, without its place. Names are those of the ids and annotations, an integer is its text, a
+-- string its content.
 pub data Tok : Type 0 where
   LParen : Tok
   RParen : Tok

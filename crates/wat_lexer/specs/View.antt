@@ -37,7 +37,8 @@ placed_of x = record { token = view x.token; offset = x.offset }
 abbrev pub placed : List Lexeme → List Placed
 placed ls = map placed_of ls
 
--- How far the tokens tell to go from an annotation's group in front: its `(` tells it where no name is known, its annotation where the five are.
+-- How far the tokens tell to go from an annotation's group in front: its `(` tells it where no name
+-- is known, its annotation where the five are.
 abbrev pub leap : Bool → List Lexeme → ℕ
 leap known [] = 0
 leap known (x ∷ []) = 0

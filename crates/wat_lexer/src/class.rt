@@ -65,7 +65,8 @@ fn add(out: &mut Vec<u8, &Bump>, escaped: Escaped) -> Result<(), AllocError>
     Ok(())
 }
 
-/// The content of a string that has escapes, from behind its opening quote to behind its closing one.
+/// The content of a string that has escapes, from behind its opening quote to behind its closing
+/// one.
 // Inlined it slows the cut of texts without strings.
 #[inline(never)]
 #[tactic(auto, using(crate::proofs::Steps::content_steps))]
@@ -121,7 +122,8 @@ fn text_name(content: &[u8]) -> Option<&str>
     }
 }
 
-/// The token of a run that ends with the one string in it, whose quote stands at a place of the run.
+/// The token of a run that ends with the one string in it, whose quote stands at a place of the
+/// run.
 #[tactic(auto, using(crate::proofs::Whole::token_steps))]
 pub fn string_token<'a>(run: &'a str, quote: usize, behind: bool, content: &'a [u8]) -> Token<'a>
     requires within { quote < length run.now }

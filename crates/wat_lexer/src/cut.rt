@@ -176,11 +176,11 @@ fn cut_pieces<'a>(
     Ok((tokens, noted))
 }
 
-/// Cuts a text into tokens, each of whose annotation groups is closed. Names and strings without escapes are slices of
-/// the text, the others lie in the arena.
+/// Cuts a text into tokens, each of whose annotation groups is closed. Names and strings without
+/// escapes are slices of the text, the others lie in the arena.
 ///
-/// The faults are LexChar, LexString, LexComment, LexAnnotation and Memory. WebAssembly Core Specification, Text Format,
-/// Lexical Format.
+/// The faults are LexChar, LexString, LexComment, LexAnnotation and Memory. WebAssembly Core
+/// Specification, Text Format, Lexical Format.
 pub fn cut<'a>(alloc: Global, text: &'a str, arena: &'a Bump) -> Result<Vec<Lexeme<'a>>, Error>
     ensures found { IfOk result (λ ts. IsCut text.now (placed ts.items)) }
     ensures leaps { IfOk result (λ ts. AreLeaps ts.items) }

@@ -13,13 +13,16 @@ use thiserror::Error;
 pub enum Fault {
     /// A growth was refused memory; the offset is 0.
     Memory = 1,
-    /// A character that begins no token and no blank, outside strings and comments; the offset is its own.
+    /// A character that begins no token and no blank, outside strings and comments; the offset is
+    /// its own.
     LexChar = 2,
-    /// A string that isn't closed, or with a raw character or an escape that none may have; the offset is that of its opening quote.
+    /// A string that isn't closed, or with a raw character or an escape that none may have; the
+    /// offset is that of its opening quote.
     LexString = 3,
     /// A block comment that isn't closed; the offset is that of the outermost one's `(`.
     LexComment = 4,
-    /// A group that begins with an annotation and isn't closed; the offset is that of the first such `(`.
+    /// A group that begins with an annotation and isn't closed; the offset is that of the first
+    /// such `(`.
     LexAnnotation = 5,
     /// Another token was needed; the offset is that of the token, or the text's length at its end.
     Unexpected = 6,
@@ -33,7 +36,8 @@ pub enum Fault {
     Alignment = 10,
     /// A page size that is no power of two; the offset is that of the number.
     PageSize = 11,
-    /// An instruction's word was needed; the offset is that of the token, or the text's length at its end.
+    /// An instruction's word was needed; the offset is that of the token, or the text's length at
+    /// its end.
     Operator = 12,
     /// A parameter behind a result; the offset is that of the word `param`.
     ParamAfterResult = 13,
@@ -45,13 +49,16 @@ pub enum Fault {
     HintValue = 16,
     /// A second hint for one instruction; the offset is that of its string.
     HintTwice = 17,
-    /// A hint that no instruction follows; the offset is that of the `)`, the word `then`, or the text's length.
+    /// A hint that no instruction follows; the offset is that of the `)`, the word `then`, or the
+    /// text's length.
     HintPlace = 18,
-    /// Import items of two kinds in one import; the offset is that of the word `item` of the first that differs.
+    /// Import items of two kinds in one import; the offset is that of the word `item` of the first
+    /// that differs.
     ImportMixed = 19,
     /// An identifier where none may stand in an import; the offset is its own.
     ImportId = 20,
-    /// An instruction behind a branch hint that is neither `br_if` nor `if`; the offset is that of its word.
+    /// An instruction behind a branch hint that is neither `br_if` nor `if`; the offset is that of
+    /// its word.
     HintTarget = 21,
 }
 

@@ -10,7 +10,8 @@ use crate::sight::{from, hidden, hides};
 use crate::token::{Lexeme, is_close, is_open};
 use std::alloc::{AllocError, Global};
 
-/// Tells the group of an annotation that begins at a place and ends before another how many tokens are left out there.
+/// Tells the group of an annotation that begins at a place and ends before another how many tokens
+/// are left out there.
 fn tell_leap(tokens: &mut [Lexeme], at: usize, end: usize)
     requires begins { hides false (toks (drop at tokens.old)) ≡ true }
     requires order { at < end }
@@ -27,8 +28,8 @@ fn tell_leap(tokens: &mut [Lexeme], at: usize, end: usize)
     tokens[at + 1].skip = unknown;
 }
 
-/// Tells each group of an annotation how many tokens are left out where it stands. Answers the offset of the first one
-/// that isn't closed.
+/// Tells each group of an annotation how many tokens are left out where it stands. Answers the
+/// offset of the first one that isn't closed.
 pub fn tell_leaps(alloc: Global, tokens: &mut [Lexeme]) -> Result<Option<usize>, AllocError>
     ensures same { placed tokens.new ≡ placed tokens.old }
     ensures leaps { IfOk result (λ o. AreLeaps tokens.new) }

@@ -14,8 +14,9 @@ pub enum Sign {
     Minus,
 }
 
-/// An integer as it is written: a sign, if there is one, and then decimal digits, or `0x` and hex digits, with single
-/// underscores between digits ('WebAssembly Core Specification, Text Format, Values, Integers').
+/// An integer as it is written: a sign, if there is one, and then decimal digits, or `0x` and hex
+/// digits, with single underscores between digits ('WebAssembly Core Specification, Text Format,
+/// Values, Integers').
 #[derive(Clone, Copy, Debug)]
 pub struct Integer<'a> {
     text: &'a str,
@@ -53,8 +54,9 @@ impl<'a> Integer<'a> {
         sign_of(self.text.as_bytes())
     }
 
-    /// The value as an unsigned number of so many bits: 8, 16, 32 or 64. `None` where a `-` is written, also in `-0`,
-    /// or the value is above 2^bits - 1 ('WebAssembly Core Specification, Text Format, Values, Integers').
+    /// The value as an unsigned number of so many bits: 8, 16, 32 or 64. `None` where a `-` is
+    /// written, also in `-0`, or the value is above 2^bits - 1 ('WebAssembly Core Specification,
+    /// Text Format, Values, Integers').
     pub fn unsigned(self, bits: u32) -> Option<u64>
         requires { IsTrue (is_width bits) }
         ensures { result ≡ unsigned_value bits (text_of self.entry) }
@@ -66,9 +68,10 @@ impl<'a> Integer<'a> {
         }
     }
 
-    /// The value as a signed number of so many bits: 8, 16, 32 or 64. Without `-` it is that of the unsigned number by
-    /// two's complement, so `0xff` in 8 bits is -1. `None` where the value is above 2^bits - 1, or, behind a `-`, above
-    /// 2^(bits - 1) ('WebAssembly Core Specification, Text Format, Values, Integers').
+    /// The value as a signed number of so many bits: 8, 16, 32 or 64. Without `-` it is that of the
+    /// unsigned number by two's complement, so `0xff` in 8 bits is -1. `None` where the value is
+    /// above 2^bits - 1, or, behind a `-`, above 2^(bits - 1) ('WebAssembly Core Specification,
+    /// Text Format, Values, Integers').
     pub fn signed(self, bits: u32) -> Option<i64>
         requires { IsTrue (is_width bits) }
         ensures { result ≡ signed_value bits (text_of self.entry) }
@@ -146,7 +149,8 @@ fn magnitude_up_to(text: &[u8], limit: u64) -> Option<u64>
     }
 }
 
-/// The value of digits of the base, with single underscores between them, from there on, where it is at most the limit.
+/// The value of digits of the base, with single underscores between them, from there on, where it
+/// is at most the limit.
 #[tactic(auto, using(crate::proofs::Values::value_steps))]
 fn number_up_to(text: &[u8], from: usize, base: u8, limit: u64) -> Option<u64>
     requires within { from ≤ length text.now }

@@ -6,7 +6,8 @@ ghost use Rattle.wat_lexer.specs.View.{view, toks, leap, AreLeaps, Shown};
 
 use crate::token::{Lexeme, Token};
 
-/// Whether it is one of the five names: `custom`, `producers`, `name`, `dylink.0`, `metadata.code.branch_hint`.
+/// Whether it is one of the five names: `custom`, `producers`, `name`, `dylink.0`,
+/// `metadata.code.branch_hint`.
 fn is_standard(name: &str) -> bool
     ensures { result ≡ is_standard name.now }
 {
@@ -60,7 +61,8 @@ pub fn from<'p, 'a>(tokens: &'p [Lexeme<'a>], at: usize) -> &'p [Lexeme<'a>]
     &tokens[at..]
 }
 
-/// How many tokens stand before the first that is seen. It takes the same time however many are hidden.
+/// How many tokens stand before the first that is seen. It takes the same time however many are
+/// hidden.
 #[tactic(auto, using(crate::proofs::Leaps::hidden_none))]
 pub fn hidden(tokens: &[Lexeme], known: bool) -> usize
     requires { AreLeaps tokens.now }

@@ -147,7 +147,8 @@ pub fn escape(text: &[u8], at: usize) -> Option<(Escaped, usize)>
     }
 }
 
-/// Where a string ends, from behind its opening quote on, and whether its content is the bytes between the quotes.
+/// Where a string ends, from behind its opening quote on, and whether its content is the bytes
+/// between the quotes.
 #[tactic(auto, using(crate::proofs::Steps::string_steps))]
 pub fn string_end(text: &[u8], from: usize) -> Option<(usize, bool)>
     requires { from ≤ length text.now }

@@ -6,7 +6,8 @@ ghost use Rattle.wat_lexer.specs.View.{view};
 
 use crate::number::Integer;
 
-/// A token of the text. Names and undecoded strings are slices of the text; what had escapes lies in the arena.
+/// A token of the text. Names and undecoded strings are slices of the text; what had escapes lies
+/// in the arena.
 #[derive(Clone, Copy, Debug)]
 pub enum Token<'a> {
     /// `(`
@@ -34,8 +35,9 @@ pub struct Lexeme<'a> {
     pub token: Token<'a>,
     /// How many bytes of the text stand before it.
     pub offset: usize,
-    /// At the `(` of an annotation's group, how many tokens from it on are left out where no annotation is known;
-    /// at the annotation behind it, how many from that `(` on where the five standard names are known.
+    /// At the `(` of an annotation's group, how many tokens from it on are left out where no
+    /// annotation is known; at the annotation behind it, how many from that `(` on where the five
+    /// standard names are known.
     pub skip: usize,
 }
 

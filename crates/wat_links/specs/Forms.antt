@@ -13,10 +13,10 @@ use Rattle.wat_types.specs.Define.{behind}
 use Rattle.wat_links.specs.Item.{SigTy}
 use Rattle.wat_links.specs.Import.{ItemsTy, single, group1, group2, ImportsTy, imports_of, sig_group, item_follows, typed_item, named_item, typed_list, named_list, shared_sig, single_item, typed_items, named_items, typed, import_choice}
 
--- a single item is a name and ( ItemSig ).
--- Items with signatures are none, where nothing is left, or some, each ( item name ( ItemSig ) ).
--- Items that share a signature are any number, each ( item name ), and then ( ItemSig ) without an identifier.
--- Items end where the second token isn't `item`, whatever the first is.
+-- a single item is a name and ( ItemSig ). Items with signatures are none, where nothing is left,
+-- or some, each ( item name ( ItemSig ) ). Items that share a signature are any number, each ( item
+-- name ), and then ( ItemSig ) without an identifier. Items end where the second token isn't
+-- `item`, whatever the first is.
 abbrev pub ItemsSpells : ItemsTy → List Tok → List Tok → Type 0
 ItemsSpells (single n s) c r = (seq text sig_group).spells (n, s) c r
 ItemsSpells (group1 []) c r = (c ≡ []) × (item_follows r ≡ false) × (ends r ≡ true)

@@ -127,8 +127,8 @@ opens_typed _ = false
 abbrev pub typed : List Tok → Bool
 typed t = ends t || opens_typed t
 
--- where nothing is left or an item with more than a name comes next: items with signatures; where another `(` comes next:
--- items without, and the signature that they share; else a single item
+-- where nothing is left or an item with more than a name comes next: items with signatures; where
+-- another `(` comes next: items without, and the signature that they share; else a single item
 unfoldable pub import_choice : Production ItemsTy
 import_choice = where_else typed typed_items (where_else begins_lparen named_items single_item)
 

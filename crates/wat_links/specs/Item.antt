@@ -76,7 +76,8 @@ labelled w k = made (λ v. sig_of v.0 v.1) (behind w (seq label k))
 unfoldable pub global_or_tag : Production SigTy
 global_or_tag = where_else (begins_word (codes "global")) (labelled (codes "global") (made global global_type)) (labelled (codes "tag") (made tag tag_type))
 
--- `func id? name?`, and a function by func_kind | `table id? name?` TableType | `memory id? name?` MemoryType | global or tag
+-- `func id? name?`, and a function by func_kind | `table id? name?` TableType | `memory id? name?`
+-- MemoryType | global or tag
 unfoldable pub item_sig : Production SigTy
 item_sig =
     where_else (begins_word (codes "func")) (labelled (codes "func") func_kind)

@@ -39,7 +39,8 @@ with_sig i (Single m n s) w = Single m n w
 with_sig i (Group1 m xs) w = Group1 m (with_item_sig xs i w (slice_get xs.items i))
 with_sig i (Group2 m s xs) w = Group2 m w xs
 
--- r, if there is one, is lent of s: what is written to it becomes the signature of the item number i, and nothing else changes
+-- r, if there is one, is lent of s: what is written to it becomes the signature of the item number
+-- i, and nothing else changes
 abbrev pub LendsTyped : (N S : RattleType) → ℕ → MutBor (Vec (ImportGroup1ItemOf N.Denot S.Denot) global.Denot) → Option (MutBor S.Denot) → Fml
 LendsTyped N S i s r = LendsIf (vec-row (item.the_row N S) global ghosts) S s r (λ w. with_item_sig s.now i w (slice_get s.now.items i)) s.now
 

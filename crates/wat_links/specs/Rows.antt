@@ -17,7 +17,8 @@ bare_func = in_parens (Keyword (codes "func") ∷ [])
 abbrev any_func : SigTy
 any_func = sig_of no_label (func (use_of None None))
 
--- `import "m"` has no items; `import "m" (func)` has a signature and no items; `import "m" (item "a") (item "b") (func)` has two items that share one
+-- `import "m"` has no items; `import "m" (func)` has a signature and no items; `import "m" (item
+-- "a") (item "b") (func)` has two items that share one
 abbrev pub Imports : Type 0
 Imports =
     Spelled imports (Keyword (codes "import") ∷ String (codes "m") ∷ []) (imports_of (codes "m") (group1 []))

@@ -26,8 +26,8 @@ pub struct Export<'a> {
     pub item: Index<'a>,
 }
 
-/// A kind of item that can be exported (WebAssembly Core Specification, Text Format, Modules, "Exports"). Each variant has
-/// the name of its word.
+/// A kind of item that can be exported (WebAssembly Core Specification, Text Format, Modules,
+/// "Exports"). Each variant has the name of its word.
 #[derive(Clone, Copy, Debug, PartialEq, Eq, Hash)]
 pub enum ExportKind {
     /// `func`
@@ -53,8 +53,8 @@ pub struct ExportType<'a> {
     pub item: ItemSig<'a>,
 }
 
-/// The exports that are written in line with an item (WebAssembly Core Specification, Text Format, Modules, "Exports",
-/// Abbreviations).
+/// The exports that are written in line with an item (WebAssembly Core Specification, Text Format,
+/// Modules, "Exports", Abbreviations).
 #[derive(Debug, Drop)]
 pub struct InlineExport<'a> {
     /// The names under which the item is exported.
@@ -196,7 +196,8 @@ impl<'a> Parse<'a> for Export<'a> {
 }
 
 impl<'a> ExportType<'a> {
-    /// The same once more. Memory may be answered where a type in it has a parameter or a result in line.
+    /// The same once more. Memory may be answered where a type in it has a parameter or a result in
+    /// line.
     pub fn clone(&self) -> Result<ExportType<'a>>
         ensures copies { Copies (λ x y. (y.span ≡ x.span) × (y.name ≡ x.name) × (SameSig x.item y.item)) seen_export_type bare_export_type result self.now }
     {

@@ -6,8 +6,9 @@ ghost use Rattle.wat_links.specs.Head.{HeadTy, seen_head, bare_head, head};
 use crate::export::InlineExport;
 use wat_tokens::{Fault, Id, NameAnnotation, Parse, Parser, Result};
 
-/// What stands behind the word of a function, table, memory, global or tag: what names it, and its exports in line
-/// (WebAssembly Core Specification, Text Format, Modules, "Exports", Abbreviations).
+/// What stands behind the word of a function, table, memory, global or tag: what names it, and its
+/// exports in line (WebAssembly Core Specification, Text Format, Modules, "Exports",
+/// Abbreviations).
 #[derive(Debug, Drop)]
 pub struct Head<'a> {
     /// Its identifier.

@@ -19,8 +19,9 @@ use std::alloc::Global;
 use wat_tokens::repeat::{Part, parts};
 use wat_tokens::{Cursor, Error, Fault, Parse, Parser, Peek, Result, Span};
 
-/// An import (WebAssembly Core Specification, Text Format, Modules, "Imports", with the compact forms of the proposal
-/// "Compact Import Section"), with its names as an N and its signatures as an S: see [`Imports`].
+/// An import (WebAssembly Core Specification, Text Format, Modules, "Imports", with the compact
+/// forms of the proposal "Compact Import Section"), with its names as an N and its signatures as an
+/// S: see [`Imports`].
 #[derive(Debug, Drop)]
 pub struct ImportsOf<N, S> {
     /// Where the word `import` begins.
@@ -79,8 +80,8 @@ pub struct ImportGroup2ItemOf<N> {
     pub name: N,
 }
 
-/// An import (WebAssembly Core Specification, Text Format, Modules, "Imports", with the compact forms of the proposal
-/// "Compact Import Section").
+/// An import (WebAssembly Core Specification, Text Format, Modules, "Imports", with the compact
+/// forms of the proposal "Compact Import Section").
 pub type Imports<'a> = ImportsOf<&'a str, ItemSig<'a>>;
 
 /// What is imported.
@@ -92,8 +93,8 @@ pub type ImportGroup1Item<'a> = ImportGroup1ItemOf<&'a str, ItemSig<'a>>;
 /// An item that shares its signature with others: `(item "a")`.
 pub type ImportGroup2Item<'a> = ImportGroup2ItemOf<&'a str>;
 
-/// The import that is written in line with an item (WebAssembly Core Specification, Text Format, Modules, "Imports",
-/// Abbreviations).
+/// The import that is written in line with an item (WebAssembly Core Specification, Text Format,
+/// Modules, "Imports", Abbreviations).
 #[derive(Clone, Copy, Debug)]
 pub struct InlineImport<'a> {
     /// The name of the module.
@@ -188,8 +189,8 @@ impl<N, S> ImportsOf<N, S> {
         }
     }
 
-    /// The signature of each item, in order; one that items share is there as often as there are items. Memory may be
-    /// answered where there is an item.
+    /// The signature of each item, in order; one that items share is there as often as there are
+    /// items. Memory may be answered where there is an item.
     #[tactic(auto, using(crate::proofs::Sigs::one_each))]
     pub fn item_sigs(&self, alloc: Global) -> Result<Vec<&S>>
         ensures sigs { IfOk result (λ v. map (λ r. r.now) v.items ≡ item_sigs self.now.items) }
@@ -203,8 +204,8 @@ impl<N, S> ImportsOf<N, S> {
         }
     }
 
-    /// The signature number i of those that are written, to be changed; None from [`num_sigs`](ImportsOf::num_sigs) on.
-    /// What is written to it changes that signature alone.
+    /// The signature number i of those that are written, to be changed; None from
+    /// [`num_sigs`](ImportsOf::num_sigs) on. What is written to it changes that signature alone.
     #[tactic(auto, using(crate::proofs::Sigs::sig_is_own))]
     pub fn sig_mut(&mut self, i: usize) -> Option<&mut S>
         ensures* writes_back { sem 𝓛 (LendsImports N.row S.row i self.entry result) }
@@ -215,7 +216,8 @@ impl<N, S> ImportsOf<N, S> {
 }
 
 impl<'a> ImportGroup1Item<'a> {
-    /// The same once more. Memory may be answered where a type in it has a parameter or a result in line.
+    /// The same once more. Memory may be answered where a type in it has a parameter or a result in
+    /// line.
     pub fn clone(&self) -> Result<ImportGroup1Item<'a>>
         ensures copies { Copies SameTyped seen_typed (λ t. bare_sig t.1) result self.now }
     {
@@ -251,8 +253,8 @@ fn clone_names<'a>(items: &Vec<ImportGroup2Item<'a>>) -> Result<Vec<ImportGroup2
 }
 
 impl<'a> ImportItems<'a> {
-    /// The same once more. Memory may be answered where there is an item in a group, or where a type has a parameter or a
-    /// result in line.
+    /// The same once more. Memory may be answered where there is an item in a group, or where a
+    /// type has a parameter or a result in line.
     pub fn clone(&self) -> Result<ImportItems<'a>>
         ensures copies { Copies SameItems seen_items bare_items result self.now }
     {
@@ -276,8 +278,8 @@ impl<'a> ImportItems<'a> {
 }
 
 impl<'a> Imports<'a> {
-    /// The same once more. Memory may be answered where there is an item in a group, or where a type has a parameter or a
-    /// result in line.
+    /// The same once more. Memory may be answered where there is an item in a group, or where a
+    /// type has a parameter or a result in line.
     pub fn clone(&self) -> Result<Imports<'a>>
         ensures copies { Copies (λ x y. (y.span ≡ x.span) × (SameItems x.items y.items)) seen_imports bare_imports result self.now }
     {
@@ -378,8 +380,8 @@ impl<'a> Part<'a, ImportGroup2Item<'a>> for NamedItem {
     }
 }
 
-/// `( ItemSig )` without an identifier, which is refused with ImportId, at the identifier: where the signature ends there,
-/// or the text.
+/// `( ItemSig )` without an identifier, which is refused with ImportId, at the identifier: where
+/// the signature ends there, or the text.
 #[tactic(auto, using(crate::proofs::Ends::closes_none), unfolding(crate::specs::Import::shared_sig))]
 fn read_shared_sig<'a>(parser: &mut Parser<'a>) -> Result<ItemSig<'a>>
     ensures reads { Reads bare_sig seen_sig result (shared_sig.reads parser.old.left) parser.old parser.new }
@@ -490,11 +492,12 @@ fn read_items<'a>(parser: &mut Parser<'a>, module: &'a str) -> Result<ImportItem
     read_single(parser, module)
 }
 
-/// `import`, the name of a module, and then one of three: a name and `( ItemSig )`; nothing, or `( item name ( ItemSig ) )`
-/// as long as the second token is `item`; or, where a `(` comes next, `( item name )` as long as the second token is `item`,
-/// and then `( ItemSig )` without an identifier. Where an item has a signature and the first has none, or the other way
-/// round, it is refused with ImportMixed, at its word `item`; an identifier of the signature that items share with ImportId,
-/// at the identifier.
+/// `import`, the name of a module, and then one of three: a name and `( ItemSig )`; nothing, or `(
+/// item name ( ItemSig ) )` as long as the second token is `item`; or, where a `(` comes next, `(
+/// item name )` as long as the second token is `item`, and then `( ItemSig )` without an
+/// identifier. Where an item has a signature and the first has none, or the other way round, it is
+/// refused with ImportMixed, at its word `item`; an identifier of the signature that items share
+/// with ImportId, at the identifier.
 impl<'a> Parse<'a> for Imports<'a> {
     ghost Seen = { ImportsTy };
 

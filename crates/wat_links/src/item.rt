@@ -9,8 +9,8 @@ ghost use Rattle.wat_links.specs.Item.{seen_kind, bare_kind, SigTy, seen_sig, ba
 use wat_tokens::{Fault, Id, NameAnnotation, Parse, Parser, Result, Span};
 use wat_types::{FunctionType, GlobalType, MemoryType, TableType, TagType, TypeUse};
 
-/// What an item is, that is imported or exported: its kind and its type (WebAssembly Core Specification, Text Format,
-/// Types, "External Types").
+/// What an item is, that is imported or exported: its kind and its type (WebAssembly Core
+/// Specification, Text Format, Types, "External Types").
 #[derive(Debug, Drop)]
 pub enum ItemKind<'a> {
     /// A function.
@@ -27,8 +27,8 @@ pub enum ItemKind<'a> {
     FuncExact(TypeUse<'a, FunctionType<'a>>),
 }
 
-/// The signature of an item that is imported or exported (WebAssembly Core Specification, Text Format, Types, "External
-/// Types").
+/// The signature of an item that is imported or exported (WebAssembly Core Specification, Text
+/// Format, Types, "External Types").
 #[derive(Debug, Drop)]
 pub struct ItemSig<'a> {
     /// Where the word of its kind begins.
@@ -42,7 +42,8 @@ pub struct ItemSig<'a> {
 }
 
 impl<'a> ItemKind<'a> {
-    /// The same once more. Memory may be answered where a type in it has a parameter or a result in line.
+    /// The same once more. Memory may be answered where a type in it has a parameter or a result in
+    /// line.
     pub fn clone(&self) -> Result<ItemKind<'a>>
         ensures copies { Copies SameKind seen_kind bare_kind result self.now }
     {
@@ -58,7 +59,8 @@ impl<'a> ItemKind<'a> {
 }
 
 impl<'a> ItemSig<'a> {
-    /// The same signature once more. Memory may be answered where a type in it has a parameter or a result in line.
+    /// The same signature once more. Memory may be answered where a type in it has a parameter or a
+    /// result in line.
     pub fn clone(&self) -> Result<ItemSig<'a>>
         ensures copies { Copies SameSig seen_sig bare_sig result self.now }
     {
@@ -123,9 +125,9 @@ fn read_global_or_tag<'a>(parser: &mut Parser<'a>) -> Result<ItemSig<'a>>
     })
 }
 
-/// `func`, `table`, `memory`, `global` or `tag`, an identifier or none, a name or none, and the type: that of a function
-/// is a type use, in `( exact .. )` where the second token behind the label is `exact`. Another token in front is refused
-/// with Unexpected, at the token.
+/// `func`, `table`, `memory`, `global` or `tag`, an identifier or none, a name or none, and the
+/// type: that of a function is a type use, in `( exact .. )` where the second token behind the
+/// label is `exact`. Another token in front is refused with Unexpected, at the token.
 impl<'a> Parse<'a> for ItemSig<'a> {
     ghost Seen = { SigTy };
 

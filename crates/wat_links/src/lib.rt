@@ -1,7 +1,9 @@
-//! What a module of the WebAssembly text format says to the outside: imports, exports and custom sections (WebAssembly
-//! Core Specification, Text Format, "Imports", "Exports" and "Custom Annotation").
+//! What a module of the WebAssembly text format says to the outside: imports, exports and custom
+//! sections (WebAssembly Core Specification, Text Format, "Imports", "Exports" and "Custom
+//! Annotation").
 //!
-//! Each is read from tokens by [`wat_tokens::Parse`]. Indices stay as they are written: nothing is resolved.
+//! Each is read from tokens by [`wat_tokens::Parse`]. Indices stay as they are written: nothing is
+//! resolved.
 #![tactic(auto)]
 
 pub mod export;

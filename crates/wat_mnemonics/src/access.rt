@@ -3,7 +3,8 @@
 ghost use Rattle.std.specs.Prelude.{◌≡◌};
 ghost use Rattle.wat_mnemonics.specs.Access.{access_word, access_align, atomic_access_word, atomic_access_align, rmw_access_word, rmw_access_align, lane_access_word, lane_access_align};
 
-/// An instruction whose operand is a memory access (Text Format, Instructions, "Memory Instructions").
+/// An instruction whose operand is a memory access (Text Format, Instructions, "Memory
+/// Instructions").
 #[derive(Clone, Copy, Debug, PartialEq, Eq)]
 #[allow(non_camel_case_types)]
 pub enum AccessOp {
@@ -147,7 +148,8 @@ impl AccessOp {
     }
 }
 
-/// An instruction whose operand is an atomic memory access (Text Format, Instructions, "Memory Instructions").
+/// An instruction whose operand is an atomic memory access (Text Format, Instructions, "Memory
+/// Instructions").
 #[derive(Clone, Copy, Debug, PartialEq, Eq)]
 #[allow(non_camel_case_types)]
 pub enum AtomicAccessOp {
@@ -213,7 +215,8 @@ impl AtomicAccessOp {
     }
 }
 
-/// An instruction whose operand is an atomic memory access that reads, modifies and writes (Text Format, Instructions, "Memory Instructions").
+/// An instruction whose operand is an atomic memory access that reads, modifies and writes (Text
+/// Format, Instructions, "Memory Instructions").
 #[derive(Clone, Copy, Debug, PartialEq, Eq)]
 #[allow(non_camel_case_types)]
 pub enum RmwAccessOp {
@@ -384,7 +387,8 @@ impl RmwAccessOp {
     }
 }
 
-/// An instruction whose operand is a memory access and a lane (Text Format, Instructions, "Memory Instructions").
+/// An instruction whose operand is a memory access and a lane (Text Format, Instructions, "Memory
+/// Instructions").
 #[derive(Clone, Copy, Debug, PartialEq, Eq)]
 #[allow(non_camel_case_types)]
 pub enum LaneAccessOp {

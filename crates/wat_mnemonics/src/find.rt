@@ -22,8 +22,8 @@ fn head_at(place: usize) -> Head
     HEADS[place]
 }
 
-/// The head of a word, or None where the word is no mnemonic. The parser counts each comparison with an entry of the
-/// table, of which there are 1 to 10; it changes in nothing else.
+/// The head of a word, or None where the word is no mnemonic. The parser counts each comparison
+/// with an entry of the table, of which there are 1 to 10; it changes in nothing else.
 pub fn find(parser: &mut Parser<'_>, text: &str) -> Option<Head>
     ensures found { IfSome result (λ h. head_word h ≡ text.now) }
     ensures missing { IfNone result ((h : AnyHead) → head_word h ≢ text.now) }

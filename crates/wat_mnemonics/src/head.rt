@@ -12,7 +12,8 @@ use crate::ordered::{OrderedIndexOp, OrderedStructOp, OrderedTableOp};
 use crate::scalar::ScalarOp;
 use crate::vector::VectorOp;
 
-/// An instruction without its operand: one of several with an operand of one kind, or the only one of its kind.
+/// An instruction without its operand: one of several with an operand of one kind, or the only one
+/// of its kind.
 #[derive(Clone, Copy, Debug, PartialEq, Eq)]
 #[allow(non_camel_case_types)]
 pub enum Head {

@@ -1,7 +1,8 @@
 //! The words of the 623 instructions of the WebAssembly text format, without what follows them.
 //!
-//! A [`Head`](head::Head) is an instruction without its operand. A word finds its head by a binary search, which counts
-//! each comparison; a head has its word, and its opcode where Core Specification 2.0 gives it one.
+//! A [`Head`](head::Head) is an instruction without its operand. A word finds its head by a binary
+//! search, which counts each comparison; a head has its word, and its opcode where Core
+//! Specification 2.0 gives it one.
 #![tactic(auto)]
 
 pub mod access;

@@ -5,7 +5,8 @@ ghost use Rattle.wat_mnemonics.specs.Opcodes.{bytes, Appends};
 
 use wat_tokens::Result;
 
-/// How a binary module tells an instruction without an operand (Core Specification 2.0, "Index of Instructions").
+/// How a binary module tells an instruction without an operand (Core Specification 2.0, "Index of
+/// Instructions").
 #[derive(Clone, Copy, Debug, PartialEq, Eq)]
 pub enum Opcode {
     /// It has none there: the instruction has an operand, or is newer.
@@ -19,7 +20,8 @@ pub enum Opcode {
 }
 
 impl Opcode {
-    /// Appends the bytes and answers how many they are, or answers None and appends nothing where there are none.
+    /// Appends the bytes and answers how many they are, or answers None and appends nothing where
+    /// there are none.
     ///
     /// Where memory is refused, nothing is appended. It isn't where there is nothing to append.
     pub fn write(self, out: &mut Vec<u8>) -> Result<Option<usize>>

@@ -77,7 +77,8 @@ catch_kind =
     (where_else (begins_word (codes "catch_all")) (made (λ _. CatchAll) (word (codes "catch_all")))
     (made (λ _. CatchAllRef) (word (codes "catch_all_ref")))))
 
--- ( catch idx idx ) | ( catch_ref idx idx ) | ( catch_all idx ) | ( catch_all_ref idx ): the label is last
+-- ( catch idx idx ) | ( catch_ref idx idx ) | ( catch_all idx ) | ( catch_all_ref idx ): the label
+-- is last
 unfoldable pub catch_clause : Production CatchTy
 catch_clause = paren (made (λ v. catch_of v.0 v.1) (seq catch_kind index))
 

@@ -44,6 +44,7 @@ result_group_eats = omega arith
 abbrev pub result_follows : List Tok → Bool
 result_follows t = second (begins_word (codes "result")) t
 
--- None where no group has to follow; else groups, to where none has to: the types of all, one behind the other
+-- None where no group has to follow; else groups, to where none has to: the types of all, one
+-- behind the other
 unfoldable pub select_types : Production (Option (List ValTy))
 select_types = opt result_follows (joined result_follows result_group result_group_eats)

@@ -8,8 +8,8 @@ ghost use Rattle.wat_operands.specs.Block.{seen_signature, bare_signature, signa
 use wat_tokens::{Fault, Id, NameAnnotation, Parse, Parser, Result};
 use wat_types::{FunctionType, FunctionTypeNoNames, TypeUse};
 
-/// What `block`, `loop`, `if` and `try` say of their block (WebAssembly Core Specification, Text Format, Instructions,
-/// "Control Instructions").
+/// What `block`, `loop`, `if` and `try` say of their block (WebAssembly Core Specification, Text
+/// Format, Instructions, "Control Instructions").
 #[derive(Debug, Drop)]
 pub struct BlockType<'a> {
     /// The block's label.
@@ -30,7 +30,8 @@ pub(crate) fn read_signature<'a>(parser: &mut Parser<'a>) -> Result<TypeUse<'a, 
 }
 
 impl<'a> BlockType<'a> {
-    /// The same type once more. Memory may be answered where its inline type has a parameter or a result.
+    /// The same type once more. Memory may be answered where its inline type has a parameter or a
+    /// result.
     pub fn clone(&self) -> Result<BlockType<'a>>
         ensures copies { Copies SameBlock seen_block bare_block result self.now }
     {

@@ -8,18 +8,20 @@ use crate::block::read_signature;
 use wat_tokens::{Fault, Index, Parse, Parser, Result};
 use wat_types::{FunctionType, TypeUse};
 
-/// What `call_indirect` and `return_call_indirect` call (WebAssembly Core Specification, Text Format, Instructions,
-/// "Control Instructions").
+/// What `call_indirect` and `return_call_indirect` call (WebAssembly Core Specification, Text
+/// Format, Instructions, "Control Instructions").
 #[derive(Debug, Drop)]
 pub struct CallIndirect<'a> {
-    /// The table that holds the function. Where none is written it is table 0, at the token before the operand.
+    /// The table that holds the function. Where none is written it is table 0, at the token before
+    /// the operand.
     pub table: Index<'a>,
     /// The type that the function must have. Its parameters have neither identifiers nor names.
     pub ty: TypeUse<'a, FunctionType<'a>>,
 }
 
 impl<'a> CallIndirect<'a> {
-    /// The same operand once more. Memory may be answered where its inline type has a parameter or a result.
+    /// The same operand once more. Memory may be answered where its inline type has a parameter or
+    /// a result.
     pub fn clone(&self) -> Result<CallIndirect<'a>>
         ensures copies { Copies SameCall seen_call bare_call result self.now }
     {

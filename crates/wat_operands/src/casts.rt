@@ -1,5 +1,5 @@
-//! Casts of references, and branches on them (WebAssembly Core Specification, Text Format, Instructions, "Reference
-//! Instructions" and "Control Instructions").
+//! Casts of references, and branches on them (WebAssembly Core Specification, Text Format,
+//! Instructions, "Reference Instructions" and "Control Instructions").
 
 ghost use Rattle.std.specs.Prelude.{true};
 ghost use Rattle.wat_operands.specs.Casts.{seen_test, seen_cast, seen_cast_desc_eq, BranchTy, seen_branch, seen_branch_fail, seen_branch_desc_eq, seen_branch_desc_eq_fail, cast_branch};

@@ -13,8 +13,8 @@ use crate::block::BlockType;
 use wat_tokens::repeat::while_begun;
 use wat_tokens::{Cursor, Fault, Index, Parse, Parser, Peek, Result};
 
-/// What a clause catches, with its tag as an `I` (WebAssembly Core Specification, Text Format, Instructions, "Control
-/// Instructions").
+/// What a clause catches, with its tag as an `I` (WebAssembly Core Specification, Text Format,
+/// Instructions, "Control Instructions").
 #[derive(Clone, Debug, Drop)]
 pub enum CatchKind<I> {
     /// An exception of the tag, without a reference to it.
@@ -31,7 +31,8 @@ pub enum CatchKind<I> {
 pub type TryTableCatchKind<'a> = CatchKind<Index<'a>>;
 
 impl<I> CatchKind<I> {
-    /// The tag of `Catch` and `CatchRef`, and else None. What is written through it changes the tag alone.
+    /// The tag of `Catch` and `CatchRef`, and else None. What is written through it changes the tag
+    /// alone.
     pub fn tag_index_mut(&mut self) -> Option<&mut I>
         ensures* writes_back { sem 𝓛 (LendsTag I.row self.entry result) }
         ensures value { tag_of self.old ≡ option_map (λ r. r.now) result }
@@ -45,7 +46,8 @@ impl<I> CatchKind<I> {
     }
 }
 
-/// A clause of a `try_table` (WebAssembly Core Specification, Text Format, Instructions, "Control Instructions").
+/// A clause of a `try_table` (WebAssembly Core Specification, Text Format, Instructions, "Control
+/// Instructions").
 #[derive(Clone, Debug, Drop)]
 pub struct TryTableCatch<'a> {
     /// What it catches.
@@ -54,8 +56,8 @@ pub struct TryTableCatch<'a> {
     pub label: Index<'a>,
 }
 
-/// The operand of `try_table`: its block, and what it catches (WebAssembly Core Specification, Text Format,
-/// Instructions, "Control Instructions").
+/// The operand of `try_table`: its block, and what it catches (WebAssembly Core Specification, Text
+/// Format, Instructions, "Control Instructions").
 #[derive(Debug, Drop)]
 pub struct TryTable<'a> {
     /// The block.
@@ -85,8 +87,8 @@ fn read_kind<'a>(parser: &mut Parser<'a>) -> Result<TryTableCatchKind<'a>>
     Ok(CatchKind::CatchAllRef)
 }
 
-/// `( catch idx idx )`, `( catch_ref idx idx )`, `( catch_all idx )` or `( catch_all_ref idx )`, with its parentheses:
-/// the tag first, the label last.
+/// `( catch idx idx )`, `( catch_ref idx idx )`, `( catch_all idx )` or `( catch_all_ref idx )`,
+/// with its parentheses: the tag first, the label last.
 impl<'a> Parse<'a> for TryTableCatch<'a> {
     ghost Seen = { CatchTy };
 
@@ -136,8 +138,9 @@ impl<'a> TryTable<'a> {
     }
 }
 
-/// A [`BlockType`], and then every clause that follows: each group that begins with `catch`, `catch_ref`, `catch_all` or
-/// `catch_all_ref`. Such a group that is no clause, as one without its label, is refused.
+/// A [`BlockType`], and then every clause that follows: each group that begins with `catch`,
+/// `catch_ref`, `catch_all` or `catch_all_ref`. Such a group that is no clause, as one without its
+/// label, is refused.
 impl<'a> Parse<'a> for TryTable<'a> {
     ghost Seen = { TryTy };
 

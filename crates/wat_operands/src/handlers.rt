@@ -26,7 +26,8 @@ pub enum Handle<'a> {
     },
 }
 
-/// The handlers that an instruction resumes a continuation under (stack switching, Text Format, "Instructions").
+/// The handlers that an instruction resumes a continuation under (stack switching, Text Format,
+/// "Instructions").
 #[derive(Debug, Drop)]
 pub struct ResumeTable<'a> {
     /// The handlers, in order.
@@ -119,7 +120,8 @@ impl<'a> ResumeTable<'a> {
     }
 }
 
-/// Every handler that follows: each group that begins with `on`. Such a group that is no handler is refused.
+/// Every handler that follows: each group that begins with `on`. Such a group that is no handler is
+/// refused.
 impl<'a> Parse<'a> for ResumeTable<'a> {
     ghost Seen = { List HandleTy };
 

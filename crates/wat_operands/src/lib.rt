@@ -1,7 +1,8 @@
 //! Operands of instructions (WebAssembly Core Specification, Text Format, "Instructions").
 //!
-//! Those that hold types or groups stand here; those of indices and numbers alone are `wat_immediates`', and named here
-//! too. Each is read from the tokens behind the instruction's word. Indices stay as they are written: nothing is resolved.
+//! Those that hold types or groups stand here; those of indices and numbers alone are
+//! `wat_immediates`', and named here too. Each is read from the tokens behind the instruction's
+//! word. Indices stay as they are written: nothing is resolved.
 #![tactic(auto)]
 
 pub mod block;

@@ -9,8 +9,8 @@ use wat_tokens::repeat::{Group, groups, rest_of_group};
 use wat_tokens::{Fault, Parse, Parser, Result};
 use wat_types::ValType;
 
-/// The types that a `select` is written with (WebAssembly Core Specification, Text Format, Instructions, "Parametric
-/// Instructions").
+/// The types that a `select` is written with (WebAssembly Core Specification, Text Format,
+/// Instructions, "Parametric Instructions").
 #[derive(Debug, Drop)]
 pub struct SelectTypes<'a> {
     /// The types of all its groups, in order; None where it has no group.
@@ -59,8 +59,8 @@ impl<'a> SelectTypes<'a> {
     }
 }
 
-/// Groups `( result ValType* )`, to where the second token isn't `result`, whatever the first is: None where there is
-/// none, else the types of all.
+/// Groups `( result ValType* )`, to where the second token isn't `result`, whatever the first is:
+/// None where there is none, else the types of all.
 impl<'a> Parse<'a> for SelectTypes<'a> {
     ghost Seen = { Option (List ValTy) };
 

@@ -1,5 +1,5 @@
-//! Does four calls that take memory, on values read from texts, and says what each answers, how many parts it gives, and what
-//! it leaves of the list and of the value that it is given.
+//! Does four calls that take memory, on values read from texts, and says what each answers, how
+//! many parts it gives, and what it leaves of the list and of the value that it is given.
 #![tactic(auto)]
 
 use bumpalo::Bump;

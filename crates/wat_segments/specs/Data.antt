@@ -61,7 +61,8 @@ begins_passive t = begins_numbers t
 abbrev pub memory_follows : List Tok → Bool
 memory_follows t = second (begins_word (codes "memory")) t
 
--- u32, where an Integer comes next; ( memory idx ), where the second token is `memory`; else nothing, memory 0
+-- u32, where an Integer comes next; ( memory idx ), where the second token is `memory`; else
+-- nothing, memory 0
 unfoldable pub data_memory : Production Idx
 data_memory =
     where_else begins_integer (made number (unsigned 32))

@@ -21,7 +21,8 @@ use Rattle.wat_segments.specs.declared.memory.MemoryKind.TheVariants as code
 
 -- ---- what contracts see
 
--- from where it is imported, and its type; its type; whether addresses have 64 bits, the size of a page, and what it holds
+-- from where it is imported, and its type; its type; whether addresses have 64 bits, the size of a
+-- page, and what it holds
 pub data MemoryKindTy : Type 0 where
   imported : List ℕ × List ℕ → MemoryType → MemoryKindTy
   normal : MemoryType → MemoryKindTy
@@ -62,7 +63,8 @@ inline_memory = made (λ v. inline v.0 v.1.0 v.1.1) (seq is_64 (seq pagesize_or_
 abbrev pub begins_inline : List Tok → Bool
 begins_inline t = begins_lparen t || ((begins_word (codes "i32") t || begins_word (codes "i64") t) && second begins_lparen t)
 
--- where an import in line begins, InlineImport MemoryType; where data in line begins, that; else MemoryType
+-- where an import in line begins, InlineImport MemoryType; where data in line begins, that; else
+-- MemoryType
 unfoldable pub memory_kind : Production MemoryKindTy
 memory_kind =
     where_else begins_inline_import (made (λ v. imported v.0 v.1) (seq inline_import memory_type))

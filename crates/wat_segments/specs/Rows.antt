@@ -46,6 +46,7 @@ block_text = Keyword (codes "data") ∷ in_parens (Keyword (codes "block") ∷ K
 abbrev pub head_behind_nop : DataTy
 head_behind_nop = data_of no_label (active (number 0) (record { instrs = nop ∷ plain_block ∷ []; hints = [] })) []
 
--- `data (block nop)` is put into memory 0, at what `nop` and then `block` say: the head is last, and no `end` is added
+-- `data (block nop)` is put into memory 0, at what `nop` and then `block` say: the head is last,
+-- and no `end` is added
 abbrev pub HeadLast : Type 0
 HeadLast = Spelled data_segment block_text head_behind_nop

@@ -11,7 +11,8 @@ use crate::offset::read_offset;
 use wat_expr::Expression;
 use wat_tokens::{Fault, Id, Index, NameAnnotation, Parse, Parser, Result, Span};
 
-/// A data segment of a module (WebAssembly Core Specification, Text Format, Modules, "Data Segments").
+/// A data segment of a module (WebAssembly Core Specification, Text Format, Modules, "Data
+/// Segments").
 #[derive(Debug, Drop)]
 pub struct Data<'a> {
     /// Where the word `data` begins.
@@ -26,15 +27,16 @@ pub struct Data<'a> {
     pub data: Vec<DataVal<'a>>,
 }
 
-/// Whether a data segment is put into a memory at first (WebAssembly Core Specification, Text Format, Modules, "Data
-/// Segments").
+/// Whether a data segment is put into a memory at first (WebAssembly Core Specification, Text
+/// Format, Modules, "Data Segments").
 #[derive(Debug, Drop)]
 pub enum DataKind<'a> {
     /// It isn't: instructions name it.
     Passive,
     /// It is.
     Active {
-        /// The memory. Where it isn't written, it is memory 0, and stands where the word `data` does.
+        /// The memory. Where it isn't written, it is memory 0, and stands where the word `data`
+        /// does.
         memory: Index<'a>,
         /// Where in the memory.
         offset: Expression<'a>,
@@ -91,13 +93,15 @@ fn read_kind<'a>(parser: &mut Parser<'a>, span: Span) -> Result<DataKind<'a>>
     read_active(parser, span)
 }
 
-/// `data`, an identifier or none, a name or none, and values to the end. Where neither `)` nor a string nor a group of numbers
-/// stands before the values, it is active: a memory's number, or `( memory index )`, or nothing, and then `( offset` expression
-/// `)` or, as an abbreviation, `(` an instruction and items `)`, of which the instruction comes last; where there are no items, no
+/// `data`, an identifier or none, a name or none, and values to the end. Where neither `)` nor a
+/// string nor a group of numbers stands before the values, it is active: a memory's number, or `(
+/// memory index )`, or nothing, and then `( offset` expression `)` or, as an abbreviation, `(` an
+/// instruction and items `)`, of which the instruction comes last; where there are no items, no
 /// span is kept of it.
 ///
-/// Refused are an index that is out of range, with Range, at the index; what isn't the word of an instruction where an offset
-/// is abbreviated, with Operator, at it; what an expression or a value refuses, as it does; anything else with Unexpected.
+/// Refused are an index that is out of range, with Range, at the index; what isn't the word of an
+/// instruction where an offset is abbreviated, with Operator, at it; what an expression or a value
+/// refuses, as it does; anything else with Unexpected.
 impl<'a> Parse<'a> for Data<'a> {
     ghost Seen = { DataTy };
 

@@ -10,8 +10,8 @@ use crate::numbers::{append, read_numbers};
 use wat_tokens::repeat::all_to_end;
 use wat_tokens::{Fault, Parse, Parser, Result};
 
-/// A value of a data segment (WebAssembly Core Specification, Text Format, Modules, "Data Segments", with the numbers of the
-/// proposal "Numeric Values in WAT Data Segments").
+/// A value of a data segment (WebAssembly Core Specification, Text Format, Modules, "Data
+/// Segments", with the numbers of the proposal "Numeric Values in WAT Data Segments").
 #[derive(Debug, Drop)]
 pub enum DataVal<'a> {
     /// The bytes of a string.
@@ -41,7 +41,8 @@ impl<'a> DataVal<'a> {
         }
     }
 
-    /// Puts its bytes behind those of a list. Memory refuses it, where it has any, and then the list is as it was.
+    /// Puts its bytes behind those of a list. Memory refuses it, where it has any, and then the
+    /// list is as it was.
     pub fn push_onto(&self, dst: &mut Vec<u8>) -> Result<()>
         ensures put { MatchResult result (λ _. dst.new.items ≡ dst.old.items ++ bytes_in (seen_val self.now)) (λ e. (e.fault ≡ Fault.Memory) × (dst.new.items ≡ dst.old.items)) }
         // The list grows by as many bytes as `len` answers.
@@ -62,11 +63,13 @@ fn lparen_next(parser: &Parser<'_>) -> bool
     parser.cursor().lparen().is_some()
 }
 
-/// A string, or a group of numbers: `i8`, `i16`, `i32`, `i64`, `f32`, `f64` or `v128`, and numbers of that type. An integer is
-/// read with or without a sign, a vector as [`V128Const`](wat_immediates::V128Const) is; no floating-point number is read.
+/// A string, or a group of numbers: `i8`, `i16`, `i32`, `i64`, `f32`, `f64` or `v128`, and numbers
+/// of that type. An integer is read with or without a sign, a vector as
+/// [`V128Const`](wat_immediates::V128Const) is; no floating-point number is read.
 ///
-/// Refused are an integer that is out of range, with Range, and a floating-point number, with FloatLiteral, each at the number;
-/// another word behind the `(`, and anything else, with Unexpected.
+/// Refused are an integer that is out of range, with Range, and a floating-point number, with
+/// FloatLiteral, each at the number; another word behind the `(`, and anything else, with
+/// Unexpected.
 impl<'a> Parse<'a> for DataVal<'a> {
     ghost Seen = { DataValTy };
 

@@ -1,7 +1,8 @@
-//! Memories and data segments of the WebAssembly text format (WebAssembly Core Specification, Text Format, Modules,
-//! "Memories" and "Data Segments").
+//! Memories and data segments of the WebAssembly text format (WebAssembly Core Specification, Text
+//! Format, Modules, "Memories" and "Data Segments").
 //!
-//! Each is read from tokens by [`wat_tokens::Parse`]. Indices stay as they are written: nothing is resolved.
+//! Each is read from tokens by [`wat_tokens::Parse`]. Indices stay as they are written: nothing is
+//! resolved.
 #![tactic(auto)]
 
 pub mod data;

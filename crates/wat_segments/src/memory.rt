@@ -25,7 +25,8 @@ pub struct Memory<'a> {
     pub kind: MemoryKind<'a>,
 }
 
-/// How a memory is defined (WebAssembly Core Specification, Text Format, Modules, "Memories", Abbreviations).
+/// How a memory is defined (WebAssembly Core Specification, Text Format, Modules, "Memories",
+/// Abbreviations).
 #[derive(Debug, Drop)]
 pub enum MemoryKind<'a> {
     /// It is imported.
@@ -62,7 +63,8 @@ fn inline_next(parser: &Parser<'_>) -> bool
     }
 }
 
-/// What a memory holds, in line: `i32`, `i64` or neither, the size of a page or not, and `( data` values `)`.
+/// What a memory holds, in line: `i32`, `i64` or neither, the size of a page or not, and `( data`
+/// values `)`.
 #[tactic(auto, unfolding(crate::specs::Memory::inline_memory))]
 fn read_inline<'a>(parser: &mut Parser<'a>) -> Result<MemoryKind<'a>>
     ensures reads { Reads bare_memory_kind seen_memory_kind result (inline_memory.reads parser.old.left) parser.old parser.new }
@@ -96,11 +98,12 @@ fn read_kind<'a>(parser: &mut Parser<'a>) -> Result<MemoryKind<'a>>
     Ok(MemoryKind::Normal(MemoryType::parse(parser)?))
 }
 
-/// `memory`, an identifier or none, a name or none, exports in line, and then: an import in line and a type; or, where `(` comes
-/// next, or `i32` or `i64` and then `(`, that word or neither, the size of a page or not, and `( data` values `)`; or a type.
+/// `memory`, an identifier or none, a name or none, exports in line, and then: an import in line
+/// and a type; or, where `(` comes next, or `i32` or `i64` and then `(`, that word or neither, the
+/// size of a page or not, and `( data` values `)`; or a type.
 ///
-/// A number that is out of range is refused with Range, a page size that is no power of two with PageSize, each at the number;
-/// what a value refuses, as it does; anything else with Unexpected.
+/// A number that is out of range is refused with Range, a page size that is no power of two with
+/// PageSize, each at the number; what a value refuses, as it does; anything else with Unexpected.
 impl<'a> Parse<'a> for Memory<'a> {
     ghost Seen = { MemoryTy };
 

@@ -11,7 +11,8 @@ use wat_immediates::V128Const;
 use wat_tokens::repeat::{Group, all_groups};
 use wat_tokens::{F32, F64, Fault, Parse, Parser, Result};
 
-/// Puts bytes behind the others. Memory refuses it, where there are any, and then the list is as it was.
+/// Puts bytes behind the others. Memory refuses it, where there are any, and then the list is as it
+/// was.
 pub(crate) fn append(out: &mut Vec<u8>, bytes: &[u8]) -> Result<()>
     ensures put { MatchResult result (λ _. out.new.items ≡ out.old.items ++ bytes.now) (λ e. (e.fault ≡ Fault.Memory) × (out.new.items ≡ out.old.items)) }
     ensures some { IfErr result (λ _. no_items bytes.now ≡ false) }
@@ -216,8 +217,9 @@ fn read_wide<'a>(parser: &mut Parser<'a>) -> Result<Vec<u8>>
 
 /// The word of a kind of numbers, and numbers of it to the end: all their bytes in order.
 ///
-/// An integer is read with a sign: it is refused with Range, at the integer, where it is out of range. A number behind `f32`
-/// or `f64` is refused with FloatLiteral, and another word in front with Unexpected, at the word.
+/// An integer is read with a sign: it is refused with Range, at the integer, where it is out of
+/// range. A number behind `f32` or `f64` is refused with FloatLiteral, and another word in front
+/// with Unexpected, at the word.
 #[tactic(auto, using(wat_tokens::specs::Joined::joined_reads, crate::proofs::Bytes::bytes_again), unfolding(crate::specs::Numbers::number_list))]
 pub(crate) fn read_numbers<'a>(parser: &mut Parser<'a>) -> Result<Vec<u8>>
     ensures reads { Reads no_items (λ v. v.items) result (number_list.reads parser.old.left) parser.old parser.new }

@@ -10,8 +10,9 @@ use wat_instr::Instruction;
 use wat_tokens::whole::both;
 use wat_tokens::{Parse, Parser, Result};
 
-/// An instruction and items, to the end. The instruction stands behind what the items unfold to, and its span behind theirs. Where
-/// there are no items, it is an expression of one instruction, which has no spans.
+/// An instruction and items, to the end. The instruction stands behind what the items unfold to,
+/// and its span behind theirs. Where there are no items, it is an expression of one instruction,
+/// which has no spans.
 #[tactic(auto, using(crate::proofs::Heads::never_bare), unfolding(crate::specs::Offset::head_last))]
 fn read_head_last<'a>(parser: &mut Parser<'a>) -> Result<Expression<'a>>
     ensures reads { ReadsIf false false bare_expression seen_expression result (head_last.reads parser.old.left) parser.old parser.new }
@@ -25,7 +26,8 @@ fn read_head_last<'a>(parser: &mut Parser<'a>) -> Result<Expression<'a>>
     Ok(offset)
 }
 
-/// What stands in the group of an offset: `offset` and an expression, or its abbreviation, an instruction and items.
+/// What stands in the group of an offset: `offset` and an expression, or its abbreviation, an
+/// instruction and items.
 #[tactic(auto, unfolding(crate::specs::Offset::offset_inside))]
 pub(crate) fn read_offset<'a>(parser: &mut Parser<'a>) -> Result<Expression<'a>>
     ensures reads { ReadsIf false false bare_expression seen_expression result (offset_inside.reads parser.old.left) parser.old parser.new }

@@ -19,7 +19,8 @@ hint_text (Some v) = codes " hint " ++ decimal v
 abbrev pub line : List ℕ → Instr → Option ℕ → List ℕ
 line front i hint = front ++ (instr_text i ++ (hint_text hint ++ codes "\n"))
 
--- Instructions, one a line behind the front, the first of which has the index k; each with what hint says of its index.
+-- Instructions, one a line behind the front, the first of which has the index k; each with what
+-- hint says of its index.
 abbrev pub lines : List ℕ → (ℕ → Option ℕ) → ℕ → List Instr → List ℕ
 lines front hint k [] = []
 lines front hint k (i ∷ is) = line front i (hint k) ++ lines front hint (k + 1) is

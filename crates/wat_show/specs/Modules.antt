@@ -21,7 +21,8 @@ kind_text (binary pieces) = binary_line pieces
 abbrev pub module_text : ModuleTy → List ℕ
 module_text m = kind_text m.kind
 
--- the same of values in the code: `line` is what is added of a field, and `bytes` are those of a piece
+-- the same of values in the code: `line` is what is added of a field, and `bytes` are those of a
+-- piece
 abbrev pub kind_listing : {F P : Type 0} → (F → List ℕ) → (P → List ℕ) → ModuleKindOf F P → List ℕ
 kind_listing line bytes (code.Text fs) = text_lines (length fs.items) (flat_map line fs.items)
 kind_listing line bytes (code.Binary ps) = binary_line (map bytes ps.items)

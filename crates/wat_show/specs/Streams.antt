@@ -1,5 +1,5 @@
--- What a run does to what it reads and writes, in std's words on the bytes that a reader has left and a
--- writer holds, where those are known.
+-- What a run does to what it reads and writes, in std's words on the bytes that a reader has left
+-- and a writer holds, where those are known.
 use Rattle.std.specs.Prelude.{◌≡◌, ◌≢◌, ℕ, List, [], ◌++◌, ⊤, Option, Result, MatchResult}
 use Rattle.std.specs.Io.KnownBytes.{Consumes, Appends, IsAtEnd}
 

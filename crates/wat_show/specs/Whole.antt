@@ -11,8 +11,9 @@ use Rattle.wat_tokens.specs.Token.{Tok, Placed, LParen, RParen, tokens_of}
 abbrev pub Spelled : {A : Type 0} → Production A → List ℕ → A → Type 0
 Spelled g text v = (ts : List Placed) × IsCut text ts × g.spells v (as_seen false (tokens_of ts)) []
 
--- Where no annotation is known, the first token that is seen is `(`. Behind it, seen with the five names, stand the tokens of
--- the module, then `)`, and more. Behind that `)` no token is seen where no annotation is known.
+-- Where no annotation is known, the first token that is seen is `(`. Behind it, seen with the five
+-- names, stand the tokens of the module, then `)`, and more. Behind that `)` no token is seen where
+-- no annotation is known.
 pub record IsModule (t : List Tok) (m : ModuleTy) : Type 0 where
   pub first : List Tok
   pub opens : as_seen false t ≡ LParen ∷ first

@@ -85,7 +85,8 @@ fn add_lines(
     Ok(())
 }
 
-/// Adds the instructions of an expression, one a line behind the front, each with the hint that has its index.
+/// Adds the instructions of an expression, one a line behind the front, each with the hint that has
+/// its index.
 fn add_lines_of(out: &mut Vec<u8>, front: &str, expression: &Expression) -> Result<(), AllocError>
     ensures { OnOk result (out.new.items ≡ out.old.items ++ lines_of front.now (seen_expression expression.now)) }
 {

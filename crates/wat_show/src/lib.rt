@@ -1,4 +1,5 @@
-//! What the program `watshow` shows: it reads all bytes, makes its whole output from them, and writes that.
+//! What the program `watshow` shows: it reads all bytes, makes its whole output from them, and
+//! writes that.
 #![tactic(auto)]
 
 pub mod entries;

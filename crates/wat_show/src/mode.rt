@@ -76,8 +76,8 @@ impl Shows for Mode {
     }
 }
 
-/// Reads all bytes, makes the whole output of the mode, and then writes it. Answers the exit status: 0 where the bytes
-/// spell a value of the mode, else 1.
+/// Reads all bytes, makes the whole output of the mode, and then writes it. Answers the exit
+/// status: 0 where the bytes spell a value of the mode, else 1.
 pub fn run<R: Read, W: Write>(
     alloc: Global,
     mode: Mode,

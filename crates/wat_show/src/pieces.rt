@@ -32,7 +32,8 @@ impl<'a> Piece for DataVal<'a> {
     }
 }
 
-/// How many bytes the pieces have together. Pieces may share their bytes, so they may be more than memory has.
+/// How many bytes the pieces have together. Pieces may share their bytes, so they may be more than
+/// memory has.
 pub fn total<P: Piece>(pieces: &[P]) -> u128
     ensures { result ≡ byte_count (map P.bytes pieces.now) }
 {

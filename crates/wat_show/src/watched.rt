@@ -44,7 +44,8 @@ impl<T> Watched<T> {
 impl<R: Read> Read for Watched<R> {
     ghost remaining = { λ watched. R.remaining watched.inner };
 
-    /// One read of the inner reader, whose answer is passed on. Sets `failed` where that is an error.
+    /// One read of the inner reader, whose answer is passed on. Sets `failed` where that is an
+    /// error.
     fn read(&mut self, buf: &mut [u8]) -> io::Result<usize>
         ensures bound { ReadsAtMost result buf.new }
         ensures bytes { ReadConsumes (R.remaining self.old.inner) (R.remaining self.new.inner)
@@ -83,7 +84,8 @@ impl<W: Write> Write for Watched<W> {
         outcome
     }
 
-    /// One flush of the inner writer, whose answer is passed on. Sets `failed` where that is an error.
+    /// One flush of the inner writer, whose answer is passed on. Sets `failed` where that is an
+    /// error.
     fn flush(&mut self) -> io::Result<()>
         ensures bytes { Keeps (W.contents self.old.inner) (W.contents self.new.inner) }
         ensures failed { IsTrue self.new.failed ↔ (IsTrue self.old.failed ⊎ IsErr result) }

@@ -42,7 +42,8 @@ fn closed<'a, T: Drop>(parser: &mut Parser<'a>, value: T) -> Result<T, Error>
     Ok(value)
 }
 
-/// Reads the module that the whole text spells, between its parentheses. A token that is left over is Unexpected.
+/// Reads the module that the whole text spells, between its parentheses. A token that is left over
+/// is Unexpected.
 pub fn read_module<'a>(alloc: Global, text: &'a str, arena: &'a Bump) -> Result<Module<'a>, Error>
     ensures found { IfOk result (λ m. SpelledModule text.now (seen_module m)) }
     ensures none { IfErr result (λ e. e.fault ≢ Memory → (m : ModuleTy) → SpelledModule text.now m → ⊥) }

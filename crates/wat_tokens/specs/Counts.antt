@@ -11,8 +11,8 @@ use Rattle.wat_tokens.specs.State.{State, behind, behind_then}
 abbrev pub Grows : State → State → Type 0
 Grows a b = (a.turns ≤ b.turns) × (a.probes ≤ b.probes) × (a.peak ≤ b.peak) × (a.held ≤ b.held)
 
--- From a to b the tokens `front` were taken, and the place is directly behind them; no count fell, the greatest height rose
--- at most to how they nest, and the names that are on stayed.
+-- From a to b the tokens `front` were taken, and the place is directly behind them; no count fell,
+-- the greatest height rose at most to how they nest, and the names that are on stayed.
 pub record CountsBy (a : State) (b : State) : Type 0 where
   pub front : List Tok
   pub left : a.left ≡ front ++ b.left
@@ -93,7 +93,8 @@ pub carries_still : (a b : State) → b.left ≡ a.left → b.taken ≡ a.taken 
 unfolding Counts behind
 carries_still a b l t m n h p k e = carries_of a b (record { front = []; left = sym l; taken = omega (arith, t); more = (m, n, omega (arith, p), h); peak = omega (arith, p); names = k; stands = e })
 
--- in plain words: what was taken is a front, `taken` rose by its length, and `peak` at most to how it nests
+-- in plain words: what was taken is a front, `taken` rose by its length, and `peak` at most to how
+-- it nests
 pub counts_taken : (a b : State) (c : List Tok) → Carries a b → a.left ≡ c ++ b.left → b.taken ≡ a.taken + length c
 unfolding Counts
 counts_taken a b c f e =

@@ -9,8 +9,9 @@ abbrev pub NotBare : {A : Type 0} → (A → Bool) → Read A → Type 0
 NotBare bare (Some x) = bare x.0 ≡ false
 NotBare bare None = Unit {0}
 
--- The value that was answered, seen by view, is what stands in front; a fault other than Memory means that none does.
--- Memory comes only of a type that can hold memory, and where no bare value stands in front.
+-- The value that was answered, seen by view, is what stands in front; a fault other than Memory
+-- means that none does. Memory comes only of a type that can hold memory, and where no bare value
+-- stands in front.
 abbrev pub Gives : {X A : Type 0} → Bool → (A → Bool) → (X → A) → Result X Error → Read A → List Tok → Type 0
 Gives light bare view (Ok x) read left = read ≡ Some (view x, left)
 Gives light bare view (Err e) read left = (e.fault ≢ Memory → read ≡ None) × (e.fault ≡ Memory → (light ≡ false) × NotBare bare read)

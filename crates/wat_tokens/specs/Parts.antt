@@ -1,4 +1,5 @@
--- Parts of productions: one token, a sequence, a choice, a value made of parts, an optional part. Each has its relation and its reader.
+-- Parts of productions: one token, a sequence, a choice, a value made of parts, an optional part.
+-- Each has its relation and its reader.
 use Rattle.std.specs.Prelude.{◌≡◌, ℕ, ◌+◌, ◌≤◌, min, Bool, true, false, if◌then◌else◌, List, [], ◌∷◌, ◌++◌, length, Option, Some, None, ◌⊎◌, refl, is_some}
 use Rattle.std.proofs.Common.{ap, subst, sym, ◌∙◌, append_assoc, arith, length-append, inl, inr}
 use Rattle.wat_lexer.specs.Token.{Tok, LParen, RParen}

@@ -5,9 +5,10 @@ use Rattle.wat_lexer.specs.Cut.{IsCut}
 use Rattle.wat_lexer.specs.Sight.{as_seen, hidden}
 use Rattle.wat_lexer.specs.Token.{Tok, Placed, tokens_of}
 
--- rest: all tokens from the place on; left: those of them that are seen; known: whether the five standard names are on;
--- tracks: whether spans of instructions are kept; the rest are counts: of tokens that were taken, turns of loops,
--- comparisons of a word with a table's, and the greatest heights of a stack's levels and of the heads that it holds
+-- rest: all tokens from the place on; left: those of them that are seen; known: whether the five
+-- standard names are on; tracks: whether spans of instructions are kept; the rest are counts: of
+-- tokens that were taken, turns of loops, comparisons of a word with a table's, and the greatest
+-- heights of a stack's levels and of the heads that it holds
 pub record State : Type 0 where
   pub rest : List Tok
   pub left : List Tok

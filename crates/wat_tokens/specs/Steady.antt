@@ -1,4 +1,5 @@
--- What holds of each step of a reading: what was counted still is, no turn and no height is, and the names stay.
+-- What holds of each step of a reading: what was counted still is, no turn and no height is, and
+-- the names stay.
 use Rattle.wat_tokens.specs.Counts.{Carries, Stays, Kept}
 use Rattle.wat_tokens.specs.State.{State}
 

@@ -7,11 +7,12 @@ use wat_lexer::number::Integer;
 use wat_lexer::sight::{from, shown};
 use wat_lexer::token::{Lexeme, Token};
 
-/// A place in the tokens, to look at what stands there. A lookup takes nothing: where a token of its kind is the next
-/// that is seen, it answers the place behind that token, and what stands in it.
+/// A place in the tokens, to look at what stands there. A lookup takes nothing: where a token of
+/// its kind is the next that is seen, it answers the place behind that token, and what stands in
+/// it.
 ///
-/// Groups of annotations that aren't known to the parser (Text Format, "Annotations") are passed over, however many
-/// stand there, in one step.
+/// Groups of annotations that aren't known to the parser (Text Format, "Annotations") are passed
+/// over, however many stand there, in one step.
 #[derive(Clone, Copy)]
 pub struct Cursor<'p> {
     rest: &'p [Lexeme<'p>],

@@ -23,7 +23,8 @@ pub struct F64 {
     pub bits: u64,
 }
 
-/// Whether the token in front may be the literal of a number: an integer, a keyword or a reserved token.
+/// Whether the token in front may be the literal of a number: an integer, a keyword or a reserved
+/// token.
 fn may_be_literal(cursor: Cursor<'_>) -> bool {
     let other = cursor.lparen().is_some()
         || cursor.rparen().is_some()
@@ -33,7 +34,8 @@ fn may_be_literal(cursor: Cursor<'_>) -> bool {
     !other && cursor.any().is_some()
 }
 
-/// Why no literal is read: FloatLiteral where one may stand in front, else Unexpected, each at the token in front.
+/// Why no literal is read: FloatLiteral where one may stand in front, else Unexpected, each at the
+/// token in front.
 fn refused(parser: &Parser<'_>) -> Error
     ensures { result.fault ≢ Memory }
 {

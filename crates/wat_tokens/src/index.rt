@@ -17,7 +17,8 @@ use std::hash::{Hash, Hasher};
 use wat_lexer::fault::Error;
 use wat_lexer::span::Span;
 
-/// An identifier (Text Format, "Identifiers"). Two are equal where their names are; where they stand doesn't count.
+/// An identifier (Text Format, "Identifiers"). Two are equal where their names are; where they
+/// stand doesn't count.
 #[derive(Clone, Copy, Debug)]
 pub struct Id<'a> {
     name: &'a str,
@@ -75,8 +76,8 @@ impl Hash for Id<'_> {
     }
 }
 
-/// An index: a number, or an identifier (Text Format, "Indices"). Two are equal where their numbers or their names are;
-/// where they stand doesn't count.
+/// An index: a number, or an identifier (Text Format, "Indices"). Two are equal where their numbers
+/// or their names are; where they stand doesn't count.
 #[derive(Clone, Copy, Debug)]
 pub enum Index<'a> {
     /// A number, and where it stands.
@@ -155,8 +156,8 @@ impl<'p> Peek for Id<'p> {
     }
 }
 
-/// A number is read without a sign in 32 bits: it is refused with Range, at the number, where it is too large or a `-`
-/// is written.
+/// A number is read without a sign in 32 bits: it is refused with Range, at the number, where it is
+/// too large or a `-` is written.
 impl<'a> Parse<'a> for Index<'a> {
     ghost Seen = { Idx };
 

@@ -28,8 +28,9 @@ impl<'a> Parse<'a> for Integer<'a> {
     }
 }
 
-/// Takes an integer and answers the unsigned number of so many bits that it reads as. It refuses with Unexpected where
-/// none stands in front, and with Range, at the integer, where its value is too large or a `-` is written.
+/// Takes an integer and answers the unsigned number of so many bits that it reads as. It refuses
+/// with Unexpected where none stands in front, and with Range, at the integer, where its value is
+/// too large or a `-` is written.
 fn unsigned(parser: &mut Parser<'_>, bits: u32) -> Result<u64, Error>
     requires { IsTrue (is_width bits) }
     ensures reads { ReadsLight (λ n. n) result ((unsigned bits).reads parser.old.left) parser.old parser.new }
@@ -153,8 +154,9 @@ impl Peek for u64 {
     }
 }
 
-/// Takes an integer and answers the signed number of so many bits that it reads as. It refuses with Unexpected where
-/// none stands in front, and with Range, at the integer, where its value is out of range.
+/// Takes an integer and answers the signed number of so many bits that it reads as. It refuses with
+/// Unexpected where none stands in front, and with Range, at the integer, where its value is out of
+/// range.
 fn signed(parser: &mut Parser<'_>, bits: u32) -> Result<i64, Error>
     requires { IsTrue (is_width bits) }
     ensures reads { ReadsLight (λ n. n) result ((signed bits).reads parser.old.left) parser.old parser.new }

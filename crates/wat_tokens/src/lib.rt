@@ -1,8 +1,8 @@
 //! The layer below a reader of the WebAssembly text format: tokens, and a parser over them.
 //!
-//! A text is cut into tokens as the WebAssembly Core Specification says (Text Format, "Lexical Format"), and a
-//! [`Parser`] takes them from the front. A type that can be read is [`Parse`], one that can be looked for is [`Peek`].
-//! Offsets are in bytes from the start of the text.
+//! A text is cut into tokens as the WebAssembly Core Specification says (Text Format, "Lexical
+//! Format"), and a [`Parser`] takes them from the front. A type that can be read is [`Parse`], one
+//! that can be looked for is [`Peek`]. Offsets are in bytes from the start of the text.
 #![tactic(auto)]
 
 pub mod cursor;

@@ -9,8 +9,8 @@ use crate::parser::Parser;
 use crate::traits::{Parse, Peek};
 use wat_lexer::fault::Error;
 
-/// `( @name name )`: a name that the text gives (Appendix, "Custom Sections and Annotations", "Name Annotations"). It is
-/// read where the annotation `name` is known.
+/// `( @name name )`: a name that the text gives (Appendix, "Custom Sections and Annotations", "Name
+/// Annotations"). It is read where the annotation `name` is known.
 #[derive(Clone, Copy, Debug)]
 pub struct NameAnnotation<'a> {
     /// The name.

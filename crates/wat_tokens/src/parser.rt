@@ -29,15 +29,16 @@ use wat_lexer::token::{Lexeme, Token};
 
 /// Takes the tokens of a text from the front.
 ///
-/// It stands directly behind the last token that it took. A group that begins with an annotation (Text Format,
-/// "Annotations") is passed over, whole, unless its annotation is known: none is at first, and
-/// [`with_standard_annotations`](Parser::with_standard_annotations) turns five on.
+/// It stands directly behind the last token that it took. A group that begins with an annotation
+/// (Text Format, "Annotations") is passed over, whole, unless its annotation is known: none is at
+/// first, and [`with_standard_annotations`](Parser::with_standard_annotations) turns five on.
 ///
-/// A call that takes one token takes it where it stands in front. Else it refuses with Unexpected, at the token in
-/// front or at the end of the text, and leaves the parser as it was.
+/// A call that takes one token takes it where it stands in front. Else it refuses with Unexpected,
+/// at the token in front or at the end of the text, and leaves the parser as it was.
 ///
-/// Names and strings that it gives out live as long as the text and the arena. Contracts see a parser as a `State`:
-/// the tokens that are left, which annotations are known, and what was counted.
+/// Names and strings that it gives out live as long as the text and the arena. Contracts see a
+/// parser as a `State`: the tokens that are left, which annotations are known, and what was
+/// counted.
 #[derive(Drop)]
 pub struct Parser<'a> {
     tokens: Vec<Lexeme<'a>>,
@@ -71,10 +72,12 @@ impl<'a> Model for Parser<'a> {
 }
 
 impl<'a> Parser<'a> {
-    /// Cuts a text into tokens (Text Format, "Lexical Format"), and stands in front of the first. No annotation is known.
+    /// Cuts a text into tokens (Text Format, "Lexical Format"), and stands in front of the first.
+    /// No annotation is known.
     ///
-    /// Where the text can't be cut, it is refused with its first fault from the left: LexChar, LexString or LexComment,
-    /// and where it has none of these, LexAnnotation. Memory may be answered for any text.
+    /// Where the text can't be cut, it is refused with its first fault from the left: LexChar,
+    /// LexString or LexComment, and where it has none of these, LexAnnotation. Memory may be
+    /// answered for any text.
     pub fn new(alloc: Global, text: &'a str, arena: &'a Bump) -> Result<Parser<'a>, Error>
         ensures fresh { IfOk result (λ p. IsFresh text.now p) }
         ensures fault { IfErr result (λ e. e.fault ≢ Fault.Memory → FirstFault text.now e.fault (offset_of e.span)) }
@@ -105,8 +108,8 @@ impl<'a> Parser<'a> {
         }
     }
 
-    /// Makes the five standard annotations known or unknown: `custom`, `producers`, `name`, `dylink.0` and
-    /// `metadata.code.branch_hint`. The parser stays where it is.
+    /// Makes the five standard annotations known or unknown: `custom`, `producers`, `name`,
+    /// `dylink.0` and `metadata.code.branch_hint`. The parser stays where it is.
     pub fn with_standard_annotations(&mut self, on: bool)
         ensures value { self.new ≡ record self.old { known = on; left = as_seen on self.old.rest } }
         ensures was { self.old.left ≡ as_seen self.old.known self.old.rest }
@@ -160,7 +163,8 @@ impl<'a> Parser<'a> {
         self.peak = self.peak.max(height);
     }
 
-    /// Notes how many heads a stack holds: `held` becomes the greater of what it was and the number.
+    /// Notes how many heads a stack holds: `held` becomes the greater of what it was and the
+    /// number.
     #[tactic(auto, using(crate::specs::Counts::carries_still))]
     pub fn note_held(&mut self, heads: usize)
         ensures only { self.new ≡ record self.old { held = max self.old.held heads } }
@@ -181,7 +185,8 @@ impl<'a> Parser<'a> {
         Cursor::new(from(&self.tokens, self.at), self.known)
     }
 
-    /// Where the token in front begins, or the end of the text where none is left. No clause says which offset it is.
+    /// Where the token in front begins, or the end of the text where none is left. No clause says
+    /// which offset it is.
     pub fn cur_span(&self) -> Span {
         match shown(from(&self.tokens, self.at), self.known) {
             [first, ..] => Span::from_offset(first.offset),
@@ -251,7 +256,8 @@ impl<'a> Parser<'a> {
         }
     }
 
-    /// Whether a group that begins with the annotation of the name, given without its `@`, stands in front.
+    /// Whether a group that begins with the annotation of the name, given without its `@`, stands
+    /// in front.
     pub fn annotation_is(&self, name: &str) -> bool
         ensures { result ≡ begins_annotation name.now self.now.left }
     {
@@ -334,7 +340,8 @@ impl<'a> Parser<'a> {
         }
     }
 
-    /// Takes the one keyword (Text Format, "Tokens") and answers where it begins, or refuses with Unexpected.
+    /// Takes the one keyword (Text Format, "Tokens") and answers where it begins, or refuses with
+    /// Unexpected.
     pub fn keyword(&mut self, word: &str) -> Result<Span, Error>
         ensures reads { ReadsLight (λ _. tt) result (one_reads (word_only word.now) self.old.left) self.old self.new }
         ensures refused { Unmoved result self.old self.new }
@@ -350,7 +357,8 @@ impl<'a> Parser<'a> {
         }
     }
 
-    /// Takes the one keyword (Text Format, "Tokens") where it stands in front, and answers whether it did.
+    /// Takes the one keyword (Text Format, "Tokens") where it stands in front, and answers whether
+    /// it did.
     pub fn flag(&mut self, word: &str) -> bool
         ensures reads { ReadsLight (λ b. b) (Ok result) ((flag word.now).reads self.old.left) self.old self.new }
     {
@@ -361,8 +369,8 @@ impl<'a> Parser<'a> {
         stands
     }
 
-    /// Takes the annotation of the name (Text Format, "Annotations"), given without its `@`, and answers where it
-    /// begins, or refuses with Unexpected.
+    /// Takes the annotation of the name (Text Format, "Annotations"), given without its `@`, and
+    /// answers where it begins, or refuses with Unexpected.
     pub fn take_annotation(&mut self, name: &str) -> Result<Span, Error>
         ensures reads { ReadsLight (λ _. tt) result (one_reads (annotation_only name.now) self.old.left) self.old self.new }
         ensures refused { Unmoved result self.old self.new }
@@ -393,8 +401,8 @@ impl<'a> Parser<'a> {
         }
     }
 
-    /// Takes an identifier (Text Format, "Identifiers") and answers its name, without its `$`, or refuses with
-    /// Unexpected.
+    /// Takes an identifier (Text Format, "Identifiers") and answers its name, without its `$`, or
+    /// refuses with Unexpected.
     pub fn take_id(&mut self) -> Result<&'a str, Error>
         ensures reads { ReadsLight (λ x. x.now) result (one_reads is_id self.old.left) self.old self.new }
         ensures refused { Unmoved result self.old self.new }
@@ -424,7 +432,8 @@ impl<'a> Parser<'a> {
         }
     }
 
-    /// Takes a string (Text Format, "Strings") and answers its bytes, decoded, or refuses with Unexpected.
+    /// Takes a string (Text Format, "Strings") and answers its bytes, decoded, or refuses with
+    /// Unexpected.
     pub fn take_string(&mut self) -> Result<&'a [u8], Error>
         ensures reads { ReadsLight (λ x. x.now) result (one_reads is_string self.old.left) self.old self.new }
         ensures refused { Unmoved result self.old self.new }

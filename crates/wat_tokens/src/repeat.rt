@@ -81,8 +81,8 @@ pub trait Group<'a, V> {
     fn follows(parser: &Parser<'a>) -> bool
         ensures { result ≡ follows parser.now.left };
 
-    /// Takes the group that stands in front, each part put behind those that are there, or refuses as
-    /// [`Parse::parse`] does.
+    /// Takes the group that stands in front, each part put behind those that are there, or refuses
+    /// as [`Parse::parse`] does.
     fn take(parser: &mut Parser<'a>, out: &mut Vec<V>) -> Result<(), Error>
         ensures exact { Gives false no_items (λ _. map seen out.new.items) result (after_front (map seen out.old.items) (grammar.reads parser.old.left)) parser.new.left }
         ensures counts { Counted result parser.old parser.new }

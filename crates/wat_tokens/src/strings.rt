@@ -40,8 +40,8 @@ impl<'p> Peek for &'p [u8] {
     }
 }
 
-/// A string that is UTF-8 (Text Format, "Names"). Where the string in front isn't, it is refused with Utf8, at the
-/// string.
+/// A string that is UTF-8 (Text Format, "Names"). Where the string in front isn't, it is refused
+/// with Utf8, at the string.
 impl<'a> Parse<'a> for &'a str {
     ghost Seen = { List ℕ };
 

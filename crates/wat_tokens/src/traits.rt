@@ -39,8 +39,8 @@ pub trait Parse<'a>: Sized {
 
     /// Takes the tokens of a value that stands in front.
     ///
-    /// Where none does, it is refused with the first fault that is met, and the parser then has some end of its tokens
-    /// left. Memory may be answered where the value isn't bare.
+    /// Where none does, it is refused with the first fault that is met, and the parser then has
+    /// some end of its tokens left. Memory may be answered where the value isn't bare.
     fn parse(parser: &mut Parser<'a>) -> Result<Self, Error>
         ensures exact { Gives light bare seen result (grammar.reads parser.old.left) parser.new.left }
         ensures counts { Counted result parser.old parser.new }
@@ -58,7 +58,8 @@ pub trait Peek {
     fn peek(cursor: Cursor<'_>) -> bool
         ensures { result ≡ begins (front cursor.entry) };
 
-    /// Whether the tokens behind the first one at the place begin a value; not where there is no token.
+    /// Whether the tokens behind the first one at the place begin a value; not where there is no
+    /// token.
     fn peek2(cursor: Cursor<'_>) -> bool
         ensures { result ≡ second begins (front cursor.entry) }
     {
@@ -75,8 +76,8 @@ pub trait Peek {
 impl<'a> Parser<'a> {
     /// Takes the value that stands in front.
     ///
-    /// Where none does, it is refused with the first fault that is met, and the parser then has some end of its tokens
-    /// left.
+    /// Where none does, it is refused with the first fault that is met, and the parser then has
+    /// some end of its tokens left.
     pub fn parse<T: Parse<'a>>(&mut self) -> Result<T, Error>
         // The tokens that were taken spell the value.
         ensures sound { IfOk result (λ v. Front T.grammar.spells self.old.left (T.seen v, self.new.left)) }
@@ -86,7 +87,8 @@ impl<'a> Parser<'a> {
         ensures refused { IfErr result (λ e. e.fault ≢ Memory → (v : T.Seen) (c r : List Tok) → self.old.left ≡ c ++ r → T.grammar.spells v c r → ⊥) }
         // Memory comes only of a type that can hold a vector or a box.
         ensures memory { IfErr result (λ e. e.fault ≡ Memory → T.light ≡ false) }
-        // `taken` rises by the number of tokens that were taken, and never by more than stood in front.
+        // `taken` rises by the number of tokens that were taken, and never by more than stood in
+        // front.
         ensures taken { (c : List Tok) → self.old.left ≡ c ++ self.new.left → self.new.taken ≡ self.old.taken + length c }
         ensures within { self.new.taken + length self.new.left ≡ self.old.taken + length self.old.left }
         // `turns` rises at most as much as `taken`, and on a refusal at most one more.

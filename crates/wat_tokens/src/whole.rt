@@ -1,7 +1,7 @@
 //! A value in a group of its own, and two values one behind the other.
 //!
-//! A body that holds a value of a large type over a call that may refuse is proved slowly, since the value is dropped where
-//! that call refuses. Here the types are parameters.
+//! A body that holds a value of a large type over a call that may refuse is proved slowly, since
+//! the value is dropped where that call refuses. Here the types are parameters.
 
 ghost use Rattle.std.specs.Prelude.{◌&&◌};
 ghost use Rattle.wat_tokens.specs.Groups.{paren};

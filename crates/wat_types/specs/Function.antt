@@ -42,7 +42,8 @@ bare_function f = no_items f.params && no_items f.results
 unfoldable pub func_groups : Bool → Production (List Group)
 func_groups labels = many group_follows (func_group labels) (func_group_eats labels)
 
--- groups: no result group with a type stands before a param group; params and results are the concatenations in order
+-- groups: no result group with a type stands before a param group; params and results are the
+-- concatenations in order
 abbrev pub FunctionSpells : Bool → FuncTy → List Tok → List Tok → Type 0
 FunctionSpells labels f c r = (gs : List Group) × (func_groups labels).spells gs c r × InOrder gs × (f.params ≡ flat_map params_in gs) × (f.results ≡ flat_map results_in gs)
 

@@ -43,7 +43,8 @@ pub data Group : Type 0 where
   param : List ParamTy → Group
   result : List ValTy → Group
 
--- ( param ) | ( param id? name? ValType ), with an id or a name | ( param ValType* ) | ( result ValType* )
+-- ( param ) | ( param id? name? ValType ), with an id or a name | ( param ValType* ) | ( result
+-- ValType* )
 unfoldable pub func_group : Bool → Production Group
 func_group labels =
     where_else (begins_group (codes "param")) (made param (group (codes "param") (params labels)))

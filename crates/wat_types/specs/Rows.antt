@@ -27,7 +27,8 @@ PageSizes =
     × Spelled pagesize_or_none (in_parens (Keyword (codes "pagesize") ∷ Integer (codes "65536") ∷ [])) (Some 16)
     × Spelled pagesize_or_none [] None
 
--- `(shared funcref)` is funcref, shared and not mutable; `(mut (shared funcref))` is a shared reference to functions, mutable and not shared
+-- `(shared funcref)` is funcref, shared and not mutable; `(mut (shared funcref))` is a shared
+-- reference to functions, mutable and not shared
 abbrev pub Globals : Type 0
 Globals =
     Spelled global_type shared_funcref (record { ty = ref (short false word.Func); mutable = false; shared = true })

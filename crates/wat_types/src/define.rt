@@ -14,12 +14,13 @@ use crate::structure::{ArrayType, StructType};
 use wat_tokens::repeat::{Part, parts, while_begun};
 use wat_tokens::{Cursor, Id, Index, NameAnnotation, Parse, Parser, Peek, Result, Span};
 
-/// A continuation type: the function type that it is of, by its index (WebAssembly Core Specification, Text Format,
-/// Types, "Composite Types").
+/// A continuation type: the function type that it is of, by its index (WebAssembly Core
+/// Specification, Text Format, Types, "Composite Types").
 #[derive(Clone, Debug, Drop)]
 pub struct ContType<'a>(pub Index<'a>);
 
-/// What a definition defines (WebAssembly Core Specification, Text Format, Types, "Composite Types").
+/// What a definition defines (WebAssembly Core Specification, Text Format, Types, "Composite
+/// Types").
 #[derive(Debug, Drop)]
 pub enum InnerTypeKind<'a> {
     /// A function type.
@@ -49,7 +50,8 @@ pub struct TypeDef<'a> {
     pub final_type: Option<bool>,
 }
 
-/// A type that a module defines (WebAssembly Core Specification, Text Format, Types, "Recursive Types").
+/// A type that a module defines (WebAssembly Core Specification, Text Format, Types, "Recursive
+/// Types").
 #[derive(Debug, Drop)]
 pub struct Type<'a> {
     /// Where the word `type` begins.
@@ -166,8 +168,8 @@ fn read_maybe_shared<'a>(parser: &mut Parser<'a>) -> Result<TypeDef<'a>>
     Ok(def)
 }
 
-/// `sub final? idx* (` S `)` or S; S is `shared (` K `)` or K; K is (`describes` idx `) (`)?, then (`descriptor` idx
-/// `) (`)?, then an InnerTypeKind.
+/// `sub final? idx* (` S `)` or S; S is `shared (` K `)` or K; K is (`describes` idx `) (`)?, then
+/// (`descriptor` idx `) (`)?, then an InnerTypeKind.
 impl<'a> Parse<'a> for TypeDef<'a> {
     ghost Seen = { DefTy };
 

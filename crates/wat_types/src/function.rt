@@ -54,7 +54,8 @@ impl<'a> Part<'a, (Option<Id<'a>>, Option<NameAnnotation<'a>>, ValType<'a>)> for
     }
 }
 
-/// The parameters of a group, each put behind those that are there; `labels` says whether one may have a label.
+/// The parameters of a group, each put behind those that are there; `labels` says whether one may
+/// have a label.
 #[tactic(auto, using(crate::specs::Value::val_type_eats), unfolding(crate::specs::Group::params, crate::specs::Group::plain_params, crate::specs::Label::label))]
 fn read_params<'a>(
     parser: &mut Parser<'a>,
@@ -127,7 +128,8 @@ impl<'a> FunctionType<'a> {
         }
     }
 
-    /// The same function type once more. Memory may be answered where it has a parameter or a result.
+    /// The same function type once more. Memory may be answered where it has a parameter or a
+    /// result.
     pub fn clone(&self) -> Result<FunctionType<'a>>
         ensures copies { Copies (λ x y. (y.params.items ≡ x.params.items) × (y.results.items ≡ x.results.items)) seen_function bare_function result self.now }
     {
@@ -138,9 +140,10 @@ impl<'a> FunctionType<'a> {
     }
 }
 
-/// Groups `( param )`, `( param id? name? ValType )` with an id or a name, `( param ValType* )` and `( result ValType* )`,
-/// to where the second token is neither `param` nor `result`. Where a param group follows a result group with a type, it
-/// is refused with ParamAfterResult, at the word `param`.
+/// Groups `( param )`, `( param id? name? ValType )` with an id or a name, `( param ValType* )` and
+/// `( result ValType* )`, to where the second token is neither `param` nor `result`. Where a param
+/// group follows a result group with a type, it is refused with ParamAfterResult, at the word
+/// `param`.
 impl<'a> Parse<'a> for FunctionType<'a> {
     ghost Seen = { FuncTy };
 
@@ -181,7 +184,8 @@ impl<'a> FunctionTypeNoNames<'a> {
         FunctionTypeNoNames(FunctionType::empty(alloc))
     }
 
-    /// The same function type once more. Memory may be answered where it has a parameter or a result.
+    /// The same function type once more. Memory may be answered where it has a parameter or a
+    /// result.
     pub fn clone(&self) -> Result<FunctionTypeNoNames<'a>>
         ensures copies { Copies (λ x y. (y.0.params.items ≡ x.0.params.items) × (y.0.results.items ≡ x.0.results.items)) seen_unnamed bare_function result self.now }
     {

@@ -4,14 +4,15 @@ ghost use Rattle.wat_tokens.specs.Once.{HasOneReading};
 ghost use Rattle.wat_types.specs.Limits.{pagesize_or_none};
 ghost use Rattle.wat_types.specs.Rows.{PageSizes, Globals, LongLimits, FinalSub, OpenSub, Structure, Described, Uses};
 
-/// No two fronts of one token list spell a page size, written or left out, unless they are one front and one size.
+/// No two fronts of one token list spell a page size, written or left out, unless they are one
+/// front and one size.
 #[tactic(auto, using(wat_tokens::specs::Once::reads_once))]
 pub fn one_page_size()
     ensures { HasOneReading pagesize_or_none }
 {}
 
-/// Texts that spell types, as facts over the definitions alone: an error that a reader and its definition share would show
-/// here.
+/// Texts that spell types, as facts over the definitions alone: an error that a reader and its
+/// definition share would show here.
 pub fn rows()
     ensures page_sizes { PageSizes }
     ensures globals { Globals }

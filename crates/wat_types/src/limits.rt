@@ -8,7 +8,8 @@ ghost use Rattle.wat_types.specs.Limits.{is_64, page_exponent, pagesize_or_none,
 use crate::reference::RefType;
 use wat_tokens::{Error, Fault, Parse, Parser, Result};
 
-/// How large a table or a memory is at first, and how large it may become (Text Format, Types, "Limits").
+/// How large a table or a memory is at first, and how large it may become (Text Format, Types,
+/// "Limits").
 #[derive(Clone, Copy, Debug, PartialEq, Eq, Hash)]
 pub struct Limits {
     /// Whether its addresses have 64 bits.
@@ -41,7 +42,8 @@ pub struct MemoryType {
     pub page_size_log2: Option<u32>,
 }
 
-/// Takes `i64` or `i32`, where it stands in front, and answers whether it is `i64` (Text Format, Types, "Limits").
+/// Takes `i64` or `i32`, where it stands in front, and answers whether it is `i64` (Text Format,
+/// Types, "Limits").
 #[tactic(auto, unfolding(crate::specs::Limits::is_64))]
 pub fn take_is64<'a>(parser: &mut Parser<'a>) -> Result<bool>
     ensures reads { ReadsLight (λ b. b) result (is_64.reads parser.old.left) parser.old parser.new }
@@ -54,8 +56,8 @@ pub fn take_is64<'a>(parser: &mut Parser<'a>) -> Result<bool>
     Ok(false)
 }
 
-/// `i32`, `i64` or neither, and then one or two numbers. A number is read without a sign in 64 bits: it is refused with
-/// Range, at the number, where it is too large or a `-` is written.
+/// `i32`, `i64` or neither, and then one or two numbers. A number is read without a sign in 64
+/// bits: it is refused with Range, at the number, where it is too large or a `-` is written.
 impl<'a> Parse<'a> for Limits {
     ghost use Rattle.wat_types.specs.declared.limits.Limits.{Limits};
     ghost use Rattle.wat_types.specs.Limits.{limits_type};
@@ -93,7 +95,8 @@ fn exponent(number: u32) -> Option<u32>
     if 2u32.pow(k) == number { Some(k) } else { None }
 }
 
-/// Takes a power of two of 32 bits, and answers its exponent. Another number is refused with PageSize, at the number.
+/// Takes a power of two of 32 bits, and answers its exponent. Another number is refused with
+/// PageSize, at the number.
 #[tactic(auto, unfolding(crate::specs::Limits::page_exponent))]
 fn take_exponent<'a>(parser: &mut Parser<'a>) -> Result<u32>
     ensures reads { ReadsLight (λ k. k) result (page_exponent.reads parser.old.left) parser.old parser.new }
@@ -108,11 +111,12 @@ fn take_exponent<'a>(parser: &mut Parser<'a>) -> Result<u32>
     }
 }
 
-/// Takes `( pagesize number )`, where `(` and `pagesize` stand in front, and answers the k for which the number is 2 to
-/// the k (Text Format, Types, "Memory Types", with the size of a page). Else it takes nothing and answers None.
+/// Takes `( pagesize number )`, where `(` and `pagesize` stand in front, and answers the k for
+/// which the number is 2 to the k (Text Format, Types, "Memory Types", with the size of a page).
+/// Else it takes nothing and answers None.
 ///
-/// A number that is no power of two is refused with PageSize, at the number, and one that is too large for 32 bits or
-/// has a `-` with Range.
+/// A number that is no power of two is refused with PageSize, at the number, and one that is too
+/// large for 32 bits or has a `-` with Range.
 #[tactic(auto, unfolding(crate::specs::Limits::pagesize_or_none, crate::specs::Limits::pagesize))]
 pub fn page_size<'a>(parser: &mut Parser<'a>) -> Result<Option<u32>>
     ensures reads { ReadsLight (λ k. k) result (pagesize_or_none.reads parser.old.left) parser.old parser.new }

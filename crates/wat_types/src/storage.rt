@@ -6,7 +6,8 @@ ghost use Rattle.wat_types.specs.Storage.{StorageTy, seen_storage, storage_type,
 use crate::value::ValType;
 use wat_tokens::{Parse, Parser, Result};
 
-/// The type of what a field of a structure or an array holds (Text Format, Types, "Composite Types").
+/// The type of what a field of a structure or an array holds (Text Format, Types, "Composite
+/// Types").
 #[derive(Clone, Copy, Debug, PartialEq, Eq, Hash)]
 pub enum StorageType<'a> {
     /// `i8`
@@ -28,7 +29,8 @@ pub struct GlobalType<'a> {
     pub shared: bool,
 }
 
-/// `i8`, `i16`, or a value type. Where none of them begins, it is refused with Unexpected, at the token in front.
+/// `i8`, `i16`, or a value type. Where none of them begins, it is refused with Unexpected, at the
+/// token in front.
 impl<'a> Parse<'a> for StorageType<'a> {
     ghost Seen = { StorageTy };
 
@@ -62,8 +64,9 @@ fn long_global_next(parser: &Parser<'_>) -> bool
     parser.second_is("shared") || parser.second_is("mut")
 }
 
-/// `( shared? mut? ValType )` where the second token is `shared` or `mut`, else a value type. So `(shared funcref)` is a
-/// shared global of `funcref`, and `(mut (shared funcref))` a mutable global of a shared reference.
+/// `( shared? mut? ValType )` where the second token is `shared` or `mut`, else a value type. So
+/// `(shared funcref)` is a shared global of `funcref`, and `(mut (shared funcref))` a mutable
+/// global of a shared reference.
 impl<'a> Parse<'a> for GlobalType<'a> {
     ghost Seen = { GlobalTy };
 

@@ -21,7 +21,8 @@ pub struct ArrayType<'a> {
     pub ty: StorageType<'a>,
 }
 
-/// A field of a structure type (WebAssembly Core Specification, Text Format, Types, "Composite Types").
+/// A field of a structure type (WebAssembly Core Specification, Text Format, Types, "Composite
+/// Types").
 #[derive(Clone, Debug, Drop)]
 pub struct StructField<'a> {
     /// Its identifier.
@@ -153,9 +154,9 @@ impl<'a> StructType<'a> {
     }
 }
 
-/// Groups, up to the end of the group they stand in: `( field id? name? StructField )` with an id or a name, and
-/// `( field StructField* )`. A StructField is, where the second token is `mut`, `( mut StorageType )`, else a storage
-/// type.
+/// Groups, up to the end of the group they stand in: `( field id? name? StructField )` with an id
+/// or a name, and `( field StructField* )`. A StructField is, where the second token is `mut`, `(
+/// mut StorageType )`, else a storage type.
 impl<'a> Parse<'a> for StructType<'a> {
     ghost Seen = { List MemberTy };
 

@@ -19,7 +19,8 @@ pub enum TagType<'a> {
 }
 
 impl<'a> TagType<'a> {
-    /// The same type once more. Memory may be answered where its inline type has a parameter or a result.
+    /// The same type once more. Memory may be answered where its inline type has a parameter or a
+    /// result.
     pub fn clone(&self) -> Result<TagType<'a>>
         ensures copies { Copies SameTag seen_tag (bare_use bare_function) result self.now }
     {

@@ -8,8 +8,8 @@ ghost use Rattle.wat_types.specs.Use.{UseTy, seen_use, bare_use, type_use, SameF
 use crate::function::{FunctionType, FunctionTypeNoNames};
 use wat_tokens::{Fault, Index, Parse, Parser, Peek, Result};
 
-/// A use of a type (WebAssembly Core Specification, Text Format, "Type Uses"): its index, the type written in line,
-/// both or neither.
+/// A use of a type (WebAssembly Core Specification, Text Format, "Type Uses"): its index, the type
+/// written in line, both or neither.
 #[derive(Debug, Drop)]
 pub struct TypeUse<'a, T> {
     /// The index of the type, where `(type ..)` is written.
@@ -31,8 +31,8 @@ impl<'a, T> TypeUse<'a, T> {
     }
 }
 
-/// `( type idx )`, where the second token is `type`, and then T, where one begins. Where a token other than `(` stands
-/// before `type`, it is refused with Unexpected, at that token.
+/// `( type idx )`, where the second token is `type`, and then T, where one begins. Where a token
+/// other than `(` stands before `type`, it is refused with Unexpected, at that token.
 impl<'a, T: Parse<'a> + Peek> Parse<'a> for TypeUse<'a, T> {
     ghost Seen = { UseTy T.Seen };
 
@@ -65,7 +65,8 @@ impl<'a, T: Parse<'a> + Peek> Parse<'a> for TypeUse<'a, T> {
 }
 
 impl<'a> TypeUse<'a, FunctionType<'a>> {
-    /// The same use once more. Memory may be answered where its inline type has a parameter or a result.
+    /// The same use once more. Memory may be answered where its inline type has a parameter or a
+    /// result.
     pub fn clone(&self) -> Result<Self>
         ensures copies { Copies (SameUse SameFunction) (seen_use seen_function) (bare_use bare_function) result self.now }
     {
@@ -77,7 +78,8 @@ impl<'a> TypeUse<'a, FunctionType<'a>> {
 }
 
 impl<'a> TypeUse<'a, FunctionTypeNoNames<'a>> {
-    /// The same use once more. Memory may be answered where its inline type has a parameter or a result.
+    /// The same use once more. Memory may be answered where its inline type has a parameter or a
+    /// result.
     pub fn clone(&self) -> Result<Self>
         ensures copies { Copies (SameUse SameUnnamed) (seen_use seen_unnamed) (bare_use bare_function) result self.now }
     {

@@ -24,7 +24,8 @@ pub enum ValType<'a> {
     Ref(RefType<'a>),
 }
 
-/// The type of numbers or vectors that a word names (Text Format, Types, "Number Types" and "Vector Types").
+/// The type of numbers or vectors that a word names (Text Format, Types, "Number Types" and "Vector
+/// Types").
 fn plain<'a>(word: &str) -> Option<ValType<'a>>
     ensures { IsPlain word.now result }
 {

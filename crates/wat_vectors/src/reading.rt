@@ -33,8 +33,8 @@ pub fn refusal<T: Drop>(found: Result<T, Error>) -> Option<(Fault, usize)> {
     }
 }
 
-/// The first text that isn't refused with the fault at the offset of its row, and what it gives; None where each is
-/// refused so, whether or not the standard annotations are known.
+/// The first text that isn't refused with the fault at the offset of its row, and what it gives;
+/// None where each is refused so, whether or not the standard annotations are known.
 pub fn refused_otherwise<'a, T: Parse<'a> + Drop>(
     alloc: Global,
     arena: &'a Bump,

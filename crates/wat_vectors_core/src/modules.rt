@@ -54,8 +54,9 @@ fn items_of(imports: &Imports<'_>) -> usize {
     imports.num_items()
 }
 
-/// A number that a field holds, one of each layer: parameters of a type, locals of a function of plain instructions, values of a memory, imported
-/// items, elements that are listed by index, subsections of a custom section. 99 of every other.
+/// A number that a field holds, one of each layer: parameters of a type, locals of a function of
+/// plain instructions, values of a memory, imported items, elements that are listed by index,
+/// subsections of a custom section. 99 of every other.
 fn count_of(field: &ModuleField<'_>) -> usize {
     match field {
         ModuleField::Func(func) => match &func.kind {
@@ -136,8 +137,8 @@ fn counted(alloc: Allocator, text: &str) -> Result<usize, Fail> {
     }
 }
 
-/// What the module behind a text's `(` is refused with, and where; None where it is read. What was known of the standard
-/// annotations is known again.
+/// What the module behind a text's `(` is refused with, and where; None where it is read. What was
+/// known of the standard annotations is known again.
 fn refusal_of(alloc: Allocator, text: &str) -> Result<Option<(Fault, usize)>, Fail> {
     let arena = Bump::new(alloc);
     let mut parser = Parser::new(alloc, text, &arena)?;
@@ -151,8 +152,8 @@ fn refusal_of(alloc: Allocator, text: &str) -> Result<Option<(Fault, usize)>, Fa
     }
 }
 
-/// Where the standard annotations are known or not before a module, whether they are behind its `)`, and whether the annotation
-/// that follows is seen.
+/// Where the standard annotations are known or not before a module, whether they are behind its
+/// `)`, and whether the annotation that follows is seen.
 fn known_behind(alloc: Allocator, known: bool) -> Result<(bool, bool), Fail> {
     let text = "(module (@custom \"a\" \"b\") (@other)) (@custom \"c\")";
     let arena = Bump::new(alloc);
@@ -239,8 +240,8 @@ fn other_texts_are_refused(rt: HostRuntime) -> Result<(), Fail> {
     Ok(())
 }
 
-/// The mnemonic that a word is, found by a call that stands in a crate below, and whether flags of 64 bits are in front of
-/// a text.
+/// The mnemonic that a word is, found by a call that stands in a crate below, and whether flags of
+/// 64 bits are in front of a text.
 fn found_below(alloc: Allocator, word: &str) -> Result<(Option<Mnemonic>, bool), Fail> {
     let arena = Bump::new(alloc);
     let mut parser = Parser::new(alloc, "i64 nop", &arena)?;
@@ -267,7 +268,8 @@ fn names_are_known_as_before(rt: HostRuntime) -> Result<(), Fail> {
     Ok(())
 }
 
-/// How many fields a text's module has. The arena is given back where nothing of the module is used any more.
+/// How many fields a text's module has. The arena is given back where nothing of the module is used
+/// any more.
 fn fields_of(alloc: Allocator, text: &str) -> Result<usize, Fail> {
     let mut arena = Bump::new(alloc);
     let mut parser = Parser::new(alloc, text, &arena)?;

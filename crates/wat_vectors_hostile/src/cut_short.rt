@@ -71,7 +71,8 @@ fn is_refused(rt: &impl Abort, alloc: Global, text: &str) -> Result<(), Fail> {
     Ok(())
 }
 
-/// A whole text is a module, and is refused where it is cut behind a token but the last. Gives how often it was cut.
+/// A whole text is a module, and is refused where it is cut behind a token but the last. Gives how
+/// often it was cut.
 fn is_refused_cut(rt: &impl Abort, alloc: Global, text: &str) -> Result<usize, Fail> {
     let (_, status) = shown(alloc, Mode::Module, text)?;
     assert_eq!(rt; status, 0, "of {text}");

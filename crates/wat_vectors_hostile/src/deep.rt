@@ -27,7 +27,8 @@ fn shows_long(
     Ok(())
 }
 
-// A row: the mode, what opens a part and what closes it, and what is listed of each in turn, first where it opens and then where it closes.
+// A row: the mode, what opens a part and what closes it, and what is listed of each in turn, first
+// where it opens and then where it closes.
 #[test]
 fn closed_parts_are_listed(rt: HostRuntime) -> Result<(), Fail> {
     let alloc = rt.alloc();
@@ -48,7 +49,8 @@ fn closed_parts_are_listed(rt: HostRuntime) -> Result<(), Fail> {
     Ok(())
 }
 
-// A row: what opens a module, what opens a part and what closes it, what closes the module, and what is listed.
+// A row: what opens a module, what opens a part and what closes it, what closes the module, and
+// what is listed.
 #[test]
 fn closed_parts_of_modules_are_listed(rt: HostRuntime) -> Result<(), Fail> {
     let alloc = rt.alloc();
@@ -88,7 +90,8 @@ fn closed_parts_of_modules_are_listed(rt: HostRuntime) -> Result<(), Fail> {
     Ok(())
 }
 
-// A row: the mode, what opens a part and how often, what closes it and how often, and what is shown.
+// A row: the mode, what opens a part and how often, what closes it and how often, and what is
+// shown.
 #[test]
 fn parts_left_open_are_refused(rt: HostRuntime) -> Result<(), Fail> {
     let alloc = rt.alloc();

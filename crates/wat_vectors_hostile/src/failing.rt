@@ -89,7 +89,8 @@ impl Write for Target {
     }
 }
 
-/// What a run does: its answer, what was written, and how often the reader and the writer were called.
+/// What a run does: its answer, what was written, and how often the reader and the writer were
+/// called.
 #[derive(Clone, Copy)]
 struct Wanted {
     outcome: Result<u8, RunError>,
@@ -168,8 +169,8 @@ fn a_read_that_fails(rt: HostRuntime) {
     }
 }
 
-// A row: which calls fail and how, how many bytes are taken at a time, and the answer, what was written and in how many calls.
-// In the last row that is the flush.
+// A row: which calls fail and how, how many bytes are taken at a time, and the answer, what was
+// written and in how many calls. In the last row that is the flush.
 #[test]
 fn a_write_that_fails(rt: HostRuntime) {
     let failed = Err(RunError::Write);

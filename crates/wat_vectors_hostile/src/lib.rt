@@ -1,4 +1,5 @@
-//! Tests of the program's run on input that is cut short or nested deep, and over readers and writers that fail.
+//! Tests of the program's run on input that is cut short or nested deep, and over readers and
+//! writers that fail.
 #![tactic(auto)]
 
 #[cfg(test)]

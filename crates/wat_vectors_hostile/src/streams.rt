@@ -15,7 +15,8 @@ pub fn broken() -> io::Error {
     io::Error::from(io::ErrorKind::BrokenPipe)
 }
 
-/// Gives its text in pieces of one byte to `most` bytes, and fails once `cut` bytes more were given.
+/// Gives its text in pieces of one byte to `most` bytes, and fails once `cut` bytes more were
+/// given.
 #[derive(Drop)]
 struct Pieces<'a> {
     text: &'a [u8],

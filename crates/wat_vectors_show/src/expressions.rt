@@ -19,7 +19,8 @@ enum Mode {
     Folded,
 }
 
-/// The text, where `#` stands for a hint of 1, `%` for one of 0, and `!` for one of 2. Each is 34 bytes long.
+/// The text, where `#` stands for a hint of 1, `%` for one of 0, and `!` for one of 2. Each is 34
+/// bytes long.
 fn with_hints(alloc: Global, text: &str) -> Result<String, Fail> {
     let mut out = String::new(alloc);
     for c in text.chars() {
@@ -33,7 +34,8 @@ fn with_hints(alloc: Global, text: &str) -> Result<String, Fail> {
     Ok(out)
 }
 
-/// Reads a whole text; the standard annotations are known and spans are kept. What is left over is refused.
+/// Reads a whole text; the standard annotations are known and spans are kept. What is left over is
+/// refused.
 fn read_whole<'a>(
     alloc: Global,
     mode: Mode,
@@ -417,7 +419,8 @@ fn the_rest_is_left(rt: HostRuntime) -> Result<(), Fail> {
     Ok(())
 }
 
-/// So many times the first part, with as many times the second behind it, are read as so many instructions.
+/// So many times the first part, with as many times the second behind it, are read as so many
+/// instructions.
 fn has_count(
     rt: &impl Abort,
     alloc: Global,

@@ -8,8 +8,9 @@ use wat_instr::Instruction;
 use wat_tokens::Error;
 use wat_vectors::reading::parser_of;
 
-/// What an expression is, behind which an instruction was put: how many instructions and hints it has, the last one's word,
-/// and of the kept spans how many there are and where the last one begins.
+/// What an expression is, behind which an instruction was put: how many instructions and hints it
+/// has, the last one's word, and of the kept spans how many there are and where the last one
+/// begins.
 #[derive(Clone, Copy, Debug, PartialEq)]
 struct Put {
     instrs: usize,
