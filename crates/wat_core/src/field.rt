@@ -86,7 +86,8 @@ fn read_start<'a>(parser: &mut Parser<'a>) -> Result<Index<'a>>
 /// The function to start with, an element or data segment, or a custom section.
 #[tactic(auto, unfolding(crate::specs::Field::last_field))]
 fn read_last<'a>(parser: &mut Parser<'a>) -> Result<ModuleField<'a>>
-    ensures reads { ReadsIf false false bare_field seen_field result (last_field.reads parser.old.left) parser.old parser.new }
+    ensures reads { ReadsIf false false bare_field seen_field result
+        (last_field.reads parser.old.left) parser.old parser.new }
 {
     if parser.next_is("start") {
         return Ok(ModuleField::Start(read_start(parser)?));
@@ -103,7 +104,8 @@ fn read_last<'a>(parser: &mut Parser<'a>) -> Result<ModuleField<'a>>
 /// A global, an export, a tag, or one of the last.
 #[tactic(auto, unfolding(crate::specs::Field::further_field))]
 fn read_further<'a>(parser: &mut Parser<'a>) -> Result<ModuleField<'a>>
-    ensures reads { ReadsIf false false bare_field seen_field result (further_field.reads parser.old.left) parser.old parser.new }
+    ensures reads { ReadsIf false false bare_field seen_field result
+        (further_field.reads parser.old.left) parser.old parser.new }
 {
     if parser.next_is("global") {
         return Ok(ModuleField::Global(Global::parse(parser)?));
@@ -120,7 +122,8 @@ fn read_further<'a>(parser: &mut Parser<'a>) -> Result<ModuleField<'a>>
 /// A function, a table, a memory, or one of the further.
 #[tactic(auto, unfolding(crate::specs::Field::defined_field))]
 fn read_defined<'a>(parser: &mut Parser<'a>) -> Result<ModuleField<'a>>
-    ensures reads { ReadsIf false false bare_field seen_field result (defined_field.reads parser.old.left) parser.old parser.new }
+    ensures reads { ReadsIf false false bare_field seen_field result
+        (defined_field.reads parser.old.left) parser.old parser.new }
 {
     if parser.next_is("func") {
         return Ok(ModuleField::Func(Func::parse(parser)?));

@@ -32,7 +32,8 @@ pub fn one_reading<'a, T: Parse<'a>>()
 /// What follows a module doesn't count, as long as the module's group, or the text, ends there.
 pub fn any_rest()
     // What tokens spell a module in front of one end they spell in front of each end.
-    ensures same { (m : ModuleTy) (c r s : List Tok) → module_.spells m c r → ends s ≡ true → module_.spells m c s }
+    ensures same { (m : ModuleTy) (c r s : List Tok) → module_.spells m c r → ends s ≡ true
+        → module_.spells m c s }
     // They spell it in front of an end alone.
     ensures ends { (m : ModuleTy) (c r : List Tok) → module_.spells m c r → ends r ≡ true }
 {}

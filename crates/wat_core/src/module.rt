@@ -74,7 +74,8 @@ impl<'a> Part<'a, ModuleField<'a>> for FieldGroup {
 /// `binary` and strings, or fields in their groups.
 #[tactic(auto, using(crate::specs::Module::field_group_eats), unfolding(crate::specs::Module::module_kind, crate::specs::Module::fields, crate::specs::Module::pieces))]
 fn read_kind<'a>(parser: &mut Parser<'a>) -> Result<ModuleKind<'a>>
-    ensures reads { ReadsIf false false bare_module_kind seen_module_kind result (module_kind.reads parser.old.left) parser.old parser.new }
+    ensures reads { ReadsIf false false bare_module_kind seen_module_kind result
+        (module_kind.reads parser.old.left) parser.old parser.new }
 {
     if parser.next_is("binary") {
         parser.keyword("binary")?;
@@ -129,23 +130,31 @@ impl<'a> Module<'a> {
     #[tactic(auto, using(wat_tokens::specs::State::lit_is, crate::proofs::Ends::module_ends))]
     pub fn parse(parser: &mut Parser<'a>) -> Result<Module<'a>>
         // The tokens that were taken, seen with the five names, spell the module.
-        ensures sound { IfOk result (λ m. Front module_.spells (lit parser.old).left (seen_module m, (lit parser.new).left)) }
+        ensures sound { IfOk result (λ m. Front module_.spells (lit parser.old).left
+            (seen_module m, (lit parser.new).left)) }
         // Where tokens in front spell a module, it is that one, or memory ran out.
-        ensures accepts { (v : ModuleTy) (c r : List Tok) → (lit parser.old).left ≡ c ++ r → module_.spells v c r → Accepts seen_module bare_module result v (lit parser.new).left r }
+        ensures accepts { (v : ModuleTy) (c r : List Tok) → (lit parser.old).left ≡ c ++ r
+            → module_.spells v c r → Accepts seen_module bare_module result v
+            (lit parser.new).left r }
         // A fault other than Memory means that no tokens in front spell a module.
-        ensures refused { IfErr result (λ e. e.fault ≢ Memory → (v : ModuleTy) (c r : List Tok) → (lit parser.old).left ≡ c ++ r → module_.spells v c r → ⊥) }
+        ensures refused { IfErr result (λ e. e.fault ≢ Memory → (v : ModuleTy) (c r : List Tok)
+            → (lit parser.old).left ≡ c ++ r → module_.spells v c r → ⊥) }
         // What is left is nothing, or begins with `)`.
         ensures ends { IfOk result (λ _. ends (lit parser.new).left ≡ true) }
         // No loop over an expression turned more than once beyond the tokens that were taken.
         ensures turned { Turned result parser.old parser.new }
         // `taken` rises by the number of tokens that were taken, and never by more than stood in
         // front.
-        ensures taken { (c : List Tok) → (lit parser.old).left ≡ c ++ (lit parser.new).left → parser.new.taken ≡ parser.old.taken + length c }
-        ensures within { parser.new.taken + length (lit parser.new).left ≡ parser.old.taken + length (lit parser.old).left }
+        ensures taken { (c : List Tok) → (lit parser.old).left ≡ c ++ (lit parser.new).left
+            → parser.new.taken ≡ parser.old.taken + length c }
+        ensures within { parser.new.taken + length (lit parser.new).left ≡ parser.old.taken + length
+            (lit parser.old).left }
         // `peak` is at most the greater of what it was and how the tokens that were taken nest.
-        ensures peak { (c : List Tok) → (lit parser.old).left ≡ c ++ (lit parser.new).left → parser.new.peak ≤ max parser.old.peak (nest c) }
+        ensures peak { (c : List Tok) → (lit parser.old).left ≡ c ++ (lit parser.new).left
+            → parser.new.peak ≤ max parser.old.peak (nest c) }
         // The parser stands directly behind them, and what is left is seen as before.
-        ensures stands { (c : List Tok) → (lit parser.old).left ≡ c ++ (lit parser.new).left → parser.new.rest ≡ behind true (length c) parser.old.rest }
+        ensures stands { (c : List Tok) → (lit parser.old).left ≡ c ++ (lit parser.new).left
+            → parser.new.rest ≡ behind true (length c) parser.old.rest }
         ensures seen { parser.new.left ≡ as_seen parser.new.known parser.new.rest }
         ensures names { Kept parser.old parser.new }
     {

@@ -66,7 +66,8 @@ impl Dylink0Subsection<'_> {
 /// `( word size alignment )`, where the second token is the word; else 0 and 0.
 #[tactic(auto, unfolding(crate::specs::Dylink::sizes))]
 fn read_sizes<'a>(parser: &mut Parser<'a>, word: &str) -> Result<(u32, u32)>
-    ensures reads { ReadsLight (λ s. s) result ((sizes word.now).reads parser.old.left) parser.old parser.new }
+    ensures reads { ReadsLight (λ s. s) result ((sizes word.now).reads parser.old.left) parser.old
+        parser.new }
 {
     if !parser.second_is(word) {
         return Ok((0, 0));
@@ -82,7 +83,8 @@ fn read_sizes<'a>(parser: &mut Parser<'a>, word: &str) -> Result<(u32, u32)>
 /// `( mem-info ( memory u32 u32 ) ( table u32 u32 ) )`, the inner groups there or not.
 #[tactic(auto, unfolding(crate::specs::Dylink::mem_info_entry))]
 fn read_mem_info<'a>(parser: &mut Parser<'a>) -> Result<Dylink0Subsection<'a>>
-    ensures reads { ReadsLight seen_subsection result (mem_info_entry.reads parser.old.left) parser.old parser.new }
+    ensures reads { ReadsLight seen_subsection result (mem_info_entry.reads parser.old.left)
+        parser.old parser.new }
 {
     parser.open()?;
     parser.keyword("mem-info")?;
@@ -100,7 +102,8 @@ fn read_mem_info<'a>(parser: &mut Parser<'a>) -> Result<Dylink0Subsection<'a>>
 /// The word and names, in parentheses.
 #[tactic(auto, unfolding(crate::specs::Dylink::names_entry))]
 fn read_names<'a>(parser: &mut Parser<'a>, word: &str) -> Result<Vec<&'a str>>
-    ensures reads { Reads no_items (λ v. map (λ x. x.now) v.items) result ((names_entry word.now).reads parser.old.left) parser.old parser.new }
+    ensures reads { Reads no_items (λ v. map (λ x. x.now) v.items) result
+        ((names_entry word.now).reads parser.old.left) parser.old parser.new }
 {
     parser.open()?;
     parser.keyword(word)?;
@@ -113,7 +116,8 @@ fn read_names<'a>(parser: &mut Parser<'a>, word: &str) -> Result<Vec<&'a str>>
 /// An entry that is no export or import entry.
 #[tactic(auto, unfolding(crate::specs::Dylink::lone_entry))]
 fn read_lone<'a>(parser: &mut Parser<'a>) -> Result<Dylink0Subsection<'a>>
-    ensures reads { Reads bare_subsection seen_subsection result (lone_entry.reads parser.old.left) parser.old parser.new }
+    ensures reads { Reads bare_subsection seen_subsection result
+        (lone_entry.reads parser.old.left) parser.old parser.new }
 {
     if parser.group_is("mem-info") {
         return read_mem_info(parser);
@@ -193,7 +197,9 @@ impl<'a> Part<'a, (&'a str, &'a str, u32)> for ImportEntry {
 /// An export entry, and all that stand behind it.
 #[tactic(auto, using(crate::specs::Dylink::export_entry_eats, crate::proofs::Runs::run_not_bare))]
 fn read_exports<'a>(parser: &mut Parser<'a>) -> Result<Vec<(&'a str, u32)>>
-    ensures reads { Reads no_items (λ v. map seen_export v.items) result ((run begins_export export_entry export_entry_eats).reads parser.old.left) parser.old parser.new }
+    ensures reads { Reads no_items (λ v. map seen_export v.items) result
+        ((run begins_export export_entry export_entry_eats).reads parser.old.left) parser.old
+        parser.new }
 {
     let mut entries = Vec::new(parser.alloc());
     entries.push(ExportEntry::take(parser)?)?;
@@ -204,7 +210,9 @@ fn read_exports<'a>(parser: &mut Parser<'a>) -> Result<Vec<(&'a str, u32)>>
 /// An import entry, and all that stand behind it.
 #[tactic(auto, using(crate::specs::Dylink::import_entry_eats, crate::proofs::Runs::run_not_bare))]
 fn read_imports<'a>(parser: &mut Parser<'a>) -> Result<Vec<(&'a str, &'a str, u32)>>
-    ensures reads { Reads no_items (λ v. map seen_import v.items) result ((run begins_import import_entry import_entry_eats).reads parser.old.left) parser.old parser.new }
+    ensures reads { Reads no_items (λ v. map seen_import v.items) result
+        ((run begins_import import_entry import_entry_eats).reads parser.old.left) parser.old
+        parser.new }
 {
     let mut entries = Vec::new(parser.alloc());
     entries.push(ImportEntry::take(parser)?)?;

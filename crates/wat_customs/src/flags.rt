@@ -29,7 +29,8 @@ fn bit_of(word: &str) -> Option<u32>
 /// Unexpected, at the word, and a number that is too large or has a `-` with Range.
 #[tactic(auto, using(crate::proofs::FlagReads::reads_number, crate::proofs::FlagReads::reads_word, crate::proofs::FlagReads::reads_no_word), unfolding(crate::specs::Flags::flag_bits))]
 fn read_flag<'a>(parser: &mut Parser<'a>) -> Result<u32>
-    ensures reads { ReadsLight (λ n. n) result (flag_bits.reads parser.old.left) parser.old parser.new }
+    ensures reads { ReadsLight (λ n. n) result (flag_bits.reads parser.old.left) parser.old
+        parser.new }
 {
     if parser.peek::<u32>() {
         return u32::parse(parser);
@@ -46,7 +47,8 @@ fn read_flag<'a>(parser: &mut Parser<'a>) -> Result<u32>
 
 /// The flags of a symbol, up to the end of the group: numbers and words, joined by or.
 pub(crate) fn read_flags<'a>(parser: &mut Parser<'a>) -> Result<u32>
-    ensures reads { ReadsLight (λ n. n) result (symbol_flags.reads parser.old.left) parser.old parser.new }
+    ensures reads { ReadsLight (λ n. n) result (symbol_flags.reads parser.old.left) parser.old
+        parser.new }
 {
     let mut flags = 0;
     'flags: while !parser.is_empty() {

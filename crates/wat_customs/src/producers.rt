@@ -130,7 +130,8 @@ fn entries_of<'a>(
     entries: &[ProducerEntry<'a>],
     field: Field,
 ) -> Result<Vec<(&'a str, &'a str)>>
-    ensures ok { IfOk result (λ v. seen_names v.items ≡ entries_of field (seen_entries entries.now)) }
+    ensures ok { IfOk result (λ v. seen_names v.items ≡ entries_of field
+        (seen_entries entries.now)) }
     ensures memory { IfErr result (λ e. e.fault ≡ Fault.Memory) }
 {
     let mut found = Vec::new(alloc);
@@ -148,7 +149,9 @@ fn add_field<'a>(
     entries: &[ProducerEntry<'a>],
     field: Field,
 ) -> Result<()>
-    ensures ok { IfOk result (λ _. map (λ f. (f.0.now, seen_names f.1.items)) fields.new.items ≡ map (λ f. (f.0.now, seen_names f.1.items)) fields.old.items ++ field_of field (seen_entries entries.now)) }
+    ensures ok { IfOk result (λ _. map (λ f. (f.0.now, seen_names f.1.items)) fields.new.items ≡ map
+        (λ f. (f.0.now, seen_names f.1.items)) fields.old.items ++ field_of field
+        (seen_entries entries.now)) }
     ensures memory { IfErr result (λ e. e.fault ≡ Fault.Memory) }
 {
     let found = entries_of(*fields.allocator(), entries, field)?;
@@ -163,8 +166,10 @@ fn fields_of<'a>(
     alloc: Global,
     entries: &[ProducerEntry<'a>],
 ) -> Result<Vec<(&'a str, Vec<(&'a str, &'a str)>)>>
-    ensures ok { IfOk result (λ v. map (λ f. (f.0.now, seen_names f.1.items)) v.items ≡ fields_of (seen_entries entries.now)) }
-    ensures memory { IfErr result (λ e. (e.fault ≡ Fault.Memory) × (no_items (seen_entries entries.now) ≡ false)) }
+    ensures ok { IfOk result (λ v. map (λ f. (f.0.now, seen_names f.1.items)) v.items ≡ fields_of
+        (seen_entries entries.now)) }
+    ensures memory { IfErr result (λ e. (e.fault ≡ Fault.Memory)
+        × (no_items (seen_entries entries.now) ≡ false)) }
 {
     let mut fields = Vec::new(alloc);
     if entries.is_empty() {

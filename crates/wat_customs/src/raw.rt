@@ -32,7 +32,8 @@ fn lparen_next(parser: &Parser<'_>) -> bool
 /// `( place )`, where a `(` stands in front; else behind the last section.
 #[tactic(auto, unfolding(crate::specs::Raw::raw_place))]
 fn read_place<'a>(parser: &mut Parser<'a>) -> Result<CustomPlace>
-    ensures reads { ReadsLight (λ p. p) result (raw_place.reads parser.old.left) parser.old parser.new }
+    ensures reads { ReadsLight (λ p. p) result (raw_place.reads parser.old.left) parser.old
+        parser.new }
 {
     if !lparen_next(parser) {
         return Ok(CustomPlace::AfterLast);

@@ -53,7 +53,8 @@ type Segment<'a> = (ElemKind<'a>, ElemPayload<'a>);
 /// `( offset Expression )` where the second token is `offset`, else a folded instruction.
 #[tactic(auto, unfolding(crate::specs::Elem::elem_offset))]
 fn read_offset<'a>(parser: &mut Parser<'a>) -> Result<Expression<'a>>
-    ensures reads { ReadsIf false false bare_expression seen_expression result (elem_offset.reads parser.old.left) parser.old parser.new }
+    ensures reads { ReadsIf false false bare_expression seen_expression result
+        (elem_offset.reads parser.old.left) parser.old parser.new }
 {
     read_written_or_folded(parser, "offset")
 }
@@ -61,7 +62,9 @@ fn read_offset<'a>(parser: &mut Parser<'a>) -> Result<Expression<'a>>
 /// `( table idx )`, an offset and a payload.
 #[tactic(auto, unfolding(crate::specs::Elem::in_table))]
 fn read_in_table<'a>(parser: &mut Parser<'a>) -> Result<Segment<'a>>
-    ensures reads { ReadsIf false false bare_segment (λ s. (seen_elem_kind s.0, seen_payload s.1)) result (in_table.reads parser.old.left) parser.old parser.new }
+    ensures reads { ReadsIf false false bare_segment (λ s.
+        (seen_elem_kind s.0, seen_payload s.1)) result
+        (in_table.reads parser.old.left) parser.old parser.new }
 {
     parser.open()?;
     parser.keyword("table")?;
@@ -76,7 +79,8 @@ fn read_in_table<'a>(parser: &mut Parser<'a>) -> Result<Segment<'a>>
 /// The table of a number, where one stands in front; `span` is where it is said to stand.
 #[tactic(auto, unfolding(crate::specs::Elem::table_number))]
 fn read_table_number<'a>(parser: &mut Parser<'a>, span: Span) -> Result<Option<Index<'a>>>
-    ensures reads { ReadsLight (λ o. seen_option seen_index o) result (table_number.reads parser.old.left) parser.old parser.new }
+    ensures reads { ReadsLight (λ o. seen_option seen_index o) result
+        (table_number.reads parser.old.left) parser.old parser.new }
 {
     if !parser.peek::<u32>() {
         return Ok(None);
@@ -88,7 +92,9 @@ fn read_table_number<'a>(parser: &mut Parser<'a>, span: Span) -> Result<Option<I
 /// A table's number or nothing, an offset, and a payload, which may be indices alone.
 #[tactic(auto, unfolding(crate::specs::Elem::in_some_table))]
 fn read_in_some_table<'a>(parser: &mut Parser<'a>, span: Span) -> Result<Segment<'a>>
-    ensures reads { ReadsIf false false bare_segment (λ s. (seen_elem_kind s.0, seen_payload s.1)) result (in_some_table.reads parser.old.left) parser.old parser.new }
+    ensures reads { ReadsIf false false bare_segment (λ s.
+        (seen_elem_kind s.0, seen_payload s.1)) result
+        (in_some_table.reads parser.old.left) parser.old parser.new }
 {
     let table = read_table_number(parser, span)?;
     let offset = read_offset(parser)?;
@@ -99,7 +105,9 @@ fn read_in_some_table<'a>(parser: &mut Parser<'a>, span: Span) -> Result<Segment
 /// An active segment.
 #[tactic(auto, unfolding(crate::specs::Elem::active_segment))]
 fn read_active<'a>(parser: &mut Parser<'a>, span: Span) -> Result<Segment<'a>>
-    ensures reads { ReadsIf false false bare_segment (λ s. (seen_elem_kind s.0, seen_payload s.1)) result (active_segment.reads parser.old.left) parser.old parser.new }
+    ensures reads { ReadsIf false false bare_segment (λ s.
+        (seen_elem_kind s.0, seen_payload s.1)) result
+        (active_segment.reads parser.old.left) parser.old parser.new }
 {
     if parser.group_is("table") {
         return read_in_table(parser);
@@ -110,7 +118,9 @@ fn read_active<'a>(parser: &mut Parser<'a>, span: Span) -> Result<Segment<'a>>
 /// `declare`, and a payload.
 #[tactic(auto, unfolding(crate::specs::Elem::declared_segment))]
 fn read_declared<'a>(parser: &mut Parser<'a>) -> Result<Segment<'a>>
-    ensures reads { ReadsIf false false bare_segment (λ s. (seen_elem_kind s.0, seen_payload s.1)) result (declared_segment.reads parser.old.left) parser.old parser.new }
+    ensures reads { ReadsIf false false bare_segment (λ s.
+        (seen_elem_kind s.0, seen_payload s.1)) result
+        (declared_segment.reads parser.old.left) parser.old parser.new }
 {
     parser.keyword("declare")?;
     let payload = read_payload(parser)?;
@@ -120,7 +130,9 @@ fn read_declared<'a>(parser: &mut Parser<'a>) -> Result<Segment<'a>>
 /// A payload alone.
 #[tactic(auto, unfolding(crate::specs::Elem::passive_segment))]
 fn read_passive<'a>(parser: &mut Parser<'a>) -> Result<Segment<'a>>
-    ensures reads { ReadsIf false false bare_segment (λ s. (seen_elem_kind s.0, seen_payload s.1)) result (passive_segment.reads parser.old.left) parser.old parser.new }
+    ensures reads { ReadsIf false false bare_segment (λ s.
+        (seen_elem_kind s.0, seen_payload s.1)) result
+        (passive_segment.reads parser.old.left) parser.old parser.new }
 {
     let payload = read_payload(parser)?;
     Ok((ElemKind::Passive, payload))
@@ -139,7 +151,9 @@ fn active_next(parser: &Parser<'_>) -> bool
 /// A kind, and what the segment holds; `span` is where the word `elem` begins.
 #[tactic(auto, unfolding(crate::specs::Elem::segment))]
 fn read_segment<'a>(parser: &mut Parser<'a>, span: Span) -> Result<Segment<'a>>
-    ensures reads { ReadsIf false false bare_segment (λ s. (seen_elem_kind s.0, seen_payload s.1)) result (segment.reads parser.old.left) parser.old parser.new }
+    ensures reads { ReadsIf false false bare_segment (λ s.
+        (seen_elem_kind s.0, seen_payload s.1)) result
+        (segment.reads parser.old.left) parser.old parser.new }
 {
     if parser.next_is("declare") {
         return read_declared(parser);

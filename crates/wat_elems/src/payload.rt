@@ -39,7 +39,8 @@ pub(crate) fn read_written_or_folded<'a>(
     parser: &mut Parser<'a>,
     word: &str,
 ) -> Result<Expression<'a>>
-    ensures reads { ReadsIf false false bare_expression seen_expression result ((written_or_folded word.now).reads parser.old.left) parser.old parser.new }
+    ensures reads { ReadsIf false false bare_expression seen_expression result
+        ((written_or_folded word.now).reads parser.old.left) parser.old parser.new }
 {
     if !parser.second_is(word) {
         return Expression::parse_folded_instruction(parser);
@@ -82,7 +83,8 @@ impl<'a> Part<'a, Expression<'a>> for Item {
 /// Items, to the end.
 #[tactic(auto, using(crate::specs::Payload::item_eats), unfolding(crate::specs::Payload::item_list))]
 fn read_items<'a>(parser: &mut Parser<'a>) -> Result<Vec<Expression<'a>>>
-    ensures reads { ReadsIf false false no_items (λ v. map seen_expression v.items) result (item_list.reads parser.old.left) parser.old parser.new }
+    ensures reads { ReadsIf false false no_items (λ v. map seen_expression v.items) result
+        (item_list.reads parser.old.left) parser.old parser.new }
 {
     all_parts::<_, Item>(parser)
 }
@@ -90,7 +92,8 @@ fn read_items<'a>(parser: &mut Parser<'a>) -> Result<Vec<Expression<'a>>>
 /// Indices, to the end.
 #[tactic(auto, unfolding(crate::specs::Payload::index_list))]
 fn read_indices<'a>(parser: &mut Parser<'a>) -> Result<Vec<Index<'a>>>
-    ensures reads { Reads no_items (λ v. map seen_index v.items) result (index_list.reads parser.old.left) parser.old parser.new }
+    ensures reads { Reads no_items (λ v. map seen_index v.items) result
+        (index_list.reads parser.old.left) parser.old parser.new }
 {
     all_to_end::<Index>(parser)
 }
@@ -133,7 +136,8 @@ impl<'a> Part<'a, Expression<'a>> for RefFunc {
 /// Indices, to the end, each as `ref.func` of it, as a payload of the type.
 #[tactic(auto, using(crate::specs::RefFuncs::ref_func_eats), unfolding(crate::specs::RefFuncs::ref_funcs_of, crate::specs::RefFuncs::ref_funcs))]
 fn read_ref_funcs<'a>(parser: &mut Parser<'a>, ty: RefType<'a>) -> Result<ElemPayload<'a>>
-    ensures reads { Reads bare_payload seen_payload result ((ref_funcs_of (seen_ref ty.entry)).reads parser.old.left) parser.old parser.new }
+    ensures reads { Reads bare_payload seen_payload result ((ref_funcs_of
+        (seen_ref ty.entry)).reads parser.old.left) parser.old parser.new }
 {
     let exprs = all_parts::<_, RefFunc>(parser)?;
     Ok(ElemPayload::Exprs { ty, exprs })
@@ -142,7 +146,8 @@ fn read_ref_funcs<'a>(parser: &mut Parser<'a>, ty: RefType<'a>) -> Result<ElemPa
 /// Indices, to the end, as they are.
 #[tactic(auto, unfolding(crate::specs::RefFuncs::plain_indices))]
 fn read_plain_indices<'a>(parser: &mut Parser<'a>) -> Result<ElemPayload<'a>>
-    ensures reads { Reads bare_payload seen_payload result (plain_indices.reads parser.old.left) parser.old parser.new }
+    ensures reads { Reads bare_payload seen_payload result
+        (plain_indices.reads parser.old.left) parser.old parser.new }
 {
     Ok(ElemPayload::Indices(read_indices(parser)?))
 }
@@ -163,7 +168,8 @@ fn is_funcref(ty: RefType<'_>) -> bool
 /// Indices, to the end, as a payload of the type.
 #[tactic(auto, using(crate::proofs::RefFuncs::indices_are, crate::proofs::RefFuncs::ref_funcs_are))]
 fn read_indices_of<'a>(parser: &mut Parser<'a>, ty: RefType<'a>) -> Result<ElemPayload<'a>>
-    ensures reads { Reads bare_payload seen_payload result ((indices_of (seen_ref ty.entry)).reads parser.old.left) parser.old parser.new }
+    ensures reads { Reads bare_payload seen_payload result ((indices_of
+        (seen_ref ty.entry)).reads parser.old.left) parser.old parser.new }
 {
     if is_funcref(ty) {
         return read_plain_indices(parser);
@@ -175,7 +181,8 @@ fn read_indices_of<'a>(parser: &mut Parser<'a>, ty: RefType<'a>) -> Result<ElemP
 /// itself where the type is `funcref`, and else as an expression of the one instruction `ref.func`.
 #[tactic(auto, unfolding(crate::specs::Payload::listed, crate::specs::RefFuncs::indices_of))]
 pub(crate) fn read_listed<'a>(parser: &mut Parser<'a>, ty: RefType<'a>) -> Result<ElemPayload<'a>>
-    ensures reads { ReadsIf false false bare_payload seen_payload result ((made (of_type (seen_ref ty.entry)) listed).reads parser.old.left) parser.old parser.new }
+    ensures reads { ReadsIf false false bare_payload seen_payload result ((made (of_type
+        (seen_ref ty.entry)) listed).reads parser.old.left) parser.old parser.new }
 {
     if parser.cursor().lparen().is_some() {
         let exprs = read_items(parser)?;
@@ -187,7 +194,8 @@ pub(crate) fn read_listed<'a>(parser: &mut Parser<'a>, ty: RefType<'a>) -> Resul
 /// A type, and items to the end.
 #[tactic(auto, unfolding(crate::specs::Payload::typed_items))]
 fn read_typed_items<'a>(parser: &mut Parser<'a>) -> Result<ElemPayload<'a>>
-    ensures reads { ReadsIf false false bare_payload seen_payload result (typed_items.reads parser.old.left) parser.old parser.new }
+    ensures reads { ReadsIf false false bare_payload seen_payload result
+        (typed_items.reads parser.old.left) parser.old parser.new }
 {
     let ty = RefType::parse(parser)?;
     let exprs = read_items(parser)?;
@@ -197,7 +205,8 @@ fn read_typed_items<'a>(parser: &mut Parser<'a>) -> Result<ElemPayload<'a>>
 /// `func` and indices, or a type and items.
 #[tactic(auto, unfolding(crate::specs::Payload::payload))]
 pub(crate) fn read_payload<'a>(parser: &mut Parser<'a>) -> Result<ElemPayload<'a>>
-    ensures reads { ReadsIf false false bare_payload seen_payload result (payload.reads parser.old.left) parser.old parser.new }
+    ensures reads { ReadsIf false false bare_payload seen_payload result
+        (payload.reads parser.old.left) parser.old parser.new }
 {
     if parser.next_is("func") {
         parser.keyword("func")?;
@@ -209,7 +218,8 @@ pub(crate) fn read_payload<'a>(parser: &mut Parser<'a>) -> Result<ElemPayload<'a
 /// `func` and indices, a type and items, or indices alone.
 #[tactic(auto, unfolding(crate::specs::Payload::payload_or_indices))]
 pub(crate) fn read_payload_or_indices<'a>(parser: &mut Parser<'a>) -> Result<ElemPayload<'a>>
-    ensures reads { ReadsIf false false bare_payload seen_payload result (payload_or_indices.reads parser.old.left) parser.old parser.new }
+    ensures reads { ReadsIf false false bare_payload seen_payload result
+        (payload_or_indices.reads parser.old.left) parser.old parser.new }
 {
     if parser.next_is("func") {
         parser.keyword("func")?;

@@ -60,7 +60,8 @@ pub enum TableKind<'a> {
 /// What it holds, behind the type of its elements.
 #[tactic(auto, unfolding(crate::specs::Table::inline_table))]
 fn read_inline<'a>(parser: &mut Parser<'a>) -> Result<TableKind<'a>>
-    ensures reads { ReadsIf false false bare_table_kind seen_table_kind result (inline_table.reads parser.old.left) parser.old parser.new }
+    ensures reads { ReadsIf false false bare_table_kind seen_table_kind result
+        (inline_table.reads parser.old.left) parser.old parser.new }
 {
     let shared = parser.flag("shared");
     let is64 = take_is64(parser)?;
@@ -80,7 +81,8 @@ fn read_inline<'a>(parser: &mut Parser<'a>) -> Result<TableKind<'a>>
 /// A type, and then an expression, where something is left.
 #[tactic(auto, unfolding(crate::specs::Table::normal_table))]
 fn read_normal<'a>(parser: &mut Parser<'a>) -> Result<TableKind<'a>>
-    ensures reads { ReadsIf false false bare_table_kind seen_table_kind result (normal_table.reads parser.old.left) parser.old parser.new }
+    ensures reads { ReadsIf false false bare_table_kind seen_table_kind result
+        (normal_table.reads parser.old.left) parser.old parser.new }
 {
     let ty = TableType::parse(parser)?;
     let init_expr = if parser.is_empty() {
@@ -94,7 +96,8 @@ fn read_normal<'a>(parser: &mut Parser<'a>) -> Result<TableKind<'a>>
 /// From where it is imported, and its type.
 #[tactic(auto, using(wat_links::specs::NoImport::no_import), unfolding(crate::specs::Table::imported_table))]
 fn read_imported<'a>(parser: &mut Parser<'a>) -> Result<TableKind<'a>>
-    ensures reads { ReadsLight seen_table_kind result (imported_table.reads parser.old.left) parser.old parser.new }
+    ensures reads { ReadsLight seen_table_kind result (imported_table.reads parser.old.left)
+        parser.old parser.new }
 {
     if !parser.peek::<InlineImport>() {
         return Err(parser.unexpected());
@@ -131,7 +134,8 @@ fn normal_next(parser: &Parser<'_>) -> bool
 /// How it is defined.
 #[tactic(auto, unfolding(crate::specs::Table::table_kind))]
 fn read_kind<'a>(parser: &mut Parser<'a>) -> Result<TableKind<'a>>
-    ensures reads { ReadsIf false false bare_table_kind seen_table_kind result (table_kind.reads parser.old.left) parser.old parser.new }
+    ensures reads { ReadsIf false false bare_table_kind seen_table_kind result
+        (table_kind.reads parser.old.left) parser.old parser.new }
 {
     if inline_next(parser) {
         return read_inline(parser);

@@ -47,7 +47,8 @@ pub struct Expression<'a> {
 /// Puts a hint behind the others, where there is one; `index` is that of its instruction. Memory
 /// refuses it.
 fn add_hint(hints: &mut Vec<BranchHint>, hint: Option<u32>, index: usize) -> Result<()>
-    ensures { MatchResult result (λ _. map seen_hint hints.new.items ≡ map seen_hint hints.old.items ++ mark hint index) (λ e. e.fault ≡ Fault.Memory) }
+    ensures { MatchResult result (λ _. map seen_hint hints.new.items
+        ≡ map seen_hint hints.old.items ++ mark hint index) (λ e. e.fault ≡ Fault.Memory) }
 {
     match hint {
         Some(value) => {
@@ -63,8 +64,11 @@ fn add_hint(hints: &mut Vec<BranchHint>, hint: Option<u32>, index: usize) -> Res
 
 /// Puts a span behind the others, where they are kept. Memory refuses it.
 fn add_span(spans: &mut Option<Vec<Span>>, span: Span) -> Result<()>
-    ensures kept { MatchResult result (λ _. kept_spans spans.new ≡ and_span span (kept_spans spans.old)) (λ e. (e.fault ≡ Fault.Memory) × (kept_spans spans.new ≡ kept_spans spans.old)) }
-    ensures number { MatchResult result (λ _. number_of spans.new ≡ one_more (number_of spans.old)) (λ e. e.fault ≡ Fault.Memory) }
+    ensures kept { MatchResult result (λ _. kept_spans spans.new ≡ and_span span
+        (kept_spans spans.old)) (λ e. (e.fault ≡ Fault.Memory)
+        × (kept_spans spans.new ≡ kept_spans spans.old)) }
+    ensures number { MatchResult result (λ _. number_of spans.new ≡ one_more (number_of spans.old))
+        (λ e. e.fault ≡ Fault.Memory) }
 {
     match spans {
         Some(kept) => {
@@ -77,7 +81,8 @@ fn add_span(spans: &mut Option<Vec<Span>>, span: Span) -> Result<()>
 
 /// Takes the last span away again, where they are kept.
 fn drop_span(spans: &mut Option<Vec<Span>>)
-    ensures { (l : Option (List Span)) (s : Span) → kept_spans spans.old ≡ and_span s l → kept_spans spans.new ≡ l }
+    ensures { (l : Option (List Span)) (s : Span) → kept_spans spans.old ≡ and_span s l
+        → kept_spans spans.new ≡ l }
 {
     if let Some(kept) = spans {
         kept.pop();
@@ -104,8 +109,12 @@ impl<'a> Expression<'a> {
     /// Puts an instruction behind the others, without a hint, and its span, where spans are kept.
     /// Memory refuses it, and then the expression is as it was.
     pub fn put_last(&mut self, instr: Instruction<'a>, span: Span) -> Result<()>
-        ensures instrs { MatchResult result (λ _. self.new.instrs.items ≡ self.old.instrs.items ++ instr.entry ∷ []) (λ _. self.new.instrs.items ≡ self.old.instrs.items) }
-        ensures spans { MatchResult result (λ _. kept_spans self.new.instr_spans ≡ and_span span (kept_spans self.old.instr_spans)) (λ _. kept_spans self.new.instr_spans ≡ kept_spans self.old.instr_spans) }
+        ensures instrs { MatchResult result (λ _. self.new.instrs.items
+            ≡ self.old.instrs.items ++ instr.entry ∷ []) (λ _. self.new.instrs.items
+            ≡ self.old.instrs.items) }
+        ensures spans { MatchResult result (λ _. kept_spans self.new.instr_spans ≡ and_span span
+            (kept_spans self.old.instr_spans)) (λ _. kept_spans self.new.instr_spans
+            ≡ kept_spans self.old.instr_spans) }
         ensures hints { self.new.branch_hints ≡ self.old.branch_hints }
         ensures memory { IfErr result (λ e. e.fault ≡ Fault.Memory) }
     {
@@ -138,7 +147,8 @@ impl<'a> Expression<'a> {
         instr: Instruction<'a>,
         span: Span,
     ) -> Result<()>
-        ensures { MatchResult result (λ _. flat self.new ≡ push hint (seen_instruction instr.entry) (flat self.old)) (λ e. e.fault ≡ Fault.Memory) }
+        ensures { MatchResult result (λ _. flat self.new ≡ push hint (seen_instruction instr.entry)
+            (flat self.old)) (λ e. e.fault ≡ Fault.Memory) }
     {
         let index = self.instrs.len();
         put(&mut self.instrs, instr)?;
@@ -150,7 +160,8 @@ impl<'a> Expression<'a> {
     /// Puts an `end` behind the others; `span` is where the `)` stands that it is added for. Memory
     /// refuses it.
     pub(crate) fn push_end(&mut self, span: Span) -> Result<()>
-        ensures { MatchResult result (λ _. flat self.new ≡ push None end_instr (flat self.old)) (λ e. e.fault ≡ Fault.Memory) }
+        ensures { MatchResult result (λ _. flat self.new ≡ push None end_instr (flat self.old))
+            (λ e. e.fault ≡ Fault.Memory) }
     {
         self.push(None, Instruction::Label(LabelOp::end, None), span)
     }
@@ -187,12 +198,14 @@ impl<'a> Parse<'a> for Expression<'a> {
     ghost grammar = { expression };
 
     fn parse(parser: &mut Parser<'a>) -> Result<Self>
-        ensures exact { Gives false bare_expression seen_expression result (expression.reads parser.old.left) parser.new.left }
+        ensures exact { Gives false bare_expression seen_expression result
+            (expression.reads parser.old.left) parser.new.left }
         // The tokens that were taken list items, and these are their unfolding, their hints and
         // their counts.
         ensures listed { IfOk result (λ e. IsListed parser.old parser.new e) }
         // Where tokens in front list items, to the end, these are answered, unless memory ran out.
-        ensures only { (xs : Items) (r : List Tok) → lists xs parser.old.left r → ends r ≡ true → Accepts seen_expression bare_expression result (value_of xs) parser.new.left r }
+        ensures only { (xs : Items) (r : List Tok) → lists xs parser.old.left r → ends r ≡ true
+            → Accepts seen_expression bare_expression result (value_of xs) parser.new.left r }
         ensures spans { IfOk result (λ e. SpansAre parser.old.tracks e) }
         ensures counts { Counted result parser.old parser.new }
         ensures quiet { IsTrue false → Quiet parser.old parser.new }

@@ -25,7 +25,8 @@ fn turn<'a>(
     out: &mut Expression<'a>,
     parser: &mut Parser<'a>,
 ) -> Result<()>
-    ensures turned { GroupTurn result (spot levels.old parser.old.left (flat out.old)) (spot levels.new parser.new.left (flat out.new)) }
+    ensures turned { GroupTurn result (spot levels.old parser.old.left (flat out.old))
+        (spot levels.new parser.new.left (flat out.new)) }
     ensures steady { Steady parser.old parser.new }
 {
     if take_open(parser) {
@@ -63,9 +64,12 @@ impl<'a> Expression<'a> {
     pub fn parse_folded_instruction(parser: &mut Parser<'a>) -> Result<Expression<'a>>
         // What tokens in front spell is answered, and leaves what is behind them; memory alone may
         // refuse it.
-        ensures exact { Gives false bare_expression seen_expression result (folded_instruction.reads parser.old.left) parser.new.left }
+        ensures exact { Gives false bare_expression seen_expression result
+            (folded_instruction.reads parser.old.left) parser.new.left }
         // Where tokens in front list one group, it is the answer, unless memory ran out.
-        ensures only { (i : Instr) (gs : Groups) (r : List Tok) → is_folded i gs parser.old.left r → Accepts seen_expression bare_expression result (folded_value i gs) parser.new.left r }
+        ensures only { (i : Instr) (gs : Groups) (r : List Tok) → is_folded i gs parser.old.left r
+            → Accepts seen_expression bare_expression result
+            (folded_value i gs) parser.new.left r }
         // What was read is one group, and these are its counts.
         ensures listed { IfOk result (λ e. IsFolded parser.old parser.new e) }
         ensures spans { IfOk result (λ e. SpansAre parser.old.tracks e) }

@@ -126,7 +126,8 @@ impl<'a> Levels<'a> {
 
     /// Takes the innermost group off.
     pub fn pop(&mut self) -> Option<Level<'a>>
-        ensures { MatchOption result ((self.old ≡ []) × (self.new ≡ [])) (λ l. self.old ≡ seen_level l ∷ self.new) }
+        ensures { MatchOption result ((self.old ≡ []) × (self.new ≡ [])) (λ l. self.old
+            ≡ seen_level l ∷ self.new) }
     {
         match self.kinds.pop()? {
             Kind::Folded => Some(Level::Folded(self.heads.pop()?)),
@@ -141,7 +142,8 @@ impl<'a> Levels<'a> {
     /// Opens a group of a kind that holds no instruction, or refuses with Memory.
     fn enter(&mut self, kind: Kind) -> Result<()>
         requires { waiting (kind ∷ []) ≡ 0 }
-        ensures { MatchResult result (λ _. self.new ≡ levels (kind ∷ []) [] ++ self.old) (λ e. e.fault ≡ Fault.Memory) }
+        ensures { MatchResult result (λ _. self.new ≡ levels (kind ∷ []) [] ++ self.old)
+            (λ e. e.fault ≡ Fault.Memory) }
     {
         self.kinds.push(kind)?;
         Ok(())
@@ -150,7 +152,8 @@ impl<'a> Levels<'a> {
     /// Opens a group of a kind that holds an instruction, or refuses with Memory.
     fn hold(&mut self, kind: Kind, head: Head<'a>) -> Result<()>
         requires { waiting (kind ∷ []) ≡ 1 }
-        ensures { MatchResult result (λ _. self.new ≡ levels (kind ∷ []) (head.entry ∷ []) ++ self.old) (λ e. e.fault ≡ Fault.Memory) }
+        ensures { MatchResult result (λ _. self.new ≡ levels (kind ∷ [])
+            (head.entry ∷ []) ++ self.old) (λ e. e.fault ≡ Fault.Memory) }
     {
         put(&mut self.heads, head)?;
         match put(&mut self.kinds, kind) {
@@ -164,7 +167,8 @@ impl<'a> Levels<'a> {
 
     /// Opens a group; Memory refuses it.
     pub fn push(&mut self, level: Level<'a>) -> Result<()>
-        ensures { MatchResult result (λ _. self.new ≡ seen_level level.entry ∷ self.old) (λ e. e.fault ≡ Fault.Memory) }
+        ensures { MatchResult result (λ _. self.new ≡ seen_level level.entry ∷ self.old)
+            (λ e. e.fault ≡ Fault.Memory) }
     {
         match level {
             Level::Folded(head) => self.hold(Kind::Folded, head),

@@ -101,7 +101,9 @@ impl<'a> Reader<'a> {
 
     /// Whether no group is open and nothing follows, or what closes a group does.
     pub fn is_done(&self, parser: &Parser<'a>) -> bool
-        ensures { MatchBool result ((self.now.levels ≡ []) × (ends parser.now.left ≡ true)) (self.now.levels ≡ [] → ends parser.now.left ≡ true → ⊥) }
+        ensures { MatchBool result ((self.now.levels ≡ [])
+            × (ends parser.now.left ≡ true)) (self.now.levels ≡ [] → ends parser.now.left ≡ true
+            → ⊥) }
     {
         parser.is_empty() && self.levels.is_empty()
     }
@@ -109,7 +111,8 @@ impl<'a> Reader<'a> {
     /// One turn: it decides by the token in front.
     pub fn turn(&mut self, parser: &mut Parser<'a>) -> Result<()>
         requires { self.old.levels ≡ [] → ends parser.old.left ≡ true → ⊥ }
-        ensures turned { Turned result (stand self.old parser.old.left) (stand self.new parser.new.left) }
+        ensures turned { Turned result (stand self.old parser.old.left)
+            (stand self.new parser.new.left) }
         ensures steady { Steady parser.old parser.new }
     {
         if take_open(parser) {
@@ -124,9 +127,11 @@ impl<'a> Reader<'a> {
     /// A turn at an instruction alone.
     fn plain(&mut self, parser: &mut Parser<'a>) -> Result<()>
         requires no_group { (ts : List Tok) → parser.old.left ≡ LParen ∷ ts → ⊥ }
-        requires no_close { (self.old.levels ≡ [] → ⊥) → (ts : List Tok) → parser.old.left ≡ RParen ∷ ts → ⊥ }
+        requires no_close { (self.old.levels ≡ [] → ⊥) → (ts : List Tok)
+            → parser.old.left ≡ RParen ∷ ts → ⊥ }
         requires no_end { self.old.levels ≡ [] → ends parser.old.left ≡ true → ⊥ }
-        ensures turned { Turned result (stand self.old parser.old.left) (stand self.new parser.new.left) }
+        ensures turned { Turned result (stand self.old parser.old.left)
+            (stand self.new parser.new.left) }
         ensures steady { Steady parser.old parser.new }
     {
         if !self.levels.takes_plain() {
@@ -174,7 +179,8 @@ impl<'a> Reader<'a> {
 
     /// A turn at an opening parenthesis, which was taken.
     fn open(&mut self, parser: &mut Parser<'a>) -> Result<()>
-        ensures turned { Turned result (stand self.old (LParen ∷ parser.old.left)) (stand self.new parser.new.left) }
+        ensures turned { Turned result (stand self.old (LParen ∷ parser.old.left))
+            (stand self.new parser.new.left) }
         ensures steady { Steady parser.old parser.new }
     {
         match self.levels.top() {
@@ -195,8 +201,10 @@ impl<'a> Reader<'a> {
 
     /// A turn at `( then`, which was taken; `span` is where the word stands.
     fn open_then(&mut self, span: Span) -> Result<()>
-        requires { (i : Instr) × (h : Option ℕ) × (s : List Open) × (self.old.levels ≡ InIf i h ∷ s) }
-        ensures { (m : List Tok) → Turned result (stand self.old (LParen ∷ word (codes "then") ∷ m)) (stand self.new m) }
+        requires { (i : Instr) × (h : Option ℕ) × (s : List Open)
+            × (self.old.levels ≡ InIf i h ∷ s) }
+        ensures { (m : List Tok) → Turned result (stand self.old (LParen ∷ word (codes "then") ∷ m))
+            (stand self.new m) }
     {
         if let Some(_) = self.pending {
             return Err(Error {
@@ -223,7 +231,8 @@ impl<'a> Reader<'a> {
     /// A turn at `(` behind `( then .. )`.
     fn open_else(&mut self, parser: &mut Parser<'a>) -> Result<()>
         requires { (s : List Open) × (self.old.levels ≡ AfterThen ∷ s) }
-        ensures turned { Turned result (stand self.old (LParen ∷ parser.old.left)) (stand self.new parser.new.left) }
+        ensures turned { Turned result (stand self.old (LParen ∷ parser.old.left))
+            (stand self.new parser.new.left) }
         ensures steady { Steady parser.old parser.new }
     {
         if !take_word(parser, "else") {
@@ -248,8 +257,10 @@ impl<'a> Reader<'a> {
     /// A turn at a group or a hint.
     fn open_item(&mut self, parser: &mut Parser<'a>) -> Result<()>
         requires place { IsOpen self.old.levels }
-        requires no_then { (ts : List Tok) → parser.old.left ≡ word (codes "then") ∷ ts → (i : Instr) (h : Option ℕ) (s : List Open) → self.old.levels ≡ InIf i h ∷ s → ⊥ }
-        ensures turned { Turned result (stand self.old (LParen ∷ parser.old.left)) (stand self.new parser.new.left) }
+        requires no_then { (ts : List Tok) → parser.old.left ≡ word (codes "then") ∷ ts
+            → (i : Instr) (h : Option ℕ) (s : List Open) → self.old.levels ≡ InIf i h ∷ s → ⊥ }
+        ensures turned { Turned result (stand self.old (LParen ∷ parser.old.left))
+            (stand self.new parser.new.left) }
         ensures steady { Steady parser.old parser.new }
     {
         if take_hint_name(parser) {
@@ -277,7 +288,8 @@ impl<'a> Reader<'a> {
     /// A turn at a hint, whose `(` and annotation were taken.
     fn hint(&mut self, parser: &mut Parser<'a>) -> Result<()>
         requires { IsOpen self.old.levels }
-        ensures turned { Turned result (stand self.old (LParen ∷ hint_name ∷ parser.old.left)) (stand self.new parser.new.left) }
+        ensures turned { Turned result (stand self.old (LParen ∷ hint_name ∷ parser.old.left))
+            (stand self.new parser.new.left) }
         ensures steady { Steady parser.old parser.new }
     {
         let span = parser.cur_span();

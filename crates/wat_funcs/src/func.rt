@@ -48,7 +48,8 @@ type Defined<'a> = (TypeUse<'a, FunctionType<'a>>, FuncKind<'a>);
 /// is exact.
 #[tactic(auto, unfolding(crate::specs::Func::exact_use))]
 fn read_exact_use<'a>(parser: &mut Parser<'a>) -> Result<(TypeUse<'a, FunctionType<'a>>, bool)>
-    ensures reads { Reads (λ u. bare_func_use u.0) (λ u. (seen_func_use u.0, u.1)) result (exact_use.reads parser.old.left) parser.old parser.new }
+    ensures reads { Reads (λ u. bare_func_use u.0) (λ u. (seen_func_use u.0, u.1)) result
+        (exact_use.reads parser.old.left) parser.old parser.new }
 {
     if !parser.second_is("exact") {
         return Ok((TypeUse::parse(parser)?, false));
@@ -63,7 +64,8 @@ fn read_exact_use<'a>(parser: &mut Parser<'a>) -> Result<(TypeUse<'a, FunctionTy
 /// An import in line, and a type use, exact or not.
 #[tactic(auto, unfolding(crate::specs::Func::func_import))]
 fn read_import<'a>(parser: &mut Parser<'a>) -> Result<Defined<'a>>
-    ensures reads { Reads bare_defined seen_defined result (func_import.reads parser.old.left) parser.old parser.new }
+    ensures reads { Reads bare_defined seen_defined result
+        (func_import.reads parser.old.left) parser.old parser.new }
 {
     let import = InlineImport::parse(parser)?;
     let (ty, is_exact) = read_exact_use(parser)?;
@@ -73,7 +75,8 @@ fn read_import<'a>(parser: &mut Parser<'a>) -> Result<Defined<'a>>
 /// A type use, locals and a body.
 #[tactic(auto, unfolding(crate::specs::Func::func_inline))]
 fn read_inline<'a>(parser: &mut Parser<'a>) -> Result<Defined<'a>>
-    ensures reads { ReadsIf false false bare_defined seen_defined result (func_inline.reads parser.old.left) parser.old parser.new }
+    ensures reads { ReadsIf false false bare_defined seen_defined result
+        (func_inline.reads parser.old.left) parser.old parser.new }
 {
     let ty = TypeUse::parse(parser)?;
     let locals = Local::parse_remainder(parser)?;
@@ -84,7 +87,8 @@ fn read_inline<'a>(parser: &mut Parser<'a>) -> Result<Defined<'a>>
 /// What stands behind the head.
 #[tactic(auto, unfolding(crate::specs::Func::func_defined))]
 fn read_defined<'a>(parser: &mut Parser<'a>) -> Result<Defined<'a>>
-    ensures reads { ReadsIf false false bare_defined seen_defined result (func_defined.reads parser.old.left) parser.old parser.new }
+    ensures reads { ReadsIf false false bare_defined seen_defined result
+        (func_defined.reads parser.old.left) parser.old parser.new }
 {
     if parser.peek::<InlineImport>() {
         read_import(parser)

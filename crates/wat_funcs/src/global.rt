@@ -38,7 +38,8 @@ pub enum GlobalKind<'a> {
 /// What stands behind the head: the type, and how the global is defined.
 #[tactic(auto, unfolding(crate::specs::Global::global_defined))]
 fn read_defined<'a>(parser: &mut Parser<'a>) -> Result<(GlobalType<'a>, GlobalKind<'a>)>
-    ensures reads { ReadsIf false false bare_defined seen_defined result (global_defined.reads parser.old.left) parser.old parser.new }
+    ensures reads { ReadsIf false false bare_defined seen_defined result
+        (global_defined.reads parser.old.left) parser.old parser.new }
 {
     if parser.peek::<InlineImport>() {
         let import = InlineImport::parse(parser)?;

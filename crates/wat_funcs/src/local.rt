@@ -61,7 +61,9 @@ impl<'a> Part<'a, Local<'a>> for PlainLocal {
 /// A local with an identifier or a name, put behind those that are there.
 #[tactic(auto, unfolding(crate::specs::Local::labelled_local, wat_types::specs::Label::label))]
 fn read_labelled<'a>(parser: &mut Parser<'a>, out: &mut Vec<Local<'a>>) -> Result<()>
-    ensures reads { Reads no_items (λ _. seen_locals out.new.items) result (after_front (seen_locals out.old.items) (labelled_local.reads parser.old.left)) parser.old parser.new }
+    ensures reads { Reads no_items (λ _. seen_locals out.new.items) result (after_front
+        (seen_locals out.old.items) (labelled_local.reads parser.old.left)) parser.old
+        parser.new }
 {
     let id = Option::<Id>::parse(parser)?;
     let name = Option::<NameAnnotation>::parse(parser)?;
@@ -73,7 +75,8 @@ fn read_labelled<'a>(parser: &mut Parser<'a>, out: &mut Vec<Local<'a>>) -> Resul
 /// The locals behind the word `local`, each put behind those that are there.
 #[tactic(auto, using(wat_types::specs::Value::val_type_eats), unfolding(crate::specs::Local::listed_locals, crate::specs::Local::plain_locals))]
 fn read_listed<'a>(parser: &mut Parser<'a>, out: &mut Vec<Local<'a>>) -> Result<()>
-    ensures reads { Reads no_items (λ _. seen_locals out.new.items) result (after_front (seen_locals out.old.items) (listed_locals.reads parser.old.left)) parser.old parser.new }
+    ensures reads { Reads no_items (λ _. seen_locals out.new.items) result (after_front
+        (seen_locals out.old.items) (listed_locals.reads parser.old.left)) parser.old parser.new }
 {
     if parser.peek::<Id>() || parser.peek::<NameAnnotation>() {
         return read_labelled(parser, out);
@@ -134,7 +137,8 @@ impl<'a> Local<'a> {
     /// whatever the first is. Where that is no `(`, it is refused with Unexpected, at the first.
     #[tactic(auto, using(wat_tokens::specs::Joined::joined_reads, crate::specs::Local::local_group_eats), unfolding(crate::specs::Local::locals))]
     pub(crate) fn parse_remainder(parser: &mut Parser<'a>) -> Result<Vec<Local<'a>>>
-        ensures reads { Reads no_items (λ ls. seen_locals ls.items) result (locals.reads parser.old.left) parser.old parser.new }
+        ensures reads { Reads no_items (λ ls. seen_locals ls.items) result
+            (locals.reads parser.old.left) parser.old parser.new }
     {
         all_groups::<_, LocalGroup>(parser)
     }

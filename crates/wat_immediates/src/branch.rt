@@ -20,7 +20,8 @@ pub struct BrTableIndices<'a> {
 impl<'a> BrTableIndices<'a> {
     /// The same labels once more. Memory may be answered where there is one beside the default.
     pub fn clone(&self) -> Result<BrTableIndices<'a>>
-        ensures copies { Copies (λ x y. (y.labels.items ≡ x.labels.items) × (y.default ≡ x.default)) seen_br_table bare_br_table result self.now }
+        ensures copies { Copies (λ x y. (y.labels.items ≡ x.labels.items)
+            × (y.default ≡ x.default)) seen_br_table bare_br_table result self.now }
     {
         let mut labels = Vec::new(*self.labels.allocator());
         labels.extend_from_slice(&self.labels)?;

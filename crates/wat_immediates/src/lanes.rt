@@ -90,7 +90,8 @@ impl<'a> LoadOrStoreLane<'a> {
     /// (WebAssembly Core Specification, Text Format, Instructions, "Memory Instructions".)
     #[tactic(auto, unfolding(crate::specs::Lanes::lane_access))]
     pub fn read(parser: &mut Parser<'a>, align: u64) -> Result<LoadOrStoreLane<'a>>
-        ensures reads { ReadsLight seen_lane_access result ((lane_access align).reads parser.old.left) parser.old parser.new }
+        ensures reads { ReadsLight seen_lane_access result
+            ((lane_access align).reads parser.old.left) parser.old parser.new }
     {
         let memarg = if is_alone(parser.cursor()) {
             MemArg {

@@ -65,7 +65,8 @@ pub fn begins_with(cursor: Cursor<'_>, start: &str) -> bool
 /// The number that a text reads as without a sign in 64 bits. It is refused with Unexpected where
 /// it is no integer, and with Range where it is too large or a `-` is written, each at the place.
 fn number(text: &str, span: Span) -> Result<u64>
-    ensures { MatchResult result (λ n. unsigned_value 64 text.now ≡ Some n) (λ e. (unsigned_value 64 text.now ≡ None) × (e.fault ≢ Fault.Memory)) }
+    ensures { MatchResult result (λ n. unsigned_value 64 text.now ≡ Some n) (λ e.
+        (unsigned_value 64 text.now ≡ None) × (e.fault ≢ Fault.Memory)) }
 {
     match Integer::of(text) {
         Some(integer) => match integer.unsigned(64) {
@@ -85,7 +86,8 @@ fn number(text: &str, span: Span) -> Result<u64>
 /// Takes a keyword that begins so, and answers the number behind that.
 #[tactic(auto, unfolding(crate::specs::Memory::field))]
 fn take_field(parser: &mut Parser<'_>, front: &str) -> Result<u64>
-    ensures reads { ReadsLight (λ n. n) result ((field front.now).reads parser.old.left) parser.old parser.new }
+    ensures reads { ReadsLight (λ n. n) result ((field front.now).reads parser.old.left) parser.old
+        parser.new }
 {
     let span = parser.cur_span();
     let word = parser.take_keyword()?;
@@ -101,7 +103,8 @@ fn take_field(parser: &mut Parser<'_>, front: &str) -> Result<u64>
 /// Takes the offset, where one is written, and else answers 0.
 #[tactic(auto, unfolding(crate::specs::Memory::offset_or_0))]
 fn read_offset(parser: &mut Parser<'_>) -> Result<u64>
-    ensures reads { ReadsLight (λ n. n) result (offset_or_0.reads parser.old.left) parser.old parser.new }
+    ensures reads { ReadsLight (λ n. n) result (offset_or_0.reads parser.old.left) parser.old
+        parser.new }
 {
     if begins_with(parser.cursor(), "offset=") {
         take_field(parser, "offset=")
@@ -130,7 +133,8 @@ fn take_align(parser: &mut Parser<'_>) -> Result<u64>
 /// Takes the alignment, where one is written, and else answers the default.
 #[tactic(auto, unfolding(crate::specs::Memory::align_or))]
 fn read_align(parser: &mut Parser<'_>, default: u64) -> Result<u64>
-    ensures reads { ReadsLight (λ n. n) result ((align_or default).reads parser.old.left) parser.old parser.new }
+    ensures reads { ReadsLight (λ n. n) result ((align_or default).reads parser.old.left) parser.old
+        parser.new }
 {
     if begins_with(parser.cursor(), "align=") {
         take_align(parser)
@@ -142,7 +146,8 @@ fn read_align(parser: &mut Parser<'_>, default: u64) -> Result<u64>
 /// Takes the target: where the second token is `type`, an array, else a memory, whose default is 0.
 #[tactic(auto, unfolding(crate::specs::Memory::target))]
 fn read_target<'a>(parser: &mut Parser<'a>) -> Result<MemArgTarget<'a>>
-    ensures reads { ReadsLight seen_target result (target.reads parser.old.left) parser.old parser.new }
+    ensures reads { ReadsLight seen_target result (target.reads parser.old.left) parser.old
+        parser.new }
 {
     if !parser.second_is("type") {
         return Ok(MemArgTarget::Memory(index_or_zero(parser)?));
@@ -166,7 +171,8 @@ impl<'a> MemArg<'a> {
     /// two. (WebAssembly Core Specification, Text Format, Instructions, "Memory Instructions".)
     #[tactic(auto, unfolding(crate::specs::Memory::mem_arg))]
     pub fn read(parser: &mut Parser<'a>, align: u64) -> Result<MemArg<'a>>
-        ensures reads { ReadsLight seen_mem_arg result ((mem_arg align).reads parser.old.left) parser.old parser.new }
+        ensures reads { ReadsLight seen_mem_arg result ((mem_arg align).reads parser.old.left)
+            parser.old parser.new }
     {
         let target = read_target(parser)?;
         let offset = read_offset(parser)?;
@@ -186,7 +192,8 @@ impl<'a> MemArg<'a> {
     /// threads.)
     #[tactic(auto, unfolding(crate::specs::Memory::atomic_mem_arg))]
     pub fn read_atomic(parser: &mut Parser<'a>, align: u64, rmw: bool) -> Result<MemArg<'a>>
-        ensures reads { ReadsLight seen_mem_arg result ((atomic_mem_arg align rmw).reads parser.old.left) parser.old parser.new }
+        ensures reads { ReadsLight seen_mem_arg result ((atomic_mem_arg align rmw).reads
+            parser.old.left) parser.old parser.new }
     {
         let mut access = MemArg::read(parser, align)?;
         access.ordering = match Option::<Ordering>::parse(parser)? {

@@ -73,7 +73,8 @@ pub(crate) fn zero<'a>(parser: &Parser<'a>) -> Index<'a>
 /// Takes an index, where one begins in front, and else answers 0.
 #[tactic(auto, unfolding(crate::specs::Tables::index_or_0))]
 pub fn index_or_zero<'a>(parser: &mut Parser<'a>) -> Result<Index<'a>>
-    ensures reads { ReadsLight seen_index result (index_or_0.reads parser.old.left) parser.old parser.new }
+    ensures reads { ReadsLight seen_index result (index_or_0.reads parser.old.left) parser.old
+        parser.new }
 {
     if parser.peek::<Index>() {
         Index::parse(parser)
@@ -86,7 +87,8 @@ pub fn index_or_zero<'a>(parser: &mut Parser<'a>) -> Result<Index<'a>>
 /// target is 0.
 #[tactic(auto, unfolding(crate::specs::Tables::init, crate::specs::Tables::index_pair))]
 fn target_and_segment<'a>(parser: &mut Parser<'a>) -> Result<(Index<'a>, Index<'a>)>
-    ensures reads { ReadsLight (λ p. (seen_index p.0, seen_index p.1)) result (init.reads parser.old.left) parser.old parser.new }
+    ensures reads { ReadsLight (λ p. (seen_index p.0, seen_index p.1)) result
+        (init.reads parser.old.left) parser.old parser.new }
 {
     let target = if parser.peek2::<Index>() {
         Index::parse(parser)?
@@ -100,7 +102,8 @@ fn target_and_segment<'a>(parser: &mut Parser<'a>) -> Result<(Index<'a>, Index<'
 /// Where an index begins, takes a destination and a source; else both are 0.
 #[tactic(auto, unfolding(crate::specs::Tables::copy, crate::specs::Tables::index_pair))]
 fn destination_and_source<'a>(parser: &mut Parser<'a>) -> Result<(Index<'a>, Index<'a>)>
-    ensures reads { ReadsLight (λ p. (seen_index p.0, seen_index p.1)) result (copy.reads parser.old.left) parser.old parser.new }
+    ensures reads { ReadsLight (λ p. (seen_index p.0, seen_index p.1)) result
+        (copy.reads parser.old.left) parser.old parser.new }
 {
     if !parser.peek::<Index>() {
         return Ok((zero(parser), zero(parser)));

@@ -66,7 +66,8 @@ fn join_8<T: Copy>(a: [T; 8], b: [T; 8]) -> [T; 16]
 /// Takes two values.
 #[tactic(auto, unfolding(crate::specs::Vector::two))]
 fn two<'a, T: Parse<'a> + Copy>(parser: &mut Parser<'a>) -> Result<[T; 2]>
-    ensures reads { ReadsIf T.quiet T.light (all_bare T.bare) (map T.seen) result ((two T.grammar).reads parser.old.left) parser.old parser.new }
+    ensures reads { ReadsIf T.quiet T.light (all_bare T.bare) (map T.seen) result
+        ((two T.grammar).reads parser.old.left) parser.old parser.new }
 {
     let first = T::parse(parser)?;
     let second = T::parse(parser)?;
@@ -76,7 +77,8 @@ fn two<'a, T: Parse<'a> + Copy>(parser: &mut Parser<'a>) -> Result<[T; 2]>
 /// Takes four values.
 #[tactic(auto, using(crate::proofs::Again::map_both), unfolding(crate::specs::Vector::four))]
 fn four<'a, T: Parse<'a> + Copy>(parser: &mut Parser<'a>) -> Result<[T; 4]>
-    ensures reads { ReadsIf T.quiet T.light (all_bare T.bare) (map T.seen) result ((four T.grammar).reads parser.old.left) parser.old parser.new }
+    ensures reads { ReadsIf T.quiet T.light (all_bare T.bare) (map T.seen) result
+        ((four T.grammar).reads parser.old.left) parser.old parser.new }
 {
     let first = two::<T>(parser)?;
     let second = two::<T>(parser)?;
@@ -86,7 +88,8 @@ fn four<'a, T: Parse<'a> + Copy>(parser: &mut Parser<'a>) -> Result<[T; 4]>
 /// Takes eight values.
 #[tactic(auto, using(crate::proofs::Again::map_both), unfolding(crate::specs::Vector::eight))]
 fn eight<'a, T: Parse<'a> + Copy>(parser: &mut Parser<'a>) -> Result<[T; 8]>
-    ensures reads { ReadsIf T.quiet T.light (all_bare T.bare) (map T.seen) result ((eight T.grammar).reads parser.old.left) parser.old parser.new }
+    ensures reads { ReadsIf T.quiet T.light (all_bare T.bare) (map T.seen) result
+        ((eight T.grammar).reads parser.old.left) parser.old parser.new }
 {
     let first = four::<T>(parser)?;
     let second = four::<T>(parser)?;
@@ -96,7 +99,8 @@ fn eight<'a, T: Parse<'a> + Copy>(parser: &mut Parser<'a>) -> Result<[T; 8]>
 /// Takes sixteen values.
 #[tactic(auto, using(crate::proofs::Again::map_both), unfolding(crate::specs::Vector::sixteen))]
 fn sixteen<'a, T: Parse<'a> + Copy>(parser: &mut Parser<'a>) -> Result<[T; 16]>
-    ensures reads { ReadsIf T.quiet T.light (all_bare T.bare) (map T.seen) result ((sixteen T.grammar).reads parser.old.left) parser.old parser.new }
+    ensures reads { ReadsIf T.quiet T.light (all_bare T.bare) (map T.seen) result
+        ((sixteen T.grammar).reads parser.old.left) parser.old parser.new }
 {
     let first = eight::<T>(parser)?;
     let second = eight::<T>(parser)?;
@@ -106,7 +110,8 @@ fn sixteen<'a, T: Parse<'a> + Copy>(parser: &mut Parser<'a>) -> Result<[T; 16]>
 /// Takes a constant of floating-point lanes: its word stands, and then none can be read.
 #[tactic(auto, using(crate::proofs::Again::f32s_again, crate::proofs::Again::f64s_again), unfolding(crate::specs::Vector::float_const))]
 fn read_floats<'a>(parser: &mut Parser<'a>) -> Result<V128Const>
-    ensures reads { ReadsLight (λ v. v) result (float_const.reads parser.old.left) parser.old parser.new }
+    ensures reads { ReadsLight (λ v. v) result (float_const.reads parser.old.left) parser.old
+        parser.new }
 {
     if parser.next_is("f32x4") {
         parser.keyword("f32x4")?;
@@ -119,7 +124,8 @@ fn read_floats<'a>(parser: &mut Parser<'a>) -> Result<V128Const>
 /// Takes a constant whose lanes have 32 or 64 bits.
 #[tactic(auto, using(crate::proofs::Again::items_again), unfolding(crate::specs::Vector::wide_const))]
 fn read_wide<'a>(parser: &mut Parser<'a>) -> Result<V128Const>
-    ensures reads { ReadsLight (λ v. v) result (wide_const.reads parser.old.left) parser.old parser.new }
+    ensures reads { ReadsLight (λ v. v) result (wide_const.reads parser.old.left) parser.old
+        parser.new }
 {
     if parser.next_is("i32x4") {
         parser.keyword("i32x4")?;
@@ -281,5 +287,6 @@ impl V128Const {
 /// Two constants of one shape have equal bytes only where their lanes have equal bits.
 #[tactic(auto, using(crate::proofs::Bytes::same_bits))]
 pub fn equal_bytes()
-    ensures { (v w : V128Const) → SameShape v w → bytes_of v ≡ bytes_of w → lane_bits v ≡ lane_bits w }
+    ensures { (v w : V128Const) → SameShape v w → bytes_of v ≡ bytes_of w
+        → lane_bits v ≡ lane_bits w }
 {}

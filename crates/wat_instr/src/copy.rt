@@ -160,7 +160,8 @@ impl<'a> Instruction<'a> {
 
 /// `block`, `loop`, `if` or `try`, and the type of the block, once more.
 fn clone_block<'a>(op: BlockOp, x: &Box<BlockType<'a>>) -> Result<Instruction<'a>>
-    ensures copies { Copies SameInstruction seen_instruction bare_instruction result (code.Block op x.now) }
+    ensures copies { Copies SameInstruction seen_instruction bare_instruction result
+        (code.Block op x.now) }
 {
     let same = BlockType::clone(x)?;
     Ok(Instruction::Block(op, Box::new(*Box::allocator(x), same)?))
@@ -168,21 +169,24 @@ fn clone_block<'a>(op: BlockOp, x: &Box<BlockType<'a>>) -> Result<Instruction<'a
 
 /// `else`, `end` or another instruction that may name a label, once more.
 fn clone_label<'a>(op: LabelOp, x: &Option<Id<'a>>) -> Result<Instruction<'a>>
-    ensures copies { Copies SameInstruction seen_instruction bare_instruction result (code.Label op x.now) }
+    ensures copies { Copies SameInstruction seen_instruction bare_instruction result
+        (code.Label op x.now) }
 {
     Ok(Instruction::Label(op, *x))
 }
 
 /// An instruction with an index, once more.
 fn clone_indexed<'a>(op: IndexedOp, x: &Index<'a>) -> Result<Instruction<'a>>
-    ensures copies { Copies SameInstruction seen_instruction bare_instruction result (code.Indexed op x.now) }
+    ensures copies { Copies SameInstruction seen_instruction bare_instruction result
+        (code.Indexed op x.now) }
 {
     Ok(Instruction::Indexed(op, *x))
 }
 
 /// An indirect call, once more.
 fn clone_call_indirect<'a>(op: CallIndirectOp, x: &Box<CallIndirect<'a>>) -> Result<Instruction<'a>>
-    ensures copies { Copies SameInstruction seen_instruction bare_instruction result (code.CallIndirect op x.now) }
+    ensures copies { Copies SameInstruction seen_instruction bare_instruction result
+        (code.CallIndirect op x.now) }
 {
     let same = CallIndirect::clone(x)?;
     Ok(Instruction::CallIndirect(op, Box::new(*Box::allocator(x), same)?))
@@ -190,70 +194,80 @@ fn clone_call_indirect<'a>(op: CallIndirectOp, x: &Box<CallIndirect<'a>>) -> Res
 
 /// `br_table`, once more.
 fn clone_br_table<'a>(x: &BrTableIndices<'a>) -> Result<Instruction<'a>>
-    ensures copies { Copies SameInstruction seen_instruction bare_instruction result (code.br_table x.now) }
+    ensures copies { Copies SameInstruction seen_instruction bare_instruction result
+        (code.br_table x.now) }
 {
     Ok(Instruction::br_table(x.clone()?))
 }
 
 /// `select`, once more.
 fn clone_select<'a>(x: &SelectTypes<'a>) -> Result<Instruction<'a>>
-    ensures copies { Copies SameInstruction seen_instruction bare_instruction result (code.select x.now) }
+    ensures copies { Copies SameInstruction seen_instruction bare_instruction result
+        (code.select x.now) }
 {
     Ok(Instruction::select(x.clone()?))
 }
 
 /// `br_on_cast`, once more.
 fn clone_br_on_cast<'a>(x: &Box<BrOnCast<'a>>) -> Result<Instruction<'a>>
-    ensures copies { Copies SameInstruction seen_instruction bare_instruction result (code.br_on_cast x.now) }
+    ensures copies { Copies SameInstruction seen_instruction bare_instruction result
+        (code.br_on_cast x.now) }
 {
     Ok(Instruction::br_on_cast(x.clone()?))
 }
 
 /// `br_on_cast_fail`, once more.
 fn clone_br_on_cast_fail<'a>(x: &Box<BrOnCastFail<'a>>) -> Result<Instruction<'a>>
-    ensures copies { Copies SameInstruction seen_instruction bare_instruction result (code.br_on_cast_fail x.now) }
+    ensures copies { Copies SameInstruction seen_instruction bare_instruction result
+        (code.br_on_cast_fail x.now) }
 {
     Ok(Instruction::br_on_cast_fail(x.clone()?))
 }
 
 /// `try_table`, once more.
 fn clone_try_table<'a>(x: &TryTable<'a>) -> Result<Instruction<'a>>
-    ensures copies { Copies SameInstruction seen_instruction bare_instruction result (code.try_table x.now) }
+    ensures copies { Copies SameInstruction seen_instruction bare_instruction result
+        (code.try_table x.now) }
 {
     Ok(Instruction::try_table(x.clone()?))
 }
 
 /// `resume`, once more.
 fn clone_resume<'a>(x: &Resume<'a>) -> Result<Instruction<'a>>
-    ensures copies { Copies SameInstruction seen_instruction bare_instruction result (code.resume x.now) }
+    ensures copies { Copies SameInstruction seen_instruction bare_instruction result
+        (code.resume x.now) }
 {
     Ok(Instruction::resume(x.clone()?))
 }
 
 /// `resume_throw`, once more.
 fn clone_resume_throw<'a>(x: &ResumeThrow<'a>) -> Result<Instruction<'a>>
-    ensures copies { Copies SameInstruction seen_instruction bare_instruction result (code.resume_throw x.now) }
+    ensures copies { Copies SameInstruction seen_instruction bare_instruction result
+        (code.resume_throw x.now) }
 {
     Ok(Instruction::resume_throw(x.clone()?))
 }
 
 /// `resume_throw_ref`, once more.
 fn clone_resume_throw_ref<'a>(x: &ResumeThrowRef<'a>) -> Result<Instruction<'a>>
-    ensures copies { Copies SameInstruction seen_instruction bare_instruction result (code.resume_throw_ref x.now) }
+    ensures copies { Copies SameInstruction seen_instruction bare_instruction result
+        (code.resume_throw_ref x.now) }
 {
     Ok(Instruction::resume_throw_ref(x.clone()?))
 }
 
 /// `br_on_cast_desc_eq`, once more.
 fn clone_br_on_cast_desc_eq<'a>(x: &Box<BrOnCastDescEq<'a>>) -> Result<Instruction<'a>>
-    ensures copies { Copies SameInstruction seen_instruction bare_instruction result (code.br_on_cast_desc_eq x.now) }
+    ensures copies { Copies SameInstruction seen_instruction bare_instruction result
+        (code.br_on_cast_desc_eq x.now) }
 {
     Ok(Instruction::br_on_cast_desc_eq(x.clone()?))
 }
 
 /// `br_on_cast_desc_eq_fail`, once more.
 fn clone_br_on_cast_desc_eq_fail<'a>(x: &Box<BrOnCastDescEqFail<'a>>) -> Result<Instruction<'a>>
-    ensures copies { Copies SameInstruction seen_instruction bare_instruction result (code.br_on_cast_desc_eq_fail x.now) }
+    ensures copies { Copies SameInstruction seen_instruction bare_instruction result
+        (code.br_on_cast_desc_eq_fail x.now) }
 {
     Ok(Instruction::br_on_cast_desc_eq_fail(x.clone()?))
 }

@@ -83,7 +83,8 @@ impl Instruction<'_> {
     ///
     /// Where memory is refused, nothing is appended. It isn't where there is nothing to append.
     pub fn write_opcode(&self, out: &mut Vec<u8>) -> Result<Option<usize>>
-        ensures { Appends (bytes (head_opcode (head_in self.now))) out.old.items out.new.items result }
+        ensures { Appends (bytes (head_opcode (head_in self.now))) out.old.items out.new.items
+            result }
     {
         self.head().opcode().write(out)
     }

@@ -271,7 +271,13 @@ impl<
     /// The access of an instruction that accesses a memory, also of one to a lane, and else None.
     /// What is written through it changes the access alone.
     pub fn memarg_mut(&mut self) -> Option<&mut MemArg>
-        ensures* writes_back { sem 𝓛 (LendsAccess BlockType.row Id.row Index.row CallIndirect.row TableArg.row MemArg.row MemoryArg.row StructAccess.row ArrayInit.row BrTableIndices.row SelectTypes.row MemoryInit.row MemoryCopy.row TableInit.row TableCopy.row HeapType.row ArrayNewFixed.row ArrayNewData.row ArrayNewElem.row ArrayFill.row ArrayCopy.row RefTest.row RefCast.row BrOnCast.row BrOnCastFail.row TryTable.row ContBind.row Resume.row ResumeThrow.row ResumeThrowRef.row Switch.row RefCastDescEq.row BrOnCastDescEq.row BrOnCastDescEqFail.row self.entry result) }
+        ensures* writes_back { sem 𝓛 (LendsAccess BlockType.row Id.row Index.row CallIndirect.row
+            TableArg.row MemArg.row MemoryArg.row StructAccess.row ArrayInit.row
+            BrTableIndices.row SelectTypes.row MemoryInit.row MemoryCopy.row TableInit.row
+            TableCopy.row HeapType.row ArrayNewFixed.row ArrayNewData.row ArrayNewElem.row
+            ArrayFill.row ArrayCopy.row RefTest.row RefCast.row BrOnCast.row BrOnCastFail.row
+            TryTable.row ContBind.row Resume.row ResumeThrow.row ResumeThrowRef.row Switch.row
+            RefCastDescEq.row BrOnCastDescEq.row BrOnCastDescEqFail.row self.entry result) }
         ensures value { access_in self.old ≡ option_map (λ r. r.now) result }
     {
         match self {

@@ -10,7 +10,9 @@ ghost use Rattle.wat_tokens.specs.Token.{Tok};
 /// `param` and `result`.
 pub fn stands_before_what_may_follow()
     // Tokens that spell an instruction in front of a rest spell it in front of each such rest.
-    ensures stands { (v : Instr) (c r s : List Tok) → instruction.spells v c r → MayFollow s → instruction.spells v c s }
+    ensures stands { (v : Instr) (c r s : List Tok) → instruction.spells v c r → MayFollow s
+        → instruction.spells v c s }
     // They and such a rest are such a rest themselves.
-    ensures follow { (v : Instr) (c r s : List Tok) → instruction.spells v c r → MayFollow s → MayFollow (c ++ s) }
+    ensures follow { (v : Instr) (c r s : List Tok) → instruction.spells v c r → MayFollow s
+        → MayFollow (c ++ s) }
 {}

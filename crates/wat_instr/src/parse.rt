@@ -92,7 +92,8 @@ impl<'a> Parse<'a> for Instruction<'a> {
 
     #[tactic(auto, unfolding(crate::specs::Reading::ReadsOperand, crate::specs::Instruction::instruction))]
     fn parse(parser: &mut Parser<'a>) -> Result<Self>
-        ensures exact { Gives false bare_instruction seen_instruction result (instruction.reads parser.old.left) parser.new.left }
+        ensures exact { Gives false bare_instruction seen_instruction result
+            (instruction.reads parser.old.left) parser.new.left }
         ensures counts { Counted result parser.old parser.new }
         ensures quiet { IsTrue false → Quiet parser.old parser.new }
         // No turn and no height is counted.
@@ -101,8 +102,10 @@ impl<'a> Parse<'a> for Instruction<'a> {
         // The word is compared at most ten times, and at least once where a keyword stands in
         // front.
         ensures probes { AtMostTen parser.old parser.new }
-        ensures probed { (w : List ℕ) (r : List Tok) → parser.old.left ≡ Keyword w ∷ r → parser.old.probes + 1 ≤ parser.new.probes }
-        ensures word { mnemonic.reads parser.old.left ≡ None → IfErr result (λ e. e.fault ≡ Fault.Operator) }
+        ensures probed { (w : List ℕ) (r : List Tok) → parser.old.left ≡ Keyword w ∷ r
+            → parser.old.probes + 1 ≤ parser.new.probes }
+        ensures word { mnemonic.reads parser.old.left ≡ None
+            → IfErr result (λ e. e.fault ≡ Fault.Operator) }
     {
         let head = Head::take(parser)?;
         read_operand(head, parser)

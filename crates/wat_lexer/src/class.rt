@@ -74,7 +74,8 @@ fn decode<'a>(text: &[u8], from: usize, end: usize, arena: &'a Bump) -> Result<&
     requires order { from ≤ end }
     requires within { end ≤ length text.now }
     requires a_string { Some (drop end text.now) ≡ rest_at (drop from text.now) }
-    ensures { IfOk result (λ v. string_at Raw (drop from text.now) ≡ Some (v.now, drop end text.now)) }
+    ensures { IfOk result (λ v. string_at Raw (drop from text.now) ≡ Some
+        (v.now, drop end text.now)) }
 {
     let mut out = Vec::with_capacity(arena, end - from)?;
     let mut i = raw_end(text, from);
@@ -98,8 +99,10 @@ pub fn content<'a>(
     requires order { from < end }
     requires within { end ≤ length text.now }
     requires a_string { Some (drop end text.now) ≡ rest_at (drop from text.now) }
-    requires plain { IsTrue plain → string_at Raw (drop from text.now) ≡ Some (slice_range text.now from (end - 1), drop end text.now) }
-    ensures { IfOk result (λ v. string_at Raw (drop from text.now) ≡ Some (v.now, drop end text.now)) }
+    requires plain { IsTrue plain → string_at Raw (drop from text.now) ≡ Some
+        (slice_range text.now from (end - 1), drop end text.now) }
+    ensures { IfOk result (λ v. string_at Raw (drop from text.now) ≡ Some
+        (v.now, drop end text.now)) }
 {
     if plain {
         Ok(&text[from..end - 1])

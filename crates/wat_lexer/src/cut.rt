@@ -29,7 +29,8 @@ pub struct Piece<'a> {
 fn run<'a>(text: &'a str, at: usize, behind: bool, arena: &'a Bump) -> Result<Piece<'a>, Error>
     requires { at < length text.now }
     ensures within { IfOk result (λ p. (at < p.end) × (p.end ≤ length text.now)) }
-    ensures value { FrontGives text.now result (run_front behind (drop at text.now) (behind_run Between (drop at text.now))) }
+    ensures value { FrontGives text.now result (run_front behind (drop at text.now)
+        (behind_run Between (drop at text.now))) }
 {
     let bytes = text.as_bytes();
     let plain = plain_end(bytes, at);
@@ -59,9 +60,11 @@ fn string_run<'a>(
     requires quote { quote < length text.now }
     requires mark { slice_index text.now quote ≡ 34 }
     requires plain { all_idchars (slice_range text.now at quote) ≡ true }
-    requires same { behind_run Between (drop at text.now) ≡ behind_run Between (drop quote text.now) }
+    requires same { behind_run Between (drop at text.now) ≡ behind_run Between
+        (drop quote text.now) }
     ensures within { IfOk result (λ p. (at < p.end) × (p.end ≤ length text.now)) }
-    ensures value { FrontGives text.now result (run_front behind (drop at text.now) (behind_run Between (drop at text.now))) }
+    ensures value { FrontGives text.now result (run_front behind (drop at text.now)
+        (behind_run Between (drop at text.now))) }
 {
     let bytes = text.as_bytes();
     let (after, plain) = match string_end(bytes, quote + 1) {
@@ -208,6 +211,8 @@ pub fn one_cut()
 
 /// A text has at most one first fault, and one that has it has no cut.
 pub fn one_outcome()
-    ensures fault { (text : List ℕ) (f g : Fault) (i j : ℕ) → FirstFault text f i → FirstFault text g j → (f ≡ g) × (i ≡ j) }
-    ensures no_cut { (text : List ℕ) (f : Fault) (i : ℕ) (ts : List Placed) → FirstFault text f i → IsCut text ts → ⊥ }
+    ensures fault { (text : List ℕ) (f g : Fault) (i j : ℕ) → FirstFault text f i
+        → FirstFault text g j → (f ≡ g) × (i ≡ j) }
+    ensures no_cut { (text : List ℕ) (f : Fault) (i : ℕ) (ts : List Placed) → FirstFault text f i
+        → IsCut text ts → ⊥ }
 {}

@@ -17,7 +17,9 @@ fn tell_leap(tokens: &mut [Lexeme], at: usize, end: usize)
     requires order { at < end }
     requires within { end ≤ length tokens.old }
     requires leaps { AreLeaps (drop (at + 1) tokens.old) }
-    requires counts { (known : Bool) → hides known (toks (drop at tokens.old)) ≡ true → hidden known (toks (drop at tokens.old)) ≡ (end - at) + hidden known (toks (drop end tokens.old)) }
+    requires counts { (known : Bool) → hides known (toks (drop at tokens.old)) ≡ true
+        → hidden known (toks (drop at tokens.old)) ≡ (end - at) + hidden known (toks
+        (drop end tokens.old)) }
     ensures same { placed tokens.new ≡ placed tokens.old }
     ensures leaps { AreLeaps (drop at tokens.new) }
 {
@@ -33,7 +35,8 @@ fn tell_leap(tokens: &mut [Lexeme], at: usize, end: usize)
 pub fn tell_leaps(alloc: Global, tokens: &mut [Lexeme]) -> Result<Option<usize>, AllocError>
     ensures same { placed tokens.new ≡ placed tokens.old }
     ensures leaps { IfOk result (λ o. AreLeaps tokens.new) }
-    ensures first { IfOk result (λ o. MatchOption o (Closed (tokens_of (placed tokens.old))) (FirstUnclosed (placed tokens.old))) }
+    ensures first { IfOk result (λ o. MatchOption o (Closed (tokens_of (placed tokens.old)))
+        (FirstUnclosed (placed tokens.old))) }
 {
     let mut ends = Vec::new(alloc);
     let mut first = None;

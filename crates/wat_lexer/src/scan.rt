@@ -26,7 +26,8 @@ fn is_idchar(b: u8) -> bool
 pub fn comment_end(text: &[u8], from: usize) -> Option<usize>
     requires { from ≤ length text.now }
     ensures within { IfSome result (λ end. (from ≤ end) × (end ≤ length text.now)) }
-    ensures value { option_map (λ end. drop end text.now) result ≡ behind_comment 0 (drop from text.now) }
+    ensures value { option_map (λ end. drop end text.now) result ≡ behind_comment 0
+        (drop from text.now) }
 {
     let mut depth: usize = 0;
     let mut i = from;
@@ -69,7 +70,8 @@ pub fn plain_end(text: &[u8], from: usize) -> usize
     requires { from ≤ length text.now }
     ensures within { (from ≤ result) × (result ≤ length text.now) }
     ensures all { all_idchars (slice_range text.now from result) ≡ true }
-    ensures run { behind_run Between (drop from text.now) ≡ behind_run Between (drop result text.now) }
+    ensures run { behind_run Between (drop from text.now) ≡ behind_run Between
+        (drop result text.now) }
     ensures stops { result < length text.now → is_idchar (slice_index text.now result) ≡ false }
 {
     let mut i = from;

@@ -49,7 +49,8 @@ fn short_escape(b: u8) -> Option<u8>
 pub fn raw_end(text: &[u8], from: usize) -> usize
     requires { from ≤ length text.now }
     ensures within { (from ≤ result) × (result ≤ length text.now) }
-    ensures same { string_at Raw (drop from text.now) ≡ with_front (slice_range text.now from result) (string_at Raw (drop result text.now)) }
+    ensures same { string_at Raw (drop from text.now) ≡ with_front
+        (slice_range text.now from result) (string_at Raw (drop result text.now)) }
     ensures stops { result < length text.now → is_raw (slice_index text.now result) ≡ false }
 {
     let mut i = from;
@@ -64,7 +65,9 @@ pub fn raw_end(text: &[u8], from: usize) -> usize
 fn code_point(text: &[u8], from: usize) -> Option<(char, usize)>
     requires { from ≤ length text.now }
     ensures within { IfSome result (λ c. (from < c.1) × (c.1 ≤ length text.now)) }
-    ensures value { MatchOption result (string_at (Digits 0 false) (drop from text.now) ≡ None) (λ c. string_at (Digits 0 false) (drop from text.now) ≡ with_front (encode_utf8 c.0) (string_at Raw (drop c.1 text.now))) }
+    ensures value { MatchOption result (string_at (Digits 0 false) (drop from text.now) ≡ None)
+        (λ c. string_at (Digits 0 false) (drop from text.now) ≡ with_front (encode_utf8 c.0)
+        (string_at Raw (drop c.1 text.now))) }
 {
     let mut n: u32 = 0;
     let mut behind = false;
@@ -100,7 +103,9 @@ fn code_point(text: &[u8], from: usize) -> Option<(char, usize)>
 fn behind_backslash(text: &[u8], at: usize) -> Option<(Escaped, usize)>
     requires { at ≤ length text.now }
     ensures within { IfSome result (λ e. (at < e.1) × (e.1 ≤ length text.now)) }
-    ensures value { MatchOption result (string_at Escape (drop at text.now) ≡ None) (λ e. string_at Escape (drop at text.now) ≡ with_front (spelled e.0) (string_at Raw (drop e.1 text.now))) }
+    ensures value { MatchOption result (string_at Escape (drop at text.now) ≡ None)
+        (λ e. string_at Escape (drop at text.now) ≡ with_front (spelled e.0) (string_at Raw
+        (drop e.1 text.now))) }
 {
     if at >= text.len() {
         return None;
@@ -138,7 +143,9 @@ pub fn escape(text: &[u8], at: usize) -> Option<(Escaped, usize)>
     requires within { at ≤ length text.now }
     requires no_raw { at < length text.now → is_raw (slice_index text.now at) ≡ false }
     ensures within { IfSome result (λ e. (at < e.1) × (e.1 ≤ length text.now)) }
-    ensures value { MatchOption result (string_at Raw (drop at text.now) ≡ closing (drop at text.now)) (λ e. string_at Raw (drop at text.now) ≡ with_front (spelled e.0) (string_at Raw (drop e.1 text.now))) }
+    ensures value { MatchOption result (string_at Raw (drop at text.now) ≡ closing
+        (drop at text.now)) (λ e. string_at Raw (drop at text.now) ≡ with_front (spelled e.0)
+        (string_at Raw (drop e.1 text.now))) }
 {
     if at < text.len() && text[at] == b'\\' {
         behind_backslash(text, at + 1)
@@ -155,7 +162,9 @@ pub fn string_end(text: &[u8], from: usize) -> Option<(usize, bool)>
     ensures within { IfSome result (λ end. (from < end.0) × (end.0 ≤ length text.now)) }
     ensures quote { IfSome result (λ end. slice_index text.now (end.0 - 1) ≡ 34) }
     ensures rest { option_map (λ end. drop end.0 text.now) result ≡ rest_at (drop from text.now) }
-    ensures content { IfSome result (λ end. IsTrue end.1 → string_at Raw (drop from text.now) ≡ Some (slice_range text.now from (end.0 - 1), drop end.0 text.now)) }
+    ensures content { IfSome result (λ end. IsTrue end.1
+        → string_at Raw (drop from text.now) ≡ Some
+        (slice_range text.now from (end.0 - 1), drop end.0 text.now)) }
 {
     let raw = raw_end(text, from);
     let mut i = raw;

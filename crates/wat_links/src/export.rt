@@ -199,7 +199,8 @@ impl<'a> ExportType<'a> {
     /// The same once more. Memory may be answered where a type in it has a parameter or a result in
     /// line.
     pub fn clone(&self) -> Result<ExportType<'a>>
-        ensures copies { Copies (λ x y. (y.span ≡ x.span) × (y.name ≡ x.name) × (SameSig x.item y.item)) seen_export_type bare_export_type result self.now }
+        ensures copies { Copies (λ x y. (y.span ≡ x.span) × (y.name ≡ x.name)
+            × (SameSig x.item y.item)) seen_export_type bare_export_type result self.now }
     {
         Ok(ExportType {
             span: self.span,

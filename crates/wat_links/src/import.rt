@@ -195,7 +195,8 @@ impl<N, S> ImportsOf<N, S> {
     pub fn item_sigs(&self, alloc: Global) -> Result<Vec<&S>>
         ensures sigs { IfOk result (λ v. map (λ r. r.now) v.items ≡ item_sigs self.now.items) }
         ensures count { IfOk result (λ v. length v.items ≡ item_count self.now.items) }
-        ensures memory { IfErr result (λ e. (e.fault ≡ Fault.Memory) × (0 < item_count self.now.items)) }
+        ensures memory { IfErr result (λ e. (e.fault ≡ Fault.Memory)
+            × (0 < item_count self.now.items)) }
     {
         match &self.items {
             ImportItemsOf::Single { sig, .. } => repeated_sig(alloc, sig, 1),
@@ -232,7 +233,8 @@ impl<'a> ImportGroup1Item<'a> {
 /// The same items once more. Memory may be answered where there is an item.
 #[tactic(auto, using(crate::proofs::Same::same_next, crate::proofs::Same::seen_next, crate::proofs::Same::some_items))]
 fn clone_items<'a>(items: &Vec<ImportGroup1Item<'a>>) -> Result<Vec<ImportGroup1Item<'a>>>
-    ensures copies { Copies (λ x y. SameAll x.items y.items) (λ v. map seen_typed v.items) no_items result items.now }
+    ensures copies { Copies (λ x y. SameAll x.items y.items)
+        (λ v. map seen_typed v.items) no_items result items.now }
 {
     let mut copies = Vec::new(*items.allocator());
     'items: for item in items {
@@ -243,7 +245,8 @@ fn clone_items<'a>(items: &Vec<ImportGroup1Item<'a>>) -> Result<Vec<ImportGroup1
 
 /// The same items once more. Memory may be answered where there is an item.
 fn clone_names<'a>(items: &Vec<ImportGroup2Item<'a>>) -> Result<Vec<ImportGroup2Item<'a>>>
-    ensures copies { Copies (λ x y. y.items ≡ x.items) (λ v. map seen_named v.items) no_items result items.now }
+    ensures copies { Copies (λ x y. y.items ≡ x.items) (λ v. map seen_named v.items) no_items result
+        items.now }
 {
     let mut copies = Vec::new(*items.allocator());
     'items: for item in items {
@@ -281,7 +284,8 @@ impl<'a> Imports<'a> {
     /// The same once more. Memory may be answered where there is an item in a group, or where a
     /// type has a parameter or a result in line.
     pub fn clone(&self) -> Result<Imports<'a>>
-        ensures copies { Copies (λ x y. (y.span ≡ x.span) × (SameItems x.items y.items)) seen_imports bare_imports result self.now }
+        ensures copies { Copies (λ x y. (y.span ≡ x.span)
+            × (SameItems x.items y.items)) seen_imports bare_imports result self.now }
     {
         Ok(ImportsOf {
             span: self.span,
@@ -292,7 +296,8 @@ impl<'a> Imports<'a> {
 
 /// `( ItemSig )`
 fn read_sig<'a>(parser: &mut Parser<'a>) -> Result<ItemSig<'a>>
-    ensures reads { Reads bare_sig seen_sig result (sig_group.reads parser.old.left) parser.old parser.new }
+    ensures reads { Reads bare_sig seen_sig result (sig_group.reads parser.old.left) parser.old
+        parser.new }
 {
     parser.open()?;
     let sig = ItemSig::parse(parser)?;
@@ -384,7 +389,8 @@ impl<'a> Part<'a, ImportGroup2Item<'a>> for NamedItem {
 /// the signature ends there, or the text.
 #[tactic(auto, using(crate::proofs::Ends::closes_none), unfolding(crate::specs::Import::shared_sig))]
 fn read_shared_sig<'a>(parser: &mut Parser<'a>) -> Result<ItemSig<'a>>
-    ensures reads { Reads bare_sig seen_sig result (shared_sig.reads parser.old.left) parser.old parser.new }
+    ensures reads { Reads bare_sig seen_sig result (shared_sig.reads parser.old.left) parser.old
+        parser.new }
 {
     parser.open()?;
     let sig = ItemSig::parse(parser)?;
@@ -434,7 +440,8 @@ fn typed_next(parser: &Parser<'_>) -> bool
 /// A single item.
 #[tactic(auto, unfolding(crate::specs::Import::single_item))]
 fn read_single<'a>(parser: &mut Parser<'a>, module: &'a str) -> Result<ImportItems<'a>>
-    ensures exact { Gives false bare_items seen_items result (single_item.reads parser.old.left) parser.new.left }
+    ensures exact { Gives false bare_items seen_items result
+        (single_item.reads parser.old.left) parser.new.left }
     ensures module { IfOk result (λ i. (module_of i).now ≡ «module».now) }
     ensures counts { Counted result parser.old parser.new }
     ensures quiet { Quiet parser.old parser.new }
@@ -448,7 +455,8 @@ fn read_single<'a>(parser: &mut Parser<'a>, module: &'a str) -> Result<ImportIte
 /// Items with signatures.
 #[tactic(auto, using(crate::specs::Import::typed_item_eats), unfolding(crate::specs::Import::typed_items, crate::specs::Import::typed_list))]
 fn read_typed<'a>(parser: &mut Parser<'a>, module: &'a str) -> Result<ImportItems<'a>>
-    ensures exact { Gives false bare_items seen_items result (typed_items.reads parser.old.left) parser.new.left }
+    ensures exact { Gives false bare_items seen_items result
+        (typed_items.reads parser.old.left) parser.new.left }
     ensures module { IfOk result (λ i. (module_of i).now ≡ «module».now) }
     ensures counts { Counted result parser.old parser.new }
     ensures quiet { Quiet parser.old parser.new }
@@ -462,7 +470,8 @@ fn read_typed<'a>(parser: &mut Parser<'a>, module: &'a str) -> Result<ImportItem
 /// Items without signatures, and the one that they share.
 #[tactic(auto, using(crate::specs::Import::named_item_eats), unfolding(crate::specs::Import::named_items, crate::specs::Import::named_list))]
 fn read_named<'a>(parser: &mut Parser<'a>, module: &'a str) -> Result<ImportItems<'a>>
-    ensures exact { Gives false bare_items seen_items result (named_items.reads parser.old.left) parser.new.left }
+    ensures exact { Gives false bare_items seen_items result
+        (named_items.reads parser.old.left) parser.new.left }
     ensures module { IfOk result (λ i. (module_of i).now ≡ «module».now) }
     ensures counts { Counted result parser.old parser.new }
     ensures quiet { Quiet parser.old parser.new }
@@ -477,7 +486,8 @@ fn read_named<'a>(parser: &mut Parser<'a>, module: &'a str) -> Result<ImportItem
 /// What is imported from the module.
 #[tactic(auto, unfolding(crate::specs::Forms::import_items, crate::specs::Import::import_choice))]
 fn read_items<'a>(parser: &mut Parser<'a>, module: &'a str) -> Result<ImportItems<'a>>
-    ensures exact { Gives false bare_items seen_items result (import_items.reads parser.old.left) parser.new.left }
+    ensures exact { Gives false bare_items seen_items result
+        (import_items.reads parser.old.left) parser.new.left }
     ensures module { IfOk result (λ i. (module_of i).now ≡ «module».now) }
     ensures counts { Counted result parser.old parser.new }
     ensures quiet { Quiet parser.old parser.new }

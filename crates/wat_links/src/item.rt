@@ -76,7 +76,8 @@ impl<'a> ItemSig<'a> {
 /// An identifier and a name, each there or not.
 #[tactic(auto, unfolding(wat_types::specs::Label::label))]
 fn read_label<'a>(parser: &mut Parser<'a>) -> Result<(Option<Id<'a>>, Option<NameAnnotation<'a>>)>
-    ensures reads { ReadsLight (λ l. seen_label l.0 l.1) result (label.reads parser.old.left) parser.old parser.new }
+    ensures reads { ReadsLight (λ l. seen_label l.0 l.1) result
+        (label.reads parser.old.left) parser.old parser.new }
 {
     let id = Option::<Id>::parse(parser)?;
     let name = Option::<NameAnnotation>::parse(parser)?;
@@ -86,7 +87,8 @@ fn read_label<'a>(parser: &mut Parser<'a>) -> Result<(Option<Id<'a>>, Option<Nam
 /// Where the second token is `exact`, a type use in `( exact .. )`, else a type use.
 #[tactic(auto, unfolding(crate::specs::Item::func_kind))]
 fn read_func_kind<'a>(parser: &mut Parser<'a>) -> Result<ItemKind<'a>>
-    ensures reads { Reads bare_kind seen_kind result (func_kind.reads parser.old.left) parser.old parser.new }
+    ensures reads { Reads bare_kind seen_kind result (func_kind.reads parser.old.left) parser.old
+        parser.new }
 {
     if !parser.second_is("exact") {
         return Ok(ItemKind::Func(TypeUse::parse(parser)?));
@@ -101,7 +103,8 @@ fn read_func_kind<'a>(parser: &mut Parser<'a>) -> Result<ItemKind<'a>>
 /// `global` or `tag`, a label, and a type.
 #[tactic(auto, unfolding(crate::specs::Item::global_or_tag))]
 fn read_global_or_tag<'a>(parser: &mut Parser<'a>) -> Result<ItemSig<'a>>
-    ensures reads { Reads bare_sig seen_sig result (global_or_tag.reads parser.old.left) parser.old parser.new }
+    ensures reads { Reads bare_sig seen_sig result (global_or_tag.reads parser.old.left) parser.old
+        parser.new }
 {
     if parser.next_is("global") {
         let span = parser.keyword("global")?;

@@ -55,7 +55,8 @@ impl Head {
     pub fn take(parser: &mut Parser<'_>) -> Result<Head>
         ensures reads { ReadsWord result parser.old parser.new }
         ensures probes { AtMostTen parser.old parser.new }
-        ensures probed { (w : List ℕ) (r : List Tok) → parser.old.left ≡ Keyword w ∷ r → parser.old.probes + 1 ≤ parser.new.probes }
+        ensures probed { (w : List ℕ) (r : List Tok) → parser.old.left ≡ Keyword w ∷ r
+            → parser.old.probes + 1 ≤ parser.new.probes }
         ensures fault { IfErr result (λ e. e.fault ≡ Fault.Operator) }
     {
         let span = parser.cur_span();

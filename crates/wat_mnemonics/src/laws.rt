@@ -25,5 +25,6 @@ pub fn one_mnemonic()
 
 /// No opcode begins another's.
 pub fn no_prefix()
-    ensures { (x y : AnyHead) (b d : List ℕ) → bytes (head_opcode x) ≡ Some b → bytes (head_opcode y) ≡ Some (b ++ d) → x ≡ y }
+    ensures { (x y : AnyHead) (b d : List ℕ) → bytes (head_opcode x) ≡ Some b
+        → bytes (head_opcode y) ≡ Some (b ++ d) → x ≡ y }
 {}

@@ -69,7 +69,8 @@ pub struct TryTable<'a> {
 /// The word of a clause, and the tag where it has one.
 #[tactic(auto, unfolding(crate::specs::Catches::catch_kind))]
 fn read_kind<'a>(parser: &mut Parser<'a>) -> Result<TryTableCatchKind<'a>>
-    ensures reads { ReadsLight (seen_kind seen_index) result (catch_kind.reads parser.old.left) parser.old parser.new }
+    ensures reads { ReadsLight (seen_kind seen_index) result
+        (catch_kind.reads parser.old.left) parser.old parser.new }
 {
     if parser.next_is("catch") {
         parser.keyword("catch")?;

@@ -109,7 +109,8 @@ impl<'a> ResumeTable<'a> {
     /// The same table once more. Memory may be answered where it has a handler.
     #[tactic(auto, using(std::proofs::lemmas::List::Elements::same_from_all_zip))]
     pub fn clone(&self) -> Result<ResumeTable<'a>>
-        ensures copies { Copies (λ x y. y.handlers.items ≡ x.handlers.items) seen_table no_items result self.now }
+        ensures copies { Copies (λ x y. y.handlers.items
+            ≡ x.handlers.items) seen_table no_items result self.now }
     {
         let mut handlers = Vec::new(*self.handlers.allocator());
         if self.handlers.is_empty() {
@@ -144,7 +145,9 @@ impl<'a> Parse<'a> for ResumeTable<'a> {
 impl<'a> Resume<'a> {
     /// The same operand once more. Memory may be answered where it has a handler.
     pub fn clone(&self) -> Result<Resume<'a>>
-        ensures copies { Copies (λ x y. (y.type_index ≡ x.type_index) × (y.table.handlers.items ≡ x.table.handlers.items)) seen_resume bare_resume result self.now }
+        ensures copies { Copies (λ x y. (y.type_index ≡ x.type_index)
+            × (y.table.handlers.items ≡ x.table.handlers.items)) seen_resume bare_resume result
+            self.now }
     {
         Ok(Resume {
             type_index: self.type_index,
@@ -176,7 +179,9 @@ impl<'a> Parse<'a> for Resume<'a> {
 impl<'a> ResumeThrow<'a> {
     /// The same operand once more. Memory may be answered where it has a handler.
     pub fn clone(&self) -> Result<ResumeThrow<'a>>
-        ensures copies { Copies (λ x y. (y.type_index ≡ x.type_index) × (y.tag_index ≡ x.tag_index) × (y.table.handlers.items ≡ x.table.handlers.items)) seen_resume_throw bare_throw result self.now }
+        ensures copies { Copies (λ x y. (y.type_index ≡ x.type_index) × (y.tag_index ≡ x.tag_index)
+            × (y.table.handlers.items ≡ x.table.handlers.items)) seen_resume_throw bare_throw
+            result self.now }
     {
         Ok(ResumeThrow {
             type_index: self.type_index,
@@ -214,7 +219,9 @@ impl<'a> Parse<'a> for ResumeThrow<'a> {
 impl<'a> ResumeThrowRef<'a> {
     /// The same operand once more. Memory may be answered where it has a handler.
     pub fn clone(&self) -> Result<ResumeThrowRef<'a>>
-        ensures copies { Copies (λ x y. (y.type_index ≡ x.type_index) × (y.table.handlers.items ≡ x.table.handlers.items)) seen_resume_throw_ref bare_resume result self.now }
+        ensures copies { Copies (λ x y. (y.type_index ≡ x.type_index)
+            × (y.table.handlers.items ≡ x.table.handlers.items)) seen_resume_throw_ref
+            bare_resume result self.now }
     {
         Ok(ResumeThrowRef {
             type_index: self.type_index,

@@ -46,7 +46,8 @@ impl<'a> Group<'a, ValType<'a>> for ResultGroup {
 impl<'a> SelectTypes<'a> {
     /// The same operand once more. Memory may be answered where it has a type.
     pub fn clone(&self) -> Result<SelectTypes<'a>>
-        ensures copies { Copies (λ x y. SameTypes x.tys y.tys) seen_select bare_select result self.now }
+        ensures copies { Copies (λ x y. SameTypes x.tys y.tys) seen_select bare_select result
+            self.now }
     {
         match &self.tys {
             Some(types) => {

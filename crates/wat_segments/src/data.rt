@@ -46,7 +46,8 @@ pub enum DataKind<'a> {
 /// The memory that a segment is put into; `span` is where a memory stands that isn't written.
 #[tactic(auto, unfolding(crate::specs::Data::data_memory))]
 fn read_memory<'a>(parser: &mut Parser<'a>, span: Span) -> Result<Index<'a>>
-    ensures reads { ReadsLight seen_index result (data_memory.reads parser.old.left) parser.old parser.new }
+    ensures reads { ReadsLight seen_index result (data_memory.reads parser.old.left) parser.old
+        parser.new }
 {
     if parser.peek::<u32>() {
         let number = u32::parse(parser)?;
@@ -73,7 +74,8 @@ fn passive_next(parser: &Parser<'_>) -> bool
 /// A memory and an offset.
 #[tactic(auto, unfolding(crate::specs::Data::data_active))]
 fn read_active<'a>(parser: &mut Parser<'a>, span: Span) -> Result<DataKind<'a>>
-    ensures reads { ReadsIf false false bare_data_kind seen_data_kind result (data_active.reads parser.old.left) parser.old parser.new }
+    ensures reads { ReadsIf false false bare_data_kind seen_data_kind result
+        (data_active.reads parser.old.left) parser.old parser.new }
 {
     let memory = read_memory(parser, span)?;
     parser.open()?;
@@ -85,7 +87,8 @@ fn read_active<'a>(parser: &mut Parser<'a>, span: Span) -> Result<DataKind<'a>>
 /// Passive, where that stands in front, else active.
 #[tactic(auto, unfolding(crate::specs::Data::data_kind))]
 fn read_kind<'a>(parser: &mut Parser<'a>, span: Span) -> Result<DataKind<'a>>
-    ensures reads { ReadsIf false false bare_data_kind seen_data_kind result (data_kind.reads parser.old.left) parser.old parser.new }
+    ensures reads { ReadsIf false false bare_data_kind seen_data_kind result
+        (data_kind.reads parser.old.left) parser.old parser.new }
 {
     if passive_next(parser) {
         return Ok(DataKind::Passive);

@@ -44,9 +44,12 @@ impl<'a> DataVal<'a> {
     /// Puts its bytes behind those of a list. Memory refuses it, where it has any, and then the
     /// list is as it was.
     pub fn push_onto(&self, dst: &mut Vec<u8>) -> Result<()>
-        ensures put { MatchResult result (λ _. dst.new.items ≡ dst.old.items ++ bytes_in (seen_val self.now)) (λ e. (e.fault ≡ Fault.Memory) × (dst.new.items ≡ dst.old.items)) }
+        ensures put { MatchResult result (λ _. dst.new.items ≡ dst.old.items ++ bytes_in
+            (seen_val self.now)) (λ e. (e.fault ≡ Fault.Memory)
+            × (dst.new.items ≡ dst.old.items)) }
         // The list grows by as many bytes as `len` answers.
-        ensures grows { IfOk result (λ _. length dst.new.items ≡ length dst.old.items + length (bytes_in (seen_val self.now))) }
+        ensures grows { IfOk result (λ _. length dst.new.items ≡ length dst.old.items + length
+            (bytes_in (seen_val self.now))) }
         ensures some { IfErr result (λ _. no_items (bytes_in (seen_val self.now)) ≡ false) }
     {
         match self {
@@ -96,7 +99,8 @@ impl<'a> Parse<'a> for DataVal<'a> {
 /// Values, to the end.
 #[tactic(auto, using(crate::specs::DataVal::data_val_eats), unfolding(crate::specs::DataVal::data_vals))]
 pub(crate) fn read_vals<'a>(parser: &mut Parser<'a>) -> Result<Vec<DataVal<'a>>>
-    ensures reads { Reads no_items (λ v. seen_vals v.items) result (data_vals.reads parser.old.left) parser.old parser.new }
+    ensures reads { Reads no_items (λ v. seen_vals v.items) result
+        (data_vals.reads parser.old.left) parser.old parser.new }
 {
     all_to_end::<DataVal>(parser)
 }

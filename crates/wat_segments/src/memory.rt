@@ -67,7 +67,8 @@ fn inline_next(parser: &Parser<'_>) -> bool
 /// values `)`.
 #[tactic(auto, unfolding(crate::specs::Memory::inline_memory))]
 fn read_inline<'a>(parser: &mut Parser<'a>) -> Result<MemoryKind<'a>>
-    ensures reads { Reads bare_memory_kind seen_memory_kind result (inline_memory.reads parser.old.left) parser.old parser.new }
+    ensures reads { Reads bare_memory_kind seen_memory_kind result
+        (inline_memory.reads parser.old.left) parser.old parser.new }
 {
     let is64 = take_is64(parser)?;
     let page_size_log2 = page_size(parser)?;
@@ -85,7 +86,8 @@ fn read_inline<'a>(parser: &mut Parser<'a>) -> Result<MemoryKind<'a>>
 /// How a memory is defined, behind its head.
 #[tactic(auto, unfolding(crate::specs::Memory::memory_kind))]
 fn read_kind<'a>(parser: &mut Parser<'a>) -> Result<MemoryKind<'a>>
-    ensures reads { Reads bare_memory_kind seen_memory_kind result (memory_kind.reads parser.old.left) parser.old parser.new }
+    ensures reads { Reads bare_memory_kind seen_memory_kind result
+        (memory_kind.reads parser.old.left) parser.old parser.new }
 {
     if parser.peek::<InlineImport>() {
         let import = InlineImport::parse(parser)?;

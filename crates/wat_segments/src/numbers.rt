@@ -14,7 +14,8 @@ use wat_tokens::{F32, F64, Fault, Parse, Parser, Result};
 /// Puts bytes behind the others. Memory refuses it, where there are any, and then the list is as it
 /// was.
 pub(crate) fn append(out: &mut Vec<u8>, bytes: &[u8]) -> Result<()>
-    ensures put { MatchResult result (λ _. out.new.items ≡ out.old.items ++ bytes.now) (λ e. (e.fault ≡ Fault.Memory) × (out.new.items ≡ out.old.items)) }
+    ensures put { MatchResult result (λ _. out.new.items ≡ out.old.items ++ bytes.now) (λ e.
+        (e.fault ≡ Fault.Memory) × (out.new.items ≡ out.old.items)) }
     ensures some { IfErr result (λ _. no_items bytes.now ≡ false) }
 {
     out.extend_from_slice(bytes)?;
@@ -185,7 +186,8 @@ impl<'a> Group<'a, u8> for V128Bytes {
 /// `f32` and `f64`, behind which no number can be read, or `v128` and constants.
 #[tactic(auto, using(wat_tokens::specs::Joined::joined_reads, crate::specs::Numbers::vector_eats, crate::proofs::Bytes::bytes_again), unfolding(crate::specs::Numbers::other_numbers))]
 fn read_other<'a>(parser: &mut Parser<'a>) -> Result<Vec<u8>>
-    ensures reads { Reads no_items (λ v. v.items) result (other_numbers.reads parser.old.left) parser.old parser.new }
+    ensures reads { Reads no_items (λ v. v.items) result
+        (other_numbers.reads parser.old.left) parser.old parser.new }
 {
     if parser.next_is("f32") {
         parser.keyword("f32")?;
@@ -202,7 +204,8 @@ fn read_other<'a>(parser: &mut Parser<'a>) -> Result<Vec<u8>>
 /// `i32` or `i64` and integers of so many bits, or other numbers.
 #[tactic(auto, using(wat_tokens::specs::Joined::joined_reads, crate::proofs::Bytes::bytes_again), unfolding(crate::specs::Numbers::wide_numbers))]
 fn read_wide<'a>(parser: &mut Parser<'a>) -> Result<Vec<u8>>
-    ensures reads { Reads no_items (λ v. v.items) result (wide_numbers.reads parser.old.left) parser.old parser.new }
+    ensures reads { Reads no_items (λ v. v.items) result
+        (wide_numbers.reads parser.old.left) parser.old parser.new }
 {
     if parser.next_is("i32") {
         parser.keyword("i32")?;
@@ -222,7 +225,8 @@ fn read_wide<'a>(parser: &mut Parser<'a>) -> Result<Vec<u8>>
 /// with Unexpected, at the word.
 #[tactic(auto, using(wat_tokens::specs::Joined::joined_reads, crate::proofs::Bytes::bytes_again), unfolding(crate::specs::Numbers::number_list))]
 pub(crate) fn read_numbers<'a>(parser: &mut Parser<'a>) -> Result<Vec<u8>>
-    ensures reads { Reads no_items (λ v. v.items) result (number_list.reads parser.old.left) parser.old parser.new }
+    ensures reads { Reads no_items (λ v. v.items) result
+        (number_list.reads parser.old.left) parser.old parser.new }
 {
     if parser.next_is("i8") {
         parser.keyword("i8")?;

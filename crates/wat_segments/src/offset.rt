@@ -15,7 +15,8 @@ use wat_tokens::{Parse, Parser, Result};
 /// which has no spans.
 #[tactic(auto, using(crate::proofs::Heads::never_bare), unfolding(crate::specs::Offset::head_last))]
 fn read_head_last<'a>(parser: &mut Parser<'a>) -> Result<Expression<'a>>
-    ensures reads { ReadsIf false false bare_expression seen_expression result (head_last.reads parser.old.left) parser.old parser.new }
+    ensures reads { ReadsIf false false bare_expression seen_expression result
+        (head_last.reads parser.old.left) parser.old parser.new }
 {
     let span = parser.cur_span();
     let (head, mut offset) = both::<Instruction, Expression>(parser)?;
@@ -30,7 +31,8 @@ fn read_head_last<'a>(parser: &mut Parser<'a>) -> Result<Expression<'a>>
 /// instruction and items.
 #[tactic(auto, unfolding(crate::specs::Offset::offset_inside))]
 pub(crate) fn read_offset<'a>(parser: &mut Parser<'a>) -> Result<Expression<'a>>
-    ensures reads { ReadsIf false false bare_expression seen_expression result (offset_inside.reads parser.old.left) parser.old parser.new }
+    ensures reads { ReadsIf false false bare_expression seen_expression result
+        (offset_inside.reads parser.old.left) parser.old parser.new }
 {
     if parser.next_is("offset") {
         parser.keyword("offset")?;

@@ -14,7 +14,8 @@ use wat_instr::Instruction;
 /// Notes a hint at its index, where none is noted there yet.
 fn mark(marks: &mut Vec<Option<u32>>, hint: &BranchHint)
     ensures count { length marks.new.items ≡ length marks.old.items }
-    ensures marks { (hints : List (ℕ × ℕ)) → AreMarks hints marks.old.items → AreMarks (hints ++ seen_hint hint.now ∷ []) marks.new.items }
+    ensures marks { (hints : List (ℕ × ℕ)) → AreMarks hints marks.old.items
+        → AreMarks (hints ++ seen_hint hint.now ∷ []) marks.new.items }
 {
     let index = hint.instr_index;
     if index >= marks.len() {
@@ -61,7 +62,8 @@ fn add_line(
     instr: &Instruction,
     hint: Option<u32>,
 ) -> Result<(), AllocError>
-    ensures { OnOk result (out.new.items ≡ out.old.items ++ line front.now (seen_instruction instr.now) hint) }
+    ensures { OnOk result (out.new.items ≡ out.old.items ++ line front.now
+        (seen_instruction instr.now) hint) }
 {
     add(out, front)?;
     add_instruction(out, instr)?;
@@ -77,7 +79,8 @@ fn add_lines(
     marks: &[Option<u32>],
 ) -> Result<(), AllocError>
     requires { length marks.now ≡ length instrs.now }
-    ensures { OnOk result (out.new.items ≡ out.old.items ++ lines front.now (λ k. get_or marks.now k None) 0 (map seen_instruction instrs.now)) }
+    ensures { OnOk result (out.new.items ≡ out.old.items ++ lines front.now
+        (λ k. get_or marks.now k None) 0 (map seen_instruction instrs.now)) }
 {
     for (index, instr) in instrs.iter().enumerate() {
         add_line(out, front, instr, marks[index])?;
@@ -88,7 +91,8 @@ fn add_lines(
 /// Adds the instructions of an expression, one a line behind the front, each with the hint that has
 /// its index.
 fn add_lines_of(out: &mut Vec<u8>, front: &str, expression: &Expression) -> Result<(), AllocError>
-    ensures { OnOk result (out.new.items ≡ out.old.items ++ lines_of front.now (seen_expression expression.now)) }
+    ensures { OnOk result (out.new.items ≡ out.old.items ++ lines_of front.now
+        (seen_expression expression.now)) }
 {
     let marks = marks_of(
         *out.allocator(),
@@ -100,14 +104,16 @@ fn add_lines_of(out: &mut Vec<u8>, front: &str, expression: &Expression) -> Resu
 
 /// Adds the instructions of an expression, one a line, each with the hint that has its index.
 pub fn add_expression(out: &mut Vec<u8>, expression: &Expression) -> Result<(), AllocError>
-    ensures { OnOk result (out.new.items ≡ out.old.items ++ expression_text (seen_expression expression.now)) }
+    ensures { OnOk result (out.new.items ≡ out.old.items ++ expression_text
+        (seen_expression expression.now)) }
 {
     add_lines_of(out, "", expression)
 }
 
 /// Adds the lines of an expression below another line: each behind two spaces.
 pub fn add_below(out: &mut Vec<u8>, expression: &Expression) -> Result<(), AllocError>
-    ensures { OnOk result (out.new.items ≡ out.old.items ++ below (seen_expression expression.now)) }
+    ensures { OnOk result (out.new.items ≡ out.old.items ++ below
+        (seen_expression expression.now)) }
 {
     add_lines_of(out, "  ", expression)
 }

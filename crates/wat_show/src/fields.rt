@@ -68,7 +68,8 @@ fn add_func(out: &mut Vec<u8>, kind: &FuncKind) -> Result<(), AllocError>
 }
 
 fn add_global(out: &mut Vec<u8>, kind: &GlobalKind) -> Result<(), AllocError>
-    ensures { OnOk result (out.new.items ≡ out.old.items ++ global_text (seen_global_kind kind.now)) }
+    ensures { OnOk result (out.new.items ≡ out.old.items ++ global_text
+        (seen_global_kind kind.now)) }
 {
     match kind {
         GlobalKind::Import(_) => add(out, "global import\n"),
@@ -90,7 +91,8 @@ fn add_tag(out: &mut Vec<u8>, kind: &TagKind) -> Result<(), AllocError>
 
 /// Adds what a payload holds, indices or expressions, and how many.
 fn add_payload_line(out: &mut Vec<u8>, payload: &ElemPayload) -> Result<(), AllocError>
-    ensures { OnOk result (out.new.items ≡ out.old.items ++ payload_line (seen_payload payload.now)) }
+    ensures { OnOk result (out.new.items ≡ out.old.items ++ payload_line
+        (seen_payload payload.now)) }
 {
     match payload {
         ElemPayload::Indices(indices) => add_counted(out, "indices ", indices.len() as u128),
@@ -101,7 +103,8 @@ fn add_payload_line(out: &mut Vec<u8>, payload: &ElemPayload) -> Result<(), Allo
 /// Adds the lines of a payload's expressions.
 #[tactic(auto, using(crate::proofs::Lists::of_seen))]
 fn add_payload_lines(out: &mut Vec<u8>, payload: &ElemPayload) -> Result<(), AllocError>
-    ensures { OnOk result (out.new.items ≡ out.old.items ++ payload_lines (seen_payload payload.now)) }
+    ensures { OnOk result (out.new.items ≡ out.old.items ++ payload_lines
+        (seen_payload payload.now)) }
 {
     match payload {
         ElemPayload::Indices(_) => Ok(()),
@@ -151,7 +154,8 @@ fn add_elem_offset(out: &mut Vec<u8>, kind: &ElemKind) -> Result<(), AllocError>
 }
 
 fn add_elem(out: &mut Vec<u8>, kind: &ElemKind, payload: &ElemPayload) -> Result<(), AllocError>
-    ensures { OnOk result (out.new.items ≡ out.old.items ++ elem_text (seen_elem_kind kind.now, seen_payload payload.now)) }
+    ensures { OnOk result (out.new.items ≡ out.old.items ++ elem_text
+        (seen_elem_kind kind.now, seen_payload payload.now)) }
 {
     add_elem_word(out, kind)?;
     add_payload_line(out, payload)?;
@@ -160,7 +164,8 @@ fn add_elem(out: &mut Vec<u8>, kind: &ElemKind, payload: &ElemPayload) -> Result
 }
 
 fn add_memory(out: &mut Vec<u8>, kind: &MemoryKind) -> Result<(), AllocError>
-    ensures { OnOk result (out.new.items ≡ out.old.items ++ memory_text (seen_memory_kind kind.now)) }
+    ensures { OnOk result (out.new.items ≡ out.old.items ++ memory_text
+        (seen_memory_kind kind.now)) }
 {
     match kind {
         MemoryKind::Import { .. } => add(out, "memory import\n"),
@@ -170,7 +175,8 @@ fn add_memory(out: &mut Vec<u8>, kind: &MemoryKind) -> Result<(), AllocError>
 }
 
 fn add_data(out: &mut Vec<u8>, kind: &DataKind, values: &[DataVal]) -> Result<(), AllocError>
-    ensures { OnOk result (out.new.items ≡ out.old.items ++ data_text (seen_data_kind kind.now) (seen_vals values.now)) }
+    ensures { OnOk result (out.new.items ≡ out.old.items ++ data_text (seen_data_kind kind.now)
+        (seen_vals values.now)) }
 {
     match kind {
         DataKind::Passive => add_counted(out, "data passive ", total(values)),

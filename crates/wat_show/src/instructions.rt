@@ -10,7 +10,8 @@ use wat_instr::Instruction;
 
 /// Adds a space and the operand, where that is an index, an i32 or an i64.
 fn add_operand(out: &mut Vec<u8>, instr: &Instruction) -> Result<(), AllocError>
-    ensures { OnOk result (out.new.items ≡ out.old.items ++ shown_operand (head_in instr.now) (operand_in instr.now)) }
+    ensures { OnOk result (out.new.items ≡ out.old.items ++ shown_operand (head_in instr.now)
+        (operand_in instr.now)) }
 {
     match instr {
         Instruction::Indexed(_, index) => {
@@ -31,7 +32,8 @@ fn add_operand(out: &mut Vec<u8>, instr: &Instruction) -> Result<(), AllocError>
 
 /// Adds the mnemonic, and the operand where it is shown.
 pub fn add_instruction(out: &mut Vec<u8>, instr: &Instruction) -> Result<(), AllocError>
-    ensures { OnOk result (out.new.items ≡ out.old.items ++ instr_text (seen_instruction instr.now)) }
+    ensures { OnOk result (out.new.items ≡ out.old.items ++ instr_text
+        (seen_instruction instr.now)) }
 {
     add(out, instr.mnemonic())?;
     add_operand(out, instr)

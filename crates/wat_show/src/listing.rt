@@ -87,7 +87,8 @@ fn add_ref(out: &mut Vec<u8>, reference: &RefType) -> Result<(), AllocError>
 
 /// Adds a space and a type.
 fn add_val(out: &mut Vec<u8>, ty: &ValType) -> Result<(), AllocError>
-    ensures { OnOk result (out.new.items ≡ out.old.items ++ (codes " " ++ val_text (seen_val ty.now))) }
+    ensures { OnOk result (out.new.items ≡ out.old.items ++ (codes " " ++ val_text
+        (seen_val ty.now))) }
 {
     add(out, " ")?;
     match ty {
@@ -113,7 +114,8 @@ fn add_params(
     out: &mut Vec<u8>,
     params: &[(Option<Id>, Option<NameAnnotation>, ValType)],
 ) -> Result<(), AllocError>
-    ensures { OnOk result (out.new.items ≡ out.old.items ++ types_text (param_types (seen_params params.now))) }
+    ensures { OnOk result (out.new.items ≡ out.old.items ++ types_text (param_types
+        (seen_params params.now))) }
 {
     for param in params {
         add_val(out, &param.2)?;
@@ -123,7 +125,8 @@ fn add_params(
 
 /// Adds the two lines of a function type.
 pub fn add_function(out: &mut Vec<u8>, function: &FunctionType) -> Result<(), AllocError>
-    ensures { OnOk result (out.new.items ≡ out.old.items ++ function_text (seen_function function.now)) }
+    ensures { OnOk result (out.new.items ≡ out.old.items ++ function_text
+        (seen_function function.now)) }
 {
     add(out, "params")?;
     add_params(out, &function.params)?;

@@ -86,7 +86,8 @@ pub fn run<R: Read, W: Write>(
 ) -> Result<u8, RunError>
     requires reader_works { IsFalse reader.old.failed }
     requires writer_works { IsFalse writer.old.failed }
-    ensures { Runs R.remaining W.contents (Shown mode) result reader.old reader.new writer.old writer.new }
+    ensures { Runs R.remaining W.contents (Shown mode) result reader.old reader.new writer.old
+        writer.new }
 {
     run_shows(alloc, &mode, reader, writer)
 }

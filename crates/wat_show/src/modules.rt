@@ -29,7 +29,8 @@ fn add_kind<F: Entry, P: Piece>(
 /// Adds the line of a module, and below it what is listed of its fields.
 #[tactic(auto, using(crate::proofs::Lists::kind_listed))]
 pub fn add_module(out: &mut Vec<u8>, module: &Module) -> Result<(), AllocError>
-    ensures { OnOk result (out.new.items ≡ out.old.items ++ module_text (seen_module «module».now)) }
+    ensures { OnOk result (out.new.items ≡ out.old.items ++ module_text
+        (seen_module «module».now)) }
 {
     add_kind(out, &module.kind)
 }

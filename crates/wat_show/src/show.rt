@@ -28,7 +28,8 @@ pub fn run_shows<S: Shows, R: Read, W: Write>(
 ) -> Result<u8, RunError>
     requires reader_works { IsFalse reader.old.failed }
     requires writer_works { IsFalse writer.old.failed }
-    ensures { Runs R.remaining W.contents (S.shown shows.now) result reader.old reader.new writer.old writer.new }
+    ensures { Runs R.remaining W.contents (S.shown shows.now) result reader.old reader.new
+        writer.old writer.new }
 {
     let bytes = read_all(alloc, reader)?;
     let (out, status) = shows.show(alloc, &bytes)?;

@@ -18,7 +18,8 @@ pub fn read_whole<'a, T: Parse<'a> + Drop>(
     arena: &'a Bump,
 ) -> Result<T, Error>
     ensures found { IfOk result (λ v. Spelled T.grammar text.now (T.seen v)) }
-    ensures none { IfErr result (λ e. e.fault ≢ Memory → (v : T.Seen) → Spelled T.grammar text.now v → ⊥) }
+    ensures none { IfErr result (λ e. e.fault ≢ Memory → (v : T.Seen) → Spelled T.grammar text.now v
+        → ⊥) }
 {
     one_cut();
     let mut parser = Parser::new(alloc, text, arena)?;
@@ -46,7 +47,8 @@ fn closed<'a, T: Drop>(parser: &mut Parser<'a>, value: T) -> Result<T, Error>
 /// is Unexpected.
 pub fn read_module<'a>(alloc: Global, text: &'a str, arena: &'a Bump) -> Result<Module<'a>, Error>
     ensures found { IfOk result (λ m. SpelledModule text.now (seen_module m)) }
-    ensures none { IfErr result (λ e. e.fault ≢ Memory → (m : ModuleTy) → SpelledModule text.now m → ⊥) }
+    ensures none { IfErr result (λ e. e.fault ≢ Memory → (m : ModuleTy) → SpelledModule text.now m
+        → ⊥) }
 {
     one_cut();
     let mut parser = Parser::new(alloc, text, arena)?;

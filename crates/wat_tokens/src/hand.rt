@@ -10,7 +10,8 @@ use wat_lexer::fault::{Error, Fault};
 /// Puts a value behind the others. Memory refuses it; then the list is as it was, and the value is
 /// dropped.
 pub fn put<T: Drop>(list: &mut Vec<T>, value: T) -> Result<(), Error>
-    ensures { MatchResult result (λ _. list.new.items ≡ list.old.items ++ value ∷ []) (λ e. (e.fault ≡ Fault.Memory) × (list.new.items ≡ list.old.items)) }
+    ensures { MatchResult result (λ _. list.new.items ≡ list.old.items ++ value ∷ []) (λ e. (e.fault
+        ≡ Fault.Memory) × (list.new.items ≡ list.old.items)) }
 {
     list.push(value)?;
     Ok(())

@@ -33,7 +33,8 @@ impl<'a> Parse<'a> for Integer<'a> {
 /// too large or a `-` is written.
 fn unsigned(parser: &mut Parser<'_>, bits: u32) -> Result<u64, Error>
     requires { IsTrue (is_width bits) }
-    ensures reads { ReadsLight (λ n. n) result ((unsigned bits).reads parser.old.left) parser.old parser.new }
+    ensures reads { ReadsLight (λ n. n) result ((unsigned bits).reads parser.old.left) parser.old
+        parser.new }
 {
     let span = parser.cur_span();
     let integer = parser.take_integer()?;
@@ -159,7 +160,8 @@ impl Peek for u64 {
 /// range.
 fn signed(parser: &mut Parser<'_>, bits: u32) -> Result<i64, Error>
     requires { IsTrue (is_width bits) }
-    ensures reads { ReadsLight (λ n. n) result ((signed bits).reads parser.old.left) parser.old parser.new }
+    ensures reads { ReadsLight (λ n. n) result ((signed bits).reads parser.old.left) parser.old
+        parser.new }
 {
     let span = parser.cur_span();
     let integer = parser.take_integer()?;

@@ -80,8 +80,10 @@ impl<'a> Parser<'a> {
     /// answered for any text.
     pub fn new(alloc: Global, text: &'a str, arena: &'a Bump) -> Result<Parser<'a>, Error>
         ensures fresh { IfOk result (λ p. IsFresh text.now p) }
-        ensures fault { IfErr result (λ e. e.fault ≢ Fault.Memory → FirstFault text.now e.fault (offset_of e.span)) }
-        ensures uncut { IfErr result (λ e. e.fault ≢ Fault.Memory → (ts : List Placed) → IsCut text.now ts → ⊥) }
+        ensures fault { IfErr result (λ e. e.fault ≢ Fault.Memory
+            → FirstFault text.now e.fault (offset_of e.span)) }
+        ensures uncut { IfErr result (λ e. e.fault ≢ Fault.Memory → (ts : List Placed)
+            → IsCut text.now ts → ⊥) }
     {
         let tokens = cut(alloc, text, arena)?;
         Ok(Parser::over(alloc, tokens, text.len()))
@@ -285,7 +287,8 @@ impl<'a> Parser<'a> {
     fn advance(&mut self)
         requires { self.old.left ≢ [] }
         ensures left { self.new.left ≡ drop 1 self.old.left }
-        ensures stands { self.new.rest ≡ drop (hidden self.old.known self.old.rest + 1) self.old.rest }
+        ensures stands { self.new.rest ≡ drop (hidden self.old.known self.old.rest + 1)
+            self.old.rest }
         ensures taken { self.new.taken ≡ self.old.taken + 1 }
         ensures quiet { Quiet self.old self.new }
         ensures names { Kept self.old self.new }
@@ -301,7 +304,8 @@ impl<'a> Parser<'a> {
     fn step(&mut self)
         requires { self.old.left ≢ [] }
         ensures left { self.new.left ≡ drop 1 self.old.left }
-        ensures stands { self.new.rest ≡ drop (hidden self.old.known self.old.rest + 1) self.old.rest }
+        ensures stands { self.new.rest ≡ drop (hidden self.old.known self.old.rest + 1)
+            self.old.rest }
         ensures counts { Carries self.old self.new }
         ensures taken { self.new.taken ≡ self.old.taken + 1 }
         ensures quiet { Quiet self.old self.new }
@@ -312,7 +316,8 @@ impl<'a> Parser<'a> {
 
     /// Takes a `(`, or refuses with Unexpected.
     pub fn open(&mut self) -> Result<(), Error>
-        ensures reads { ReadsLight (λ x. x) result (one_reads is_lparen self.old.left) self.old self.new }
+        ensures reads { ReadsLight (λ x. x) result (one_reads is_lparen self.old.left) self.old
+            self.new }
         ensures refused { Unmoved result self.old self.new }
         ensures stands { BehindOne result self.old self.new }
     {
@@ -327,7 +332,8 @@ impl<'a> Parser<'a> {
 
     /// Takes a `)`, or refuses with Unexpected.
     pub fn close(&mut self) -> Result<(), Error>
-        ensures reads { ReadsLight (λ x. x) result (one_reads is_rparen self.old.left) self.old self.new }
+        ensures reads { ReadsLight (λ x. x) result (one_reads is_rparen self.old.left) self.old
+            self.new }
         ensures refused { Unmoved result self.old self.new }
         ensures stands { BehindOne result self.old self.new }
     {
@@ -343,7 +349,8 @@ impl<'a> Parser<'a> {
     /// Takes the one keyword (Text Format, "Tokens") and answers where it begins, or refuses with
     /// Unexpected.
     pub fn keyword(&mut self, word: &str) -> Result<Span, Error>
-        ensures reads { ReadsLight (λ _. tt) result (one_reads (word_only word.now) self.old.left) self.old self.new }
+        ensures reads { ReadsLight (λ _. tt) result (one_reads
+            (word_only word.now) self.old.left) self.old self.new }
         ensures refused { Unmoved result self.old self.new }
         ensures stands { BehindOne result self.old self.new }
     {
@@ -360,7 +367,8 @@ impl<'a> Parser<'a> {
     /// Takes the one keyword (Text Format, "Tokens") where it stands in front, and answers whether
     /// it did.
     pub fn flag(&mut self, word: &str) -> bool
-        ensures reads { ReadsLight (λ b. b) (Ok result) ((flag word.now).reads self.old.left) self.old self.new }
+        ensures reads { ReadsLight (λ b. b) (Ok result)
+            ((flag word.now).reads self.old.left) self.old self.new }
     {
         let stands = self.next_is(word);
         if stands {
@@ -372,7 +380,8 @@ impl<'a> Parser<'a> {
     /// Takes the annotation of the name (Text Format, "Annotations"), given without its `@`, and
     /// answers where it begins, or refuses with Unexpected.
     pub fn take_annotation(&mut self, name: &str) -> Result<Span, Error>
-        ensures reads { ReadsLight (λ _. tt) result (one_reads (annotation_only name.now) self.old.left) self.old self.new }
+        ensures reads { ReadsLight (λ _. tt) result (one_reads
+            (annotation_only name.now) self.old.left) self.old self.new }
         ensures refused { Unmoved result self.old self.new }
         ensures stands { BehindOne result self.old self.new }
     {
@@ -388,7 +397,8 @@ impl<'a> Parser<'a> {
 
     /// Takes a keyword (Text Format, "Tokens"), whichever it is, or refuses with Unexpected.
     pub fn take_keyword(&mut self) -> Result<&'a str, Error>
-        ensures reads { ReadsLight (λ x. x.now) result (one_reads is_keyword self.old.left) self.old self.new }
+        ensures reads { ReadsLight (λ x. x.now) result (one_reads is_keyword self.old.left) self.old
+            self.new }
         ensures refused { Unmoved result self.old self.new }
         ensures stands { BehindOne result self.old self.new }
     {
@@ -404,7 +414,8 @@ impl<'a> Parser<'a> {
     /// Takes an identifier (Text Format, "Identifiers") and answers its name, without its `$`, or
     /// refuses with Unexpected.
     pub fn take_id(&mut self) -> Result<&'a str, Error>
-        ensures reads { ReadsLight (λ x. x.now) result (one_reads is_id self.old.left) self.old self.new }
+        ensures reads { ReadsLight (λ x. x.now) result (one_reads is_id self.old.left) self.old
+            self.new }
         ensures refused { Unmoved result self.old self.new }
         ensures stands { BehindOne result self.old self.new }
     {
@@ -419,7 +430,8 @@ impl<'a> Parser<'a> {
 
     /// Takes an integer (Text Format, "Integers") of any value, or refuses with Unexpected.
     pub fn take_integer(&mut self) -> Result<Integer<'a>, Error>
-        ensures reads { ReadsLight text_of result (one_reads is_integer self.old.left) self.old self.new }
+        ensures reads { ReadsLight text_of result (one_reads is_integer self.old.left) self.old
+            self.new }
         ensures refused { Unmoved result self.old self.new }
         ensures stands { BehindOne result self.old self.new }
     {
@@ -435,7 +447,8 @@ impl<'a> Parser<'a> {
     /// Takes a string (Text Format, "Strings") and answers its bytes, decoded, or refuses with
     /// Unexpected.
     pub fn take_string(&mut self) -> Result<&'a [u8], Error>
-        ensures reads { ReadsLight (λ x. x.now) result (one_reads is_string self.old.left) self.old self.new }
+        ensures reads { ReadsLight (λ x. x.now) result (one_reads is_string self.old.left) self.old
+            self.new }
         ensures refused { Unmoved result self.old self.new }
         ensures stands { BehindOne result self.old self.new }
     {

@@ -54,7 +54,9 @@ pub fn parts<'a, V: Drop, P: Part<'a, V>>(
     out: &mut Vec<V>,
 ) -> Result<(), Error>
     requires { 1 ≤ P.grammar.least }
-    ensures reads { ReadsIf P.quiet false no_items (λ _. map P.seen out.new.items) result (after_front (map P.seen out.old.items) (many_reads P.follows P.grammar parser.old.left)) parser.old parser.new }
+    ensures reads { ReadsIf P.quiet false no_items (λ _. map P.seen out.new.items) result
+        (after_front (map P.seen out.old.items) (many_reads P.follows P.grammar
+        parser.old.left)) parser.old parser.new }
 {
     'parts: while P::follows(parser) {
         out.push(P::take(parser)?)?;
@@ -84,7 +86,8 @@ pub trait Group<'a, V> {
     /// Takes the group that stands in front, each part put behind those that are there, or refuses
     /// as [`Parse::parse`] does.
     fn take(parser: &mut Parser<'a>, out: &mut Vec<V>) -> Result<(), Error>
-        ensures exact { Gives false no_items (λ _. map seen out.new.items) result (after_front (map seen out.old.items) (grammar.reads parser.old.left)) parser.new.left }
+        ensures exact { Gives false no_items (λ _. map seen out.new.items) result (after_front
+            (map seen out.old.items) (grammar.reads parser.old.left)) parser.new.left }
         ensures counts { Counted result parser.old parser.new }
         ensures quiet { IsTrue quiet → Quiet parser.old parser.new }
         ensures names { Kept parser.old parser.new };
@@ -96,7 +99,9 @@ pub fn groups<'a, V: Drop, G: Group<'a, V>>(
     out: &mut Vec<V>,
 ) -> Result<(), Error>
     requires { 1 ≤ G.grammar.least }
-    ensures reads { ReadsIf G.quiet false no_items (λ _. map G.seen out.new.items) result (joined_behind (map G.seen out.old.items) (many_reads G.follows G.grammar parser.old.left)) parser.old parser.new }
+    ensures reads { ReadsIf G.quiet false no_items (λ _. map G.seen out.new.items) result
+        (joined_behind (map G.seen out.old.items) (many_reads G.follows G.grammar
+        parser.old.left)) parser.old parser.new }
 {
     'groups: while G::follows(parser) {
         G::take(parser, out)?;
@@ -164,7 +169,9 @@ pub fn rest_of_group<'a, T: Parse<'a> + Drop>(
     out: &mut Vec<T>,
 ) -> Result<(), Error>
     requires { 1 ≤ T.grammar.least }
-    ensures reads { ReadsIf T.quiet false no_items (λ _. map T.seen out.new.items) result (after_front (map T.seen out.old.items) (many_reads more T.grammar parser.old.left)) parser.old parser.new }
+    ensures reads { ReadsIf T.quiet false no_items (λ _. map T.seen out.new.items) result
+        (after_front (map T.seen out.old.items) (many_reads more T.grammar parser.old.left))
+        parser.old parser.new }
 {
     parts::<T, ToEnd>(parser, out)
 }
@@ -175,7 +182,9 @@ pub fn while_begun<'a, T: Parse<'a> + Peek + Drop>(
     out: &mut Vec<T>,
 ) -> Result<(), Error>
     requires { 1 ≤ T.grammar.least }
-    ensures reads { ReadsIf T.quiet false no_items (λ _. map T.seen out.new.items) result (after_front (map T.seen out.old.items) (many_reads T.begins T.grammar parser.old.left)) parser.old parser.new }
+    ensures reads { ReadsIf T.quiet false no_items (λ _. map T.seen out.new.items) result
+        (after_front (map T.seen out.old.items) (many_reads T.begins T.grammar parser.old.left))
+        parser.old parser.new }
 {
     parts::<T, WhileBegun>(parser, out)
 }
@@ -183,7 +192,8 @@ pub fn while_begun<'a, T: Parse<'a> + Peek + Drop>(
 /// Parts as long as one has to follow, as a list of their own.
 pub fn all_parts<'a, V: Drop, P: Part<'a, V>>(parser: &mut Parser<'a>) -> Result<Vec<V>, Error>
     requires { 1 ≤ P.grammar.least }
-    ensures reads { ReadsIf P.quiet false no_items (λ v. map P.seen v.items) result (many_reads P.follows P.grammar parser.old.left) parser.old parser.new }
+    ensures reads { ReadsIf P.quiet false no_items (λ v. map P.seen v.items) result
+        (many_reads P.follows P.grammar parser.old.left) parser.old parser.new }
 {
     let mut found = Vec::new(parser.alloc());
     parts::<V, P>(parser, &mut found)?;
@@ -193,7 +203,9 @@ pub fn all_parts<'a, V: Drop, P: Part<'a, V>>(parser: &mut Parser<'a>) -> Result
 /// The parts of groups, as long as one more group has to follow, as a list of their own.
 pub fn all_groups<'a, V: Drop, G: Group<'a, V>>(parser: &mut Parser<'a>) -> Result<Vec<V>, Error>
     requires { 1 ≤ G.grammar.least }
-    ensures reads { ReadsIf G.quiet false no_items (λ v. map G.seen v.items) result (joined_behind [] (many_reads G.follows G.grammar parser.old.left)) parser.old parser.new }
+    ensures reads { ReadsIf G.quiet false no_items (λ v. map G.seen v.items) result
+        (joined_behind [] (many_reads G.follows G.grammar parser.old.left)) parser.old
+        parser.new }
 {
     let mut found = Vec::new(parser.alloc());
     groups::<V, G>(parser, &mut found)?;
@@ -203,7 +215,8 @@ pub fn all_groups<'a, V: Drop, G: Group<'a, V>>(parser: &mut Parser<'a>) -> Resu
 /// Values up to the end of the group, as a list of their own.
 pub fn all_to_end<'a, T: Parse<'a> + Drop>(parser: &mut Parser<'a>) -> Result<Vec<T>, Error>
     requires { 1 ≤ T.grammar.least }
-    ensures reads { ReadsIf T.quiet false no_items (λ v. map T.seen v.items) result (many_reads more T.grammar parser.old.left) parser.old parser.new }
+    ensures reads { ReadsIf T.quiet false no_items (λ v. map T.seen v.items) result
+        (many_reads more T.grammar parser.old.left) parser.old parser.new }
 {
     let mut found = Vec::new(parser.alloc());
     rest_of_group::<T>(parser, &mut found)?;

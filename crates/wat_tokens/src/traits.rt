@@ -80,28 +80,36 @@ impl<'a> Parser<'a> {
     /// some end of its tokens left.
     pub fn parse<T: Parse<'a>>(&mut self) -> Result<T, Error>
         // The tokens that were taken spell the value.
-        ensures sound { IfOk result (λ v. Front T.grammar.spells self.old.left (T.seen v, self.new.left)) }
+        ensures sound { IfOk result (λ v. Front T.grammar.spells self.old.left
+            (T.seen v, self.new.left)) }
         // Where tokens in front spell a value, it is that one, or memory ran out.
-        ensures accepts { (v : T.Seen) (c r : List Tok) → self.old.left ≡ c ++ r → T.grammar.spells v c r → Accepts T.seen T.bare result v self.new.left r }
+        ensures accepts { (v : T.Seen) (c r : List Tok) → self.old.left ≡ c ++ r
+            → T.grammar.spells v c r → Accepts T.seen T.bare result v self.new.left r }
         // A fault other than Memory means that no tokens in front spell a value.
-        ensures refused { IfErr result (λ e. e.fault ≢ Memory → (v : T.Seen) (c r : List Tok) → self.old.left ≡ c ++ r → T.grammar.spells v c r → ⊥) }
+        ensures refused { IfErr result (λ e. e.fault ≢ Memory → (v : T.Seen) (c r : List Tok)
+            → self.old.left ≡ c ++ r → T.grammar.spells v c r → ⊥) }
         // Memory comes only of a type that can hold a vector or a box.
         ensures memory { IfErr result (λ e. e.fault ≡ Memory → T.light ≡ false) }
         // `taken` rises by the number of tokens that were taken, and never by more than stood in
         // front.
-        ensures taken { (c : List Tok) → self.old.left ≡ c ++ self.new.left → self.new.taken ≡ self.old.taken + length c }
-        ensures within { self.new.taken + length self.new.left ≡ self.old.taken + length self.old.left }
+        ensures taken { (c : List Tok) → self.old.left ≡ c ++ self.new.left
+            → self.new.taken ≡ self.old.taken + length c }
+        ensures within { self.new.taken + length self.new.left
+            ≡ self.old.taken + length self.old.left }
         // `turns` rises at most as much as `taken`, and on a refusal at most one more.
         ensures turned { Turned result self.old self.new }
         // `peak` is at most the greater of what it was and how the tokens that were taken nest.
-        ensures peak { (c : List Tok) → self.old.left ≡ c ++ self.new.left → self.new.peak ≤ max self.old.peak (nest c) }
+        ensures peak { (c : List Tok) → self.old.left ≡ c ++ self.new.left
+            → self.new.peak ≤ max self.old.peak (nest c) }
         // What is left is an end of the tokens in front, also on a refusal.
         ensures end { (c : List Tok) × (self.old.left ≡ c ++ self.new.left) }
         // No count fell.
         ensures grows { Grows self.old self.new }
         // The parser stands directly behind the last token that was taken.
-        ensures stands { (c : List Tok) → self.old.left ≡ c ++ self.new.left → self.new.rest ≡ behind self.old.known (length c) self.old.rest }
-        ensures exact { Gives T.light T.bare T.seen result (T.grammar.reads self.old.left) self.new.left }
+        ensures stands { (c : List Tok) → self.old.left ≡ c ++ self.new.left
+            → self.new.rest ≡ behind self.old.known (length c) self.old.rest }
+        ensures exact { Gives T.light T.bare T.seen result
+            (T.grammar.reads self.old.left) self.new.left }
         ensures counts { Counted result self.old self.new }
         ensures quiet { IsTrue T.quiet → Quiet self.old self.new }
         ensures stays { IsTrue T.stays → Stays self.old self.new }
@@ -127,5 +135,6 @@ impl<'a> Parser<'a> {
 
 /// No two fronts of one token list spell values, unless they are one front and one value.
 pub fn one_reading<'a, T: Parse<'a>>()
-    ensures { (v w : T.Seen) (c d r s : List Tok) → c ++ r ≡ d ++ s → T.grammar.spells v c r → T.grammar.spells w d s → (v ≡ w) × (r ≡ s) × (c ≡ d) }
+    ensures { (v w : T.Seen) (c d r s : List Tok) → c ++ r ≡ d ++ s → T.grammar.spells v c r
+        → T.grammar.spells w d s → (v ≡ w) × (r ≡ s) × (c ≡ d) }
 {}

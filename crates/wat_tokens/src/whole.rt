@@ -14,7 +14,8 @@ use wat_lexer::fault::Error;
 
 /// A value between `(` and `)`.
 pub fn in_group<'a, T: Parse<'a> + Drop>(parser: &mut Parser<'a>) -> Result<T, Error>
-    ensures reads { ReadsIf T.quiet T.light T.bare T.seen result ((paren T.grammar).reads parser.old.left) parser.old parser.new }
+    ensures reads { ReadsIf T.quiet T.light T.bare T.seen result
+        ((paren T.grammar).reads parser.old.left) parser.old parser.new }
 {
     parser.open()?;
     let value = T::parse(parser)?;
@@ -26,7 +27,9 @@ pub fn in_group<'a, T: Parse<'a> + Drop>(parser: &mut Parser<'a>) -> Result<T, E
 pub fn both<'a, T: Parse<'a> + Drop, U: Parse<'a> + Drop>(
     parser: &mut Parser<'a>,
 ) -> Result<(T, U), Error>
-    ensures reads { ReadsIf (T.quiet && U.quiet) (T.light && U.light) (λ v. T.bare v.0 && U.bare v.1) (λ v. (T.seen v.0, U.seen v.1)) result ((seq T.grammar U.grammar).reads parser.old.left) parser.old parser.new }
+    ensures reads { ReadsIf (T.quiet && U.quiet) (T.light && U.light)
+        (λ v. T.bare v.0 && U.bare v.1) (λ v. (T.seen v.0, U.seen v.1)) result
+        ((seq T.grammar U.grammar).reads parser.old.left) parser.old parser.new }
 {
     let first = T::parse(parser)?;
     let second = U::parse(parser)?;

@@ -122,7 +122,8 @@ impl<'a> Parse<'a> for InnerTypeKind<'a> {
 /// The index behind the word, where it stands, and then `) (`.
 #[tactic(auto, unfolding(crate::specs::Define::linked))]
 fn read_link<'a>(parser: &mut Parser<'a>, word: &str) -> Result<Option<Index<'a>>>
-    ensures reads { ReadsLight (seen_option seen_index) result ((linked word.now).reads parser.old.left) parser.old parser.new }
+    ensures reads { ReadsLight (seen_option seen_index) result
+        ((linked word.now).reads parser.old.left) parser.old parser.new }
 {
     if !parser.next_is(word) {
         return Ok(None);
@@ -137,7 +138,8 @@ fn read_link<'a>(parser: &mut Parser<'a>, word: &str) -> Result<Option<Index<'a>
 /// A definition with neither `sub` nor `shared`.
 #[tactic(auto, unfolding(crate::specs::Define::described))]
 fn read_described<'a>(parser: &mut Parser<'a>) -> Result<TypeDef<'a>>
-    ensures reads { Reads bare_def seen_def result (described.reads parser.old.left) parser.old parser.new }
+    ensures reads { Reads bare_def seen_def result (described.reads parser.old.left) parser.old
+        parser.new }
 {
     let describes = read_link(parser, "describes")?;
     let descriptor = read_link(parser, "descriptor")?;
@@ -155,7 +157,8 @@ fn read_described<'a>(parser: &mut Parser<'a>) -> Result<TypeDef<'a>>
 /// A definition without `sub`.
 #[tactic(auto, unfolding(crate::specs::Define::maybe_shared))]
 fn read_maybe_shared<'a>(parser: &mut Parser<'a>) -> Result<TypeDef<'a>>
-    ensures reads { Reads bare_def seen_def result (maybe_shared.reads parser.old.left) parser.old parser.new }
+    ensures reads { Reads bare_def seen_def result (maybe_shared.reads parser.old.left) parser.old
+        parser.new }
 {
     if !parser.next_is("shared") {
         return read_described(parser);

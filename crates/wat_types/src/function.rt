@@ -62,7 +62,9 @@ fn read_params<'a>(
     labels: bool,
     out: &mut Vec<(Option<Id<'a>>, Option<NameAnnotation<'a>>, ValType<'a>)>,
 ) -> Result<()>
-    ensures reads { Reads no_items (λ _. seen_params out.new.items) result (after_front (seen_params out.old.items) ((params labels).reads parser.old.left)) parser.old parser.new }
+    ensures reads { Reads no_items (λ _. seen_params out.new.items) result (after_front
+        (seen_params out.old.items) ((params labels).reads parser.old.left)) parser.old
+        parser.new }
 {
     if labels && (parser.peek::<Id>() || parser.peek::<NameAnnotation>()) {
         let id = Option::<Id>::parse(parser)?;
@@ -77,7 +79,9 @@ fn read_params<'a>(
 /// One group, put behind what is there.
 #[tactic(auto, using(crate::specs::Value::val_type_eats), unfolding(crate::specs::Group::func_group, crate::specs::Group::val_types))]
 fn read_group<'a>(parser: &mut Parser<'a>, labels: bool, out: &mut FunctionType<'a>) -> Result<()>
-    ensures reads { Reads bare_function (λ _. seen_function out.new) result (add_read add (seen_function out.old) ((func_group labels).reads parser.old.left)) parser.old parser.new }
+    ensures reads { Reads bare_function (λ _. seen_function out.new) result (add_read add
+        (seen_function out.old) ((func_group labels).reads parser.old.left)) parser.old
+        parser.new }
 {
     let is_param = parser.group_is("param");
     parser.open()?;
@@ -107,7 +111,8 @@ fn group_next(parser: &Parser<'_>) -> bool
 
 /// Groups, as long as one has to follow.
 fn read_groups<'a>(parser: &mut Parser<'a>, labels: bool) -> Result<FunctionType<'a>>
-    ensures reads { Reads bare_function seen_function result ((function_groups labels).reads parser.old.left) parser.old parser.new }
+    ensures reads { Reads bare_function seen_function result
+        ((function_groups labels).reads parser.old.left) parser.old parser.new }
 {
     let mut found = FunctionType::empty(parser.alloc());
     'groups: while group_next(parser) {
@@ -131,7 +136,8 @@ impl<'a> FunctionType<'a> {
     /// The same function type once more. Memory may be answered where it has a parameter or a
     /// result.
     pub fn clone(&self) -> Result<FunctionType<'a>>
-        ensures copies { Copies (λ x y. (y.params.items ≡ x.params.items) × (y.results.items ≡ x.results.items)) seen_function bare_function result self.now }
+        ensures copies { Copies (λ x y. (y.params.items ≡ x.params.items)
+            × (y.results.items ≡ x.results.items)) seen_function bare_function result self.now }
     {
         let mut copy = FunctionType::empty(*self.params.allocator());
         copy.params.extend_from_slice(&self.params)?;
@@ -187,7 +193,9 @@ impl<'a> FunctionTypeNoNames<'a> {
     /// The same function type once more. Memory may be answered where it has a parameter or a
     /// result.
     pub fn clone(&self) -> Result<FunctionTypeNoNames<'a>>
-        ensures copies { Copies (λ x y. (y.0.params.items ≡ x.0.params.items) × (y.0.results.items ≡ x.0.results.items)) seen_unnamed bare_function result self.now }
+        ensures copies { Copies (λ x y. (y.0.params.items ≡ x.0.params.items)
+            × (y.0.results.items ≡ x.0.results.items)) seen_unnamed bare_function result
+            self.now }
     {
         Ok(FunctionTypeNoNames(self.0.clone()?))
     }

@@ -99,7 +99,8 @@ fn exponent(number: u32) -> Option<u32>
 /// PageSize, at the number.
 #[tactic(auto, unfolding(crate::specs::Limits::page_exponent))]
 fn take_exponent<'a>(parser: &mut Parser<'a>) -> Result<u32>
-    ensures reads { ReadsLight (λ k. k) result (page_exponent.reads parser.old.left) parser.old parser.new }
+    ensures reads { ReadsLight (λ k. k) result (page_exponent.reads parser.old.left) parser.old
+        parser.new }
 {
     let span = parser.cur_span();
     match exponent(u32::parse(parser)?) {
@@ -119,7 +120,8 @@ fn take_exponent<'a>(parser: &mut Parser<'a>) -> Result<u32>
 /// large for 32 bits or has a `-` with Range.
 #[tactic(auto, unfolding(crate::specs::Limits::pagesize_or_none, crate::specs::Limits::pagesize))]
 pub fn page_size<'a>(parser: &mut Parser<'a>) -> Result<Option<u32>>
-    ensures reads { ReadsLight (λ k. k) result (pagesize_or_none.reads parser.old.left) parser.old parser.new }
+    ensures reads { ReadsLight (λ k. k) result (pagesize_or_none.reads parser.old.left) parser.old
+        parser.new }
 {
     if !parser.group_is("pagesize") {
         return Ok(None);

@@ -44,7 +44,8 @@ fn shorthand_of(word: &str) -> Option<AbstractHeapType>
 /// The shorthand in front.
 #[tactic(auto, using(wat_tokens::specs::Begin::reads_table, wat_tokens::specs::Begin::reads_no_table), unfolding(crate::specs::Reference::shorthand))]
 fn take_shorthand<'a>(parser: &mut Parser<'a>) -> Result<AbstractHeapType>
-    ensures reads { ReadsLight (λ t. t) result (shorthand.reads parser.old.left) parser.old parser.new }
+    ensures reads { ReadsLight (λ t. t) result (shorthand.reads parser.old.left) parser.old
+        parser.new }
 {
     let span = parser.cur_span();
     match shorthand_of(parser.take_keyword()?) {

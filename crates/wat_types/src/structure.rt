@@ -98,7 +98,8 @@ impl<'a> Part<'a, StructField<'a>> for PlainField {
 /// The fields of a group, each put behind those that are there.
 #[tactic(auto, using(crate::specs::Struct::field_type_eats), unfolding(crate::specs::Struct::members, crate::specs::Struct::plain_members, crate::specs::Label::label))]
 fn read_fields<'a>(parser: &mut Parser<'a>, out: &mut Vec<StructField<'a>>) -> Result<()>
-    ensures reads { Reads no_items (λ _. seen_members out.new.items) result (after_front (seen_members out.old.items) (members.reads parser.old.left)) parser.old parser.new }
+    ensures reads { Reads no_items (λ _. seen_members out.new.items) result (after_front
+        (seen_members out.old.items) (members.reads parser.old.left)) parser.old parser.new }
 {
     if parser.peek::<Id>() || parser.peek::<NameAnnotation>() {
         let id = Option::<Id>::parse(parser)?;
@@ -144,7 +145,8 @@ impl<'a> Group<'a, StructField<'a>> for FieldGroup {
 impl<'a> StructType<'a> {
     /// The same structure type once more. Memory may be answered where it has a field.
     pub fn clone(&self) -> Result<StructType<'a>>
-        ensures copies { Copies (λ x y. y.fields.items ≡ x.fields.items) seen_struct no_items result self.now }
+        ensures copies { Copies (λ x y. y.fields.items ≡ x.fields.items) seen_struct no_items result
+            self.now }
     {
         let mut fields = Vec::new(*self.fields.allocator());
         'fields: for field in &self.fields {

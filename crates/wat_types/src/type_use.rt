@@ -68,7 +68,8 @@ impl<'a> TypeUse<'a, FunctionType<'a>> {
     /// The same use once more. Memory may be answered where its inline type has a parameter or a
     /// result.
     pub fn clone(&self) -> Result<Self>
-        ensures copies { Copies (SameUse SameFunction) (seen_use seen_function) (bare_use bare_function) result self.now }
+        ensures copies { Copies (SameUse SameFunction) (seen_use seen_function)
+            (bare_use bare_function) result self.now }
     {
         Ok(TypeUse {
             index: self.index,
@@ -81,7 +82,8 @@ impl<'a> TypeUse<'a, FunctionTypeNoNames<'a>> {
     /// The same use once more. Memory may be answered where its inline type has a parameter or a
     /// result.
     pub fn clone(&self) -> Result<Self>
-        ensures copies { Copies (SameUse SameUnnamed) (seen_use seen_unnamed) (bare_use bare_function) result self.now }
+        ensures copies { Copies (SameUse SameUnnamed) (seen_use seen_unnamed)
+            (bare_use bare_function) result self.now }
     {
         Ok(TypeUse {
             index: self.index,
