@@ -1,4 +1,5 @@
-//! Reads a module from standard input, and prints its exported functions with how many parameters and results each has.
+//! Reads a module from standard input, and prints the functions that it exports, each on a line with the name and how many
+//! parameters and results it has. docs/CALLING.md goes through this program.
 #![tactic(auto)]
 
 ghost use Rattle.std.specs.Prelude.{◌≡◌, IfOk, MatchResult};
@@ -15,11 +16,12 @@ use bumpalo::Bump;
 use std::alloc::Global;
 use std::io;
 use std::process::ExitCode;
-use wat_core::Error;
+use wat_core::{Error, Fault};
 
-/// The functions that the module exports in line that a text spells, a line for each name: the name, and how many parameters
-/// and results the function has.
-fn exported(alloc: Global, text: &str) -> Result<String, Error>
+/// The lines of the functions that are exported by the module that the whole text spells, in its group.
+///
+/// Where the text spells none, it is refused with the first fault that is met.
+pub fn exported(alloc: Global, text: &str) -> Result<String, Error>
     // What is answered is the lines of the module that the text spells.
     ensures found { IfOk result (λ out. (m : ModuleTy) × SpellsModule text.now m × (string_bytes out ≡ lines m)) }
     // Where the text spells a module, the answer is its lines, or memory ran out.
@@ -48,6 +50,7 @@ fn main(rt: HostRuntime) -> ExitCode {
             Ok(()) => ExitCode::SUCCESS,
             Err(_) => failed(&rt, "wat_example: cannot write"),
         },
+        Err(error) if error.fault == Fault::Memory => failed(&rt, "wat_example: out of memory"),
         Err(error) => {
             let _ = eprintln!(rt; "wat_example: {error}");
             ExitCode::FAILURE
