@@ -1,0 +1,91 @@
+//! The lines of what a module exports.
+
+ghost use Rattle.std.specs.Prelude.{◌≡◌, ◌++◌, OnOk, flat_map};
+ghost use Rattle.std.specs.String.{string_bytes};
+ghost use Rattle.wat_core.specs.Field.{seen_field};
+ghost use Rattle.wat_core.specs.Module.{seen_fields, seen_module};
+ghost use Rattle.wat_funcs.specs.Func.{seen_func, seen_func_use};
+ghost use Rattle.wat_links.specs.Export.{seen_export};
+ghost use Rattle.wat_tokens.specs.Index.{seen_index};
+ghost use Rattle.wat_example.specs.Listing.{indexed_line, line, func_lines, export_lines, field_lines, lines};
+
+use std::alloc::AllocError;
+use wat_core::{
+    Export, ExportKind, Func, FunctionType, Index, Module, ModuleField, ModuleKind, TypeUse,
+};
+
+/// Adds a line with a name, a word and an index.
+fn add_indexed(out: &mut String, name: &str, word: &str, index: &Index) -> Result<(), AllocError>
+    ensures { OnOk result (string_bytes out.new ≡ string_bytes out.old ++ indexed_line name.now word.now (seen_index index.now)) }
+{
+    match index {
+        Index::Num(number, _) => writeln!(out, "{name} {word} {number}"),
+        Index::Id(id) => writeln!(out, "{name} {word} ${}", id.name()),
+    }
+}
+
+/// Adds the line of a function that is exported under a name.
+fn add_line(out: &mut String, name: &str, ty: &TypeUse<FunctionType>) -> Result<(), AllocError>
+    ensures { OnOk result (string_bytes out.new ≡ string_bytes out.old ++ line (seen_func_use ty.now) name.now) }
+{
+    match (&ty.inline, &ty.index) {
+        (Some(function), _) => {
+            let params = function.params.len();
+            let results = function.results.len();
+            writeln!(out, "{name} {params} {results}")
+        }
+        (None, Some(index)) => add_indexed(out, name, "type", index),
+        (None, None) => writeln!(out, "{name} 0 0"),
+    }
+}
+
+/// Adds a line for each name under which a function is exported in line.
+fn add_func(out: &mut String, func: &Func) -> Result<(), AllocError>
+    ensures { OnOk result (string_bytes out.new ≡ string_bytes out.old ++ func_lines (seen_func func.now)) }
+{
+    for name in &func.exports.names {
+        add_line(out, name, &func.ty)?;
+    }
+    Ok(())
+}
+
+/// Adds the line of an export, where it is of a function.
+fn add_export(out: &mut String, export: &Export) -> Result<(), AllocError>
+    ensures { OnOk result (string_bytes out.new ≡ string_bytes out.old ++ export_lines (seen_export export.now)) }
+{
+    match export.kind {
+        ExportKind::Func => add_indexed(out, export.name, "function", &export.item),
+        _ => Ok(()),
+    }
+}
+
+/// Adds the lines of a field.
+fn add_field(out: &mut String, field: &ModuleField) -> Result<(), AllocError>
+    ensures { OnOk result (string_bytes out.new ≡ string_bytes out.old ++ field_lines (seen_field field.now)) }
+{
+    match field {
+        ModuleField::Func(func) => add_func(out, func),
+        ModuleField::Export(export) => add_export(out, export),
+        _ => Ok(()),
+    }
+}
+
+/// Adds the lines of fields, in order.
+fn add_fields(out: &mut String, fields: &[ModuleField]) -> Result<(), AllocError>
+    ensures { OnOk result (string_bytes out.new ≡ string_bytes out.old ++ flat_map field_lines (seen_fields fields.now)) }
+{
+    for field in fields {
+        add_field(out, field)?;
+    }
+    Ok(())
+}
+
+/// Adds the lines of a module.
+pub fn add_module(out: &mut String, module: &Module) -> Result<(), AllocError>
+    ensures { OnOk result (string_bytes out.new ≡ string_bytes out.old ++ lines (seen_module «module».now)) }
+{
+    match &module.kind {
+        ModuleKind::Text(fields) => add_fields(out, fields),
+        ModuleKind::Binary(_) => Ok(()),
+    }
+}

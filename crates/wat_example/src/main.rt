@@ -1,0 +1,59 @@
+//! Reads a module from standard input, and prints the functions that it exports, each on a line with the name and how many
+//! parameters and results it has. docs/CALLING.md goes through this program.
+#![tactic(auto)]
+
+ghost use Rattle.std.specs.Prelude.{◌≡◌, IfOk, MatchResult};
+ghost use Rattle.std.specs.String.{string_bytes};
+ghost use Rattle.wat_core.specs.Module.{ModuleTy};
+ghost use Rattle.wat_example.specs.Listing.{lines};
+ghost use Rattle.wat_example.specs.Whole.{SpellsModule};
+ghost use Rattle.wat_tokens.specs.Error.{Memory};
+
+mod listing;
+mod whole;
+
+use bumpalo::Bump;
+use std::alloc::Global;
+use std::io;
+use std::process::ExitCode;
+use wat_core::{Error, Fault};
+
+/// The lines of the functions that are exported by the module that the whole text spells, in its group.
+///
+/// Where the text spells none, it is refused with the first fault that is met.
+pub fn exported(alloc: Global, text: &str) -> Result<String, Error>
+    // What is answered is the lines of the module that the text spells.
+    ensures found { IfOk result (λ out. (m : ModuleTy) × SpellsModule text.now m × (string_bytes out ≡ lines m)) }
+    // Where the text spells a module, the answer is its lines, or memory ran out.
+    ensures only { (m : ModuleTy) → SpellsModule text.now m → MatchResult result (λ out. string_bytes out ≡ lines m) (λ e. e.fault ≡ Memory) }
+{
+    let arena = Bump::new(alloc);
+    let module = whole::read(alloc, text, &arena)?;
+    let mut out = String::new(alloc);
+    listing::add_module(&mut out, &module)?;
+    Ok(out)
+}
+
+/// Says on standard error why nothing is printed.
+fn failed(rt: &impl Eprint, words: &str) -> ExitCode {
+    let _ = eprintln!(rt; "{words}");
+    ExitCode::from(2)
+}
+
+fn main(rt: HostRuntime) -> ExitCode {
+    let text = match io::read_to_string(rt.alloc(), rt.stdin()) {
+        Ok(text) => text,
+        Err(_) => return failed(&rt, "wat_example: cannot read"),
+    };
+    match exported(rt.alloc(), &text) {
+        Ok(out) => match print!(rt; "{out}") {
+            Ok(()) => ExitCode::SUCCESS,
+            Err(_) => failed(&rt, "wat_example: cannot write"),
+        },
+        Err(error) if error.fault == Fault::Memory => failed(&rt, "wat_example: out of memory"),
+        Err(error) => {
+            let _ = eprintln!(rt; "wat_example: {error}");
+            ExitCode::FAILURE
+        }
+    }
+}
