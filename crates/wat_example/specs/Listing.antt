@@ -22,8 +22,8 @@ indexed_line export word (name n) = line_of export (word ++ (codes " $" ++ n))
 abbrev pub counts_line : List ℕ → FuncTypeTy → List ℕ
 counts_line export t = line_of export (decimal (length t.params) ++ (codes " " ++ decimal (length t.results)))
 
--- Of the use of a type: how many parameters and results it has, where it is written in line; else its index; and where no type
--- is written, it has none of either.
+-- Of the use of a type: how many parameters and results it has, where it is written in line; else
+-- its index; and where no type is written, it has none of either.
 abbrev pub line : FuncUse → List ℕ → List ℕ
 line u export = typed u.inline u.index
   where

@@ -16,7 +16,8 @@ use wat_core::{
 
 /// Adds a line with a name, a word and an index.
 fn add_indexed(out: &mut String, name: &str, word: &str, index: &Index) -> Result<(), AllocError>
-    ensures { OnOk result (string_bytes out.new ≡ string_bytes out.old ++ indexed_line name.now word.now (seen_index index.now)) }
+    ensures { OnOk result (string_bytes out.new ≡ string_bytes out.old ++ indexed_line name.now
+        word.now (seen_index index.now)) }
 {
     match index {
         Index::Num(number, _) => writeln!(out, "{name} {word} {number}"),
@@ -26,7 +27,8 @@ fn add_indexed(out: &mut String, name: &str, word: &str, index: &Index) -> Resul
 
 /// Adds the line of a function that is exported under a name.
 fn add_line(out: &mut String, name: &str, ty: &TypeUse<FunctionType>) -> Result<(), AllocError>
-    ensures { OnOk result (string_bytes out.new ≡ string_bytes out.old ++ line (seen_func_use ty.now) name.now) }
+    ensures { OnOk result (string_bytes out.new ≡ string_bytes out.old ++ line
+        (seen_func_use ty.now) name.now) }
 {
     match (&ty.inline, &ty.index) {
         (Some(function), _) => {
@@ -41,7 +43,8 @@ fn add_line(out: &mut String, name: &str, ty: &TypeUse<FunctionType>) -> Result<
 
 /// Adds a line for each name under which a function is exported in line.
 fn add_func(out: &mut String, func: &Func) -> Result<(), AllocError>
-    ensures { OnOk result (string_bytes out.new ≡ string_bytes out.old ++ func_lines (seen_func func.now)) }
+    ensures { OnOk result (string_bytes out.new ≡ string_bytes out.old ++ func_lines
+        (seen_func func.now)) }
 {
     for name in &func.exports.names {
         add_line(out, name, &func.ty)?;
@@ -51,7 +54,8 @@ fn add_func(out: &mut String, func: &Func) -> Result<(), AllocError>
 
 /// Adds the line of an export, where it is of a function.
 fn add_export(out: &mut String, export: &Export) -> Result<(), AllocError>
-    ensures { OnOk result (string_bytes out.new ≡ string_bytes out.old ++ export_lines (seen_export export.now)) }
+    ensures { OnOk result (string_bytes out.new ≡ string_bytes out.old ++ export_lines
+        (seen_export export.now)) }
 {
     match export.kind {
         ExportKind::Func => add_indexed(out, export.name, "function", &export.item),
@@ -61,7 +65,8 @@ fn add_export(out: &mut String, export: &Export) -> Result<(), AllocError>
 
 /// Adds the lines of a field.
 fn add_field(out: &mut String, field: &ModuleField) -> Result<(), AllocError>
-    ensures { OnOk result (string_bytes out.new ≡ string_bytes out.old ++ field_lines (seen_field field.now)) }
+    ensures { OnOk result (string_bytes out.new ≡ string_bytes out.old ++ field_lines
+        (seen_field field.now)) }
 {
     match field {
         ModuleField::Func(func) => add_func(out, func),
@@ -72,7 +77,8 @@ fn add_field(out: &mut String, field: &ModuleField) -> Result<(), AllocError>
 
 /// Adds the lines of fields, in order.
 fn add_fields(out: &mut String, fields: &[ModuleField]) -> Result<(), AllocError>
-    ensures { OnOk result (string_bytes out.new ≡ string_bytes out.old ++ flat_map field_lines (seen_fields fields.now)) }
+    ensures { OnOk result (string_bytes out.new ≡ string_bytes out.old ++ flat_map field_lines
+        (seen_fields fields.now)) }
 {
     for field in fields {
         add_field(out, field)?;
@@ -82,7 +88,8 @@ fn add_fields(out: &mut String, fields: &[ModuleField]) -> Result<(), AllocError
 
 /// Adds the lines of a module.
 pub fn add_module(out: &mut String, module: &Module) -> Result<(), AllocError>
-    ensures { OnOk result (string_bytes out.new ≡ string_bytes out.old ++ lines (seen_module «module».now)) }
+    ensures { OnOk result (string_bytes out.new ≡ string_bytes out.old ++ lines
+        (seen_module «module».now)) }
 {
     match &module.kind {
         ModuleKind::Text(fields) => add_fields(out, fields),

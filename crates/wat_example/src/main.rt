@@ -1,5 +1,6 @@
-//! Reads a module from standard input, and prints the functions that it exports, each on a line with the name and how many
-//! parameters and results it has. docs/CALLING.md goes through this program.
+//! Reads a module from standard input, and prints the functions that it exports, each on a line
+//! with the name and how many parameters and results it has. docs/CALLING.md goes through this
+//! program.
 #![tactic(auto)]
 
 ghost use Rattle.std.specs.Prelude.{◌≡◌, IfOk, MatchResult};
@@ -18,14 +19,17 @@ use std::io;
 use std::process::ExitCode;
 use wat_core::{Error, Fault};
 
-/// The lines of the functions that are exported by the module that the whole text spells, in its group.
+/// The lines of the functions that are exported by the module that the whole text spells, in its
+/// group.
 ///
 /// Where the text spells none, it is refused with the first fault that is met.
 pub fn exported(alloc: Global, text: &str) -> Result<String, Error>
     // What is answered is the lines of the module that the text spells.
-    ensures found { IfOk result (λ out. (m : ModuleTy) × SpellsModule text.now m × (string_bytes out ≡ lines m)) }
+    ensures found { IfOk result (λ out. (m : ModuleTy) × SpellsModule text.now m
+        × (string_bytes out ≡ lines m)) }
     // Where the text spells a module, the answer is its lines, or memory ran out.
-    ensures only { (m : ModuleTy) → SpellsModule text.now m → MatchResult result (λ out. string_bytes out ≡ lines m) (λ e. e.fault ≡ Memory) }
+    ensures only { (m : ModuleTy) → SpellsModule text.now m
+        → MatchResult result (λ out. string_bytes out ≡ lines m) (λ e. e.fault ≡ Memory) }
 {
     let arena = Bump::new(alloc);
     let module = whole::read(alloc, text, &arena)?;

@@ -9,13 +9,14 @@ use bumpalo::Bump;
 use std::alloc::Global;
 use wat_core::{Error, Module, Parser, one_cut};
 
-/// Reads the module that the whole text spells, in its group, with the five standard annotations known. A token that is left
-/// over is refused with Unexpected.
+/// Reads the module that the whole text spells, in its group, with the five standard annotations
+/// known. A token that is left over is refused with Unexpected.
 pub fn read<'a>(alloc: Global, text: &'a str, arena: &'a Bump) -> Result<Module<'a>, Error>
     // The text spells the module that is answered.
     ensures found { IfOk result (λ m. SpellsModule text.now (seen_module m)) }
     // Where the text spells a module, it is that one, or memory ran out.
-    ensures only { (m : ModuleTy) → SpellsModule text.now m → MatchResult result (λ n. seen_module n ≡ m) (λ e. e.fault ≡ Memory) }
+    ensures only { (m : ModuleTy) → SpellsModule text.now m
+        → MatchResult result (λ n. seen_module n ≡ m) (λ e. e.fault ≡ Memory) }
 {
     // A text has one cut. This law does nothing when it runs.
     one_cut();
