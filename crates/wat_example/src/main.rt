@@ -47,6 +47,9 @@ fn failed(rt: &impl Eprint, words: &str) -> ExitCode {
 fn main(rt: HostRuntime) -> ExitCode {
     let text = match io::read_to_string(rt.alloc(), rt.stdin()) {
         Ok(text) => text,
+        Err(error) if error.kind() == io::ErrorKind::OutOfMemory => {
+            return failed(&rt, "wat_example: out of memory");
+        }
         Err(_) => return failed(&rt, "wat_example: cannot read"),
     };
     match exported(rt.alloc(), &text) {
