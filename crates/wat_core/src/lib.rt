@@ -3,8 +3,8 @@
 //!
 //! [`Module::parse`] takes a module from the tokens of a [`Parser`]. Indices stay as they are
 //! written: nothing is resolved, and nothing is checked for validity. This crate has the names of
-//! the types of the crates that it stands on, and of what reads them, so that a user needs it
-//! alone; what else is public there is reached by the crate's own name, as
+//! the parser, of the types of what is read, and of what reads them, so that a user needs it alone;
+//! what else is public in the crates that it stands on is reached by the crate's own name, as
 //! `wat_core::wat_mnemonics::find`.
 #![tactic(auto)]
 

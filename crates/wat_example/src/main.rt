@@ -1,6 +1,6 @@
 //! Reads a module from standard input, and prints the functions that it exports, each on a line
-//! with the name and how many parameters and results it has. docs/CALLING.md goes through this
-//! program.
+//! with the name and how many parameters and results it has, or the index of its type or of the
+//! function where these aren't written there. docs/CALLING.md goes through this program.
 #![tactic(auto)]
 
 ghost use Rattle.std.specs.Prelude.{◌≡◌, IfOk, MatchResult};

@@ -59,6 +59,7 @@ function_from labels f c r s = (s.0, s.1, InOrder-tested s.0 s.2, by_parts f (fl
 unfoldable pub function_groups : Bool → Production FuncTy
 function_groups labels = restated (function_tested labels) (FunctionSpells labels) (function_to labels) (function_from labels)
 
+-- parameter and result groups, of which parameters may have an identifier or a name
 abbrev pub function_type : Production FuncTy
 function_type = function_groups true
 
@@ -76,6 +77,7 @@ pub unnamed_from : (f : FuncTy) (c r : List Tok) → UnnamedSpells f c r → (fu
 unfolding function_groups func_groups
 unnamed_from f c r s = let p = s.0 in (p.0, groups_forbid p.0 c r p.1 (rw p.3 at s.1), p.2, p.3, p.4)
 
+-- the same, but that no parameter has one
 abbrev pub function_type_no_names : Production FuncTy
 function_type_no_names = restated (function_groups false) UnnamedSpells unnamed_to unnamed_from
 
