@@ -1,6 +1,7 @@
 //! Reads a module from standard input with the Rust crate wast, and lists it as `watshow module` does: what
 //! the inputs of `bench/peers` have, which are functions without imports and passive data segments.
-use std::io::{Read, Write};
+use std::fmt::Write as _;
+use std::io::{Read, Write as _};
 use std::process::ExitCode;
 use wast::core::{Data, DataKind, Expression, Func, FuncKind, Instruction, ModuleField, ModuleKind};
 use wast::parser::{self, ParseBuffer};
@@ -38,28 +39,14 @@ fn line<'a>(instruction: &Instruction<'a>) -> Line<'a> {
 
 fn list_expression(out: &mut String, expression: &Expression<'_>) -> Option<()> {
     for instruction in &expression.instrs {
-        let word = match line(instruction) {
-            Line::Word(word) | Line::Indexed(word, _) | Line::Constant(word, _) => word,
+        let written = match line(instruction) {
+            Line::Word(word) => writeln!(out, "  {word}"),
+            Line::Indexed(word, Index::Num(number, _)) => writeln!(out, "  {word} {number}"),
+            Line::Indexed(word, Index::Id(id)) => writeln!(out, "  {word} ${}", id.name()),
+            Line::Constant(word, value) => writeln!(out, "  {word} {value}"),
             Line::Other => return None,
         };
-        out.push_str("  ");
-        out.push_str(word);
-        match line(instruction) {
-            Line::Indexed(_, Index::Num(number, _)) => {
-                out.push(' ');
-                out.push_str(&number.to_string());
-            }
-            Line::Indexed(_, Index::Id(id)) => {
-                out.push_str(" $");
-                out.push_str(id.name());
-            }
-            Line::Constant(_, value) => {
-                out.push(' ');
-                out.push_str(&value.to_string());
-            }
-            Line::Word(_) | Line::Other => {}
-        }
-        out.push('\n');
+        written.ok()?;
     }
     Some(())
 }
