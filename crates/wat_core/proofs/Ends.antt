@@ -1,11 +1,12 @@
 -- A module reaches to the end of its group.
 use Rattle.std.proofs.Common.{◌≡◌, true, false, List, [], ◌∷◌, Some, refl, inl, inr}
-use Rattle.wat_tokens.specs.Many.{many_spells}
+use Rattle.wat_tokens.specs.ManySpells.{many_spells}
 use Rattle.wat_tokens.specs.Production.{Production}
 use Rattle.wat_tokens.specs.Strings.{string}
 use Rattle.wat_tokens.specs.Tests.{ends, more}
 use Rattle.wat_tokens.specs.Token.{Tok, RParen}
-use Rattle.wat_core.specs.Module.{ModuleTy, ModuleKindTy, field_group, fields, pieces, module_kind, module_}
+use Rattle.wat_core.specs.Module.{ModuleTy, ModuleKindTy, fields, pieces, module_kind, module_}
+use Rattle.wat_core.specs.FieldGroup.{field_group}
 
 ends_of : (r : List Tok) → more r ≡ false → ends r ≡ true
 ends_of [] e = refl

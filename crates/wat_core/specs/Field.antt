@@ -2,10 +2,11 @@
 use Rattle.std.specs.Prelude.{Bool, true, List, codes}
 use Rattle.wat_tokens.specs.Index.{Idx, seen_index, index}
 use Rattle.wat_tokens.specs.Parses.{no_items}
-use Rattle.wat_tokens.specs.Parts.{made, where_else}
+use Rattle.wat_tokens.specs.Parts.{made, where_else, after_word}
 use Rattle.wat_tokens.specs.Production.{Production}
 use Rattle.wat_tokens.specs.Tests.{begins_word}
-use Rattle.wat_types.specs.Define.{behind, TypeTy, seen_type, bare_type, type_, seen_rec, rec}
+use Rattle.wat_types.specs.Define.{TypeTy, seen_type, bare_type, type_}
+use Rattle.wat_types.specs.Recursion.{seen_rec, rec}
 use Rattle.wat_customs.specs.Custom.{CustomTy, seen_custom, bare_custom, custom}
 use Rattle.wat_links.specs.Export.{ExportTy, seen_export, export_}
 use Rattle.wat_links.specs.Forms.{imports}
@@ -91,7 +92,7 @@ bare_field (a_custom c) = bare_custom c
 
 -- `start` idx
 unfoldable pub start : Production Idx
-start = behind (codes "start") index
+start = after_word (codes "start") index
 
 -- Start | Elem | Data | Custom
 unfoldable pub last_field : Production FieldTy

@@ -1,20 +1,20 @@
 -- Modules.
-use Rattle.std.specs.Prelude.{◌≤◌, ℕ, Bool, List, codes, map}
+use Rattle.std.specs.Prelude.{ℕ, Bool, List, codes, map}
 use Rattle.std.specs.Borrow.{Bor}
-use Rattle.std.proofs.Common.{lit≤, arith}
-use Rattle.wat_tokens.specs.Groups.{paren}
+use Rattle.std.proofs.Common.{lit≤}
 use Rattle.wat_tokens.specs.Many.{many}
 use Rattle.wat_tokens.specs.Parses.{no_items}
-use Rattle.wat_tokens.specs.Parts.{seq, made, where_else}
+use Rattle.wat_tokens.specs.Parts.{seq, made, where_else, after_word}
 use Rattle.wat_tokens.specs.Production.{Production}
 use Rattle.wat_tokens.specs.Strings.{string}
 use Rattle.wat_tokens.specs.Tests.{begins_word, more}
-use Rattle.wat_types.specs.Define.{behind}
 use Rattle.wat_types.specs.Label.{Label, seen_label, label}
-use Rattle.wat_core.specs.Field.{FieldTy, ModuleField, seen_field, module_field}
+use Rattle.wat_core.specs.Field.{FieldTy, ModuleField, seen_field}
 use Rattle.wat_core.specs.declared.module.«Module».{«Module»}
 use Rattle.wat_core.specs.declared.module.ModuleKindOf.{ModuleKindOf}
 use Rattle.wat_core.specs.declared.module.ModuleKindOf.TheVariants as code
+use Rattle.wat_core.specs.FieldGroup.{field_group}
+use Rattle.wat_core.specs.Laws.Module.{field_group_eats}
 
 -- ---- what contracts see
 
@@ -54,13 +54,6 @@ bare_module m = bare_module_kind m.kind
 
 -- ---- the grammar
 
--- ( ModuleField )
-abbrev pub field_group : Production FieldTy
-field_group = paren module_field
-
-pub field_group_eats : 1 ≤ field_group.least
-field_group_eats = omega arith
-
 -- ( ModuleField )*, to the end
 unfoldable pub fields : Production (List FieldTy)
 fields = many more field_group field_group_eats
@@ -71,8 +64,8 @@ pieces = many more string (lit≤ tt)
 
 -- `binary` bytes*, where `binary` comes next; else ( ModuleField )*
 unfoldable pub module_kind : Production ModuleKindTy
-module_kind = where_else (begins_word (codes "binary")) (made binary (behind (codes "binary") pieces)) (made text fields)
+module_kind = where_else (begins_word (codes "binary")) (made binary (after_word (codes "binary") pieces)) (made text fields)
 
 -- `module id? name?`, and then its kind
 unfoldable pub module_ : Production ModuleTy
-module_ = behind (codes "module") (made (λ v. module_of v.0 v.1) (seq label module_kind))
+module_ = after_word (codes "module") (made (λ v. module_of v.0 v.1) (seq label module_kind))

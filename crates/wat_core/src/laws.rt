@@ -8,7 +8,7 @@ ghost use Rattle.wat_tokens.specs.Token.{Tok};
 ghost use Rattle.wat_types.specs.Limits.{pagesize_or_none};
 ghost use Rattle.wat_immediates.specs.Lanes.{lane_access};
 ghost use Rattle.wat_immediates.specs.Memory.{mem_arg, atomic_mem_arg};
-ghost use Rattle.wat_expr.specs.Folded.{folded_instruction};
+ghost use Rattle.wat_expr.specs.FoldedProduction.{folded_instruction};
 ghost use Rattle.wat_core.specs.Module.{ModuleTy, module_};
 
 pub use wat_expr::laws::{flat_again, flat_form, hints_in_order, no_more_than_tokens};
@@ -18,7 +18,7 @@ use wat_tokens::Parse;
 /// No two fronts of one token list spell values, unless they are one front and one value, spans
 /// aside: of any type that can be read, of a module, and of what the calls read that are no type's
 /// own.
-#[tactic(auto, using(wat_tokens::specs::Once::reads_once))]
+#[tactic(auto, using(wat_tokens::specs::Laws::Once::reads_once))]
 pub fn one_reading<'a, T: Parse<'a>>()
     ensures value { HasOneReading T.grammar }
     ensures module { HasOneReading module_ }

@@ -12,7 +12,8 @@ ghost use Rattle.wat_tokens.specs.State.{behind, lit};
 ghost use Rattle.wat_tokens.specs.Tests.{ends, more};
 ghost use Rattle.wat_tokens.specs.Token.{Tok};
 ghost use Rattle.wat_core.specs.Field.{FieldTy, seen_field, bare_field};
-ghost use Rattle.wat_core.specs.Module.{ModuleTy, seen_module_kind, bare_module_kind, field_group, module_kind, seen_module, bare_module, module_};
+ghost use Rattle.wat_core.specs.Module.{ModuleTy, seen_module_kind, bare_module_kind, module_kind, seen_module, bare_module, module_};
+ghost use Rattle.wat_core.specs.FieldGroup.{field_group};
 
 use crate::field::ModuleField;
 use wat_tokens::repeat::{Part, all_parts, all_to_end};
@@ -72,7 +73,7 @@ impl<'a> Part<'a, ModuleField<'a>> for FieldGroup {
 }
 
 /// `binary` and strings, or fields in their groups.
-#[tactic(auto, using(crate::specs::Module::field_group_eats), unfolding(crate::specs::Module::module_kind, crate::specs::Module::fields, crate::specs::Module::pieces))]
+#[tactic(auto, using(crate::specs::Laws::Module::field_group_eats), unfolding(crate::specs::Module::module_kind, crate::specs::Module::fields, crate::specs::Module::pieces))]
 fn read_kind<'a>(parser: &mut Parser<'a>) -> Result<ModuleKind<'a>>
     ensures reads { ReadsIf false false bare_module_kind seen_module_kind result
         (module_kind.reads parser.old.left) parser.old parser.new }
@@ -127,7 +128,7 @@ impl<'a> Module<'a> {
     /// token in front than the word `module` is refused with Unexpected, at the token, and so is
     /// one behind it that begins no field's group. Memory may be answered where the module has a
     /// field or a piece.
-    #[tactic(auto, using(wat_tokens::specs::State::lit_is, crate::proofs::Ends::module_ends))]
+    #[tactic(auto, using(wat_tokens::specs::Laws::State::lit_is, crate::proofs::Ends::module_ends))]
     pub fn parse(parser: &mut Parser<'a>) -> Result<Module<'a>>
         // The tokens that were taken, seen with the five names, spell the module.
         ensures sound { IfOk result (λ m. Front module_.spells (lit parser.old).left

@@ -1,10 +1,11 @@
 -- Where there is an entry, there is a field.
 use Rattle.std.proofs.Common.{◌≡◌, false, List, [], ◌∷◌, ◌++◌, Some, None, refl}
-use Rattle.wat_tokens.specs.Filled.{filled_before, filled_behind}
+use Rattle.wat_tokens.specs.Laws.Filled.{filled_before, filled_behind}
 use Rattle.wat_tokens.specs.Production.{Read, bind}
 use Rattle.wat_tokens.specs.Many.{after_front}
 use Rattle.wat_tokens.specs.Parses.{NotBare, no_items}
-use Rattle.wat_customs.specs.Producers.{Named, EntryTy, field_of, fields_of}
+use Rattle.wat_customs.specs.Producers.{field_of, fields_of}
+use Rattle.wat_customs.specs.ProducerEntry.{Named, EntryTy}
 use Rattle.wat_customs.specs.declared.producers.Field.{Field}
 use Rattle.wat_customs.specs.declared.producers.Field.TheVariants.{Language, Sdk, ProcessedBy}
 

@@ -4,9 +4,12 @@ use Rattle.std.specs.Prelude.{fold}
 use Rattle.std.specs.Int.Bits.{bit_or}
 use Rattle.wat_tokens.specs.Token.{Tok}
 use Rattle.wat_tokens.specs.Tests.{ends, more}
-use Rattle.wat_tokens.specs.Production.{Read, bind, less_left}
-use Rattle.wat_tokens.specs.Many.{many_step, many_stop, many_fails}
-use Rattle.wat_customs.specs.Flags.{flag_bits, flag_bits_eats, flag_list, symbol_flags}
+use Rattle.wat_tokens.specs.Production.{Read, bind}
+use Rattle.wat_tokens.specs.Laws.Production.{less_left}
+use Rattle.wat_tokens.specs.Laws.Many.{many_step, many_stop, many_fails}
+use Rattle.wat_customs.specs.Flags.{flag_list, symbol_flags}
+use Rattle.wat_customs.specs.FlagBits.{flag_bits}
+use Rattle.wat_customs.specs.Laws.Flags.{flag_bits_eats}
 
 pub more_left : (t : List Tok) (b : Bool) → b ≡ ends t → b ≡ false → more t ≡ true
 more_left t b e f = rw (← e, f) refl

@@ -3,9 +3,9 @@ use Rattle.std.proofs.Common.{◌≡◌, ℕ, true, false, List, [], ◌∷◌, 
 use Rattle.wat_tokens.specs.Token.{Tok, Integer, Keyword}
 use Rattle.wat_tokens.specs.Tests.{begins_integer, is_keyword, look_up}
 use Rattle.wat_tokens.specs.Integers.{unsigned_of}
-use Rattle.wat_tokens.specs.Production.{some_is}
-use Rattle.wat_tokens.specs.Parts.{one_reads, with_rest}
-use Rattle.wat_customs.specs.Flags.{flag_of, flag_words}
+use Rattle.wat_tokens.specs.Laws.Production.{some_is}
+use Rattle.wat_tokens.specs.PartSpells.{one_reads, with_rest}
+use Rattle.wat_customs.specs.FlagBits.{flag_of, flag_words}
 
 pub reads_number : (t : List Tok) → begins_integer t ≡ true → one_reads flag_of t ≡ one_reads (unsigned_of 32) t
 reads_number (Integer text ∷ t) e = refl

@@ -2,13 +2,16 @@
 use Rattle.std.proofs.Common.{refl}
 use Rattle.std.specs.Char.{encode_utf8}
 use Rattle.std.specs.Str.{chars, is_utf8}
-use Rattle.wat_tokens.specs.Many.{many_at, many_reads}
+use Rattle.wat_tokens.specs.ManySpells.{many_at, many_reads}
 use Rattle.wat_tokens.specs.Number.{read}
-use Rattle.wat_tokens.specs.Spelled.{spelled}
+use Rattle.wat_tokens.specs.Laws.Spelled.{spelled}
 use Rattle.wat_customs.specs.Custom.{custom}
 use Rattle.wat_customs.specs.Cutting.{cut_subsections, dylink}
-use Rattle.wat_customs.specs.Dylink.{sizes, mem_info_entry, names_entry, lone_entry, export_entry, subsection, subsections}
-use Rattle.wat_customs.specs.Flags.{flag_bits, flag_list, symbol_flags}
+use Rattle.wat_customs.specs.Dylink.{sizes, mem_info_entry, names_entry, lone_entry, subsection}
+use Rattle.wat_customs.specs.DylinkEntries.{export_entry}
+use Rattle.wat_customs.specs.Subsections.{subsections}
+use Rattle.wat_customs.specs.Flags.{flag_list, symbol_flags}
+use Rattle.wat_customs.specs.FlagBits.{flag_bits}
 use Rattle.wat_customs.specs.Place.{section, after, custom_place}
 use Rattle.wat_customs.specs.Rows.{Places, Exports, Sizes}
 

@@ -6,7 +6,8 @@ use Rattle.wat_tokens.specs.Production.{Production}
 use Rattle.wat_tokens.specs.Parts.{made, where_else}
 use Rattle.wat_tokens.specs.Parses.{no_items}
 use Rattle.wat_customs.specs.Raw.{RawTy, seen_raw, bare_raw, raw_custom}
-use Rattle.wat_customs.specs.Producers.{Named, seen_producers, producers}
+use Rattle.wat_customs.specs.Producers.{seen_producers, producers}
+use Rattle.wat_customs.specs.ProducerEntry.{Named}
 use Rattle.wat_customs.specs.Dylink.{SubsectionTy, seen_dylink}
 use Rattle.wat_customs.specs.Cutting.{dylink}
 use Rattle.wat_customs.specs.declared.place.CustomPlace.{CustomPlace}

@@ -11,10 +11,11 @@ use Rattle.wat_tokens.specs.Many.{many}
 use Rattle.wat_tokens.specs.Integers.{unsigned}
 use Rattle.wat_tokens.specs.Parses.{no_items}
 use Rattle.wat_tokens.specs.Strings.{text}
-use Rattle.wat_customs.specs.Flags.{flag_list, symbol_flags}
 use Rattle.wat_customs.specs.declared.dylink.Dylink0.{Dylink0}
 use Rattle.wat_customs.specs.declared.dylink.Dylink0Subsection.{Dylink0Subsection}
 use Rattle.wat_customs.specs.declared.dylink.Dylink0Subsection.TheVariants as code
+use Rattle.wat_customs.specs.DylinkEntries.{export_entry, import_entry}
+use Rattle.wat_customs.specs.Laws.DylinkEntries.{export_entry_eats, import_entry_eats}
 
 -- ---- what contracts see
 
@@ -94,25 +95,6 @@ begins_export t = begins_group (codes "export-info") t
 abbrev pub begins_import : List Tok → Bool
 begins_import t = begins_group (codes "import-info") t
 
--- ( export-info name flags )
-unfoldable pub export_entry : Production (List ℕ × ℕ)
-export_entry = group (codes "export-info") (seq text symbol_flags)
-
-abbrev pub import_of : List ℕ × (List ℕ × ℕ) → List ℕ × List ℕ × ℕ
-import_of v = (v.0, v.1.0, v.1.1)
-
--- ( import-info module name flags )
-unfoldable pub import_entry : Production (List ℕ × List ℕ × ℕ)
-import_entry = group (codes "import-info") (made import_of (seq text (seq text symbol_flags)))
-
-pub export_entry_eats : 1 ≤ export_entry.least
-unfolding export_entry symbol_flags flag_list
-export_entry_eats = lit≤ tt
-
-pub import_entry_eats : 1 ≤ import_entry.least
-unfolding import_entry symbol_flags flag_list
-import_entry_eats = lit≤ tt
-
 -- an entry, and all others of its kind that stand behind it
 abbrev pub run : {A : Type 0} → (List Tok → Bool) → (g : Production A) → 1 ≤ g.least → Production (List A)
 run begins g eats = made (λ v. v.0 ∷ v.1) (seq g (many begins g eats))
@@ -125,11 +107,3 @@ subsection =
     where_else begins_export (made export_info (run begins_export export_entry export_entry_eats))
     (where_else begins_import (made import_info (run begins_import import_entry import_entry_eats))
     lone_entry)
-
-pub subsection_eats : 1 ≤ subsection.least
-unfolding subsection export_entry import_entry symbol_flags flag_list lone_entry mem_info_entry sizes names_entry
-subsection_eats = lit≤ tt
-
--- subsections, to the end
-unfoldable pub subsections : Production (List SubsectionTy)
-subsections = many more subsection subsection_eats

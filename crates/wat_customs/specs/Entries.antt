@@ -1,13 +1,9 @@
 -- The subsections of a `dylink.0` section, as its entries are cut into them.
-use Rattle.std.specs.Prelude.{◌≤◌, ℕ, List, [], ◌∷◌, map, flat_map, ⊤}
-use Rattle.std.proofs.Common.{lit≤}
-use Rattle.wat_tokens.specs.Token.{Tok}
-use Rattle.wat_tokens.specs.Tests.{more}
+use Rattle.std.specs.Prelude.{ℕ, List, [], ◌∷◌, map, ⊤}
 use Rattle.wat_tokens.specs.Production.{Production}
 use Rattle.wat_tokens.specs.Parts.{made, where_else}
-use Rattle.wat_tokens.specs.Many.{many}
-use Rattle.wat_customs.specs.Flags.{flag_list, symbol_flags}
-use Rattle.wat_customs.specs.Dylink.{SubsectionTy, export_info, import_info, begins_export, begins_import, export_entry, import_entry, lone_entry, mem_info_entry, sizes, names_entry}
+use Rattle.wat_customs.specs.Dylink.{SubsectionTy, export_info, import_info, begins_export, begins_import, lone_entry}
+use Rattle.wat_customs.specs.DylinkEntries.{export_entry, import_entry}
 
 -- an entry: of an export, of an import, or another
 pub data EntryTy : Type 0 where
@@ -18,14 +14,6 @@ pub data EntryTy : Type 0 where
 -- ( export-info .. ) | ( import-info .. ) | another entry
 unfoldable pub entry : Production EntryTy
 entry = where_else begins_export (made of_export export_entry) (where_else begins_import (made of_import import_entry) (made other lone_entry))
-
-pub entry_eats : 1 ≤ entry.least
-unfolding entry export_entry import_entry symbol_flags flag_list lone_entry mem_info_entry sizes names_entry
-entry_eats = lit≤ tt
-
--- entries, to the end
-unfoldable pub entries : Production (List EntryTy)
-entries = many more entry entry_eats
 
 -- the entries that a subsection holds
 abbrev pub entries_in : SubsectionTy → List EntryTy
@@ -49,8 +37,3 @@ IsApart _ _ = ⊤
 abbrev pub AreCut : List SubsectionTy → Type 0
 AreCut [] = ⊤
 AreCut (s ∷ ss) = IsFilled s × IsApart s ss × AreCut ss
-
--- the tokens spell the entries of all subsections, one behind the other, and the subsections are
--- cut
-abbrev pub CutSpells : List SubsectionTy → List Tok → List Tok → Type 0
-CutSpells ss c r = entries.spells (flat_map entries_in ss) c r × AreCut ss

@@ -1,10 +1,16 @@
 pub use Rattle.wat_tokens.specs.Production
 pub mod Custom
+pub mod CutForm
 pub mod Cutting
 pub mod Dylink
+pub mod DylinkEntries
 pub mod Entries
+pub mod FlagBits
 pub mod Flags
+pub mod Laws
 pub mod Place
+pub mod ProducerEntry
 pub mod Producers
 pub mod Raw
 pub mod Rows
+pub mod Subsections

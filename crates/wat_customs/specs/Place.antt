@@ -2,15 +2,11 @@
 use Rattle.std.specs.Prelude.{ℕ, List, [], ◌∷◌, codes, refl}
 use Rattle.wat_tokens.specs.Tests.{word_in, begins_word}
 use Rattle.wat_tokens.specs.Production.{Production}
-use Rattle.wat_tokens.specs.Parts.{one, word, seq, made, where_else}
+use Rattle.wat_tokens.specs.Parts.{one, word, made, where_else, after_word}
 use Rattle.wat_customs.specs.declared.place.CustomPlace.{CustomPlace}
 use Rattle.wat_customs.specs.declared.place.CustomPlace.TheVariants.{BeforeFirst, Before, After, AfterLast}
 use Rattle.wat_customs.specs.declared.place.CustomPlaceAnchor.{CustomPlaceAnchor}
 use Rattle.wat_customs.specs.declared.place.CustomPlaceAnchor.TheVariants as anchor
-
--- w g, the value of g
-abbrev pub behind : {A : Type 0} → List ℕ → Production A → Production A
-behind w g = made (λ v. v.1) (seq (word w) g)
 
 -- the words of the known sections
 abbrev pub anchor_words : List (List ℕ × CustomPlaceAnchor)
@@ -23,11 +19,11 @@ section = one (word_in anchor_words) (refl, refl)
 
 -- `before first` | `before` section
 unfoldable pub before : Production CustomPlace
-before = behind (codes "before") (where_else (begins_word (codes "first")) (made (λ _. BeforeFirst) (word (codes "first"))) (made Before section))
+before = after_word (codes "before") (where_else (begins_word (codes "first")) (made (λ _. BeforeFirst) (word (codes "first"))) (made Before section))
 
 -- `after last` | `after` section
 unfoldable pub after : Production CustomPlace
-after = behind (codes "after") (where_else (begins_word (codes "last")) (made (λ _. AfterLast) (word (codes "last"))) (made After section))
+after = after_word (codes "after") (where_else (begins_word (codes "last")) (made (λ _. AfterLast) (word (codes "last"))) (made After section))
 
 -- `before first` | `before` section | `after last` | `after` section
 unfoldable pub custom_place : Production CustomPlace

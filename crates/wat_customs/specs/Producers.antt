@@ -1,24 +1,18 @@
 -- The `producers` section.
-use Rattle.std.specs.Prelude.{◌≤◌, ℕ, Bool, true, false, List, [], ◌∷◌, ◌++◌, codes, map, filter, refl}
+use Rattle.std.specs.Prelude.{ℕ, Bool, true, false, List, [], ◌∷◌, ◌++◌, codes, map, filter}
 use Rattle.std.specs.Borrow.{Bor}
-use Rattle.std.proofs.Common.{lit≤}
-use Rattle.wat_tokens.specs.Tests.{word_in, more}
+use Rattle.wat_tokens.specs.Tests.{more}
 use Rattle.wat_tokens.specs.Production.{Production}
-use Rattle.wat_tokens.specs.Parts.{one, seq, made}
-use Rattle.wat_tokens.specs.Groups.{paren}
+use Rattle.wat_tokens.specs.Parts.{made, annotation}
 use Rattle.wat_tokens.specs.Many.{many}
-use Rattle.wat_tokens.specs.Strings.{text}
-use Rattle.wat_customs.specs.Raw.{annotation}
 use Rattle.wat_customs.specs.declared.producers.Field.{Field}
 use Rattle.wat_customs.specs.declared.producers.Field.TheVariants.{Language, Sdk, ProcessedBy}
 use Rattle.wat_customs.specs.declared.producers.ProducerEntry.{ProducerEntry}
 use Rattle.wat_customs.specs.declared.producers.Producers.{Producers}
+use Rattle.wat_customs.specs.ProducerEntry.{EntryTy, producer_entry, Named}
+use Rattle.wat_customs.specs.Laws.Producers.{producer_entry_eats}
 
 -- ---- entries
-
--- the fields, by their words
-abbrev pub field_words : List (List ℕ × Field)
-field_words = (codes "language", Language) ∷ (codes "sdk", Sdk) ∷ (codes "processed-by", ProcessedBy) ∷ []
 
 abbrev pub word_of : Field → List ℕ
 word_of Language = codes "language"
@@ -31,28 +25,8 @@ same_field Sdk Sdk = true
 same_field ProcessedBy ProcessedBy = true
 same_field _ _ = false
 
--- a name and a version
-abbrev pub Named : Type 0
-Named = List ℕ × List ℕ
-
--- the field that it is of, its name and its version
-abbrev pub EntryTy : Type 0
-EntryTy = Field × Named
-
 abbrev pub seen_entry : ProducerEntry → EntryTy
 seen_entry e = (e.field, (e.name.now, e.version.now))
-
--- the word of a field
-unfoldable pub field_word : Production Field
-field_word = one (word_in field_words) (refl, refl)
-
--- ( `language` | `sdk` | `processed-by` , name version )
-unfoldable pub producer_entry : Production EntryTy
-producer_entry = paren (seq field_word (seq text text))
-
-pub producer_entry_eats : 1 ≤ producer_entry.least
-unfolding producer_entry field_word
-producer_entry_eats = lit≤ tt
 
 -- entries, to the end
 unfoldable pub producer_entries : Production (List EntryTy)

@@ -1,10 +1,9 @@
 -- Custom sections of any name, with their bytes.
-use Rattle.std.specs.Prelude.{ℕ, Bool, true, false, List, ◌∷◌, codes, map, unwrap_or, refl}
+use Rattle.std.specs.Prelude.{ℕ, Bool, List, codes, map, unwrap_or}
 use Rattle.std.proofs.Common.{lit≤}
-use Rattle.wat_tokens.specs.Token.{Tok, LParen}
-use Rattle.wat_tokens.specs.Tests.{annotation_only, more}
+use Rattle.wat_tokens.specs.Tests.{more, begins_lparen}
 use Rattle.wat_tokens.specs.Production.{Production}
-use Rattle.wat_tokens.specs.Parts.{one, seq, made, opt}
+use Rattle.wat_tokens.specs.Parts.{seq, made, opt, annotation}
 use Rattle.wat_tokens.specs.Groups.{paren}
 use Rattle.wat_tokens.specs.Many.{many}
 use Rattle.wat_tokens.specs.Parses.{no_items}
@@ -29,19 +28,6 @@ seen_raw r = raw_of r.name.now r.place (map (λ s. s.now) r.data.items)
 -- no string of bytes
 abbrev pub bare_raw : RawTy → Bool
 bare_raw r = no_items r.data
-
--- @name
-abbrev pub annotated : List ℕ → Production (Unit {0})
-annotated name = one (annotation_only name) (refl, refl)
-
--- @name g, the value of g
-abbrev pub annotation : {A : Type 0} → List ℕ → Production A → Production A
-annotation name g = made (λ v. v.1) (seq (annotated name) g)
-
--- a `(` in front
-abbrev pub begins_lparen : List Tok → Bool
-begins_lparen (LParen ∷ r) = true
-begins_lparen _ = false
 
 -- ( place )?, without it behind the last section
 unfoldable pub raw_place : Production CustomPlace

@@ -4,7 +4,9 @@ ghost use Rattle.std.specs.Prelude.{◌≡◌, ℕ, codes, true, false, List, ma
 ghost use Rattle.wat_tokens.specs.Parses.{no_items};
 ghost use Rattle.wat_tokens.specs.Reads.{Reads, ReadsLight};
 ghost use Rattle.wat_tokens.specs.Tests.{more};
-ghost use Rattle.wat_customs.specs.Dylink.{SubsectionTy, seen_export, seen_import, seen_subsection, seen_dylink, bare_subsection, id_of, sizes, mem_info_entry, names_entry, lone_entry, begins_export, begins_import, export_entry, import_entry, run, export_entry_eats, import_entry_eats, subsection};
+ghost use Rattle.wat_customs.specs.Dylink.{SubsectionTy, seen_export, seen_import, seen_subsection, seen_dylink, bare_subsection, id_of, sizes, mem_info_entry, names_entry, lone_entry, begins_export, begins_import, run, subsection};
+ghost use Rattle.wat_customs.specs.DylinkEntries.{export_entry, import_entry};
+ghost use Rattle.wat_customs.specs.Laws.DylinkEntries.{export_entry_eats, import_entry_eats};
 ghost use Rattle.wat_customs.specs.Cutting.{dylink};
 
 use crate::flags::read_flags;
@@ -153,7 +155,7 @@ impl<'a> Part<'a, (&'a str, u32)> for ExportEntry {
         parser.group_is("export-info")
     }
 
-    #[tactic(auto, unfolding(crate::specs::Dylink::export_entry))]
+    #[tactic(auto, unfolding(crate::specs::DylinkEntries::export_entry))]
     fn take(parser: &mut Parser<'a>) -> Result<(&'a str, u32)> {
         parser.open()?;
         parser.keyword("export-info")?;
@@ -182,7 +184,7 @@ impl<'a> Part<'a, (&'a str, &'a str, u32)> for ImportEntry {
         parser.group_is("import-info")
     }
 
-    #[tactic(auto, unfolding(crate::specs::Dylink::import_entry))]
+    #[tactic(auto, unfolding(crate::specs::DylinkEntries::import_entry))]
     fn take(parser: &mut Parser<'a>) -> Result<(&'a str, &'a str, u32)> {
         parser.open()?;
         parser.keyword("import-info")?;
@@ -195,7 +197,7 @@ impl<'a> Part<'a, (&'a str, &'a str, u32)> for ImportEntry {
 }
 
 /// An export entry, and all that stand behind it.
-#[tactic(auto, using(crate::specs::Dylink::export_entry_eats, crate::proofs::Runs::run_not_bare))]
+#[tactic(auto, using(crate::specs::Laws::DylinkEntries::export_entry_eats, crate::proofs::Runs::run_not_bare))]
 fn read_exports<'a>(parser: &mut Parser<'a>) -> Result<Vec<(&'a str, u32)>>
     ensures reads { Reads no_items (λ v. map seen_export v.items) result
         ((run begins_export export_entry export_entry_eats).reads parser.old.left) parser.old
@@ -208,7 +210,7 @@ fn read_exports<'a>(parser: &mut Parser<'a>) -> Result<Vec<(&'a str, u32)>>
 }
 
 /// An import entry, and all that stand behind it.
-#[tactic(auto, using(crate::specs::Dylink::import_entry_eats, crate::proofs::Runs::run_not_bare))]
+#[tactic(auto, using(crate::specs::Laws::DylinkEntries::import_entry_eats, crate::proofs::Runs::run_not_bare))]
 fn read_imports<'a>(parser: &mut Parser<'a>) -> Result<Vec<(&'a str, &'a str, u32)>>
     ensures reads { Reads no_items (λ v. map seen_import v.items) result
         ((run begins_import import_entry import_entry_eats).reads parser.old.left) parser.old
@@ -267,7 +269,7 @@ impl<'a> Parse<'a> for Dylink0<'a> {
 
     ghost grammar = { dylink };
 
-    #[tactic(auto, using(crate::specs::Dylink::subsection_eats), unfolding(crate::specs::Cutting::dylink, crate::specs::Cutting::cut_subsections, crate::specs::Dylink::subsections))]
+    #[tactic(auto, using(crate::specs::Laws::Subsections::subsection_eats), unfolding(crate::specs::Cutting::dylink, crate::specs::Cutting::cut_subsections, crate::specs::Subsections::subsections))]
     fn parse(parser: &mut Parser<'a>) -> Result<Self> {
         parser.take_annotation("dylink.0")?;
         let mut subsections = Vec::new(parser.alloc());

@@ -3,7 +3,8 @@
 ghost use Rattle.std.specs.Prelude.{◌≡◌};
 ghost use Rattle.wat_tokens.specs.Reads.{ReadsLight};
 ghost use Rattle.wat_tokens.specs.Tests.{look_up, more};
-ghost use Rattle.wat_customs.specs.Flags.{flag_words, flag_bits, symbol_flags};
+ghost use Rattle.wat_customs.specs.Flags.{symbol_flags};
+ghost use Rattle.wat_customs.specs.FlagBits.{flag_words, flag_bits};
 
 use wat_tokens::{Error, Fault, Parse, Parser, Result};
 
@@ -27,7 +28,7 @@ fn bit_of(word: &str) -> Option<u32>
 
 /// A number of 32 bits without a sign, or the bit that a word names. Another word is refused with
 /// Unexpected, at the word, and a number that is too large or has a `-` with Range.
-#[tactic(auto, using(crate::proofs::FlagReads::reads_number, crate::proofs::FlagReads::reads_word, crate::proofs::FlagReads::reads_no_word), unfolding(crate::specs::Flags::flag_bits))]
+#[tactic(auto, using(crate::proofs::FlagReads::reads_number, crate::proofs::FlagReads::reads_word, crate::proofs::FlagReads::reads_no_word), unfolding(crate::specs::FlagBits::flag_bits))]
 fn read_flag<'a>(parser: &mut Parser<'a>) -> Result<u32>
     ensures reads { ReadsLight (λ n. n) result (flag_bits.reads parser.old.left) parser.old
         parser.new }

@@ -85,7 +85,7 @@ impl<'a> Parse<'a> for CustomPlaceAnchor {
 
     ghost grammar = { section };
 
-    #[tactic(auto, using(wat_tokens::specs::Begin::reads_table, wat_tokens::specs::Begin::reads_no_table), unfolding(crate::specs::Place::section))]
+    #[tactic(auto, using(wat_tokens::specs::Laws::Begin::reads_table, wat_tokens::specs::Laws::Begin::reads_no_table), unfolding(crate::specs::Place::section))]
     fn parse(parser: &mut Parser<'a>) -> Result<Self> {
         let span = parser.cur_span();
         match anchor_of(parser.take_keyword()?) {

@@ -3,7 +3,8 @@
 ghost use Rattle.std.specs.Prelude.{◌≡◌, ◌++◌, ℕ, true, false, List, map, IfOk, IfErr};
 ghost use Rattle.wat_tokens.specs.Parses.{no_items};
 ghost use Rattle.wat_tokens.specs.Tests.{look_up};
-ghost use Rattle.wat_customs.specs.Producers.{field_words, word_of, same_field, Named, EntryTy, seen_entry, seen_entries, seen_names, seen_producers, field_word, producer_entry, entries_of, field_of, fields_of, producers};
+ghost use Rattle.wat_customs.specs.Producers.{word_of, same_field, seen_entry, seen_entries, seen_names, seen_producers, entries_of, field_of, fields_of, producers};
+ghost use Rattle.wat_customs.specs.ProducerEntry.{field_words, Named, EntryTy, field_word, producer_entry};
 
 use std::alloc::Global;
 use wat_tokens::repeat::rest_of_group;
@@ -86,7 +87,7 @@ impl<'a> Parse<'a> for Field {
 
     ghost grammar = { field_word };
 
-    #[tactic(auto, using(wat_tokens::specs::Begin::reads_table, wat_tokens::specs::Begin::reads_no_table), unfolding(crate::specs::Producers::field_word))]
+    #[tactic(auto, using(wat_tokens::specs::Laws::Begin::reads_table, wat_tokens::specs::Laws::Begin::reads_no_table), unfolding(crate::specs::ProducerEntry::field_word))]
     fn parse(parser: &mut Parser<'a>) -> Result<Self> {
         let span = parser.cur_span();
         match field_named(parser.take_keyword()?) {
@@ -109,7 +110,7 @@ impl<'a> Parse<'a> for ProducerEntry<'a> {
 
     ghost grammar = { producer_entry };
 
-    #[tactic(auto, unfolding(crate::specs::Producers::producer_entry))]
+    #[tactic(auto, unfolding(crate::specs::ProducerEntry::producer_entry))]
     fn parse(parser: &mut Parser<'a>) -> Result<Self> {
         parser.open()?;
         let field = Field::parse(parser)?;
@@ -194,7 +195,7 @@ impl<'a> Parse<'a> for Producers<'a> {
 
     ghost grammar = { producers };
 
-    #[tactic(auto, using(crate::specs::Producers::producer_entry_eats, crate::proofs::Fields::fields_not_bare, crate::proofs::Fields::entries_not_bare), unfolding(crate::specs::Producers::producers, crate::specs::Producers::producer_entries))]
+    #[tactic(auto, using(crate::specs::Laws::Producers::producer_entry_eats, crate::proofs::Fields::fields_not_bare, crate::proofs::Fields::entries_not_bare), unfolding(crate::specs::Producers::producers, crate::specs::Producers::producer_entries))]
     fn parse(parser: &mut Parser<'a>) -> Result<Self> {
         parser.take_annotation("producers")?;
         let mut entries = Vec::new(parser.alloc());

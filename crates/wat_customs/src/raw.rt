@@ -2,7 +2,8 @@
 
 ghost use Rattle.std.specs.Prelude.{◌≡◌, false};
 ghost use Rattle.wat_tokens.specs.Reads.{ReadsLight};
-ghost use Rattle.wat_customs.specs.Raw.{RawTy, seen_raw, bare_raw, begins_lparen, raw_place, raw_custom};
+ghost use Rattle.wat_customs.specs.Raw.{RawTy, seen_raw, bare_raw, raw_place, raw_custom};
+ghost use Rattle.wat_tokens.specs.Tests.{begins_lparen};
 
 use crate::place::CustomPlace;
 use wat_tokens::repeat::rest_of_group;

@@ -2,13 +2,15 @@
 use Rattle.std.proofs.Common.{◌≡◌, ℕ, zero, suc, Bool, true, false, List, ◌∷◌, length, map, Some, None, refl, ap, ◌∙◌}
 use Rattle.wat_tokens.specs.Token.{Tok}
 use Rattle.wat_tokens.specs.Tests.{more}
-use Rattle.wat_tokens.specs.Production.{Production, Read, bind, some_of, by_test, by_read}
+use Rattle.wat_tokens.specs.Production.{Production, Read, bind, some_of}
+use Rattle.wat_tokens.specs.Laws.Production.{by_test, by_read}
 use Rattle.wat_tokens.specs.Parts.{made}
-use Rattle.wat_tokens.specs.Many.{many_at, many_reads}
+use Rattle.wat_tokens.specs.ManySpells.{many_at, many_reads}
 use Rattle.wat_tokens.specs.Index.{index}
 use Rattle.wat_types.specs.Reference.{RefTy}
 use Rattle.wat_elems.specs.Payload.{is_funcref, ref_func_of, index_list}
-use Rattle.wat_elems.specs.RefFuncs.{ref_func, ref_funcs, indices_of, plain_indices, ref_funcs_of}
+use Rattle.wat_elems.specs.RefFuncs.{ref_funcs, indices_of, plain_indices, ref_funcs_of}
+use Rattle.wat_elems.specs.RefFunc.{ref_func}
 
 module _ {A B : Type 0} (follows : List Tok → Bool) (f : A → B) (g : Production A) where
   abbrev mapped : Read (List A) → Read (List B)

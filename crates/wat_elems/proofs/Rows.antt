@@ -2,10 +2,11 @@
 use Rattle.std.proofs.Common.{◌≡◌, List, [], ◌∷◌, ◌++◌, Some, refl}
 use Rattle.std.specs.Prelude.{codes}
 use Rattle.wat_tokens.specs.Index.{number}
-use Rattle.wat_tokens.specs.Many.{many_at, many_reads}
+use Rattle.wat_tokens.specs.ManySpells.{many_at, many_reads}
 use Rattle.wat_tokens.specs.NameAnnotation.{name_annotation}
 use Rattle.wat_tokens.specs.Number.{read}
-use Rattle.wat_tokens.specs.Spelled.{in_parens, spelled}
+use Rattle.wat_tokens.specs.Spelled.{in_parens}
+use Rattle.wat_tokens.specs.Laws.Spelled.{spelled}
 use Rattle.wat_tokens.specs.Token.{Tok, Keyword, Integer, RParen}
 use Rattle.wat_types.specs.Label.{label}
 use Rattle.wat_types.specs.Heap.{abstract_heap_type, heap_type}
@@ -13,17 +14,20 @@ use Rattle.wat_types.specs.Limits.{is_64, limits_type, table_type}
 use Rattle.wat_types.specs.Reference.{shorthand, begins_shorthand, ref_type}
 use Rattle.wat_links.specs.Export.{inline_export}
 use Rattle.wat_links.specs.Head.{head}
-use Rattle.wat_mnemonics.specs.Word.{head_of, head_of_word}
+use Rattle.wat_mnemonics.specs.Word.{head_of}
+use Rattle.wat_mnemonics.specs.Laws.Word.{head_of_word}
 use Rattle.wat_mnemonics.specs.declared.head.Head.TheVariants as word
 use Rattle.wat_mnemonics.specs.declared.indexed.IndexedOp.TheVariants as op
 use Rattle.wat_instr.specs.Instruction.{instr_of, instruction}
 use Rattle.wat_instr.specs.Operand as operands
 use Rattle.wat_instr.specs.Operand.{operand}
-use Rattle.wat_expr.specs.Alone.{alone, alone_read, grouped_read, folded_read}
-use Rattle.wat_expr.specs.Folded.{folded_instruction}
-use Rattle.wat_expr.specs.Reading.{expression}
+use Rattle.wat_expr.specs.Alone.{alone}
+use Rattle.wat_expr.specs.Laws.Alone.{alone_read, grouped_read, folded_read}
+use Rattle.wat_expr.specs.FoldedProduction.{folded_instruction}
+use Rattle.wat_expr.specs.ExpressionProduction.{expression}
 use Rattle.wat_elems.specs.Elem.{elem_offset, table_number, in_some_table, declared_segment, active_segment, passive_segment, segment, elem}
-use Rattle.wat_elems.specs.Payload.{written_or_folded, index_list, ref_func_of, item, item_list, typed_items, listed, payload, payload_or_indices}
+use Rattle.wat_elems.specs.Payload.{index_list, ref_func_of, item_list, typed_items, listed, payload, payload_or_indices}
+use Rattle.wat_elems.specs.Item.{written_or_folded, item}
 use Rattle.wat_elems.specs.Rows.{zero_const, zero_alone, active_text, active_elem, null_func, null_text, nulls_text, nulls, items_text, two_items, Declared, OfExternref, Active, OfNulls, OfItems}
 use Rattle.wat_elems.specs.Table.{inline_table, normal_table, table_kind, table}
 

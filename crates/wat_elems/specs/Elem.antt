@@ -1,19 +1,18 @@
 -- Element segments.
 use Rattle.std.specs.Prelude.{Bool, true, not, ◌&&◌, ◌||◌, List, codes, Option, Some}
 use Rattle.wat_tokens.specs.Token.{Tok}
-use Rattle.wat_tokens.specs.Tests.{begins_word, begins_group, begins_integer}
+use Rattle.wat_tokens.specs.Tests.{begins_word, begins_group, begins_integer, begins_lparen}
 use Rattle.wat_tokens.specs.Production.{Production}
-use Rattle.wat_tokens.specs.Parts.{seq, made, where_else, opt}
+use Rattle.wat_tokens.specs.Parts.{seq, made, where_else, opt, after_word}
 use Rattle.wat_tokens.specs.Groups.{group}
 use Rattle.wat_tokens.specs.Index.{Idx, number, seen_index, index}
 use Rattle.wat_tokens.specs.Integers.{unsigned}
 use Rattle.wat_tokens.specs.Parses.{seen_option}
-use Rattle.wat_types.specs.Define.{behind}
 use Rattle.wat_types.specs.Label.{Label, seen_label, label}
 use Rattle.wat_types.specs.Reference.{begins_ref}
-use Rattle.wat_customs.specs.Raw.{begins_lparen}
 use Rattle.wat_expr.specs.Expression.{Expr, seen_expression, bare_expression}
-use Rattle.wat_elems.specs.Payload.{PayloadTy, seen_payload, bare_payload, written_or_folded, payload, payload_or_indices}
+use Rattle.wat_elems.specs.Payload.{PayloadTy, seen_payload, bare_payload, payload, payload_or_indices}
+use Rattle.wat_elems.specs.Item.{written_or_folded}
 use Rattle.wat_elems.specs.declared.elem.ElemKind.{ElemKind}
 use Rattle.wat_elems.specs.declared.elem.ElemKind.TheVariants as code
 use Rattle.wat_elems.specs.declared.elem.Elem.{Elem}
@@ -81,7 +80,7 @@ in_some_table = made active_of (seq table_number (seq elem_offset payload_or_ind
 
 -- `declare` payload
 unfoldable pub declared_segment : Production Segment
-declared_segment = made (λ p. (declared, p)) (behind (codes "declare") payload)
+declared_segment = made (λ p. (declared, p)) (after_word (codes "declare") payload)
 
 -- payload
 unfoldable pub passive_segment : Production Segment
@@ -105,4 +104,4 @@ segment =
 
 -- `elem id? name?`, and then a kind and what it holds
 unfoldable pub elem : Production ElemTy
-elem = behind (codes "elem") (made (λ v. elem_of v.0 v.1) (seq label segment))
+elem = after_word (codes "elem") (made (λ v. elem_of v.0 v.1) (seq label segment))

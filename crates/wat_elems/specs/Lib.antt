@@ -1,7 +1,10 @@
 pub use Rattle.wat_links.specs.Head
 pub use Rattle.wat_expr.specs.Expression
-pub mod Payload
-pub mod RefFuncs
 pub mod Elem
-pub mod Table
+pub mod Item
+pub mod Laws
+pub mod Payload
+pub mod RefFunc
+pub mod RefFuncs
 pub mod Rows
+pub mod Table

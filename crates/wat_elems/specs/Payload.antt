@@ -1,27 +1,24 @@
 -- What an element segment holds.
-use Rattle.std.specs.Prelude.{◌≤◌, ℕ, Bool, true, false, if◌then◌else◌, ◌&&◌, List, [], ◌∷◌, codes, map}
+use Rattle.std.specs.Prelude.{Bool, true, false, if◌then◌else◌, ◌&&◌, List, [], ◌∷◌, codes, map}
 use Rattle.std.proofs.Common.{lit≤}
-use Rattle.wat_tokens.specs.Tests.{begins_word, more, second}
+use Rattle.wat_tokens.specs.Tests.{begins_word, more, begins_lparen}
 use Rattle.wat_tokens.specs.Production.{Production}
-use Rattle.wat_tokens.specs.Parts.{seq, made, where_else}
+use Rattle.wat_tokens.specs.Parts.{seq, made, where_else, after_word}
 use Rattle.wat_tokens.specs.Many.{many}
-use Rattle.wat_tokens.specs.Groups.{group}
 use Rattle.wat_tokens.specs.Index.{Idx, seen_index, index}
 use Rattle.wat_tokens.specs.Parses.{no_items}
-use Rattle.wat_types.specs.Define.{behind}
 use Rattle.wat_types.specs.Heap.{HeapTy, abstract_}
 use Rattle.wat_types.specs.Reference.{RefTy, seen_ref, ref_type, begins_ref}
 use Rattle.wat_types.specs.declared.heap.AbstractHeapType.TheVariants as heap_word
-use Rattle.wat_customs.specs.Raw.{begins_lparen}
 use Rattle.wat_mnemonics.specs.declared.head.Head.TheVariants as word
 use Rattle.wat_mnemonics.specs.declared.indexed.IndexedOp.TheVariants as op
 use Rattle.wat_instr.specs.Operand as operands
 use Rattle.wat_instr.specs.Instruction.{instr_of}
 use Rattle.wat_expr.specs.Expression.{Expr, seen_expression}
-use Rattle.wat_expr.specs.Reading.{expression}
-use Rattle.wat_expr.specs.Folded.{folded_instruction}
 use Rattle.wat_elems.specs.declared.payload.ElemPayload.{ElemPayload}
 use Rattle.wat_elems.specs.declared.payload.ElemPayload.TheVariants as code
+use Rattle.wat_elems.specs.Item.{item}
+use Rattle.wat_elems.specs.Laws.Payload.{item_eats}
 
 -- ---- what contracts see
 
@@ -40,18 +37,6 @@ bare_payload (indices v) = no_items v
 bare_payload (exprs t v) = no_items v
 
 -- ---- expressions
-
--- where the second token is the word w, ( w Expression ); else a folded instruction
-unfoldable pub written_or_folded : List ℕ → Production Expr
-written_or_folded w = where_else (second (begins_word w)) (group w expression) folded_instruction
-
--- where the second token is `item`, ( item Expression ); else a folded instruction
-unfoldable pub item : Production Expr
-item = written_or_folded (codes "item")
-
-pub item_eats : 1 ≤ item.least
-unfolding item written_or_folded expression folded_instruction
-item_eats = lit≤ tt
 
 -- item*, to the end
 unfoldable pub item_list : Production (List Expr)
@@ -100,10 +85,10 @@ typed_items = made (λ v. exprs v.0 v.1) (seq ref_type item_list)
 
 -- `func` indices, where `func` comes next; else RefType items
 unfoldable pub payload : Production PayloadTy
-payload = where_else (begins_word (codes "func")) (made indices (behind (codes "func") index_list)) typed_items
+payload = where_else (begins_word (codes "func")) (made indices (after_word (codes "func") index_list)) typed_items
 
 -- `func` indices, where `func` comes next; RefType items, where a type comes next; else indices
 unfoldable pub payload_or_indices : Production PayloadTy
 payload_or_indices =
-    where_else (begins_word (codes "func")) (made indices (behind (codes "func") index_list))
+    where_else (begins_word (codes "func")) (made indices (after_word (codes "func") index_list))
     (where_else begins_ref typed_items (made indices index_list))

@@ -1,23 +1,15 @@
 -- Indices that are read as expressions of one `ref.func` each. Private functions' contracts need it
 -- alone.
-use Rattle.std.specs.Prelude.{◌≤◌, List}
-use Rattle.std.proofs.Common.{lit≤}
+use Rattle.std.specs.Prelude.{List}
 use Rattle.wat_tokens.specs.Tests.{more}
 use Rattle.wat_tokens.specs.Production.{Production}
 use Rattle.wat_tokens.specs.Parts.{made}
 use Rattle.wat_tokens.specs.Many.{many}
-use Rattle.wat_tokens.specs.Index.{index}
-use Rattle.wat_expr.specs.Expression.{Expr}
 use Rattle.wat_types.specs.Reference.{RefTy}
-use Rattle.wat_elems.specs.Payload.{PayloadTy, indices, exprs, by_index, of_type, index_list, ref_func_of}
-
--- idx, as `ref.func` of it
-unfoldable pub ref_func : Production Expr
-ref_func = made ref_func_of index
-
-pub ref_func_eats : 1 ≤ ref_func.least
-unfolding ref_func
-ref_func_eats = lit≤ tt
+use Rattle.wat_expr.specs.Expression.{Expr}
+use Rattle.wat_elems.specs.Payload.{PayloadTy, indices, exprs, by_index, of_type, index_list}
+use Rattle.wat_elems.specs.RefFunc.{ref_func}
+use Rattle.wat_elems.specs.Laws.RefFuncs.{ref_func_eats}
 
 -- idx*, to the end, each as `ref.func` of it
 unfoldable pub ref_funcs : Production (List Expr)

@@ -3,10 +3,9 @@ use Rattle.std.specs.Prelude.{ℕ, Bool, true, ◌&&◌, ◌||◌, List, codes, 
 use Rattle.wat_tokens.specs.Token.{Tok}
 use Rattle.wat_tokens.specs.Tests.{begins_word, begins_integer, more, second}
 use Rattle.wat_tokens.specs.Production.{Production}
-use Rattle.wat_tokens.specs.Parts.{seq, made, where_else, opt, flag}
+use Rattle.wat_tokens.specs.Parts.{seq, made, where_else, opt, flag, after_word}
 use Rattle.wat_tokens.specs.Groups.{group}
 use Rattle.wat_tokens.specs.Parses.{seen_option, bare_option}
-use Rattle.wat_types.specs.Define.{behind}
 use Rattle.wat_types.specs.Label.{seen_label}
 use Rattle.wat_types.specs.Limits.{is_64, TableTy as TableTypeTy, seen_table as seen_table_type, table_type}
 use Rattle.wat_types.specs.Reference.{RefTy, seen_ref, ref_type, begins_ref}
@@ -14,7 +13,7 @@ use Rattle.wat_links.specs.Export.{seen_inline_export}
 use Rattle.wat_links.specs.Head.{HeadTy, head_of, bare_head, head}
 use Rattle.wat_links.specs.Import.{seen_inline_import, inline_import}
 use Rattle.wat_expr.specs.Expression.{Expr, seen_expression, bare_expression}
-use Rattle.wat_expr.specs.Reading.{expression}
+use Rattle.wat_expr.specs.ExpressionProduction.{expression}
 use Rattle.wat_elems.specs.Payload.{PayloadTy, seen_payload, bare_payload, ListedTy, of_type, listed}
 use Rattle.wat_elems.specs.declared.table.Table.{Table}
 use Rattle.wat_elems.specs.declared.table.TableKind.{TableKind}
@@ -90,4 +89,4 @@ table_kind = where_else begins_inline inline_table (where_else begins_normal nor
 
 -- `table` head, and then a kind
 unfoldable pub table : Production TableTy
-table = behind (codes "table") (made (λ v. table_of v.0 v.1) (seq head table_kind))
+table = after_word (codes "table") (made (λ v. table_of v.0 v.1) (seq head table_kind))

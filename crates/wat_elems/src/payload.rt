@@ -8,8 +8,10 @@ ghost use Rattle.wat_tokens.specs.Reads.{Reads, ReadsIf};
 ghost use Rattle.wat_tokens.specs.Tests.{more};
 ghost use Rattle.wat_types.specs.Reference.{seen_ref};
 ghost use Rattle.wat_expr.specs.Expression.{Expr, seen_expression, bare_expression};
-ghost use Rattle.wat_elems.specs.Payload.{seen_payload, bare_payload, written_or_folded, item, item_list, index_list, ref_func_of, is_funcref, of_type, listed, typed_items, payload, payload_or_indices};
-ghost use Rattle.wat_elems.specs.RefFuncs.{ref_func, ref_funcs_of, plain_indices, indices_of};
+ghost use Rattle.wat_elems.specs.Payload.{seen_payload, bare_payload, item_list, index_list, ref_func_of, is_funcref, of_type, listed, typed_items, payload, payload_or_indices};
+ghost use Rattle.wat_elems.specs.Item.{written_or_folded, item};
+ghost use Rattle.wat_elems.specs.RefFuncs.{ref_funcs_of, plain_indices, indices_of};
+ghost use Rattle.wat_elems.specs.RefFunc.{ref_func};
 
 use std::alloc::Global;
 use wat_expr::Expression;
@@ -34,7 +36,7 @@ pub enum ElemPayload<'a> {
 }
 
 /// `( word Expression )` where the second token is the word, else a folded instruction.
-#[tactic(auto, unfolding(crate::specs::Payload::written_or_folded))]
+#[tactic(auto, unfolding(crate::specs::Item::written_or_folded))]
 pub(crate) fn read_written_or_folded<'a>(
     parser: &mut Parser<'a>,
     word: &str,
@@ -74,14 +76,14 @@ impl<'a> Part<'a, Expression<'a>> for Item {
         !parser.is_empty()
     }
 
-    #[tactic(auto, unfolding(crate::specs::Payload::item))]
+    #[tactic(auto, unfolding(crate::specs::Item::item))]
     fn take(parser: &mut Parser<'a>) -> Result<Expression<'a>> {
         read_written_or_folded(parser, "item")
     }
 }
 
 /// Items, to the end.
-#[tactic(auto, using(crate::specs::Payload::item_eats), unfolding(crate::specs::Payload::item_list))]
+#[tactic(auto, using(crate::specs::Laws::Payload::item_eats), unfolding(crate::specs::Payload::item_list))]
 fn read_items<'a>(parser: &mut Parser<'a>) -> Result<Vec<Expression<'a>>>
     ensures reads { ReadsIf false false no_items (λ v. map seen_expression v.items) result
         (item_list.reads parser.old.left) parser.old parser.new }
@@ -126,7 +128,7 @@ impl<'a> Part<'a, Expression<'a>> for RefFunc {
         !parser.is_empty()
     }
 
-    #[tactic(auto, unfolding(crate::specs::RefFuncs::ref_func))]
+    #[tactic(auto, unfolding(crate::specs::RefFunc::ref_func))]
     fn take(parser: &mut Parser<'a>) -> Result<Expression<'a>> {
         let index = Index::parse(parser)?;
         ref_func_at(parser.alloc(), index)
@@ -134,7 +136,7 @@ impl<'a> Part<'a, Expression<'a>> for RefFunc {
 }
 
 /// Indices, to the end, each as `ref.func` of it, as a payload of the type.
-#[tactic(auto, using(crate::specs::RefFuncs::ref_func_eats), unfolding(crate::specs::RefFuncs::ref_funcs_of, crate::specs::RefFuncs::ref_funcs))]
+#[tactic(auto, using(crate::specs::Laws::RefFuncs::ref_func_eats), unfolding(crate::specs::RefFuncs::ref_funcs_of, crate::specs::RefFuncs::ref_funcs))]
 fn read_ref_funcs<'a>(parser: &mut Parser<'a>, ty: RefType<'a>) -> Result<ElemPayload<'a>>
     ensures reads { Reads bare_payload seen_payload result ((ref_funcs_of
         (seen_ref ty.entry)).reads parser.old.left) parser.old parser.new }

@@ -94,7 +94,7 @@ fn read_normal<'a>(parser: &mut Parser<'a>) -> Result<TableKind<'a>>
 }
 
 /// From where it is imported, and its type.
-#[tactic(auto, using(wat_links::specs::NoImport::no_import), unfolding(crate::specs::Table::imported_table))]
+#[tactic(auto, using(wat_links::specs::Laws::NoImport::no_import), unfolding(crate::specs::Table::imported_table))]
 fn read_imported<'a>(parser: &mut Parser<'a>) -> Result<TableKind<'a>>
     ensures reads { ReadsLight seen_table_kind result (imported_table.reads parser.old.left)
         parser.old parser.new }

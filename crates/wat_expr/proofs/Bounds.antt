@@ -3,7 +3,7 @@ use Rattle.std.proofs.Common.{◌≡◌, ℕ, ◌+◌, ◌≤◌, List, [], ◌�
 use Rattle.wat_tokens.specs.Token.{Tok, RParen}
 use Rattle.wat_instr.specs.Instruction.{else_instr, end_instr}
 use Rattle.wat_expr.specs.Expression.{Expr, expression_spells}
-use Rattle.wat_expr.specs.Facts.{reads_shorter}
+use Rattle.wat_expr.specs.Laws.Facts.{reads_shorter}
 use Rattle.wat_expr.specs.Folded.{Groups, NoGroup, Group, groups, plain, folded_spells}
 use Rattle.wat_expr.specs.Items.{Items, Nil, Plain, Folded, Block, IfThen, IfElse, Hinted, lists, unfolded, hints, hints_behind, mark, count_hints}
 use Rattle.wat_expr.specs.Progress.{Fits}

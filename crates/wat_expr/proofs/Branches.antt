@@ -2,7 +2,7 @@
 use Rattle.std.proofs.Common.{◌≡◌, ◌||◌, ◌==◌, ℕ, Bool, true, false, refl, subst}
 use Rattle.std.proofs.lemmas.Bool.{eqb-true}
 use Rattle.wat_instr.specs.Instruction.{Instr, is_block, is_if, is_br_if}
-use Rattle.wat_tokens.specs.Production.{by_test}
+use Rattle.wat_tokens.specs.Laws.Production.{by_test}
 use Rattle.wat_expr.specs.Items.{sort, sort_of, IsBlock, IsIf, IsOther, is_branch}
 
 if_either : (a b c : Bool) → sort_of b c ≡ IsIf → (a || c) ≡ true

@@ -7,7 +7,7 @@ use Rattle.wat_instr.specs.Instruction.{Instr, else_instr, end_instr, is_block, 
 use Rattle.wat_expr.specs.Flat.{Flat, push}
 use Rattle.wat_expr.specs.Items.{sort, IsBlock, IsIf, IsOther, reads, word, hint_name}
 use Rattle.wat_expr.specs.Levels.{Level, InFolded, InBlock, InIf, AfterThen, AfterElse, InArm}
-use Rattle.wat_expr.specs.Facts.{reads_one}
+use Rattle.wat_expr.proofs.Fronts.{reads_one}
 use Rattle.wat_expr.specs.Progress.{suits, IsOpen, TakesPlain, with_tallies, Stand, Turn, Stuck, Turned}
 use Rattle.wat_expr.proofs.Turns.{at, turn_plain_is, turn_folded_is, turn_block_is, turn_if_is, turn_hint_is, turn_close_is, turn_close_block_is, turn_close_arm_is, turn_then_is, turn_else_is, turn_close_then_is, turn_close_else_is}
 use Rattle.wat_expr.proofs.Stuck.{pending_close, pending_then, if_close, after_else_open, after_then_open, after_then_pending, hint_shape, HintIn}

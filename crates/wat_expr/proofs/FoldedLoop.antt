@@ -2,14 +2,13 @@
 use Rattle.std.specs.Prelude.{MatchBool, max, if◌then◌else◌}
 use Rattle.std.proofs.Common.{◌≡◌, ◌⊎◌, inl, inr, ℕ, suc, ◌+◌, ◌≤◌, ◌<◌, List, [], ◌∷◌, ◌++◌, length, Option, Some, None, Bool, true, false, refl, sym, ap, subst, ◌∙◌, arith, length-append}
 use Rattle.std.proofs.lemmas.List.{append-nil}
-use Rattle.wat_tokens.specs.Counts.{Carries, Kept, Quiet}
+use Rattle.wat_tokens.specs.Counts.{Carries, Kept, Quiet, Stays}
 use Rattle.wat_tokens.specs.Parens.{opens, closes}
 use Rattle.wat_tokens.specs.Production.{some_of}
 use Rattle.wat_tokens.specs.State.{State}
 use Rattle.wat_tokens.specs.Token.{Tok, LParen, RParen}
-use Rattle.wat_tokens.specs.Counts.{Stays}
 use Rattle.wat_instr.specs.Instruction.{Instr}
-use Rattle.wat_expr.specs.Facts.{reads_level, reads_shorter}
+use Rattle.wat_expr.specs.Laws.Facts.{reads_level, reads_shorter}
 use Rattle.wat_expr.specs.Flat.{Flat, flat, no_output, one_more, push}
 use Rattle.wat_expr.specs.declared.expression.Expression.{Expression}
 use Rattle.wat_expr.specs.Expression.{Expr, seen_expression}

@@ -1,16 +1,18 @@
 -- What is read of a folded instruction.
-use Rattle.std.proofs.Common.{◌≡◌, suc, List, [], ◌∷◌, ◌++◌, length, Some, None, false, refl, sym, ap, subst, ◌∙◌, arith}
+use Rattle.std.proofs.Common.{◌≡◌, suc, List, [], ◌∷◌, length, Some, None, false, refl, sym, ap, subst, ◌∙◌, arith}
 use Rattle.wat_tokens.specs.Token.{Tok, LParen}
-use Rattle.wat_tokens.specs.Filled.{filled_behind}
+use Rattle.wat_tokens.specs.Laws.Filled.{filled_behind}
 use Rattle.wat_tokens.specs.Parses.{NotBare, no_items}
-use Rattle.wat_tokens.specs.Parts.{one_reads}
-use Rattle.wat_tokens.specs.Production.{Read, by_read, some_is, none_is_not}
+use Rattle.wat_tokens.specs.PartSpells.{one_reads}
+use Rattle.wat_tokens.specs.Production.{Read}
+use Rattle.wat_tokens.specs.Laws.Production.{by_read, some_is, none_is_not}
 use Rattle.wat_tokens.specs.Tests.{is_lparen}
 use Rattle.wat_instr.specs.Instruction.{Instr}
 use Rattle.wat_expr.specs.Expression.{Expr, bare_expression}
-use Rattle.wat_expr.specs.Facts.{read_of}
+use Rattle.wat_expr.specs.Laws.Facts.{read_of}
 use Rattle.wat_expr.specs.Items.{reads}
-use Rattle.wat_expr.specs.Folded.{Groups, plain, is_folded, folded_value, folded_reads, groups_at_complete, folded_sound}
+use Rattle.wat_expr.specs.Folded.{Groups, plain, is_folded, folded_value, folded_reads}
+use Rattle.wat_expr.specs.Laws.Folded.{groups_at_complete, folded_sound}
 
 -- the group that stands in front is read
 pub read_folded : (i : Instr) (gs : Groups) (ts r : List Tok) → is_folded i gs ts r → folded_reads ts ≡ Some (folded_value i gs, r)

@@ -5,7 +5,7 @@ use Rattle.std.proofs.lemmas.List.{append-nil}
 use Rattle.wat_tokens.specs.Token.{Tok, LParen, RParen}
 use Rattle.wat_instr.specs.Instruction.{Instr}
 use Rattle.wat_expr.specs.Items.{reads}
-use Rattle.wat_expr.specs.Facts.{reads_one}
+use Rattle.wat_expr.proofs.Fronts.{reads_one}
 use Rattle.wat_expr.specs.Folded.{Groups, NoGroup, Group, groups, plain, is_folded, count_groups, depth_groups}
 use Rattle.wat_expr.specs.Flat.{Flat}
 use Rattle.wat_expr.specs.GroupTurn.{spot, IsHalted}

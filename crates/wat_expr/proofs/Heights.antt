@@ -2,9 +2,11 @@
 use Rattle.std.specs.Prelude.{max, length}
 use Rattle.std.proofs.Common.{◌≡◌, ℕ, ◌+◌, ◌≤◌, ◌<◌, List, [], ◌∷◌, ap, arith}
 use Rattle.wat_tokens.specs.Token.{Tok, LParen, RParen}
-use Rattle.wat_tokens.specs.Parens.{opens, closes, rise, nest, opens-append, closes-append}
+use Rattle.wat_tokens.specs.Parens.{opens, closes, rise, nest}
+use Rattle.wat_tokens.specs.Laws.Parens.{opens-append, closes-append}
 use Rattle.wat_tokens.specs.State.{State}
-use Rattle.wat_tokens.specs.Counts.{Counts, Carries, carried, carries_of, counts_within}
+use Rattle.wat_tokens.specs.Counts.{Counts, Carries}
+use Rattle.wat_tokens.specs.Laws.Counts.{carried, carries_of, counts_within}
 
 -- how many more `(` than `)` there are is at most how the tokens rise, and nest
 rises : (c : List Tok) → opens c ≤ closes c + rise c

@@ -1,10 +1,10 @@
 -- What a call answers that reads an instruction, and what it means where it reads none.
-use Rattle.std.proofs.Common.{◌≡◌, List, ◌∷◌, false, Some, None, Result, Ok, Err, sym, ◌∙◌, subst}
+use Rattle.std.proofs.Common.{◌≡◌, List, ◌∷◌, false, Result, Ok, Err, sym, ◌∙◌, subst}
 use Rattle.wat_tokens.specs.Error.{Error}
 use Rattle.wat_tokens.specs.Parses.{Gives}
 use Rattle.wat_tokens.specs.Token.{Tok, LParen, RParen}
 use Rattle.wat_instr.specs.Instruction.{Instr, Instruction, seen_instruction, bare_instruction, instruction}
-use Rattle.wat_expr.specs.Facts.{read_of, reads_of}
+use Rattle.wat_expr.specs.Laws.Facts.{read_of, reads_of}
 use Rattle.wat_expr.specs.Flat.{Flat}
 use Rattle.wat_expr.specs.GroupTurn.{IsHalted, spot}
 use Rattle.wat_expr.specs.Items.{reads}

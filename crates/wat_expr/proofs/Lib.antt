@@ -6,6 +6,7 @@ pub mod Flatten
 pub mod FoldedLoop
 pub mod FoldedReads
 pub mod Folding
+pub mod Fronts
 pub mod Heights
 pub mod Instructions
 pub mod Levels

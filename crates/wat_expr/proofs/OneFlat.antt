@@ -3,10 +3,11 @@ use Rattle.std.proofs.Common.{◌≡◌, List, ◌∷◌, true, codes, refl, sub
 use Rattle.wat_tokens.specs.Token.{Tok, LParen, RParen}
 use Rattle.wat_tokens.specs.Tests.{ends}
 use Rattle.wat_instr.specs.Instruction.{Instr}
-use Rattle.wat_expr.specs.Facts.{Stops, reads_one}
+use Rattle.wat_expr.specs.Facts.{Stops}
+use Rattle.wat_expr.proofs.Fronts.{reads_one}
 use Rattle.wat_expr.specs.FlatForm.{own, flat_tokens}
 use Rattle.wat_expr.specs.Items.{Items, Nil, Plain, Folded, Block, IfThen, IfElse, Hinted, reads, lists, word}
-use Rattle.wat_expr.specs.Reading.{stops_end}
+use Rattle.wat_expr.specs.Laws.Reading.{stops_end}
 use Rattle.wat_expr.proofs.OneReading.{one_items}
 
 one_left : (i : Instr) (ts us m n : List Tok) → ts ≡ us → reads i ts m → reads i us n → m ≡ n

@@ -1,14 +1,16 @@
 -- What is listed is listed in one way.
 use Rattle.std.proofs.Common.{◌≡◌, suc, List, ◌∷◌, ◌++◌, length, true, sym, ap, subst, ◌∙◌, arith}
 use Rattle.std.proofs.lemmas.List.{append_cancel_right}
-use Rattle.wat_tokens.specs.Production.{some_is}
+use Rattle.wat_tokens.specs.Laws.Production.{some_is}
 use Rattle.wat_tokens.specs.Tests.{ends}
 use Rattle.wat_tokens.specs.Token.{Tok, RParen}
 use Rattle.wat_instr.specs.Instruction.{Instr}
-use Rattle.wat_expr.specs.Facts.{Stops, reads_one}
-use Rattle.wat_expr.specs.Folded.{Groups, groups, is_folded, groups_at_complete}
+use Rattle.wat_expr.specs.Facts.{Stops}
+use Rattle.wat_expr.proofs.Fronts.{reads_one}
+use Rattle.wat_expr.specs.Folded.{Groups, groups, is_folded}
+use Rattle.wat_expr.specs.Laws.Folded.{groups_at_complete}
 use Rattle.wat_expr.specs.Items.{reads, Items, lists}
-use Rattle.wat_expr.specs.Reading.{items_at_complete, stops_end}
+use Rattle.wat_expr.specs.Laws.Reading.{items_at_complete, stops_end}
 
 -- where both lists end at such a place, they are one
 pub one_items : (xs ys : Items) (ts r s : List Tok) → Stops r → Stops s → lists xs ts r → lists ys ts s → (xs ≡ ys) × (r ≡ s)

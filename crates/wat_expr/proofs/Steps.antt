@@ -3,7 +3,9 @@ use Rattle.std.proofs.Common.{◌≡◌, ◌⊎◌, inl, inr, ℕ, suc, ◌<◌,
 use Rattle.std.specs.Prelude.{codes}
 use Rattle.wat_tokens.specs.Token.{Tok, LParen, RParen, String}
 use Rattle.wat_instr.specs.Instruction.{Instr, end_instr}
-use Rattle.wat_expr.specs.Facts.{word_front, reads_one, Stops, stops_at, stops_no_word, stops_no_group, no_paren, same_group, one_sort, no_hint_word}
+use Rattle.wat_expr.specs.Facts.{Stops}
+use Rattle.wat_expr.specs.Laws.Facts.{word_front}
+use Rattle.wat_expr.proofs.Fronts.{reads_one, stops_at, stops_no_word, stops_no_group, no_paren, same_group, one_sort, no_hint_word}
 use Rattle.wat_expr.specs.Items.{sort, IsBlock, IsIf, IsOther, reads, word, hint_name, Items, Nil, Plain, Folded, Block, IfThen, IfElse, Hinted, Only, is_branch, BeginsWithBranch, lists}
 use Rattle.wat_expr.specs.Progress.{Counted, add, counted, noted, emit, Fits, suits, After, Open, close_with, then_arm}
 use Rattle.wat_expr.proofs.Branches.{if_branch, folded_branch, branch_folded, branch_block}

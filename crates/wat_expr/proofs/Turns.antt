@@ -3,11 +3,12 @@ use Rattle.std.proofs.Common.{◌≡◌, inl, inr, ℕ, suc, ◌<◌, true, List
 use Rattle.std.specs.Prelude.{codes}
 use Rattle.wat_tokens.specs.Token.{Tok, LParen, RParen, String}
 use Rattle.wat_instr.specs.Instruction.{Instr, else_instr, end_instr}
-use Rattle.wat_expr.specs.Facts.{Stops, reads_shorter, reads_level}
+use Rattle.wat_expr.specs.Facts.{Stops}
+use Rattle.wat_expr.specs.Laws.Facts.{reads_shorter, reads_level}
 use Rattle.wat_expr.specs.Flat.{Flat, push}
 use Rattle.wat_expr.specs.Items.{sort, IsBlock, IsIf, IsOther, reads, word, hint_name, Nil, Plain, Folded, Block, IfThen, IfElse, Hinted}
 use Rattle.wat_expr.specs.Levels.{Level, InFolded, InBlock, InIf, AfterThen, AfterElse, InArm, heads_in}
-use Rattle.wat_expr.specs.Progress.{Counted, add, counted, noted, emit, suits, After, Open, closing, after_else, after_then, arm, IsOpen, TakesPlain, behind, Place, Same, with_tallies, Stand, Turn}
+use Rattle.wat_expr.specs.Progress.{Counted, add, counted, noted, emit, suits, After, Open, closing, after_else, after_then, arm, IsOpen, TakesPlain, after_level, Place, Same, with_tallies, Stand, Turn}
 use Rattle.wat_expr.proofs.Steps.{Ends, plain_forth, folded_forth, block_forth, if_forth, hint_forth, end_forth, plain_back, folded_back, block_back, if_back, hint_back, end_back}
 
 abbrev pub now : List Level → Option ℕ → List Tok → Counted → Place
@@ -15,7 +16,7 @@ now s p ts f = record { levels = s; pending = p; left = ts; flat = f }
 
 -- the items further on in the innermost level
 abbrev pub resume : Counted → List Tok → List Level → After
-resume o r s = Open (TakesPlain s) (IsOpen s) (behind o r s) (length s) (heads_in s) None
+resume o r s = Open (TakesPlain s) (IsOpen s) (after_level o r s) (length s) (heads_in s) None
 
 pub same_refl : (s : Place) → Same s s
 same_refl s = record { forth = λ o r k. k; back = λ o r k. k }
@@ -23,7 +24,7 @@ same_refl s = record { forth = λ o r k. k; back = λ o r k. k }
 pub same_then : (s t u : Place) → Same s t → Same t u → Same s u
 same_then s t u a b = record { forth = λ o r k. b.forth o r (a.forth o r k); back = λ o r k. a.back o r (b.back o r k) }
 
-pub ends_behind : (o : Counted) (r : List Tok) (s : List Level) → IsOpen s → Ends (behind o r s)
+pub ends_behind : (o : Counted) (r : List Tok) (s : List Level) → IsOpen s → Ends (after_level o r s)
 ends_behind o r [] h [] f k = tt
 ends_behind o r [] h (RParen ∷ ts) f k = tt
 ends_behind o r [] h (t ∷ ts) f k = absurd (let e = k.0 in cc)
@@ -45,32 +46,32 @@ plain_is_open (AfterElse ∷ s) h = h
 
 counted_plain : (s : List Level) (p : Option ℕ) (i : Instr) (ts m : List Tok) (f : Counted) → TakesPlain s → reads i ts m → suits p i ≡ true → Same (now s p ts f) (now s None m (noted (length s) (heads_in s) (add p i (counted f))))
 counted_plain s p i ts m f a h t = record {
-  forth = λ o r k. (plain_forth (TakesPlain s) (IsOpen s) (behind o r s) (ends_behind o r s (plain_is_open s a)) (length s) (heads_in s) p i ts m f h k).1;
-  back = λ o r k. plain_back (TakesPlain s) (IsOpen s) (behind o r s) (length s) (heads_in s) p i ts m f h t a k;
+  forth = λ o r k. (plain_forth (TakesPlain s) (IsOpen s) (after_level o r s) (ends_behind o r s (plain_is_open s a)) (length s) (heads_in s) p i ts m f h k).1;
+  back = λ o r k. plain_back (TakesPlain s) (IsOpen s) (after_level o r s) (length s) (heads_in s) p i ts m f h t a k;
 }
 
 counted_folded : (s : List Level) (p : Option ℕ) (i : Instr) (a b : List Tok) (f : Counted) → IsOpen s → reads i a b → suits p i ≡ true → sort i ≡ IsOther → Same (now s p (LParen ∷ a) f) (now (InFolded i p ∷ s) None b (noted (suc (length s)) (suc (heads_in s)) (counted f)))
 counted_folded s p i a b f g h t ki = record {
-  forth = λ o r k. folded_forth (TakesPlain s) (IsOpen s) (behind o r s) (ends_behind o r s g) (length s) (heads_in s) p i a b f h ki k;
-  back = λ o r k. folded_back (TakesPlain s) (IsOpen s) (behind o r s) (length s) (heads_in s) p i a b f h t ki g k;
+  forth = λ o r k. folded_forth (TakesPlain s) (IsOpen s) (after_level o r s) (ends_behind o r s g) (length s) (heads_in s) p i a b f h ki k;
+  back = λ o r k. folded_back (TakesPlain s) (IsOpen s) (after_level o r s) (length s) (heads_in s) p i a b f h t ki g k;
 }
 
 counted_block : (s : List Level) (p : Option ℕ) (i : Instr) (a b : List Tok) (f : Counted) → IsOpen s → reads i a b → suits p i ≡ true → sort i ≡ IsBlock → Same (now s p (LParen ∷ a) f) (now (InBlock ∷ s) None b (noted (suc (length s)) (heads_in s) (add p i (counted f))))
 counted_block s p i a b f g h t ki = record {
-  forth = λ o r k. block_forth (TakesPlain s) (IsOpen s) (behind o r s) (ends_behind o r s g) (length s) (heads_in s) p i a b f h ki k;
-  back = λ o r k. block_back (TakesPlain s) (IsOpen s) (behind o r s) (length s) (heads_in s) p i a b f h t ki g k;
+  forth = λ o r k. block_forth (TakesPlain s) (IsOpen s) (after_level o r s) (ends_behind o r s g) (length s) (heads_in s) p i a b f h ki k;
+  back = λ o r k. block_back (TakesPlain s) (IsOpen s) (after_level o r s) (length s) (heads_in s) p i a b f h t ki g k;
 }
 
 counted_if : (s : List Level) (p : Option ℕ) (i : Instr) (a b : List Tok) (f : Counted) → IsOpen s → reads i a b → sort i ≡ IsIf → Same (now s p (LParen ∷ a) f) (now (InIf i p ∷ s) None b (noted (suc (length s)) (suc (heads_in s)) (counted f)))
 counted_if s p i a b f g h ki = record {
-  forth = λ o r k. if_forth (TakesPlain s) (IsOpen s) (behind o r s) (ends_behind o r s g) (length s) (heads_in s) p i a b f h ki k;
-  back = λ o r k. if_back (TakesPlain s) (IsOpen s) (behind o r s) (length s) (heads_in s) p i a b f h ki g k;
+  forth = λ o r k. if_forth (TakesPlain s) (IsOpen s) (after_level o r s) (ends_behind o r s g) (length s) (heads_in s) p i a b f h ki k;
+  back = λ o r k. if_back (TakesPlain s) (IsOpen s) (after_level o r s) (length s) (heads_in s) p i a b f h ki g k;
 }
 
 counted_hint : (s : List Level) (v : ℕ) (d : List Tok) (f : Counted) → IsOpen s → v < 2 → Same (now s None (LParen ∷ hint_name ∷ String (v ∷ []) ∷ RParen ∷ d) f) (now s (Some v) d (noted (length s) (heads_in s) (counted f)))
 counted_hint s v d f g lt = record {
-  forth = λ o r k. (hint_forth (TakesPlain s) (IsOpen s) (behind o r s) (ends_behind o r s g) (length s) (heads_in s) None v d f k).2;
-  back = λ o r k. hint_back (TakesPlain s) (IsOpen s) (behind o r s) (length s) (heads_in s) v d f lt g k;
+  forth = λ o r k. (hint_forth (TakesPlain s) (IsOpen s) (after_level o r s) (ends_behind o r s g) (length s) (heads_in s) None v d f k).2;
+  back = λ o r k. hint_back (TakesPlain s) (IsOpen s) (after_level o r s) (length s) (heads_in s) v d f lt g k;
 }
 
 -- a closing parenthesis
@@ -79,20 +80,20 @@ close_token k h N m f (d, e, n) = let e2 : d ≡ m = cc in subst (λ (t : List T
 
 counted_close : (s : List Level) (i : Instr) (p : Option ℕ) (m : List Tok) (f : Counted) → Same (now (InFolded i p ∷ s) None (RParen ∷ m) f) (now s None m (noted (length s) (heads_in s) (add p i f)))
 counted_close s i p m f = record {
-  forth = λ o r k. let top = InFolded i p ∷ s in close_token (length s) (heads_in s) (λ m f. resume o r s m (add p i f)) m f (end_forth (Unit {0}) (Unit {0}) (behind o r top) (ends_behind o r top tt) (length top) (heads_in top) None (RParen ∷ m) f tt k).1;
-  back = λ o r k. let top = InFolded i p ∷ s in end_back (Unit {0}) (Unit {0}) (behind o r top) (length top) (heads_in top) (RParen ∷ m) f (m, refl, k);
+  forth = λ o r k. let top = InFolded i p ∷ s in close_token (length s) (heads_in s) (λ m f. resume o r s m (add p i f)) m f (end_forth (Unit {0}) (Unit {0}) (after_level o r top) (ends_behind o r top tt) (length top) (heads_in top) None (RParen ∷ m) f tt k).1;
+  back = λ o r k. let top = InFolded i p ∷ s in end_back (Unit {0}) (Unit {0}) (after_level o r top) (length top) (heads_in top) (RParen ∷ m) f (m, refl, k);
 }
 
 counted_close_block : (s : List Level) (m : List Tok) (f : Counted) → Same (now (InBlock ∷ s) None (RParen ∷ m) f) (now s None m (noted (length s) (heads_in s) (add None end_instr f)))
 counted_close_block s m f = record {
-  forth = λ o r k. let top = InBlock ∷ s in close_token (length s) (heads_in s) (λ m f. resume o r s m (add None end_instr f)) m f (end_forth (Unit {0}) (Unit {0}) (behind o r top) (ends_behind o r top tt) (length top) (heads_in top) None (RParen ∷ m) f tt k).1;
-  back = λ o r k. let top = InBlock ∷ s in end_back (Unit {0}) (Unit {0}) (behind o r top) (length top) (heads_in top) (RParen ∷ m) f (m, refl, k);
+  forth = λ o r k. let top = InBlock ∷ s in close_token (length s) (heads_in s) (λ m f. resume o r s m (add None end_instr f)) m f (end_forth (Unit {0}) (Unit {0}) (after_level o r top) (ends_behind o r top tt) (length top) (heads_in top) None (RParen ∷ m) f tt k).1;
+  back = λ o r k. let top = InBlock ∷ s in end_back (Unit {0}) (Unit {0}) (after_level o r top) (length top) (heads_in top) (RParen ∷ m) f (m, refl, k);
 }
 
 counted_close_arm : (s : List Level) (m : List Tok) (f : Counted) → Same (now (InArm ∷ s) None (RParen ∷ m) f) (now s None m (noted (length s) (heads_in s) f))
 counted_close_arm s m f = record {
-  forth = λ o r k. let top = InArm ∷ s in close_token (length s) (heads_in s) (resume o r s) m f (end_forth (Unit {0}) (Unit {0}) (behind o r top) (ends_behind o r top tt) (length top) (heads_in top) None (RParen ∷ m) f tt k).1;
-  back = λ o r k. let top = InArm ∷ s in end_back (Unit {0}) (Unit {0}) (behind o r top) (length top) (heads_in top) (RParen ∷ m) f (m, refl, k);
+  forth = λ o r k. let top = InArm ∷ s in close_token (length s) (heads_in s) (resume o r s) m f (end_forth (Unit {0}) (Unit {0}) (after_level o r top) (ends_behind o r top tt) (length top) (heads_in top) None (RParen ∷ m) f tt k).1;
+  back = λ o r k. let top = InArm ∷ s in end_back (Unit {0}) (Unit {0}) (after_level o r top) (length top) (heads_in top) (RParen ∷ m) f (m, refl, k);
 }
 
 -- where no item can stand
@@ -126,13 +127,13 @@ counted_then_arm s i p m f = record {
   forth = λ o r k.
       let top = InIf i p ∷ s in
       let N : After = resume o r s in
-      let a = (end_forth ⊥ (Unit {0}) (behind o r top) (ends_behind o r top tt) (length top) (heads_in top) None (LParen ∷ word (codes "then") ∷ m) f refl k).1 in
+      let a = (end_forth ⊥ (Unit {0}) (after_level o r top) (ends_behind o r top tt) (length top) (heads_in top) None (LParen ∷ word (codes "then") ∷ m) f refl k).1 in
       let e = a.1 in let e2 : a.0 ≡ m = cc in
       arm_forth (length s) (heads_in s) (after_then (length s) (heads_in s) N) m (noted (suc (suc (length s))) (heads_in s) (add p i f)) (subst (λ (t : List Tok). arm (length s) (heads_in s) (after_then (length s) (heads_in s) N) t (noted (suc (suc (length s))) (heads_in s) (add p i f))) e2 a.2);
   back = λ o r k.
       let top = InIf i p ∷ s in
       let N : After = resume o r s in
-      end_back ⊥ (Unit {0}) (behind o r top) (length top) (heads_in top) (LParen ∷ word (codes "then") ∷ m) f (m, refl, arm_back (length s) (heads_in s) (after_then (length s) (heads_in s) N) m (noted (suc (suc (length s))) (heads_in s) (add p i f)) k);
+      end_back ⊥ (Unit {0}) (after_level o r top) (length top) (heads_in top) (LParen ∷ word (codes "then") ∷ m) f (m, refl, arm_back (length s) (heads_in s) (after_then (length s) (heads_in s) N) m (noted (suc (suc (length s))) (heads_in s) (add p i f)) k);
 }
 
 -- (else

@@ -1,33 +1,34 @@
 -- What the loop over an expression's tokens keeps, and what it says at the end.
 use Rattle.std.specs.Prelude.{◌≢◌, max, map, if◌then◌else◌}
-use Rattle.std.proofs.Common.{◌≡◌, ℕ, ◌+◌, ◌≤◌, List, [], ◌∷◌, ◌++◌, length, Option, Some, None, Bool, true, false, Result, Ok, Err, refl, sym, ap, subst, ◌∙◌, arith}
+use Rattle.std.proofs.Common.{◌≡◌, ℕ, ◌+◌, ◌≤◌, List, [], ◌∷◌, length, Option, Some, None, Bool, true, false, Result, Ok, Err, refl, sym, ap, subst, ◌∙◌, arith}
 use Rattle.std.proofs.lemmas.List.{length-map}
-use Rattle.wat_tokens.specs.Counts.{Carries, Kept}
-use Rattle.wat_tokens.specs.Error.{Error, Fault, Memory}
-use Rattle.wat_tokens.specs.Filled.{filled_before, filled_behind}
+use Rattle.wat_tokens.specs.Counts.{Carries, Kept, Stays}
+use Rattle.wat_tokens.specs.Error.{Error, Memory}
 use Rattle.wat_tokens.specs.Parses.{Gives, Accepts, NotBare, no_items}
-use Rattle.wat_tokens.specs.Production.{Read, by_read, some_is}
+use Rattle.wat_tokens.specs.Production.{Read}
 use Rattle.wat_tokens.specs.State.{State}
 use Rattle.wat_tokens.specs.Tests.{ends}
 use Rattle.wat_tokens.specs.Token.{Tok}
-use Rattle.wat_tokens.specs.Counts.{Stays}
-use Rattle.wat_instr.specs.Instruction.{Instr, seen_instruction}
+use Rattle.wat_tokens.specs.Laws.Production.{by_read, some_is}
+use Rattle.wat_tokens.specs.Laws.Filled.{filled_before, filled_behind}
+use Rattle.wat_tokens.specs.Laws.Error.{by_fault}
+use Rattle.wat_instr.specs.Instruction.{seen_instruction}
 use Rattle.wat_expr.specs.declared.expression.Expression.{Expression}
 use Rattle.wat_expr.specs.declared.reader.Reader.{Reader}
 use Rattle.wat_expr.specs.Expression.{Expr, seen_expression, bare_expression, value_of, SpansAre}
-use Rattle.wat_expr.specs.Facts.{lists_between}
 use Rattle.wat_expr.specs.Flat.{Flat, flat, no_output}
 use Rattle.wat_expr.specs.Items.{Items, Nil, Plain, Folded, Block, IfThen, IfElse, Hinted, lists, unfolded}
 use Rattle.wat_expr.specs.Levels.{Level, heads_in}
 use Rattle.wat_expr.specs.Listed.{IsListed}
 use Rattle.wat_expr.specs.Progress.{Counted, emit, Fits, all_done, Place, Finishes, Same, IsStuck, Tallies, with_tallies, standing, risen, Balanced, Turn, Stuck}
-use Rattle.wat_expr.specs.Reading.{expression}
 use Rattle.wat_expr.specs.Turned.{stand}
 use Rattle.wat_expr.proofs.Flatten.{flat_instrs, flat_hints, flat_count, flat_peak, flat_held, flat_spans, Spanned}
 use Rattle.wat_expr.proofs.Heights.{carries_height, taken_more, taken_one}
 use Rattle.wat_expr.proofs.Steps.{any_items, end_back}
 use Rattle.wat_expr.proofs.Stuck.{pending_over}
 use Rattle.wat_expr.proofs.Turns.{now, same_refl, same_then}
+use Rattle.wat_expr.specs.Laws.Facts.{lists_between}
+use Rattle.wat_expr.specs.ExpressionProduction.{expression}
 
 -- before anything was read
 abbrev pub first : State → Counted
@@ -251,10 +252,6 @@ refused a b t r e w tick undone stuck = (
   (λ n. reads_nothing_listed a.left (not_listed a b r w (subst (λ (l : List Tok). Stuck (stand r l)) (ap (λ (s : State). s.left) tick) (stuck n)))),
   (λ m. (refl, not_bare a.left (λ k. (let i = w.idle k in undone i.0 (ap ends i.1 ∙ k))))),
 )
-
-by_fault : {P : Type 0} (f : Fault) → (f ≡ Memory → P) → (f ≢ Memory → P) → P
-by_fault Memory is not = is refl
-by_fault _ is not = not (λ e. cc)
 
 -- what is read is answered, or memory ran out and it isn't bare
 pub read_accepted : (res : Result Expression Error) (read : Read Expr) (left : List Tok) → Gives false bare_expression seen_expression res read left

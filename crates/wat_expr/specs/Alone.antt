@@ -1,52 +1,13 @@
 -- Expressions of one plain instruction.
-use Rattle.std.proofs.Common.{◌≡◌, true, List, [], ◌∷◌, ◌++◌, codes, Some, refl, ap, append_assoc}
-use Rattle.wat_tokens.specs.Tests.{ends}
-use Rattle.wat_tokens.specs.Spelled.{in_parens}
-use Rattle.wat_tokens.specs.Token.{Tok, LParen, RParen, Keyword}
-use Rattle.wat_mnemonics.specs.Word.{head_of, head_of_word}
+use Rattle.std.proofs.Common.{[], ◌∷◌}
 use Rattle.wat_mnemonics.specs.declared.head.Head.TheVariants as word
 use Rattle.wat_mnemonics.specs.declared.scalar.ScalarOp.TheVariants as scalar
-use Rattle.wat_instr.specs.Instruction.{Instr, instr_of, instruction}
+use Rattle.wat_instr.specs.Instruction.{Instr, instr_of}
 use Rattle.wat_instr.specs.Operand as operands
-use Rattle.wat_instr.specs.Operand.{operand}
 use Rattle.wat_expr.specs.Expression.{Expr}
-use Rattle.wat_expr.specs.Folded.{NoGroup, folded_instruction}
-use Rattle.wat_expr.specs.Items.{IsOther, sort, Nil, Plain, Folded}
-use Rattle.wat_expr.specs.Reading.{expression}
 
 abbrev pub alone : Instr → Expr
 alone i = record { instrs = i ∷ []; hints = [] }
 
--- where an instruction and then an end are read, the expression is that instruction
-pub alone_read : (i : Instr) (c r : List Tok) → instruction.reads (c ++ r) ≡ Some (i, r) → ends r ≡ true → expression.reads (c ++ r) ≡ Some (alone i, r)
-unfolding expression
-alone_read i c r e k = expression.complete (alone i) c r (Plain i Nil, (r, instruction.sound (c ++ r) (i, r) e, refl), k, refl)
-
 abbrev pub nop : Instr
 nop = instr_of (word.Scalar scalar.nop) operands.nothing
-
-abbrev pub nop_text : List Tok
-nop_text = Keyword (codes "nop") ∷ []
-
-nop_word : head_of (codes "nop") ≡ Some (word.Scalar scalar.nop)
-nop_word = head_of_word (word.Scalar scalar.nop) (codes "nop") refl
-
--- `nop` before an end
-pub nop_read : (r : List Tok) → ends r ≡ true → expression.reads (nop_text ++ r) ≡ Some (alone nop, r)
-unfolding instruction operand
-nop_read r k = alone_read nop nop_text r (rw nop_word refl) k
-
--- where an instruction that opens no block stands alone in a group, and then an end, the expression
--- is that instruction
-pub grouped_read : (i : Instr) (c r : List Tok) → instruction.reads (c ++ RParen ∷ r) ≡ Some (i, RParen ∷ r) → sort i ≡ IsOther → ends r ≡ true → expression.reads (in_parens c ++ r) ≡ Some (alone i, r)
-unfolding expression
-grouped_read i c r e s k =
-    let front = instruction.sound (c ++ RParen ∷ r) (i, RParen ∷ r) e in
-    expression.complete (alone i) (in_parens c) r (Folded i Nil Nil, (c ++ RParen ∷ r, RParen ∷ r, r, ap (λ (u : List Tok). LParen ∷ u) (append_assoc c (RParen ∷ []) r), s, front, refl, refl), k, refl)
-
--- where it stands alone in a group, the folded instruction is that instruction
-pub folded_read : (i : Instr) (c r : List Tok) → instruction.reads (c ++ RParen ∷ r) ≡ Some (i, RParen ∷ r) → folded_instruction.reads (in_parens c ++ r) ≡ Some (alone i, r)
-unfolding folded_instruction
-folded_read i c r e =
-    let front = instruction.sound (c ++ RParen ∷ r) (i, RParen ∷ r) e in
-    folded_instruction.complete (alone i) (in_parens c) r (i, NoGroup, (c ++ RParen ∷ r, RParen ∷ r, ap (λ (u : List Tok). LParen ∷ u) (append_assoc c (RParen ∷ []) r), front, refl), refl)

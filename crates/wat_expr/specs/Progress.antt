@@ -103,14 +103,14 @@ TakesPlain (AfterElse ∷ s) = ⊥
 TakesPlain _ = Unit {0}
 
 -- what follows the items of the innermost level, up to the end, where r is left and the output is o
-abbrev pub behind : Counted → List Tok → List Level → After
-behind o r [] = all_done o r
-behind o r (InFolded i p ∷ s) = close_with (length s) (heads_in s) (Open (TakesPlain s) (IsOpen s) (behind o r s) (length s) (heads_in s) None) i p
-behind o r (InBlock ∷ s) = close_with (length s) (heads_in s) (Open (TakesPlain s) (IsOpen s) (behind o r s) (length s) (heads_in s) None) end_instr None
-behind o r (InIf i p ∷ s) = then_arm (length s) (heads_in s) (Open (TakesPlain s) (IsOpen s) (behind o r s) (length s) (heads_in s) None) i p
-behind o r (AfterThen ∷ s) = after_then (length s) (heads_in s) (Open (TakesPlain s) (IsOpen s) (behind o r s) (length s) (heads_in s) None)
-behind o r (AfterElse ∷ s) = after_else (length s) (heads_in s) (Open (TakesPlain s) (IsOpen s) (behind o r s) (length s) (heads_in s) None)
-behind o r (InArm ∷ s) = closing (length s) (heads_in s) (Open (TakesPlain s) (IsOpen s) (behind o r s) (length s) (heads_in s) None)
+abbrev pub after_level : Counted → List Tok → List Level → After
+after_level o r [] = all_done o r
+after_level o r (InFolded i p ∷ s) = close_with (length s) (heads_in s) (Open (TakesPlain s) (IsOpen s) (after_level o r s) (length s) (heads_in s) None) i p
+after_level o r (InBlock ∷ s) = close_with (length s) (heads_in s) (Open (TakesPlain s) (IsOpen s) (after_level o r s) (length s) (heads_in s) None) end_instr None
+after_level o r (InIf i p ∷ s) = then_arm (length s) (heads_in s) (Open (TakesPlain s) (IsOpen s) (after_level o r s) (length s) (heads_in s) None) i p
+after_level o r (AfterThen ∷ s) = after_then (length s) (heads_in s) (Open (TakesPlain s) (IsOpen s) (after_level o r s) (length s) (heads_in s) None)
+after_level o r (AfterElse ∷ s) = after_else (length s) (heads_in s) (Open (TakesPlain s) (IsOpen s) (after_level o r s) (length s) (heads_in s) None)
+after_level o r (InArm ∷ s) = closing (length s) (heads_in s) (Open (TakesPlain s) (IsOpen s) (after_level o r s) (length s) (heads_in s) None)
 
 -- the loop's state, the innermost level first
 pub record Place : Type 0 where
@@ -121,7 +121,7 @@ pub record Place : Type 0 where
 
 -- From the place the tokens that are left finish with the output o before the rest r.
 abbrev pub Finishes : Counted → List Tok → Place → Type 0
-Finishes o r s = Open (TakesPlain s.levels) (IsOpen s.levels) (behind o r s.levels) (length s.levels) (heads_in s.levels) s.pending s.left s.flat
+Finishes o r s = Open (TakesPlain s.levels) (IsOpen s.levels) (after_level o r s.levels) (length s.levels) (heads_in s.levels) s.pending s.left s.flat
 
 -- both places finish alike
 pub record Same (s t : Place) : Type 0 where

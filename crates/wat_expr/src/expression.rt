@@ -5,7 +5,7 @@ ghost use Rattle.wat_expr.specs.Expression.{Expr, seen_hint, seen_expression, ba
 ghost use Rattle.wat_expr.specs.Flat.{number_of, flat, no_output, one_more, push};
 ghost use Rattle.wat_expr.specs.Items.{Items, lists, mark};
 ghost use Rattle.wat_expr.specs.Listed.{IsListed};
-ghost use Rattle.wat_expr.specs.Reading.{expression};
+ghost use Rattle.wat_expr.specs.ExpressionProduction.{expression};
 ghost use Rattle.wat_instr.specs.Instruction.{seen_instruction, end_instr};
 ghost use Rattle.wat_tokens.specs.Counts.{Counted, Quiet, Stays, Kept};
 ghost use Rattle.wat_tokens.specs.Parses.{Gives, Accepts};

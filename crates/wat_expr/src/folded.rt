@@ -3,7 +3,8 @@
 ghost use Rattle.std.specs.Prelude.{◌≡◌, List, false, IfOk};
 ghost use Rattle.wat_expr.specs.Expression.{Expr, seen_expression, bare_expression, SpansAre};
 ghost use Rattle.wat_expr.specs.Flat.{flat};
-ghost use Rattle.wat_expr.specs.Folded.{Groups, folded_instruction, folded_value, is_folded};
+ghost use Rattle.wat_expr.specs.Folded.{Groups, folded_value, is_folded};
+ghost use Rattle.wat_expr.specs.FoldedProduction.{folded_instruction};
 ghost use Rattle.wat_expr.specs.GroupTurn.{GroupTurn, spot};
 ghost use Rattle.wat_expr.specs.Listed.{IsFolded};
 ghost use Rattle.wat_instr.specs.Instruction.{Instr};

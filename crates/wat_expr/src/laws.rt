@@ -3,9 +3,10 @@
 ghost use Rattle.std.specs.Prelude.{◌≡◌, ◌≤◌, ◌+◌, ◌∷◌, ◌++◌, Bool, List, [], length, true};
 ghost use Rattle.wat_expr.specs.Expression.{Expr};
 ghost use Rattle.wat_expr.specs.FlatForm.{one_by_one, AreInstrs, own, flat_tokens, flat_folded, flat_value, number, PassesOwnAlone};
-ghost use Rattle.wat_expr.specs.Folded.{Groups, is_folded, folded_instruction, plain};
+ghost use Rattle.wat_expr.specs.Folded.{Groups, is_folded, plain};
+ghost use Rattle.wat_expr.specs.FoldedProduction.{folded_instruction};
 ghost use Rattle.wat_expr.specs.Items.{Items, reads, lists, unfolded, hints, count_hints};
-ghost use Rattle.wat_expr.specs.Reading.{expression};
+ghost use Rattle.wat_expr.specs.ExpressionProduction.{expression};
 ghost use Rattle.wat_expr.specs.Rising.{Rises};
 ghost use Rattle.wat_instr.specs.Follows.{MayFollow, NoTypeSecond};
 ghost use Rattle.wat_instr.specs.Instruction.{Instr, instruction};

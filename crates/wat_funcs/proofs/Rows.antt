@@ -3,11 +3,12 @@ use Rattle.std.proofs.Common.{◌≡◌, List, [], ◌∷◌, Some, None, refl}
 use Rattle.std.specs.Char.{encode_utf8}
 use Rattle.std.specs.Prelude.{codes}
 use Rattle.std.specs.Str.{chars, is_utf8}
-use Rattle.wat_tokens.specs.Many.{many_at, many_reads}
+use Rattle.wat_tokens.specs.ManySpells.{many_at, many_reads}
 use Rattle.wat_tokens.specs.NameAnnotation.{name_annotation}
-use Rattle.wat_tokens.specs.Spelled.{spelled}
+use Rattle.wat_tokens.specs.Laws.Spelled.{spelled}
 use Rattle.wat_tokens.specs.Token.{Tok, Keyword}
-use Rattle.wat_types.specs.Function.{func_groups, function_groups}
+use Rattle.wat_types.specs.Function.{function_groups}
+use Rattle.wat_types.specs.FunctionSpells.{func_groups}
 use Rattle.wat_types.specs.Group.{func_group, params, plain_params}
 use Rattle.wat_types.specs.Label.{label, label_of, no_label}
 use Rattle.wat_types.specs.Storage.{global_type}
@@ -16,10 +17,12 @@ use Rattle.wat_types.specs.Value.{i32, i64, f32, val_type}
 use Rattle.wat_links.specs.Export.{inline_export}
 use Rattle.wat_links.specs.Head.{no_head, head}
 use Rattle.wat_links.specs.Import.{inline_import}
-use Rattle.wat_expr.specs.Alone.{alone, nop, nop_read}
+use Rattle.wat_expr.specs.Alone.{alone, nop}
+use Rattle.wat_expr.specs.Laws.Alone.{nop_read}
 use Rattle.wat_funcs.specs.Func.{inline, func_of, func_inline, func_defined, func, FuncTy}
 use Rattle.wat_funcs.specs.Global.{global_defined, global}
-use Rattle.wat_funcs.specs.Local.{local_of, labelled_local, plain_locals, listed_locals, local_parser, locals}
+use Rattle.wat_funcs.specs.Local.{local_of, labelled_local, plain_locals, listed_locals, local_parser}
+use Rattle.wat_funcs.specs.Locals.{locals}
 use Rattle.wat_funcs.specs.Rows.{locals_and_body, Locals, ImportedGlobal, PlainTag}
 use Rattle.wat_funcs.specs.Tag.{tag}
 

@@ -2,10 +2,9 @@
 use Rattle.std.specs.Prelude.{ℕ, Bool, true, false, ◌&&◌, List, codes}
 use Rattle.wat_tokens.specs.Tests.{begins_word, second}
 use Rattle.wat_tokens.specs.Production.{Production}
-use Rattle.wat_tokens.specs.Parts.{seq, made, where_else}
+use Rattle.wat_tokens.specs.Parts.{seq, made, where_else, after_word}
 use Rattle.wat_tokens.specs.Groups.{group}
 use Rattle.wat_tokens.specs.Parses.{no_items}
-use Rattle.wat_types.specs.Define.{behind}
 use Rattle.wat_types.specs.Label.{seen_label}
 use Rattle.wat_types.specs.Function.{seen_function, bare_function}
 use Rattle.wat_types.specs.Group.{FuncTy as FuncTypeTy}
@@ -17,8 +16,9 @@ use Rattle.wat_links.specs.Head.{HeadTy, head_of, bare_head, head}
 use Rattle.wat_links.specs.Import.{seen_inline_import, inline_import, begins_inline_import}
 use Rattle.wat_links.specs.Item.{func_use}
 use Rattle.wat_expr.specs.Expression.{Expr, seen_expression, bare_expression}
-use Rattle.wat_expr.specs.Reading.{expression}
-use Rattle.wat_funcs.specs.Local.{LocalTy, seen_locals, locals}
+use Rattle.wat_expr.specs.ExpressionProduction.{expression}
+use Rattle.wat_funcs.specs.Local.{LocalTy, seen_locals}
+use Rattle.wat_funcs.specs.Locals.{locals}
 use Rattle.wat_funcs.specs.declared.func.Func.{Func}
 use Rattle.wat_funcs.specs.declared.func.FuncKind.{FuncKind}
 use Rattle.wat_funcs.specs.declared.func.FuncKind.TheVariants as code
@@ -96,4 +96,4 @@ func_defined = where_else begins_inline_import func_import func_inline
 
 -- `func` head, and then a type and how the function is defined
 unfoldable pub func : Production FuncTy
-func = behind (codes "func") (made (λ v. func_of v.0 v.1) (seq head func_defined))
+func = after_word (codes "func") (made (λ v. func_of v.0 v.1) (seq head func_defined))

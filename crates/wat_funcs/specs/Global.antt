@@ -1,8 +1,7 @@
 -- Globals.
 use Rattle.std.specs.Prelude.{ℕ, Bool, true, ◌&&◌, List, codes}
 use Rattle.wat_tokens.specs.Production.{Production}
-use Rattle.wat_tokens.specs.Parts.{seq, made, where_else}
-use Rattle.wat_types.specs.Define.{behind}
+use Rattle.wat_tokens.specs.Parts.{seq, made, where_else, after_word}
 use Rattle.wat_types.specs.Label.{seen_label}
 use Rattle.wat_types.specs.Storage.{GlobalTy as GlobalTypeTy, seen_global as seen_global_type, global_type}
 use Rattle.wat_types.specs.declared.storage.GlobalType.{GlobalType}
@@ -10,7 +9,7 @@ use Rattle.wat_links.specs.Export.{seen_inline_export}
 use Rattle.wat_links.specs.Head.{HeadTy, head_of, bare_head, head}
 use Rattle.wat_links.specs.Import.{seen_inline_import, inline_import, begins_inline_import}
 use Rattle.wat_expr.specs.Expression.{Expr, seen_expression, bare_expression}
-use Rattle.wat_expr.specs.Reading.{expression}
+use Rattle.wat_expr.specs.ExpressionProduction.{expression}
 use Rattle.wat_funcs.specs.declared.global.Global.{Global}
 use Rattle.wat_funcs.specs.declared.global.GlobalKind.{GlobalKind}
 use Rattle.wat_funcs.specs.declared.global.GlobalKind.TheVariants as code
@@ -65,4 +64,4 @@ global_defined =
 
 -- `global` head, and then a type and how the global is defined
 unfoldable pub global : Production GlobalTy
-global = behind (codes "global") (made (λ v. global_of v.0 v.1) (seq head global_defined))
+global = after_word (codes "global") (made (λ v. global_of v.0 v.1) (seq head global_defined))

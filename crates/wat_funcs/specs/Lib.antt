@@ -1,6 +1,8 @@
 pub use Rattle.wat_expr.specs.Expression
-pub mod Local
 pub mod Func
 pub mod Global
-pub mod Tag
+pub mod Laws
+pub mod Local
+pub mod Locals
 pub mod Rows
+pub mod Tag

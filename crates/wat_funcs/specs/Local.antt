@@ -1,16 +1,14 @@
 -- Locals of functions.
-use Rattle.std.specs.Prelude.{◌≤◌, Bool, List, [], ◌∷◌, codes, map}
-use Rattle.std.proofs.Common.{arith}
+use Rattle.std.specs.Prelude.{Bool, List, [], ◌∷◌, codes, map}
 use Rattle.wat_tokens.specs.Token.{Tok}
 use Rattle.wat_tokens.specs.Tests.{begins_word, more, second}
 use Rattle.wat_tokens.specs.Production.{Production}
-use Rattle.wat_tokens.specs.Parts.{seq, made, where_else}
+use Rattle.wat_tokens.specs.Parts.{seq, made, where_else, after_word}
 use Rattle.wat_tokens.specs.Many.{many}
-use Rattle.wat_tokens.specs.Joined.{joined}
 use Rattle.wat_tokens.specs.Groups.{paren}
-use Rattle.wat_types.specs.Define.{behind}
 use Rattle.wat_types.specs.Label.{Label, no_label, seen_label, label, begins_label}
-use Rattle.wat_types.specs.Value.{ValTy, seen_val, val_type, val_type_eats}
+use Rattle.wat_types.specs.Value.{ValTy, seen_val, val_type}
+use Rattle.wat_types.specs.Laws.Value.{val_type_eats}
 use Rattle.wat_funcs.specs.declared.local.Local.{Local}
 use Rattle.wat_funcs.specs.declared.local.LocalParser.{LocalParser}
 
@@ -53,19 +51,12 @@ listed_locals = where_else begins_label labelled_local plain_locals
 
 -- `local id? name? ValType`, with an id or a name; or `local ValType*`, to the end
 unfoldable pub local_parser : Production (List LocalTy)
-local_parser = behind (codes "local") listed_locals
+local_parser = after_word (codes "local") listed_locals
 
 -- ( LocalParser )
 abbrev pub local_group : Production (List LocalTy)
 local_group = paren local_parser
 
-pub local_group_eats : 1 ≤ local_group.least
-local_group_eats = omega arith
-
 -- one more group has to follow: the second token is `local`, whatever the first is
 abbrev pub local_follows : List Tok → Bool
 local_follows t = second (begins_word (codes "local")) t
-
--- ( LocalParser )*, as long as one has to follow; the locals of all, in order
-unfoldable pub locals : Production (List LocalTy)
-locals = joined local_follows local_group local_group_eats

@@ -1,8 +1,7 @@
 -- Tags.
 use Rattle.std.specs.Prelude.{ℕ, Bool, ◌&&◌, List, codes, Option, Some, None}
 use Rattle.wat_tokens.specs.Production.{Production}
-use Rattle.wat_tokens.specs.Parts.{seq, made, opt}
-use Rattle.wat_types.specs.Define.{behind}
+use Rattle.wat_tokens.specs.Parts.{seq, made, opt, after_word}
 use Rattle.wat_types.specs.Label.{seen_label}
 use Rattle.wat_types.specs.Function.{bare_function}
 use Rattle.wat_types.specs.Group.{FuncTy as FuncTypeTy}
@@ -41,4 +40,4 @@ bare_tag t = bare_head t.head && bare_use bare_function t.ty
 
 -- `tag` head InlineImport? TagType
 unfoldable pub tag : Production TagTy
-tag = behind (codes "tag") (made (λ v. tag_of v.0 v.1.0 v.1.1) (seq head (seq (opt begins_inline_import inline_import) tag_type)))
+tag = after_word (codes "tag") (made (λ v. tag_of v.0 v.1.0 v.1.1) (seq head (seq (opt begins_inline_import inline_import) tag_type)))

@@ -5,7 +5,8 @@ ghost use Rattle.wat_tokens.specs.Many.{after_front};
 ghost use Rattle.wat_tokens.specs.Parses.{no_items};
 ghost use Rattle.wat_tokens.specs.Reads.{Reads};
 ghost use Rattle.wat_tokens.specs.Tests.{more};
-ghost use Rattle.wat_funcs.specs.Local.{LocalTy, seen_local, seen_locals, seen_local_parser, plain_local, labelled_local, listed_locals, local_parser, local_group, local_follows, locals};
+ghost use Rattle.wat_funcs.specs.Local.{LocalTy, seen_local, seen_locals, seen_local_parser, plain_local, labelled_local, listed_locals, local_parser, local_group, local_follows};
+ghost use Rattle.wat_funcs.specs.Locals.{locals};
 
 use wat_tokens::repeat::{Group, Part, all_groups, parts};
 use wat_tokens::{Fault, Id, NameAnnotation, Parse, Parser, Result};
@@ -73,7 +74,7 @@ fn read_labelled<'a>(parser: &mut Parser<'a>, out: &mut Vec<Local<'a>>) -> Resul
 }
 
 /// The locals behind the word `local`, each put behind those that are there.
-#[tactic(auto, using(wat_types::specs::Value::val_type_eats), unfolding(crate::specs::Local::listed_locals, crate::specs::Local::plain_locals))]
+#[tactic(auto, using(wat_types::specs::Laws::Value::val_type_eats), unfolding(crate::specs::Local::listed_locals, crate::specs::Local::plain_locals))]
 fn read_listed<'a>(parser: &mut Parser<'a>, out: &mut Vec<Local<'a>>) -> Result<()>
     ensures reads { Reads no_items (λ _. seen_locals out.new.items) result (after_front
         (seen_locals out.old.items) (listed_locals.reads parser.old.left)) parser.old parser.new }
@@ -135,7 +136,7 @@ impl<'a> Group<'a, Local<'a>> for LocalGroup {
 impl<'a> Local<'a> {
     /// The locals of all groups, in order: groups go on as long as the second token is `local`,
     /// whatever the first is. Where that is no `(`, it is refused with Unexpected, at the first.
-    #[tactic(auto, using(wat_tokens::specs::Joined::joined_reads, crate::specs::Local::local_group_eats), unfolding(crate::specs::Local::locals))]
+    #[tactic(auto, using(wat_tokens::specs::Laws::Joined::joined_reads, crate::specs::Laws::Local::local_group_eats), unfolding(crate::specs::Locals::locals))]
     pub(crate) fn parse_remainder(parser: &mut Parser<'a>) -> Result<Vec<Local<'a>>>
         ensures reads { Reads no_items (λ ls. seen_locals ls.items) result
             (locals.reads parser.old.left) parser.old parser.new }

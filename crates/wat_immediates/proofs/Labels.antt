@@ -1,11 +1,16 @@
 -- How the labels of a table of branches are read.
 use Rattle.std.proofs.Common.{◌≡◌, true, false, List, [], ◌∷◌, ◌++◌, Some, None, refl, ap, sym, ◌∙◌}
 use Rattle.wat_tokens.specs.Token.{Tok}
-use Rattle.wat_tokens.specs.Production.{Read, Front, bind, some_of, some_is, none_is_not, by_read}
-use Rattle.wat_tokens.specs.Many.{many_reads, many_spells, many_stop, many_sound, after_front}
+use Rattle.wat_tokens.specs.Production.{Read, Front, bind, some_of}
+use Rattle.wat_tokens.specs.Laws.Production.{some_is, none_is_not, by_read}
+use Rattle.wat_tokens.specs.Many.{after_front}
+use Rattle.wat_tokens.specs.ManySpells.{many_reads, many_spells}
+use Rattle.wat_tokens.specs.Laws.Many.{many_stop, many_sound}
 use Rattle.wat_tokens.specs.Index.{Idx, index, begins_index}
 use Rattle.wat_tokens.specs.Parses.{no_items, NotBare}
-use Rattle.wat_immediates.specs.Branch.{BrTableTy, br_table_of, bare_br_table, split, split_is, split_list, br_table}
+use Rattle.wat_immediates.specs.Branch.{BrTableTy, br_table_of, bare_br_table, split, split_list}
+use Rattle.wat_immediates.specs.Laws.Branch.{split_is}
+use Rattle.wat_immediates.specs.BranchTable.{br_table}
 
 -- what is read behind the first index
 abbrev others : List Tok → Read (List Idx)

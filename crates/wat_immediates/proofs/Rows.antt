@@ -3,11 +3,13 @@ use Rattle.std.proofs.Common.{◌≡◌, true, false, List, [], ◌∷◌, ◌++
 use Rattle.std.specs.Prelude.{codes}
 use Rattle.wat_tokens.specs.Index.{name}
 use Rattle.wat_tokens.specs.Token.{Tok, Keyword, Id}
-use Rattle.wat_tokens.specs.Spelled.{in_parens, Spelled, spelled}
-use Rattle.wat_tokens.specs.Many.{many_at, many_reads}
+use Rattle.wat_tokens.specs.Spelled.{in_parens, Spelled}
+use Rattle.wat_tokens.specs.Laws.Spelled.{spelled}
+use Rattle.wat_tokens.specs.ManySpells.{many_at, many_reads}
 use Rattle.wat_tokens.specs.Number.{read}
 use Rattle.wat_immediates.specs.Lanes.{lane_arg, lane_access}
-use Rattle.wat_immediates.specs.Memory.{MemArgTy, array, target, behind, field, offset_or_0, align, align_or, mem_arg, atomic_mem_arg}
+use Rattle.wat_immediates.specs.Memory.{MemArgTy, array, target, offset_or_0, align, align_or, mem_arg, atomic_mem_arg}
+use Rattle.wat_immediates.specs.Align.{past_front, field}
 use Rattle.wat_immediates.specs.Ordering.{ordering, ordered}
 use Rattle.wat_immediates.specs.Rows.{Accesses, AtomicAccesses, LaneAccesses, TableInits, TableCopies, Vector, OrderedTable}
 use Rattle.wat_immediates.specs.Tables.{index_or_0, index_pair, init, copy}
@@ -17,7 +19,7 @@ abbrev align_word : List Tok
 align_word = Keyword (codes "align=2") ∷ []
 
 align_is_2 : align.reads align_word ≡ Some (2, [])
-unfolding align field behind read
+unfolding align field past_front read
 align_is_2 = align.complete 2 align_word [] ((Keyword (codes "align=2"), refl, refl), (1, refl))
 
 abbrev in_array : List Tok
@@ -27,19 +29,19 @@ abbrev access_in_array : MemArgTy
 access_in_array = record { target = array (name (codes "a")); offset = 1; align = 2; ordering = None }
 
 array_access : Spelled (mem_arg 4) in_array access_in_array
-unfolding mem_arg target offset_or_0 align_or field behind read
+unfolding mem_arg target offset_or_0 align_or field past_front read
 array_access = spelled (mem_arg 4) in_array access_in_array (rw align_is_2 refl)
 
 pub accesses : Accesses
-unfolding mem_arg target index_or_0 offset_or_0 align_or field behind read
+unfolding mem_arg target index_or_0 offset_or_0 align_or field past_front read
 accesses = (array_access, spelled (mem_arg 4) _ _ refl)
 
 pub atomic_accesses : AtomicAccesses
-unfolding atomic_mem_arg mem_arg target index_or_0 offset_or_0 align_or align field behind ordering many_at many_reads read
+unfolding atomic_mem_arg mem_arg target index_or_0 offset_or_0 align_or align field past_front ordering many_at many_reads read
 atomic_accesses = (spelled (atomic_mem_arg 4 true) _ _ refl, spelled (atomic_mem_arg 4 false) _ _ refl)
 
 pub lane_accesses : LaneAccesses
-unfolding lane_access lane_arg mem_arg target index_or_0 offset_or_0 align_or align field behind many_at many_reads read
+unfolding lane_access lane_arg mem_arg target index_or_0 offset_or_0 align_or align field past_front many_at many_reads read
 lane_accesses = (spelled (lane_access 1) _ _ refl, spelled lane_arg _ _ refl)
 
 pub table_inits : TableInits

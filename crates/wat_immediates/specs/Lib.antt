@@ -2,8 +2,11 @@ pub use Rattle.wat_tokens.specs.Index
 pub use Rattle.wat_tokens.specs.Lookup
 pub use Rattle.wat_tokens.specs.Production
 pub mod Aggregates
+pub mod Align
 pub mod Branch
+pub mod BranchTable
 pub mod Lanes
+pub mod Laws
 pub mod Memory
 pub mod Ordering
 pub mod Power

@@ -1,17 +1,14 @@
 -- What an access to a memory or an array is given: its target, an offset, an alignment and an
 -- ordering.
-use Rattle.std.specs.Prelude.{ℕ, ◌==◌, Bool, false, if◌then◌else◌, List, [], ◌∷◌, codes, Option, None, Some, is_some, option_map, unwrap_or, refl}
-use Rattle.std.specs.Int.{is_power_of_two}
-use Rattle.wat_tokens.specs.Number.{unsigned_value}
+use Rattle.std.specs.Prelude.{ℕ, Bool, false, if◌then◌else◌, List, ◌∷◌, codes, Option, None, is_some, option_map, unwrap_or}
 use Rattle.wat_tokens.specs.Token.{Tok, Keyword}
 use Rattle.wat_tokens.specs.Tests.{begins_word, second}
 use Rattle.wat_tokens.specs.Production.{Production}
-use Rattle.wat_tokens.specs.Parts.{one, seq, made, made_where, where_else, opt}
+use Rattle.wat_tokens.specs.Parts.{seq, made, where_else, opt}
 use Rattle.wat_tokens.specs.Groups.{group}
 use Rattle.wat_tokens.specs.Index.{Idx, seen_index, index}
 use Rattle.wat_tokens.specs.Restated.{restated}
 use Rattle.wat_immediates.specs.Ordering.{ordering, begins_ordering}
-use Rattle.wat_immediates.specs.Power.{IsPowerOfTwo, power_of_two-holds, power_of_two-tested}
 use Rattle.wat_immediates.specs.Tables.{index_or_0}
 use Rattle.wat_immediates.specs.declared.memory.MemArg.{MemArg}
 use Rattle.wat_immediates.specs.declared.memory.MemArgOrdering.{MemArgOrdering}
@@ -19,6 +16,8 @@ use Rattle.wat_immediates.specs.declared.memory.MemArgOrdering.TheVariants.{Op, 
 use Rattle.wat_immediates.specs.declared.memory.MemArgTarget.{MemArgTarget}
 use Rattle.wat_immediates.specs.declared.memory.MemArgTarget.TheVariants as code
 use Rattle.wat_immediates.specs.declared.ordering.Ordering.{Ordering}
+use Rattle.wat_immediates.specs.Align.{past_front, field, AlignSpells, align_tested}
+use Rattle.wat_immediates.specs.Laws.Memory.{align_to, align_from}
 
 -- ---- targets
 
@@ -41,47 +40,14 @@ target = where_else array_follows (made array (group (codes "type") index)) (mad
 
 -- ---- words that hold a number
 
--- what stands behind the front of a text, where it begins so
-unfoldable pub behind : List ℕ → List ℕ → Option (List ℕ)
-behind [] text = Some text
-behind (b ∷ bs) [] = None
-behind (b ∷ bs) (c ∷ text) = if b == c then behind bs text else None
-
 -- a keyword that begins so
 abbrev pub begins_with : List ℕ → List Tok → Bool
-begins_with front (Keyword w ∷ r) = is_some (behind front w)
+begins_with front (Keyword w ∷ r) = is_some (past_front front w)
 begins_with front _ = false
-
-abbrev pub value_of : Option (List ℕ) → Option ℕ
-value_of (Some text) = unsigned_value 64 text
-value_of None = None
-
--- a keyword that begins so and goes on with an integer: what this reads as without a sign, in 64
--- bits
-abbrev pub number_behind : List ℕ → Tok → Option ℕ
-number_behind front (Keyword w) = value_of (behind front w)
-number_behind front _ = None
-
--- a word `front`n
-unfoldable pub field : List ℕ → Production ℕ
-field front = one (number_behind front) (refl, refl)
 
 -- `offset=`n?, default 0
 unfoldable pub offset_or_0 : Production ℕ
 offset_or_0 = made (λ o. unwrap_or o 0) (opt (begins_with (codes "offset=")) (field (codes "offset=")))
-
--- `align=`n, where n is a power of two
-abbrev pub AlignSpells : ℕ → List Tok → List Tok → Type 0
-AlignSpells n c r = (field (codes "align=")).spells n c r × IsPowerOfTwo n
-
-abbrev pub align_tested : Production ℕ
-align_tested = made_where is_power_of_two (λ n. n) (field (codes "align="))
-
-pub align_to : (n : ℕ) (c r : List Tok) → align_tested.spells n c r → AlignSpells n c r
-align_to n c r s = rw (← s.3) (s.1, power_of_two-holds s.0 s.2)
-
-pub align_from : (n : ℕ) (c r : List Tok) → AlignSpells n c r → align_tested.spells n c r
-align_from n c r s = (n, s.0, power_of_two-tested n s.1, refl)
 
 unfoldable pub align : Production ℕ
 align = restated align_tested AlignSpells align_to align_from

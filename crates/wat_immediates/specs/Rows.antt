@@ -1,6 +1,6 @@
 -- Texts as tokens, and the operands that they spell.
 use Rattle.std.specs.Prelude.{◌≡◌, ℤ, true, false, List, [], ◌∷◌, ◌++◌, codes, Some, None}
-use Rattle.wat_tokens.specs.Token.{Tok, Keyword, Id, Integer}
+use Rattle.wat_tokens.specs.Token.{Keyword, Id, Integer}
 use Rattle.wat_tokens.specs.Index.{number, name}
 use Rattle.wat_tokens.specs.Spelled.{in_parens, Spelled}
 use Rattle.wat_immediates.specs.Lanes.{lane_of, access_of, lane_arg, lane_access}

@@ -2,7 +2,8 @@
 
 ghost use Rattle.std.specs.Prelude.{◌≡◌, ◌≢◌, [], ◌∷◌, ◌++◌, false};
 ghost use Rattle.wat_tokens.specs.Copies.{Copies};
-ghost use Rattle.wat_immediates.specs.Branch.{BrTableTy, seen_br_table, bare_br_table, br_table};
+ghost use Rattle.wat_immediates.specs.Branch.{BrTableTy, seen_br_table, bare_br_table};
+ghost use Rattle.wat_immediates.specs.BranchTable.{br_table};
 
 use wat_tokens::repeat::while_begun;
 use wat_tokens::{Fault, Index, Parse, Parser, Result};

@@ -8,7 +8,7 @@ ghost use Rattle.std.specs.Prelude.{ℕ, Bool};
 
 /// No two fronts of one token list spell a memory access, unless they are one front and one access:
 /// of one default alignment, and of one kind of atomic instruction.
-#[tactic(auto, using(wat_tokens::specs::Once::reads_once))]
+#[tactic(auto, using(wat_tokens::specs::Laws::Once::reads_once))]
 pub fn one_reading()
     ensures access { (align : ℕ) → HasOneReading (mem_arg align) }
     ensures atomic { (align : ℕ) (rmw : Bool) → HasOneReading (atomic_mem_arg align rmw) }

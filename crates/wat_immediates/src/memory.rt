@@ -5,7 +5,8 @@ ghost use Rattle.std.specs.Prelude.{◌≡◌, ◌≢◌, None, Some, option_map
 ghost use Rattle.wat_tokens.specs.Lookup.{front};
 ghost use Rattle.wat_tokens.specs.Number.{unsigned_value};
 ghost use Rattle.wat_tokens.specs.Reads.{ReadsLight};
-ghost use Rattle.wat_immediates.specs.Memory.{seen_target, target, behind, begins_with, field, offset_or_0, align, align_or, seen_mem_arg, mem_arg, atomic_mem_arg};
+ghost use Rattle.wat_immediates.specs.Memory.{seen_target, target, begins_with, offset_or_0, align, align_or, seen_mem_arg, mem_arg, atomic_mem_arg};
+ghost use Rattle.wat_immediates.specs.Align.{past_front, field};
 
 use crate::ordering::Ordering;
 use crate::tables::index_or_zero;
@@ -47,7 +48,7 @@ pub struct MemArg<'a> {
 
 /// What stands behind the front of a text, where the text begins so.
 fn behind<'a>(text: &'a str, front: &str) -> Option<&'a str>
-    ensures { option_map (λ x. x.now) result ≡ behind front.now text.entry.now }
+    ensures { option_map (λ x. x.now) result ≡ past_front front.now text.entry.now }
 {
     text.strip_prefix(front)
 }
@@ -84,7 +85,7 @@ fn number(text: &str, span: Span) -> Result<u64>
 }
 
 /// Takes a keyword that begins so, and answers the number behind that.
-#[tactic(auto, unfolding(crate::specs::Memory::field))]
+#[tactic(auto, unfolding(crate::specs::Align::field))]
 fn take_field(parser: &mut Parser<'_>, front: &str) -> Result<u64>
     ensures reads { ReadsLight (λ n. n) result ((field front.now).reads parser.old.left) parser.old
         parser.new }

@@ -4,9 +4,11 @@ use Rattle.std.proofs.lemmas.List.{append-nil}
 use Rattle.std.specs.Cmp.Lexicographic.{bytes_decides}
 use Rattle.wat_tokens.specs.Token.{Tok, LParen, Keyword}
 use Rattle.wat_tokens.specs.Tests.{begins_word, begins_id, is_id, word_in, word_only}
-use Rattle.wat_tokens.specs.Production.{Production, by_test}
-use Rattle.wat_tokens.specs.Parts.{seq, opt_spells}
-use Rattle.wat_tokens.specs.Many.{many_spells}
+use Rattle.wat_tokens.specs.Production.{Production}
+use Rattle.wat_tokens.specs.Laws.Production.{by_test}
+use Rattle.wat_tokens.specs.Parts.{seq}
+use Rattle.wat_tokens.specs.PartSpells.{opt_spells}
+use Rattle.wat_tokens.specs.ManySpells.{many_spells}
 use Rattle.wat_tokens.specs.Index.{identifier, index, index_of, begins_index}
 use Rattle.wat_tokens.specs.Integers.{unsigned, unsigned_of, signed_of}
 use Rattle.wat_tokens.specs.Joined.{joined}
@@ -15,21 +17,26 @@ use Rattle.wat_types.specs.Heap.{abstract_heap_type, abstract_words, heap_type}
 use Rattle.wat_types.specs.Reference.{shorthand, shorthand_words, ref_type}
 use Rattle.wat_types.specs.Label.{label}
 use Rattle.wat_types.specs.Group.{func_group, group_follows, begins_func}
-use Rattle.wat_types.specs.Function.{func_groups, function_type_no_names}
+use Rattle.wat_types.specs.FunctionSpells.{func_groups}
+use Rattle.wat_types.specs.FunctionNoNames.{function_type_no_names}
 use Rattle.wat_types.specs.Use.{type_use, type_follows, type_index}
 use Rattle.wat_immediates.specs.Aggregates.{array_of_length}
-use Rattle.wat_immediates.specs.Branch.{br_table}
+use Rattle.wat_immediates.specs.BranchTable.{br_table}
 use Rattle.wat_immediates.specs.Lanes.{lane_in, lane_arg, lane_access}
-use Rattle.wat_immediates.specs.Memory.{target, behind, begins_with, number_behind, field, offset_or_0, align, align_or, mem_arg, atomic_mem_arg}
+use Rattle.wat_immediates.specs.Memory.{target, begins_with, offset_or_0, align, align_or, mem_arg, atomic_mem_arg}
+use Rattle.wat_immediates.specs.Align.{past_front, number_behind, field}
 use Rattle.wat_immediates.specs.Ordering.{ordering, begins_ordering, ordered}
 use Rattle.wat_immediates.specs.Tables.{index_or_0, index_pair, init, copy}
 use Rattle.wat_immediates.specs.Vector.{two, twice, four, eight, sixteen, float_const, wide_const, v128_const, shuffle}
 use Rattle.wat_operands.specs.Block.{signature, block_type}
 use Rattle.wat_operands.specs.Call.{call_indirect}
 use Rattle.wat_operands.specs.Casts.{cast_branch}
-use Rattle.wat_operands.specs.Catches.{catch_clause, begins_catch, try_table}
+use Rattle.wat_operands.specs.Catches.{begins_catch, try_table}
+use Rattle.wat_operands.specs.CatchClause.{catch_clause}
 use Rattle.wat_operands.specs.Handlers.{resume_table, resume, resume_throw}
-use Rattle.wat_operands.specs.Select.{result_follows, result_group, result_group_eats, select_types}
+use Rattle.wat_operands.specs.Select.{result_follows, select_types}
+use Rattle.wat_operands.specs.ResultGroup.{result_group}
+use Rattle.wat_operands.specs.Laws.Select.{result_group_eats}
 use Rattle.wat_mnemonics.specs.Access.{access_align, atomic_access_align, rmw_access_align, lane_access_align}
 use Rattle.wat_mnemonics.specs.Heads.{head_word}
 use Rattle.wat_mnemonics.specs.declared.head.Head.{Head}
@@ -189,11 +196,11 @@ unfolding target
 target_fresh v c r s = either s (λ a. group a.1.1) (λ a. index_or_0_fresh a.0 c r a.1)
 
 offset_fresh : BeginsFresh offset_or_0
-unfolding offset_or_0 field behind
+unfolding offset_or_0 field past_front
 offset_fresh v c r s = maybe (begins_with (codes "offset=")) (field (codes "offset=")) (λ v c r s. one (number_behind (codes "offset=")) (refl, refl, refl) s) s.0 c r s.1
 
 align_fresh : (a : ℕ) → BeginsFresh (align_or a)
-unfolding align_or align field behind
+unfolding align_or align field past_front
 align_fresh a v c r s = maybe (begins_with (codes "align=")) align (λ v c r s. one (number_behind (codes "align=")) (refl, refl, refl) s.0) s.0 c r s.1
 
 access_fresh : (a : ℕ) → BeginsFresh (mem_arg a)

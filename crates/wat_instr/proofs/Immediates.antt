@@ -2,13 +2,17 @@
 use Rattle.std.proofs.Common.{◌≡◌, ℕ, ◌≤◌, Bool, true, false, List, [], ◌∷◌, ◌++◌, length, codes, refl, arith, lit≤, length-append, inl, inr, Option, Some, None, ap}
 use Rattle.wat_tokens.specs.Token.{Tok, Integer}
 use Rattle.wat_tokens.specs.Production.{Production}
-use Rattle.wat_tokens.specs.Parts.{seq, made, opt, opt_spells}
+use Rattle.wat_tokens.specs.Parts.{seq, made, opt}
+use Rattle.wat_tokens.specs.PartSpells.{opt_spells}
 use Rattle.wat_tokens.specs.Groups.{group}
 use Rattle.wat_tokens.specs.Index.{Idx, index, begins_index}
 use Rattle.wat_immediates.specs.Aggregates.{array_of_length}
-use Rattle.wat_immediates.specs.Branch.{br_table_to, br_table_from, br_table}
+use Rattle.wat_immediates.specs.Laws.Branch.{br_table_to, br_table_from}
+use Rattle.wat_immediates.specs.BranchTable.{br_table}
 use Rattle.wat_immediates.specs.Lanes.{lane_in, lane_arg, access_of, is_alone, lane_access}
-use Rattle.wat_immediates.specs.Memory.{TargetTy, MemArgTy, target, field, offset_or_0, align_to, align_from, align, align_or, mem_arg, atomic_mem_arg}
+use Rattle.wat_immediates.specs.Memory.{TargetTy, MemArgTy, target, offset_or_0, align, align_or, mem_arg, atomic_mem_arg}
+use Rattle.wat_immediates.specs.Align.{field}
+use Rattle.wat_immediates.specs.Laws.Memory.{align_to, align_from}
 use Rattle.wat_immediates.specs.Ordering.{ordering, begins_ordering, ordered}
 use Rattle.wat_immediates.specs.Tables.{index_or_0, index_pair, init, copy}
 use Rattle.wat_immediates.specs.Vector.{two, four, eight, sixteen, float_const, wide_const, v128_const, shuffle}

@@ -2,6 +2,7 @@ pub mod Firsts
 pub mod Immediates
 pub mod Operands
 pub mod Rests
+pub mod RowFamilies
 pub mod Stands
 pub mod Steady
 pub mod Types

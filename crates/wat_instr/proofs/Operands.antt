@@ -4,10 +4,15 @@ use Rattle.wat_types.specs.Group.{val_types}
 use Rattle.wat_operands.specs.Block.{block_type}
 use Rattle.wat_operands.specs.Call.{call_indirect}
 use Rattle.wat_operands.specs.Casts.{cast_branch}
-use Rattle.wat_operands.specs.Catches.{catch_kind, catch_clause, catch_clause_eats, begins_catch, try_table}
-use Rattle.wat_operands.specs.Handlers.{aim, handler, handler_eats, resume_table, resume, resume_throw}
-use Rattle.wat_operands.specs.Select.{result_group_eats, select_types}
-use Rattle.wat_mnemonics.specs.Word.{mnemonic}
+use Rattle.wat_operands.specs.Catches.{begins_catch, try_table}
+use Rattle.wat_operands.specs.CatchClause.{catch_kind, catch_clause}
+use Rattle.wat_operands.specs.Laws.Catches.{catch_clause_eats}
+use Rattle.wat_operands.specs.Handlers.{resume_table, resume, resume_throw}
+use Rattle.wat_operands.specs.Handler.{aim, handler}
+use Rattle.wat_operands.specs.Laws.Handlers.{handler_eats}
+use Rattle.wat_operands.specs.Select.{select_types}
+use Rattle.wat_operands.specs.Laws.Select.{result_group_eats}
+use Rattle.wat_mnemonics.specs.Mnemonic.{mnemonic}
 use Rattle.wat_mnemonics.specs.Access.{access_align, atomic_access_align, rmw_access_align, lane_access_align}
 use Rattle.wat_mnemonics.specs.declared.head.Head.{Head}
 use Rattle.wat_mnemonics.specs.declared.head.Head.TheVariants as head

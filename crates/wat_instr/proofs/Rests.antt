@@ -1,10 +1,12 @@
 -- Two rests that an instruction's tests don't tell apart: one front, and then anything in the one, and in the other what may follow.
 use Rattle.std.proofs.Common.{◌≡◌, ℕ, ◌+◌, ◌≤◌, true, false, is_some, List, [], ◌∷◌, ◌++◌, length, codes, refl, bytes_eq, ap, sym, ◌∙◌, append_assoc, arith, length-append, Bool}
 use Rattle.wat_tokens.specs.Token.{Tok, RParen}
-use Rattle.wat_tokens.specs.Parens.{opens, closes, Level, opens-append, closes-append}
+use Rattle.wat_tokens.specs.Parens.{opens, closes, Level}
+use Rattle.wat_tokens.specs.Laws.Parens.{opens-append, closes-append}
 use Rattle.wat_tokens.specs.Tests.{begins_word, begins_group, begins_annotation, begins_id, begins_integer}
 use Rattle.wat_tokens.specs.Index.{begins_index}
-use Rattle.wat_immediates.specs.Memory.{behind, begins_with}
+use Rattle.wat_immediates.specs.Memory.{begins_with}
+use Rattle.wat_immediates.specs.Align.{past_front}
 use Rattle.wat_instr.specs.Follows.{NoTypeSecond}
 
 -- a word that no part of an instruction is asked to begin with
@@ -14,8 +16,8 @@ pub record IsPlain (w : List ℕ) : Type 0 where
   pub not_result : bytes_eq w (codes "result") ≡ false
   pub not_seqcst : bytes_eq w (codes "seqcst") ≡ false
   pub not_acqrel : bytes_eq w (codes "acqrel") ≡ false
-  pub no_offset : is_some (behind (codes "offset=") w) ≡ false
-  pub no_align : is_some (behind (codes "align=") w) ≡ false
+  pub no_offset : is_some (past_front (codes "offset=") w) ≡ false
+  pub no_align : is_some (past_front (codes "align=") w) ≡ false
 
 -- no part of an instruction is asked to begin with what t begins with; and behind t's first token stands none of the
 -- words `type`, `param` and `result`

@@ -3,13 +3,15 @@ use Rattle.std.proofs.Common.{◌≡◌, ℕ, ◌+◌, ◌≤◌, Bool, true, fa
 use Rattle.wat_tokens.specs.Token.{Tok, RParen}
 use Rattle.wat_tokens.specs.Parens.{NoParens}
 use Rattle.wat_tokens.specs.Production.{Production}
-use Rattle.wat_tokens.specs.Parts.{one, seq, where_else, where_spells, made_where, opt, opt_spells, made, flag}
-use Rattle.wat_tokens.specs.Many.{many, many_spells, many_level}
+use Rattle.wat_tokens.specs.Parts.{one, seq, where_else, made_where, opt, made, flag, after_word}
+use Rattle.wat_tokens.specs.PartSpells.{where_spells, opt_spells}
+use Rattle.wat_tokens.specs.Many.{many}
+use Rattle.wat_tokens.specs.ManySpells.{many_spells}
+use Rattle.wat_tokens.specs.Laws.Many.{many_level}
 use Rattle.wat_tokens.specs.Groups.{paren, group, annotation_group}
 use Rattle.wat_tokens.specs.Restated.{restated}
 use Rattle.wat_tokens.specs.Floats.{none}
-use Rattle.wat_types.specs.Define.{behind}
-use Rattle.wat_instr.specs.Followed.{followed, blank}
+use Rattle.wat_tokens.specs.Followed.{followed, blank}
 use Rattle.wat_instr.proofs.Rests.{Alike, Steady, alike_fewer, alike_behind, alike_shut}
 use Rattle.wat_instr.proofs.Steady.{word_steady}
 
@@ -122,7 +124,7 @@ pub flag_stands : {w : List ℕ} → Stands 1 (flag w)
 flag_stands {w = w} = made_stands (opt_stands (word_steady w) (omega arith) (omega arith) (one_stands (refl, refl)))
 
 -- word g
-pub behind_stands : {A : Type 0} {g : Production A} {n : ℕ} {w : List ℕ} → Stands n g → Stands n (behind w g)
+pub behind_stands : {A : Type 0} {g : Production A} {n : ℕ} {w : List ℕ} → Stands n g → Stands n (after_word w g)
 behind_stands p = made_stands (both_stand (one_stands (refl, refl)) p)
 
 -- ---- a part that decides what follows it, and no tokens

@@ -4,7 +4,7 @@ use Rattle.std.proofs.lemmas.Bool.{or_parts, or_from, or_left, or_right}
 use Rattle.wat_tokens.specs.Token.{Tok, LParen, RParen, Keyword, Id, Annotation, Integer}
 use Rattle.wat_tokens.specs.Tests.{begins_word, begins_group, begins_annotation, begins_id, begins_integer, more, second}
 use Rattle.wat_tokens.specs.Parens.{opens, closes}
-use Rattle.wat_tokens.specs.Production.{by_test}
+use Rattle.wat_tokens.specs.Laws.Production.{by_test}
 use Rattle.wat_tokens.specs.Begin.{begins_one_of}
 use Rattle.wat_tokens.specs.Index.{begins_index}
 use Rattle.wat_immediates.specs.Memory.{begins_with}

@@ -4,10 +4,16 @@ use Rattle.wat_tokens.specs.Token.{Tok, LParen, Keyword}
 use Rattle.wat_tokens.specs.NameAnnotation.{name_annotation}
 use Rattle.wat_types.specs.Heap.{abstract_heap_type, heap_type}
 use Rattle.wat_types.specs.Reference.{shorthand, ref_type}
-use Rattle.wat_types.specs.Value.{val_type, val_type_eats}
+use Rattle.wat_types.specs.Value.{val_type}
+use Rattle.wat_types.specs.Laws.Value.{val_type_eats}
 use Rattle.wat_types.specs.Label.{label}
-use Rattle.wat_types.specs.Group.{Group, plain_params, params, val_types, func_group, func_group_eats, group_follows, begins_func}
-use Rattle.wat_types.specs.Function.{func_groups, function_groups, function_to, function_from, function_type_no_names, unnamed_to, unnamed_from}
+use Rattle.wat_types.specs.Group.{Group, plain_params, params, val_types, func_group, group_follows, begins_func}
+use Rattle.wat_types.specs.Laws.Group.{func_group_eats}
+use Rattle.wat_types.specs.Function.{function_groups}
+use Rattle.wat_types.specs.FunctionSpells.{func_groups}
+use Rattle.wat_types.specs.Laws.FunctionSpells.{function_to, function_from}
+use Rattle.wat_types.specs.FunctionNoNames.{function_type_no_names}
+use Rattle.wat_types.specs.Laws.Function.{unnamed_to, unnamed_from}
 use Rattle.wat_types.specs.Use.{type_use}
 use Rattle.wat_operands.specs.Block.{signature}
 use Rattle.wat_instr.proofs.Rests.{Steady}

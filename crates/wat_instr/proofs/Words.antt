@@ -3,10 +3,11 @@ use Rattle.std.proofs.Common.{◌≡◌, ℕ, zero, suc, ◌<◌, Bool, false, �
 use Rattle.std.proofs.lemmas.Bool.{or_parts}
 use Rattle.wat_tokens.specs.Token.{Tok, Keyword, RParen}
 use Rattle.wat_tokens.specs.Tests.{ends}
-use Rattle.wat_immediates.specs.Memory.{behind}
+use Rattle.wat_immediates.specs.Align.{past_front}
 use Rattle.wat_mnemonics.specs.Heads.{head_word}
 use Rattle.wat_mnemonics.specs.Order.{first}
-use Rattle.wat_mnemonics.specs.Places.{place, there, below, table_length}
+use Rattle.wat_mnemonics.specs.Places.{place}
+use Rattle.wat_mnemonics.specs.Laws.Places.{there, below, table_length}
 use Rattle.wat_mnemonics.specs.Table.{all_heads}
 use Rattle.wat_mnemonics.specs.declared.head.Head.{Head}
 use Rattle.wat_instr.specs.Follows.{BeginsMnemonic, NoTypeSecond, MayFollow}
@@ -16,7 +17,7 @@ use Rattle.wat_instr.proofs.Rests.{IsPlain, Follows}
 abbrev asked : List ℕ → Bool
 asked w =
     bytes_eq w (codes "type") || (bytes_eq w (codes "param") || (bytes_eq w (codes "result") || (bytes_eq w (codes "seqcst") || (bytes_eq w (codes "acqrel")
-    || (is_some (behind (codes "offset=") w) || is_some (behind (codes "align=") w))))))
+    || (is_some (past_front (codes "offset=") w) || is_some (past_front (codes "align=") w))))))
 
 not_asked : (w : List ℕ) → asked w ≡ false → IsPlain w
 not_asked w e =
@@ -34,7 +35,7 @@ any_asked [] = false
 any_asked (x ∷ xs) = asked (head_word x) || any_asked xs
 
 none_asked : any_asked all_heads ≡ false
-unfolding behind
+unfolding past_front
 none_asked = refl
 
 asked_at : (xs : List Head) (k : ℕ) → any_asked xs ≡ false → k < length xs → asked (head_word (get_or xs k first)) ≡ false

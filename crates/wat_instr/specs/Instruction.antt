@@ -18,13 +18,13 @@ use Rattle.wat_operands.specs.Catches.{seen_try}
 use Rattle.wat_operands.specs.Handlers.{seen_resume, seen_resume_throw, seen_resume_throw_ref}
 use Rattle.wat_operands.specs.Select.{seen_select}
 use Rattle.wat_mnemonics.specs.Heads.{head_row}
-use Rattle.wat_mnemonics.specs.Word.{mnemonic}
+use Rattle.wat_mnemonics.specs.Mnemonic.{mnemonic}
 use Rattle.wat_mnemonics.specs.declared.head.Head.{Head}
 use Rattle.wat_mnemonics.specs.declared.head.Head.TheVariants as head
 use Rattle.wat_mnemonics.specs.declared.indexed.BlockOp.TheVariants as block
 use Rattle.wat_mnemonics.specs.declared.indexed.IndexedOp.TheVariants as indexed
 use Rattle.wat_mnemonics.specs.declared.indexed.LabelOp.TheVariants as label
-use Rattle.wat_instr.specs.Followed.{followed}
+use Rattle.wat_tokens.specs.Followed.{followed}
 use Rattle.wat_instr.specs.Operand.{Operand, bare_operand, operand}
 use Rattle.wat_instr.specs.Operand as operands
 use Rattle.wat_instr.specs.declared.instruction.InstructionOf.{InstructionOf}

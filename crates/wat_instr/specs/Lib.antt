@@ -1,9 +1,8 @@
-pub mod First
-pub mod Followed
+pub mod Follows
 pub mod Instruction
+pub mod Laws
 pub mod MemoryAccess
 pub mod Operand
 pub mod Reading
 pub mod Rows
-pub mod Follows
 pub mod Same

@@ -10,7 +10,8 @@ use Rattle.wat_types.specs.Heap.{HeapTy, heap_type}
 use Rattle.wat_types.specs.Reference.{RefTy, ref_type}
 use Rattle.wat_types.specs.Value.{ValTy}
 use Rattle.wat_immediates.specs.Aggregates.{array_of_length}
-use Rattle.wat_immediates.specs.Branch.{BrTableTy, bare_br_table, br_table}
+use Rattle.wat_immediates.specs.Branch.{BrTableTy, bare_br_table}
+use Rattle.wat_immediates.specs.BranchTable.{br_table}
 use Rattle.wat_immediates.specs.Lanes.{LaneAccessTy, lane_arg}
 use Rattle.wat_immediates.specs.Lanes as lanes
 use Rattle.wat_immediates.specs.Memory.{MemArgTy, mem_arg, atomic_mem_arg}
@@ -30,7 +31,7 @@ use Rattle.wat_operands.specs.Select.{bare_select, select_types}
 use Rattle.wat_mnemonics.specs.Access.{access_align, atomic_access_align, rmw_access_align, lane_access_align}
 use Rattle.wat_mnemonics.specs.declared.head.Head.{Head}
 use Rattle.wat_mnemonics.specs.declared.head.Head.TheVariants as head
-use Rattle.wat_instr.specs.Followed.{blank}
+use Rattle.wat_tokens.specs.Followed.{blank}
 
 -- an operand, without places; boxes by what they hold, vectors by their items
 pub data Operand : Type 0 where

@@ -1,15 +1,9 @@
 -- Which instructions the rows of blocks and of `br_if` are.
-use Rattle.std.specs.Prelude.{◌≡◌, ◌==◌, Bool, true, false, refl}
-use Rattle.std.proofs.Common.{ap, sym, ◌∙◌}
-use Rattle.std.proofs.lemmas.Bool.{eqb-true}
-use Rattle.wat_tokens.specs.Production.{by_test}
-use Rattle.wat_mnemonics.specs.Heads.{head_row}
-use Rattle.wat_mnemonics.specs.Places.{one_row}
+use Rattle.std.specs.Prelude.{Bool, true, false}
 use Rattle.wat_mnemonics.specs.declared.head.Head.{Head}
 use Rattle.wat_mnemonics.specs.declared.head.Head.TheVariants as head
 use Rattle.wat_mnemonics.specs.declared.indexed.BlockOp.TheVariants as block
 use Rattle.wat_mnemonics.specs.declared.indexed.IndexedOp.TheVariants as indexed
-use Rattle.wat_instr.specs.Instruction.{is_block, is_if, is_br_if}
 
 -- `block`, `loop` and `try_table`
 abbrev pub opens : Head → Bool
@@ -27,43 +21,3 @@ opens_if _ = false
 abbrev pub branches_if : Head → Bool
 branches_if (head.Indexed indexed.br_if) = true
 branches_if _ = false
-
-same_row : (x y : Head) → (head_row x == head_row y) ≡ true → x ≡ y
-same_row x y e = one_row x y (eqb-true (head_row x) (head_row y) e)
-
-opens_no_more : (h : Head) → (head_row h == head_row (head.Block block.block)) ≡ false → (head_row h == head_row (head.Block block.loop_)) ≡ false → (head_row h == head_row head.try_table) ≡ false → opens h ≡ false
-opens_no_more (head.Block block.block) a b c = absurd cc
-opens_no_more (head.Block block.loop_) a b c = absurd cc
-opens_no_more head.try_table a b c = absurd cc
-opens_no_more _ a b c = refl
-
-pub block_rows : (h : Head) → is_block (head_row h) ≡ opens h
-block_rows h =
-    by_test (head_row h == head_row (head.Block block.block))
-    (λ a. rw (same_row h (head.Block block.block) a) refl)
-    (λ a. by_test (head_row h == head_row (head.Block block.loop_))
-    (λ b. rw (same_row h (head.Block block.loop_) b) refl)
-    (λ b. by_test (head_row h == head_row head.try_table)
-    (λ c. rw (same_row h head.try_table c) refl)
-    (λ c. rw (a, b, c, opens_no_more h a b c) refl)))
-
-opens_if_no_more : (h : Head) → (head_row h == head_row (head.Block block.if_)) ≡ false → opens_if h ≡ false
-opens_if_no_more (head.Block block.if_) a = absurd cc
-opens_if_no_more _ a = refl
-
--- a test that the head t alone passes
-one_head : (t : Head) (test : Head → Bool) → test t ≡ true → ((h : Head) → (head_row h == head_row t) ≡ false → test h ≡ false) → (h : Head) → (head_row h == head_row t) ≡ test h
-one_head t test passes others h =
-    by_test (head_row h == head_row t)
-    (λ a. a ∙ sym (ap test (same_row h t a) ∙ passes))
-    (λ a. a ∙ sym (others h a))
-
-pub if_rows : (h : Head) → is_if (head_row h) ≡ opens_if h
-if_rows h = one_head (head.Block block.if_) opens_if refl opens_if_no_more h
-
-branches_no_more : (h : Head) → (head_row h == head_row (head.Indexed indexed.br_if)) ≡ false → branches_if h ≡ false
-branches_no_more (head.Indexed indexed.br_if) a = absurd cc
-branches_no_more _ a = refl
-
-pub br_if_rows : (h : Head) → is_br_if (head_row h) ≡ branches_if h
-br_if_rows h = one_head (head.Indexed indexed.br_if) branches_if refl branches_no_more h

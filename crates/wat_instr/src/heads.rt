@@ -162,7 +162,7 @@ impl Instruction<'_> {
     }
 
     /// Whether it is `block`, `loop` or `try_table`, which stand before the items of a block.
-    #[tactic(auto, using(crate::specs::Rows::block_rows))]
+    #[tactic(auto, using(crate::proofs::RowFamilies::block_rows))]
     pub fn is_block(&self) -> bool
         ensures { result ≡ is_block (seen_instruction self.now).row }
     {
@@ -170,7 +170,7 @@ impl Instruction<'_> {
     }
 
     /// Whether it is `if`.
-    #[tactic(auto, using(crate::specs::Rows::if_rows))]
+    #[tactic(auto, using(crate::proofs::RowFamilies::if_rows))]
     pub fn is_if(&self) -> bool
         ensures { result ≡ is_if (seen_instruction self.now).row }
     {
@@ -178,7 +178,7 @@ impl Instruction<'_> {
     }
 
     /// Whether it is `br_if`.
-    #[tactic(auto, using(crate::specs::Rows::br_if_rows))]
+    #[tactic(auto, using(crate::proofs::RowFamilies::br_if_rows))]
     pub fn is_br_if(&self) -> bool
         ensures { result ≡ is_br_if (seen_instruction self.now).row }
     {

@@ -2,7 +2,7 @@
 use Rattle.std.proofs.Common.{◌≡◌, true, false, List, [], ◌∷◌, None, refl}
 use Rattle.wat_tokens.specs.Token.{Tok, LParen, RParen}
 use Rattle.wat_tokens.specs.Tests.{is_lparen, is_rparen, ends}
-use Rattle.wat_tokens.specs.Parts.{one_reads}
+use Rattle.wat_tokens.specs.PartSpells.{one_reads}
 
 pub opens_none : (t : List Tok) → ends t ≡ true → one_reads is_lparen t ≡ None
 opens_none [] e = refl

@@ -2,15 +2,18 @@
 use Rattle.std.proofs.Common.{refl}
 use Rattle.std.specs.Char.{encode_utf8}
 use Rattle.std.specs.Str.{chars, is_utf8}
-use Rattle.wat_tokens.specs.Many.{many_at, many_reads}
+use Rattle.wat_tokens.specs.ManySpells.{many_at, many_reads}
 use Rattle.wat_tokens.specs.NameAnnotation.{name_annotation}
-use Rattle.wat_tokens.specs.Spelled.{spelled}
-use Rattle.wat_types.specs.Function.{func_groups, function_groups}
+use Rattle.wat_tokens.specs.Laws.Spelled.{spelled}
+use Rattle.wat_types.specs.Function.{function_groups}
+use Rattle.wat_types.specs.FunctionSpells.{func_groups}
 use Rattle.wat_types.specs.Label.{label}
 use Rattle.wat_types.specs.Use.{type_use}
-use Rattle.wat_links.specs.Export.{inline_name, inline_export}
+use Rattle.wat_links.specs.Export.{inline_export}
+use Rattle.wat_links.specs.InlineName.{inline_name}
 use Rattle.wat_links.specs.Forms.{import_items, imports}
-use Rattle.wat_links.specs.Import.{named_item, shared_sig, typed_list, named_list, typed_items, named_items, import_choice}
+use Rattle.wat_links.specs.Import.{shared_sig, typed_list, named_list, typed_items, named_items, import_choice}
+use Rattle.wat_links.specs.ImportItem.{named_item}
 use Rattle.wat_links.specs.Item.{func_kind, item_sig}
 use Rattle.wat_links.specs.Rows.{Imports, InlineNames}
 

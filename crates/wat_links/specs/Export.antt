@@ -1,23 +1,23 @@
 -- Exports.
-use Rattle.std.specs.Prelude.{◌≤◌, ℕ, Bool, false, List, [], ◌∷◌, codes, map, refl}
+use Rattle.std.specs.Prelude.{ℕ, Bool, false, List, [], ◌∷◌, codes, map, refl}
 use Rattle.std.specs.Str.{bytes_eq}
-use Rattle.std.proofs.Common.{lit≤}
 use Rattle.wat_tokens.specs.Token.{Tok, LParen, RParen, Keyword, String}
 use Rattle.wat_tokens.specs.Begin.{begins_one_of}
 use Rattle.wat_tokens.specs.Tests.{word_in}
 use Rattle.wat_tokens.specs.Production.{Production}
-use Rattle.wat_tokens.specs.Parts.{one, seq, made}
-use Rattle.wat_tokens.specs.Groups.{paren, group}
+use Rattle.wat_tokens.specs.Parts.{one, seq, made, after_word}
+use Rattle.wat_tokens.specs.Groups.{paren}
 use Rattle.wat_tokens.specs.Many.{many}
 use Rattle.wat_tokens.specs.Index.{Idx, seen_index, index}
 use Rattle.wat_tokens.specs.Strings.{text}
-use Rattle.wat_types.specs.Define.{behind}
 use Rattle.wat_links.specs.Item.{SigTy, seen_sig, bare_sig, item_sig}
 use Rattle.wat_links.specs.declared.export.Export.{Export}
 use Rattle.wat_links.specs.declared.export.ExportKind.{ExportKind}
 use Rattle.wat_links.specs.declared.export.ExportKind.TheVariants as code
 use Rattle.wat_links.specs.declared.export.ExportType.{ExportType}
 use Rattle.wat_links.specs.declared.export.InlineExport.{InlineExport}
+use Rattle.wat_links.specs.InlineName.{inline_name}
+use Rattle.wat_links.specs.Laws.Export.{inline_name_eats}
 
 -- ---- kinds
 
@@ -48,7 +48,7 @@ seen_export e = export_of e.name.now e.kind (seen_index e.item)
 
 -- `export` name ( ExportKind idx )
 unfoldable pub export_ : Production ExportTy
-export_ = behind (codes "export") (made (λ v. export_of v.0 v.1.0 v.1.1) (seq text (paren (seq export_kind index))))
+export_ = after_word (codes "export") (made (λ v. export_of v.0 v.1.0 v.1.1) (seq text (paren (seq export_kind index))))
 
 -- ---- types of exports
 
@@ -64,7 +64,7 @@ bare_export_type e = bare_sig e.1
 
 -- `export` name ( ItemSig )
 unfoldable pub export_type : Production ExportTypeTy
-export_type = behind (codes "export") (seq text (paren item_sig))
+export_type = after_word (codes "export") (seq text (paren item_sig))
 
 -- ---- exports in line
 
@@ -75,14 +75,6 @@ seen_inline_export e = map (λ n. n.now) e.names.items
 abbrev pub begins_inline_export : List Tok → Bool
 begins_inline_export (LParen ∷ Keyword k ∷ String s ∷ RParen ∷ r) = bytes_eq k (codes "export")
 begins_inline_export _ = false
-
--- ( export name )
-unfoldable pub inline_name : Production (List ℕ)
-inline_name = group (codes "export") text
-
-pub inline_name_eats : 1 ≤ inline_name.least
-unfolding inline_name
-inline_name_eats = lit≤ tt
 
 -- ( export name )*
 unfoldable pub inline_export : Production (List (List ℕ))

@@ -1,17 +1,15 @@
 -- Imports.
-use Rattle.std.specs.Prelude.{◌≡◌, ◌≤◌, ℕ, Bool, false, ◌&&◌, ◌||◌, List, [], ◌∷◌, codes, map, is_none, replicate, length, ⊤}
+use Rattle.std.specs.Prelude.{◌≡◌, ℕ, Bool, false, ◌&&◌, ◌||◌, List, [], ◌∷◌, codes, map, is_none, replicate, length, ⊤}
 use Rattle.std.specs.Borrow.{Bor}
 use Rattle.std.specs.Str.{bytes_eq}
-use Rattle.std.proofs.Common.{arith, lit≤}
 use Rattle.wat_tokens.specs.Token.{Tok, LParen, RParen, Keyword, String}
-use Rattle.wat_tokens.specs.Tests.{begins_word, second, ends, more}
+use Rattle.wat_tokens.specs.Tests.{begins_word, second, ends, more, begins_lparen}
 use Rattle.wat_tokens.specs.Production.{Production}
 use Rattle.wat_tokens.specs.Parts.{seq, made, made_where, where_else}
 use Rattle.wat_tokens.specs.Groups.{paren, group}
 use Rattle.wat_tokens.specs.Many.{many}
 use Rattle.wat_tokens.specs.Parses.{no_items}
 use Rattle.wat_tokens.specs.Strings.{text}
-use Rattle.wat_customs.specs.Raw.{begins_lparen}
 use Rattle.wat_links.specs.Item.{SigTy, seen_sig, bare_sig, item_sig, SameSig}
 use Rattle.wat_links.specs.declared.item.ItemSig.{ItemSig}
 use Rattle.wat_links.specs.declared.import.ImportGroup1ItemOf.{ImportGroup1ItemOf}
@@ -20,6 +18,8 @@ use Rattle.wat_links.specs.declared.import.ImportItemsOf.{ImportItemsOf}
 use Rattle.wat_links.specs.declared.import.ImportItemsOf.TheVariants.{Single, Group1, Group2}
 use Rattle.wat_links.specs.declared.import.ImportsOf.{ImportsOf}
 use Rattle.wat_links.specs.declared.import.InlineImport.{InlineImport}
+use Rattle.wat_links.specs.ImportItem.{sig_group, typed_item, named_item}
+use Rattle.wat_links.specs.Laws.Import.{typed_item_eats, named_item_eats}
 
 -- ---- what contracts see
 
@@ -71,29 +71,9 @@ bare_imports i = bare_items i.items
 
 -- ---- the grammar
 
--- ( ItemSig )
-abbrev pub sig_group : Production SigTy
-sig_group = paren item_sig
-
 -- an item has to follow: the second token is `item`, whatever the first is
 abbrev pub item_follows : List Tok → Bool
 item_follows t = second (begins_word (codes "item")) t
-
--- ( item name ( ItemSig ) )
-unfoldable pub typed_item : Production (List ℕ × SigTy)
-typed_item = group (codes "item") (seq text sig_group)
-
--- ( item name )
-unfoldable pub named_item : Production (List ℕ)
-named_item = group (codes "item") text
-
-pub typed_item_eats : 1 ≤ typed_item.least
-unfolding typed_item
-typed_item_eats = omega arith
-
-pub named_item_eats : 1 ≤ named_item.least
-unfolding named_item
-named_item_eats = lit≤ tt
 
 -- the signature that a group shares: without an identifier
 unfoldable pub shared_sig : Production SigTy

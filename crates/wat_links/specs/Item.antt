@@ -2,9 +2,8 @@
 use Rattle.std.specs.Prelude.{◌≡◌, ℕ, Bool, true, List, codes}
 use Rattle.wat_tokens.specs.Tests.{begins_word, second}
 use Rattle.wat_tokens.specs.Production.{Production}
-use Rattle.wat_tokens.specs.Parts.{seq, made, where_else}
+use Rattle.wat_tokens.specs.Parts.{seq, made, where_else, after_word}
 use Rattle.wat_tokens.specs.Groups.{group}
-use Rattle.wat_types.specs.Define.{behind}
 use Rattle.wat_types.specs.Function.{seen_function, bare_function, function_type}
 use Rattle.wat_types.specs.Group.{FuncTy, begins_func}
 use Rattle.wat_types.specs.Label.{Label, seen_label, label}
@@ -70,7 +69,7 @@ func_kind = where_else (second (begins_word (codes "exact"))) (made exact_func (
 
 -- the word, id? name?, and then k
 abbrev pub labelled : List ℕ → Production KindTy → Production SigTy
-labelled w k = made (λ v. sig_of v.0 v.1) (behind w (seq label k))
+labelled w k = made (λ v. sig_of v.0 v.1) (after_word w (seq label k))
 
 -- `global id? name?` GlobalType | `tag id? name?` TagType
 unfoldable pub global_or_tag : Production SigTy

@@ -3,7 +3,10 @@ pub mod Export
 pub mod Forms
 pub mod Head
 pub mod Import
+pub mod ImportItem
+pub mod InlineName
 pub mod Item
+pub mod ItemForms
+pub mod Laws
 pub mod Lend
-pub mod NoImport
 pub mod Rows

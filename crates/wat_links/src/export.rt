@@ -6,7 +6,8 @@ ghost use Rattle.wat_tokens.specs.Lookup.{front};
 ghost use Rattle.wat_tokens.specs.Parses.{no_items};
 ghost use Rattle.wat_tokens.specs.Tests.{look_up};
 ghost use Rattle.wat_links.specs.Item.{SameSig};
-ghost use Rattle.wat_links.specs.Export.{kind_words, export_kind, begins_kind, ExportTy, seen_export, export_, ExportTypeTy, seen_export_type, bare_export_type, export_type, seen_inline_export, begins_inline_export, inline_name, inline_export};
+ghost use Rattle.wat_links.specs.Export.{kind_words, export_kind, begins_kind, ExportTy, seen_export, export_, ExportTypeTy, seen_export_type, bare_export_type, export_type, seen_inline_export, begins_inline_export, inline_export};
+ghost use Rattle.wat_links.specs.InlineName.{inline_name};
 
 use crate::item::ItemSig;
 use std::alloc::Global;
@@ -88,7 +89,7 @@ impl<'a> Parse<'a> for ExportKind {
 
     ghost grammar = { export_kind };
 
-    #[tactic(auto, using(wat_tokens::specs::Begin::reads_table, wat_tokens::specs::Begin::reads_no_table), unfolding(crate::specs::Export::export_kind))]
+    #[tactic(auto, using(wat_tokens::specs::Laws::Begin::reads_table, wat_tokens::specs::Laws::Begin::reads_no_table), unfolding(crate::specs::Export::export_kind))]
     fn parse(parser: &mut Parser<'a>) -> Result<Self> {
         let span = parser.cur_span();
         match kind_of(parser.take_keyword()?) {
@@ -105,7 +106,7 @@ impl<'a> Parse<'a> for ExportKind {
 impl Peek for ExportKind {
     ghost begins = { begins_kind };
 
-    #[tactic(auto, using(wat_tokens::specs::Begin::begins_table, wat_tokens::specs::Begin::begins_no_table), unfolding(crate::specs::Export::begins_kind))]
+    #[tactic(auto, using(wat_tokens::specs::Laws::Begin::begins_table, wat_tokens::specs::Laws::Begin::begins_no_table), unfolding(crate::specs::Export::begins_kind))]
     fn peek(cursor: Cursor<'_>) -> bool {
         match cursor.keyword() {
             Some((word, _)) => kind_of(word).is_some(),
@@ -262,7 +263,7 @@ impl<'a> Part<'a, &'a str> for InlineName {
         parser.peek::<InlineExport>()
     }
 
-    #[tactic(auto, unfolding(crate::specs::Export::inline_name))]
+    #[tactic(auto, unfolding(crate::specs::InlineName::inline_name))]
     fn take(parser: &mut Parser<'a>) -> Result<&'a str> {
         parser.open()?;
         parser.keyword("export")?;
@@ -284,7 +285,7 @@ impl<'a> Parse<'a> for InlineExport<'a> {
 
     ghost grammar = { inline_export };
 
-    #[tactic(auto, using(crate::specs::Export::inline_name_eats), unfolding(crate::specs::Export::inline_export))]
+    #[tactic(auto, using(crate::specs::Laws::Export::inline_name_eats), unfolding(crate::specs::Export::inline_export))]
     fn parse(parser: &mut Parser<'a>) -> Result<Self> {
         let mut names = Vec::new(parser.alloc());
         parts::<_, InlineName>(parser, &mut names)?;

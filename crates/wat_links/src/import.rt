@@ -8,10 +8,11 @@ ghost use Rattle.wat_tokens.specs.Counts.{Counted, Quiet, Kept};
 ghost use Rattle.wat_tokens.specs.Lookup.{front};
 ghost use Rattle.wat_tokens.specs.Parses.{Gives, no_items};
 ghost use Rattle.wat_tokens.specs.Reads.{Reads};
-ghost use Rattle.wat_customs.specs.Raw.{begins_lparen};
+ghost use Rattle.wat_tokens.specs.Tests.{begins_lparen};
 ghost use Rattle.wat_links.specs.Item.{SigTy, seen_sig, bare_sig, SameSig};
 ghost use Rattle.wat_links.specs.Forms.{import_items, imports};
-ghost use Rattle.wat_links.specs.Import.{ItemsTy, ImportsTy, module_of, seen_typed, seen_named, seen_items, seen_imports, bare_items, bare_imports, sig_group, item_follows, typed_item, named_item, shared_sig, single_item, typed_items, named_items, opens_typed, typed, item_sigs, item_count, own_sigs, SameTyped, SameAll, SameItems, seen_inline_import, inline_import, begins_inline_import};
+ghost use Rattle.wat_links.specs.Import.{ItemsTy, ImportsTy, module_of, seen_typed, seen_named, seen_items, seen_imports, bare_items, bare_imports, item_follows, shared_sig, single_item, typed_items, named_items, opens_typed, typed, item_sigs, item_count, own_sigs, SameTyped, SameAll, SameItems, seen_inline_import, inline_import, begins_inline_import};
+ghost use Rattle.wat_links.specs.ImportItem.{sig_group, typed_item, named_item};
 ghost use Rattle.wat_links.specs.Lend.{typed_sig_at, sig_at, LendsTyped, LendsItems, LendsImports};
 
 use crate::item::ItemSig;
@@ -325,7 +326,7 @@ impl<'a> Part<'a, ImportGroup1Item<'a>> for TypedItem {
         parser.second_is("item")
     }
 
-    #[tactic(auto, using(crate::proofs::Ends::opens_none), unfolding(crate::specs::Import::typed_item))]
+    #[tactic(auto, using(crate::proofs::Ends::opens_none), unfolding(crate::specs::ImportItem::typed_item))]
     fn take(parser: &mut Parser<'a>) -> Result<ImportGroup1Item<'a>> {
         parser.open()?;
         let span = parser.keyword("item")?;
@@ -370,7 +371,7 @@ impl<'a> Part<'a, ImportGroup2Item<'a>> for NamedItem {
         parser.second_is("item")
     }
 
-    #[tactic(auto, using(crate::proofs::Ends::closes_none), unfolding(crate::specs::Import::named_item))]
+    #[tactic(auto, using(crate::proofs::Ends::closes_none), unfolding(crate::specs::ImportItem::named_item))]
     fn take(parser: &mut Parser<'a>) -> Result<ImportGroup2Item<'a>> {
         parser.open()?;
         let span = parser.keyword("item")?;
@@ -453,7 +454,7 @@ fn read_single<'a>(parser: &mut Parser<'a>, module: &'a str) -> Result<ImportIte
 }
 
 /// Items with signatures.
-#[tactic(auto, using(crate::specs::Import::typed_item_eats), unfolding(crate::specs::Import::typed_items, crate::specs::Import::typed_list))]
+#[tactic(auto, using(crate::specs::Laws::Import::typed_item_eats), unfolding(crate::specs::Import::typed_items, crate::specs::Import::typed_list))]
 fn read_typed<'a>(parser: &mut Parser<'a>, module: &'a str) -> Result<ImportItems<'a>>
     ensures exact { Gives false bare_items seen_items result
         (typed_items.reads parser.old.left) parser.new.left }
@@ -468,7 +469,7 @@ fn read_typed<'a>(parser: &mut Parser<'a>, module: &'a str) -> Result<ImportItem
 }
 
 /// Items without signatures, and the one that they share.
-#[tactic(auto, using(crate::specs::Import::named_item_eats), unfolding(crate::specs::Import::named_items, crate::specs::Import::named_list))]
+#[tactic(auto, using(crate::specs::Laws::Import::named_item_eats), unfolding(crate::specs::Import::named_items, crate::specs::Import::named_list))]
 fn read_named<'a>(parser: &mut Parser<'a>, module: &'a str) -> Result<ImportItems<'a>>
     ensures exact { Gives false bare_items seen_items result
         (named_items.reads parser.old.left) parser.new.left }

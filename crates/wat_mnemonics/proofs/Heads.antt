@@ -2,7 +2,7 @@
 use Rattle.std.proofs.Common.{◌≡◌, List, map, refl, subst, sym, IsTrue}
 use Rattle.wat_mnemonics.specs.Heads.{head_word}
 use Rattle.wat_mnemonics.specs.Order.{rises}
-use Rattle.wat_mnemonics.specs.Places.{in_order}
+use Rattle.wat_mnemonics.specs.Laws.Places.{in_order}
 use Rattle.wat_mnemonics.specs.Table.{all_heads}
 use Rattle.wat_mnemonics.specs.declared.head.Head.{Head}
 use Rattle.wat_mnemonics.specs.declared.table.TheConstants.{HEADS}

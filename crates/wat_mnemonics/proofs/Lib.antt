@@ -2,3 +2,6 @@ mod Halves
 mod Heads
 mod Prefix
 mod Rows
+mod RowsBelow
+mod WordOrder
+mod WordReads

@@ -3,7 +3,8 @@ use Rattle.std.proofs.Common.{◌≡◌, ℕ, ◌+◌, ◌-◌, ◌*◌, nat_lt,
 use Rattle.std.proofs.lemmas.List.{append-nil}
 use Rattle.wat_mnemonics.specs.Heads.{head_opcode}
 use Rattle.wat_mnemonics.specs.Opcodes.{bytes}
-use Rattle.wat_mnemonics.specs.Places.{place, one_place}
+use Rattle.wat_mnemonics.specs.Places.{place}
+use Rattle.wat_mnemonics.specs.Laws.Places.{one_place}
 use Rattle.wat_mnemonics.specs.Scalar.{scalar_opcode}
 use Rattle.wat_mnemonics.specs.Vector.{vector_opcode}
 use Rattle.wat_mnemonics.specs.declared.head.Head.{Head}

@@ -1,6 +1,8 @@
 pub mod Access
 pub mod Heads
 pub mod Indexed
+pub mod Laws
+pub mod Mnemonic
 pub mod Opcodes
 pub mod Order
 pub mod Ordered

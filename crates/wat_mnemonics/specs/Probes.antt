@@ -5,7 +5,7 @@ use Rattle.wat_tokens.specs.Error.{Error}
 use Rattle.wat_tokens.specs.Parses.{Exactly}
 use Rattle.wat_tokens.specs.Reads.{Call}
 use Rattle.wat_tokens.specs.State.{State}
-use Rattle.wat_mnemonics.specs.Word.{mnemonic}
+use Rattle.wat_mnemonics.specs.Mnemonic.{mnemonic}
 use Rattle.wat_mnemonics.specs.declared.head.Head.{Head}
 
 -- at most ten comparisons of the word with entries of the table were counted

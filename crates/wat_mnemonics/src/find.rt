@@ -51,7 +51,7 @@ impl Head {
     /// Takes the word of an instruction that stands in front.
     ///
     /// A word that is no mnemonic, or any other token, is refused with Operator at it.
-    #[tactic(auto, using(crate::specs::Word::reads_other_word, crate::specs::Word::reads_no_word))]
+    #[tactic(auto, using(crate::proofs::WordReads::reads_other_word, crate::proofs::WordReads::reads_no_word))]
     pub fn take(parser: &mut Parser<'_>) -> Result<Head>
         ensures reads { ReadsWord result parser.old parser.new }
         ensures probes { AtMostTen parser.old parser.new }

@@ -1,17 +1,20 @@
 -- Texts as tokens, and the operands that they spell: what is read of them.
 use Rattle.std.proofs.Common.{refl}
-use Rattle.wat_tokens.specs.Many.{many_at, many_reads}
+use Rattle.wat_tokens.specs.ManySpells.{many_at, many_reads}
 use Rattle.wat_tokens.specs.NameAnnotation.{name_annotation}
 use Rattle.wat_tokens.specs.Number.{read}
-use Rattle.wat_tokens.specs.Spelled.{spelled}
-use Rattle.wat_types.specs.Function.{func_groups, function_groups}
+use Rattle.wat_tokens.specs.Laws.Spelled.{spelled}
+use Rattle.wat_types.specs.Function.{function_groups}
+use Rattle.wat_types.specs.FunctionSpells.{func_groups}
 use Rattle.wat_types.specs.Group.{val_types}
 use Rattle.wat_types.specs.Label.{label}
 use Rattle.wat_types.specs.Use.{type_use}
 use Rattle.wat_types.specs.Value.{val_type}
 use Rattle.wat_operands.specs.Block.{block_type}
-use Rattle.wat_operands.specs.Catches.{catch_kind, catch_clause, try_table}
-use Rattle.wat_operands.specs.Handlers.{aim, handler, resume_table}
+use Rattle.wat_operands.specs.Catches.{try_table}
+use Rattle.wat_operands.specs.CatchClause.{catch_kind, catch_clause}
+use Rattle.wat_operands.specs.Handlers.{resume_table}
+use Rattle.wat_operands.specs.Handler.{aim, handler}
 use Rattle.wat_operands.specs.Rows.{Catches, Handlers, Selects}
 use Rattle.wat_operands.specs.Select.{select_types}
 

@@ -1,17 +1,14 @@
 -- Types of blocks.
-use Rattle.std.specs.Prelude.{◌≡◌, Bool, Option, Some, None, option_map, refl}
-use Rattle.std.proofs.Common.{ap}
+use Rattle.std.specs.Prelude.{◌≡◌, Bool}
 use Rattle.wat_tokens.specs.Production.{Production}
 use Rattle.wat_tokens.specs.Parts.{seq, made}
-use Rattle.wat_tokens.specs.Parses.{seen_option}
-use Rattle.wat_tokens.specs.Index.{seen_index}
 use Rattle.wat_types.specs.Label.{Label, seen_label, label}
 use Rattle.wat_types.specs.Group.{FuncTy, begins_func}
-use Rattle.wat_types.specs.Function.{seen_function, seen_unnamed, bare_function, function_type_no_names}
-use Rattle.wat_types.specs.Use.{UseTy, use_of, seen_use, bare_use, type_use, with_names, SameFunction, SameUse}
+use Rattle.wat_types.specs.Function.{seen_function, bare_function}
+use Rattle.wat_types.specs.Use.{UseTy, seen_use, bare_use, type_use, SameFunction, SameUse}
 use Rattle.wat_types.specs.declared.function.FunctionType.{FunctionType}
-use Rattle.wat_types.specs.declared.function.FunctionTypeNoNames.{FunctionTypeNoNames}
 use Rattle.wat_types.specs.declared.type_use.TypeUse.{TypeUse}
+use Rattle.wat_types.specs.FunctionNoNames.{function_type_no_names}
 use Rattle.wat_operands.specs.declared.block.BlockType.{BlockType}
 
 -- ---- the type of a block or of a call
@@ -26,14 +23,6 @@ bare_signature u = bare_use bare_function u
 -- a type use of a FunctionTypeNoNames
 abbrev pub signature : Production (UseTy FuncTy)
 signature = type_use begins_func function_type_no_names
-
-inline_with_names : (o : Option FunctionTypeNoNames) → seen_option seen_function (option_map (λ t. t.0) o) ≡ seen_option seen_unnamed o
-inline_with_names (Some t) = refl
-inline_with_names None = refl
-
--- a use without names is seen as the use with names that it is turned into
-pub seen_with_names : (u : TypeUse FunctionTypeNoNames) → seen_signature (with_names u) ≡ seen_use seen_unnamed u
-seen_with_names u = ap (λ (o : Option FuncTy). use_of (seen_option seen_index u.index) o) (inline_with_names u.inline)
 
 -- ---- blocks
 

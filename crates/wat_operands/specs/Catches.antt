@@ -1,21 +1,20 @@
 -- What a try_table catches.
-use Rattle.std.specs.Prelude.{◌≡◌, ◌≤◌, Bool, ◌||◌, List, codes, Option, Some, None, map}
+use Rattle.std.specs.Prelude.{◌≡◌, Bool, ◌||◌, List, codes, Option, Some, None, map}
 use Rattle.std.specs.Borrow.{LendsIf, MutBor, Fml, RattleType}
-use Rattle.std.proofs.Common.{arith}
 use Rattle.wat_tokens.specs.Token.{Tok}
-use Rattle.wat_tokens.specs.Tests.{begins_word, begins_group}
+use Rattle.wat_tokens.specs.Tests.{begins_group}
 use Rattle.wat_tokens.specs.Production.{Production}
-use Rattle.wat_tokens.specs.Parts.{seq, made, where_else, word}
+use Rattle.wat_tokens.specs.Parts.{seq, made}
 use Rattle.wat_tokens.specs.Many.{many}
-use Rattle.wat_tokens.specs.Groups.{paren}
-use Rattle.wat_tokens.specs.Index.{Idx, seen_index, index}
-use Rattle.wat_types.specs.Define.{behind}
+use Rattle.wat_tokens.specs.Index.{seen_index}
 use Rattle.wat_operands.specs.Block.{BlockTy, seen_block, block_type, SameBlock}
 use Rattle.wat_operands.specs.contracts.catches.CatchKind as kinds
 use Rattle.wat_operands.specs.declared.catches.CatchKind.{CatchKind}
 use Rattle.wat_operands.specs.declared.catches.CatchKind.TheVariants.{Catch, CatchRef, CatchAll, CatchAllRef}
 use Rattle.wat_operands.specs.declared.catches.TryTable.{TryTable}
 use Rattle.wat_operands.specs.declared.catches.TryTableCatch.{TryTableCatch}
+use Rattle.wat_operands.specs.CatchClause.{CatchTy, catch_of, catch_clause}
+use Rattle.wat_operands.specs.Laws.Catches.{catch_clause_eats}
 
 -- ---- the tag of what is caught
 
@@ -45,14 +44,6 @@ seen_kind view (CatchRef x) = CatchRef (view x)
 seen_kind view CatchAll = CatchAll
 seen_kind view CatchAllRef = CatchAllRef
 
--- a clause of a try_table, without places
-pub record CatchTy : Type 0 where
-  pub kind : CatchKind Idx
-  pub label : Idx
-
-abbrev pub catch_of : CatchKind Idx → Idx → CatchTy
-catch_of k l = record { kind = k; label = l }
-
 abbrev pub seen_catch : TryTableCatch → CatchTy
 seen_catch c = catch_of (seen_kind seen_index c.kind) (seen_index c.label)
 
@@ -68,23 +59,6 @@ abbrev pub seen_try : TryTable → TryTy
 seen_try t = try_of (seen_block t.block.value) (map seen_catch t.catches.items)
 
 -- ---- the grammar
-
--- `catch` idx | `catch_ref` idx | `catch_all` | `catch_all_ref`
-unfoldable pub catch_kind : Production (CatchKind Idx)
-catch_kind =
-    where_else (begins_word (codes "catch")) (made Catch (behind (codes "catch") index))
-    (where_else (begins_word (codes "catch_ref")) (made CatchRef (behind (codes "catch_ref") index))
-    (where_else (begins_word (codes "catch_all")) (made (λ _. CatchAll) (word (codes "catch_all")))
-    (made (λ _. CatchAllRef) (word (codes "catch_all_ref")))))
-
--- ( catch idx idx ) | ( catch_ref idx idx ) | ( catch_all idx ) | ( catch_all_ref idx ): the label
--- is last
-unfoldable pub catch_clause : Production CatchTy
-catch_clause = paren (made (λ v. catch_of v.0 v.1) (seq catch_kind index))
-
-pub catch_clause_eats : 1 ≤ catch_clause.least
-unfolding catch_clause catch_kind
-catch_clause_eats = omega arith
 
 -- a group that begins with one of the four words
 abbrev pub begins_catch : List Tok → Bool

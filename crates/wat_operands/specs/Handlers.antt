@@ -1,12 +1,10 @@
 -- Tables of handlers.
-use Rattle.std.specs.Prelude.{◌≤◌, Bool, List, codes, Option, Some, None, map}
-use Rattle.std.proofs.Common.{arith}
+use Rattle.std.specs.Prelude.{Bool, List, codes, map}
 use Rattle.wat_tokens.specs.Token.{Tok}
-use Rattle.wat_tokens.specs.Tests.{begins_word, begins_group}
+use Rattle.wat_tokens.specs.Tests.{begins_group}
 use Rattle.wat_tokens.specs.Production.{Production}
-use Rattle.wat_tokens.specs.Parts.{seq, made, where_else, word}
+use Rattle.wat_tokens.specs.Parts.{seq, made}
 use Rattle.wat_tokens.specs.Many.{many}
-use Rattle.wat_tokens.specs.Groups.{group}
 use Rattle.wat_tokens.specs.Parses.{no_items}
 use Rattle.wat_tokens.specs.Index.{Idx, seen_index, index}
 use Rattle.wat_operands.specs.declared.handlers.Handle.{Handle}
@@ -15,33 +13,14 @@ use Rattle.wat_operands.specs.declared.handlers.Resume.{Resume}
 use Rattle.wat_operands.specs.declared.handlers.ResumeTable.{ResumeTable}
 use Rattle.wat_operands.specs.declared.handlers.ResumeThrow.{ResumeThrow}
 use Rattle.wat_operands.specs.declared.handlers.ResumeThrowRef.{ResumeThrowRef}
+use Rattle.wat_operands.specs.Handler.{HandleTy, on_label, on_switch, handler}
+use Rattle.wat_operands.specs.Laws.Handlers.{handler_eats}
 
 -- ---- handlers
-
--- a handler, without places: its tag, and the label where it has one
-pub data HandleTy : Type 0 where
-  on_label : Idx → Idx → HandleTy
-  on_switch : Idx → HandleTy
 
 abbrev pub seen_handle : Handle → HandleTy
 seen_handle (code.OnLabel tag label) = on_label (seen_index tag) (seen_index label)
 seen_handle (code.OnSwitch tag) = on_switch (seen_index tag)
-
--- `switch`, which is no label, or the index of a label
-unfoldable pub aim : Production (Option Idx)
-aim = where_else (begins_word (codes "switch")) (made (λ _. None) (word (codes "switch"))) (made Some index)
-
-abbrev pub handler_to : Idx → Option Idx → HandleTy
-handler_to tag (Some label) = on_label tag label
-handler_to tag None = on_switch tag
-
--- ( on idx switch ) | ( on idx idx )
-unfoldable pub handler : Production HandleTy
-handler = group (codes "on") (made (λ v. handler_to v.0 v.1) (seq index aim))
-
-pub handler_eats : 1 ≤ handler.least
-unfolding handler
-handler_eats = omega arith
 
 -- a group that begins with `on`
 abbrev pub begins_handler : List Tok → Bool

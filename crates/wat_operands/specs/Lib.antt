@@ -10,7 +10,11 @@ pub use Rattle.wat_types.specs.Value
 pub mod Block
 pub mod Call
 pub mod Casts
+pub mod CatchClause
 pub mod Catches
+pub mod Handler
 pub mod Handlers
+pub mod Laws
+pub mod ResultGroup
 pub mod Rows
 pub mod Select

@@ -1,13 +1,15 @@
 -- Texts as tokens, and the operands that they spell.
-use Rattle.std.specs.Prelude.{List, [], ◌∷◌, ◌++◌, codes, Some, None}
-use Rattle.wat_tokens.specs.Token.{Tok, Keyword, Integer}
+use Rattle.std.specs.Prelude.{[], ◌∷◌, ◌++◌, codes, Some, None}
+use Rattle.wat_tokens.specs.Token.{Keyword, Integer}
 use Rattle.wat_tokens.specs.Index.{number}
 use Rattle.wat_tokens.specs.Spelled.{in_parens, Spelled}
 use Rattle.wat_types.specs.Label.{no_label}
 use Rattle.wat_types.specs.Use.{use_of}
 use Rattle.wat_types.specs.Value.{i32, i64}
-use Rattle.wat_operands.specs.Catches.{catch_of, try_of, try_table}
-use Rattle.wat_operands.specs.Handlers.{on_label, on_switch, resume_table}
+use Rattle.wat_operands.specs.Catches.{try_of, try_table}
+use Rattle.wat_operands.specs.CatchClause.{catch_of}
+use Rattle.wat_operands.specs.Handlers.{resume_table}
+use Rattle.wat_operands.specs.Handler.{on_label, on_switch}
 use Rattle.wat_operands.specs.Select.{select_types}
 use Rattle.wat_operands.specs.declared.catches.CatchKind.TheVariants.{Catch, CatchAllRef}
 

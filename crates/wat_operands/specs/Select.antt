@@ -1,19 +1,18 @@
 -- The types of a select.
-use Rattle.std.specs.Prelude.{◌≡◌, ◌≤◌, Bool, List, codes, Option, Vec, map}
-use Rattle.std.proofs.Common.{arith}
+use Rattle.std.specs.Prelude.{◌≡◌, Bool, List, codes, Option, Vec, map}
 use Rattle.std.specs.declared.alloc.Global.{Global}
 use Rattle.wat_tokens.specs.Token.{Tok}
 use Rattle.wat_tokens.specs.Tests.{begins_word, second}
 use Rattle.wat_tokens.specs.Production.{Production}
 use Rattle.wat_tokens.specs.Parts.{opt}
 use Rattle.wat_tokens.specs.Joined.{joined}
-use Rattle.wat_tokens.specs.Groups.{group}
 use Rattle.wat_tokens.specs.Parses.{seen_option, bare_option, no_items}
-use Rattle.wat_types.specs.Group.{val_types}
 use Rattle.wat_types.specs.Use.{SameOption}
 use Rattle.wat_types.specs.Value.{ValTy, seen_val}
 use Rattle.wat_types.specs.declared.value.ValType.{ValType}
 use Rattle.wat_operands.specs.declared.select.SelectTypes.{SelectTypes}
+use Rattle.wat_operands.specs.ResultGroup.{result_group}
+use Rattle.wat_operands.specs.Laws.Select.{result_group_eats}
 
 -- ---- what contracts see
 
@@ -32,13 +31,6 @@ abbrev pub SameTypes : Option (Vec ValType Global) → Option (Vec ValType Globa
 SameTypes a b = SameOption (λ v w. v.items ≡ w.items) a b
 
 -- ---- the grammar
-
--- ( result ValType* )
-abbrev pub result_group : Production (List ValTy)
-result_group = group (codes "result") val_types
-
-pub result_group_eats : 1 ≤ result_group.least
-result_group_eats = omega arith
 
 -- one more group has to follow: the second token is `result`, whatever the first is
 abbrev pub result_follows : List Tok → Bool

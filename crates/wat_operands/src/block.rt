@@ -21,7 +21,7 @@ pub struct BlockType<'a> {
 }
 
 /// A type use of a [`FunctionTypeNoNames`], as one of a [`FunctionType`].
-#[tactic(auto, using(crate::specs::Block::seen_with_names))]
+#[tactic(auto, using(crate::proofs::SeenNames::seen_with_names))]
 pub(crate) fn read_signature<'a>(parser: &mut Parser<'a>) -> Result<TypeUse<'a, FunctionType<'a>>>
     ensures reads { Reads bare_signature seen_signature result
         (signature.reads parser.old.left) parser.old parser.new }

@@ -3,7 +3,8 @@
 ghost use Rattle.std.specs.Borrow.{sem};
 ghost use Rattle.std.specs.Option.{option_map};
 ghost use Rattle.std.specs.Prelude.{◌≡◌, true, false};
-ghost use Rattle.wat_operands.specs.Catches.{tag_of, LendsTag, seen_kind, CatchTy, seen_catch, catch_kind, catch_clause, begins_catch, TryTy, seen_try, try_table, SameTry};
+ghost use Rattle.wat_operands.specs.Catches.{tag_of, LendsTag, seen_kind, seen_catch, begins_catch, TryTy, seen_try, try_table, SameTry};
+ghost use Rattle.wat_operands.specs.CatchClause.{CatchTy, catch_kind, catch_clause};
 ghost use Rattle.wat_tokens.specs.Copies.{Copies};
 ghost use Rattle.wat_tokens.specs.Index.{seen_index};
 ghost use Rattle.wat_tokens.specs.Lookup.{front};
@@ -67,7 +68,7 @@ pub struct TryTable<'a> {
 }
 
 /// The word of a clause, and the tag where it has one.
-#[tactic(auto, unfolding(crate::specs::Catches::catch_kind))]
+#[tactic(auto, unfolding(crate::specs::CatchClause::catch_kind))]
 fn read_kind<'a>(parser: &mut Parser<'a>) -> Result<TryTableCatchKind<'a>>
     ensures reads { ReadsLight (seen_kind seen_index) result
         (catch_kind.reads parser.old.left) parser.old parser.new }
@@ -99,7 +100,7 @@ impl<'a> Parse<'a> for TryTableCatch<'a> {
 
     ghost grammar = { catch_clause };
 
-    #[tactic(auto, unfolding(crate::specs::Catches::catch_clause))]
+    #[tactic(auto, unfolding(crate::specs::CatchClause::catch_clause))]
     fn parse(parser: &mut Parser<'a>) -> Result<Self> {
         parser.open()?;
         let kind = read_kind(parser)?;
@@ -153,7 +154,7 @@ impl<'a> Parse<'a> for TryTable<'a> {
 
     ghost grammar = { try_table };
 
-    #[tactic(auto, using(crate::specs::Catches::catch_clause_eats), unfolding(crate::specs::Catches::try_table))]
+    #[tactic(auto, using(crate::specs::Laws::Catches::catch_clause_eats), unfolding(crate::specs::Catches::try_table))]
     fn parse(parser: &mut Parser<'a>) -> Result<Self> {
         let block = Box::<BlockType>::parse(parser)?;
         let mut catches = Vec::new(parser.alloc());

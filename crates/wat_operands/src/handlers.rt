@@ -1,7 +1,8 @@
 //! Tables of handlers, and the operands that have one.
 
 ghost use Rattle.std.specs.Prelude.{◌≡◌, true, false, List};
-ghost use Rattle.wat_operands.specs.Handlers.{HandleTy, seen_handle, handler, begins_handler, seen_table, resume_table, ResumeTy, seen_resume, seen_resume_throw_ref, bare_resume, resume, ThrowTy, seen_resume_throw, bare_throw, resume_throw};
+ghost use Rattle.wat_operands.specs.Handlers.{seen_handle, begins_handler, seen_table, resume_table, ResumeTy, seen_resume, seen_resume_throw_ref, bare_resume, resume, ThrowTy, seen_resume_throw, bare_throw, resume_throw};
+ghost use Rattle.wat_operands.specs.Handler.{HandleTy, handler};
 ghost use Rattle.wat_tokens.specs.Copies.{Copies};
 ghost use Rattle.wat_tokens.specs.Lookup.{front};
 ghost use Rattle.wat_tokens.specs.Parses.{no_items};
@@ -73,7 +74,7 @@ impl<'a> Parse<'a> for Handle<'a> {
 
     ghost grammar = { handler };
 
-    #[tactic(auto, unfolding(crate::specs::Handlers::handler, crate::specs::Handlers::aim))]
+    #[tactic(auto, unfolding(crate::specs::Handler::handler, crate::specs::Handler::aim))]
     fn parse(parser: &mut Parser<'a>) -> Result<Self> {
         parser.open()?;
         parser.keyword("on")?;
@@ -134,7 +135,7 @@ impl<'a> Parse<'a> for ResumeTable<'a> {
 
     ghost grammar = { resume_table };
 
-    #[tactic(auto, using(crate::specs::Handlers::handler_eats), unfolding(crate::specs::Handlers::resume_table))]
+    #[tactic(auto, using(crate::specs::Laws::Handlers::handler_eats), unfolding(crate::specs::Handlers::resume_table))]
     fn parse(parser: &mut Parser<'a>) -> Result<Self> {
         let mut handlers = Vec::new(parser.alloc());
         while_begun::<Handle>(parser, &mut handlers)?;

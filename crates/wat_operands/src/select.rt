@@ -2,7 +2,8 @@
 
 ghost use Rattle.std.specs.Prelude.{◌≡◌, false, List, Option};
 ghost use Rattle.wat_tokens.specs.Copies.{Copies};
-ghost use Rattle.wat_operands.specs.Select.{seen_select, bare_select, result_group, result_follows, select_types, SameTypes};
+ghost use Rattle.wat_operands.specs.Select.{seen_select, bare_select, result_follows, select_types, SameTypes};
+ghost use Rattle.wat_operands.specs.ResultGroup.{result_group};
 ghost use Rattle.wat_types.specs.Value.{ValTy, seen_val};
 
 use wat_tokens::repeat::{Group, groups, rest_of_group};
@@ -33,7 +34,7 @@ impl<'a> Group<'a, ValType<'a>> for ResultGroup {
         parser.second_is("result")
     }
 
-    #[tactic(auto, using(wat_types::specs::Value::val_type_eats), unfolding(wat_types::specs::Group::val_types))]
+    #[tactic(auto, using(wat_types::specs::Laws::Value::val_type_eats), unfolding(wat_types::specs::Group::val_types))]
     fn take(parser: &mut Parser<'a>, out: &mut Vec<ValType<'a>>) -> Result<()> {
         parser.open()?;
         parser.keyword("result")?;
@@ -73,7 +74,7 @@ impl<'a> Parse<'a> for SelectTypes<'a> {
 
     ghost grammar = { select_types };
 
-    #[tactic(auto, using(wat_tokens::specs::Joined::joined_reads, crate::specs::Select::result_group_eats), unfolding(crate::specs::Select::select_types))]
+    #[tactic(auto, using(wat_tokens::specs::Laws::Joined::joined_reads, crate::specs::Laws::Select::result_group_eats), unfolding(crate::specs::Select::select_types))]
     fn parse(parser: &mut Parser<'a>) -> Result<Self> {
         if !ResultGroup::follows(parser) {
             return Ok(SelectTypes { tys: None });

@@ -1,12 +1,12 @@
 -- A head that stands behind what follows it.
 use Rattle.std.proofs.Common.{List, [], ◌∷◌, refl}
-use Rattle.wat_tokens.specs.Filled.{filled_behind}
+use Rattle.wat_tokens.specs.Laws.Filled.{filled_behind}
 use Rattle.wat_tokens.specs.Parses.{NotBare}
-use Rattle.wat_tokens.specs.Production.{by_read}
+use Rattle.wat_tokens.specs.Laws.Production.{by_read}
 use Rattle.wat_tokens.specs.Token.{Tok}
 use Rattle.wat_instr.specs.Instruction.{instruction}
 use Rattle.wat_expr.specs.Expression.{bare_expression}
-use Rattle.wat_expr.specs.Reading.{expression}
+use Rattle.wat_expr.specs.ExpressionProduction.{expression}
 use Rattle.wat_segments.specs.Offset.{head_last}
 
 -- what is read with a head has an instruction

@@ -1,27 +1,30 @@
 -- Texts as tokens, and the fields that they spell: what is read of them.
 use Rattle.std.proofs.Common.{◌≡◌, List, [], ◌∷◌, Some, None, refl}
 use Rattle.std.specs.Prelude.{codes}
-use Rattle.wat_tokens.specs.Many.{many_at, many_reads}
+use Rattle.wat_tokens.specs.ManySpells.{many_at, many_reads}
 use Rattle.wat_tokens.specs.NameAnnotation.{name_annotation}
 use Rattle.wat_tokens.specs.Number.{read}
-use Rattle.wat_tokens.specs.Spelled.{spelled}
+use Rattle.wat_tokens.specs.Laws.Spelled.{spelled}
 use Rattle.wat_tokens.specs.Token.{Tok, Keyword, RParen}
 use Rattle.wat_types.specs.Exponent.{exponent}
-use Rattle.wat_types.specs.Function.{func_groups, function_groups}
+use Rattle.wat_types.specs.Function.{function_groups}
+use Rattle.wat_types.specs.FunctionSpells.{func_groups}
 use Rattle.wat_types.specs.Label.{label}
 use Rattle.wat_types.specs.Limits.{is_64, limits_type, page_exponent, pagesize, pagesize_or_none, memory_type}
 use Rattle.wat_types.specs.Use.{type_use}
 use Rattle.wat_links.specs.Export.{inline_export}
 use Rattle.wat_links.specs.Head.{head}
-use Rattle.wat_mnemonics.specs.Word.{head_of, head_of_word}
+use Rattle.wat_mnemonics.specs.Word.{head_of}
+use Rattle.wat_mnemonics.specs.Laws.Word.{head_of_word}
 use Rattle.wat_mnemonics.specs.declared.head.Head.TheVariants as word
 use Rattle.wat_mnemonics.specs.declared.indexed.BlockOp.TheVariants as block
 use Rattle.wat_operands.specs.Block.{block_type}
 use Rattle.wat_instr.specs.Instruction.{instruction}
 use Rattle.wat_instr.specs.Operand.{operand}
-use Rattle.wat_expr.specs.Alone.{nop_read}
+use Rattle.wat_expr.specs.Laws.Alone.{nop_read}
 use Rattle.wat_segments.specs.Data.{data_memory, data_active, data_kind, data_segment}
-use Rattle.wat_segments.specs.DataVal.{data_val, data_vals}
+use Rattle.wat_segments.specs.DataVal.{data_val}
+use Rattle.wat_segments.specs.DataVals.{data_vals}
 use Rattle.wat_segments.specs.Memory.{inline_memory, memory_kind, memory}
 use Rattle.wat_segments.specs.Numbers.{wide_numbers, number_list}
 use Rattle.wat_segments.specs.Offset.{head_last, offset_inside}

@@ -3,16 +3,16 @@ use Rattle.std.specs.Prelude.{Bool, true, not, ◌&&◌, List, ◌∷◌, codes,
 use Rattle.wat_tokens.specs.Token.{Tok, RParen, String}
 use Rattle.wat_tokens.specs.Tests.{begins_word, begins_integer, second}
 use Rattle.wat_tokens.specs.Production.{Production}
-use Rattle.wat_tokens.specs.Parts.{seq, made, where_else, opt}
+use Rattle.wat_tokens.specs.Parts.{seq, made, where_else, opt, after_word}
 use Rattle.wat_tokens.specs.Groups.{group, paren}
 use Rattle.wat_tokens.specs.Index.{Idx, number, seen_index, index}
 use Rattle.wat_tokens.specs.Integers.{unsigned}
 use Rattle.wat_tokens.specs.Parses.{no_items}
-use Rattle.wat_types.specs.Define.{behind}
 use Rattle.wat_types.specs.Label.{Label, seen_label, label}
 use Rattle.wat_expr.specs.Expression.{Expr, seen_expression, bare_expression}
 use Rattle.wat_segments.specs.Numbers.{begins_numbers}
-use Rattle.wat_segments.specs.DataVal.{DataValTy, seen_vals, data_vals}
+use Rattle.wat_segments.specs.DataVal.{DataValTy, seen_vals}
+use Rattle.wat_segments.specs.DataVals.{data_vals}
 use Rattle.wat_segments.specs.Offset.{offset_inside}
 use Rattle.wat_segments.specs.declared.data.Data.{Data}
 use Rattle.wat_segments.specs.declared.data.DataKind.{DataKind}
@@ -78,4 +78,4 @@ data_kind = made (λ k. unwrap_or k passive) (opt (λ t. not (begins_passive t))
 
 -- `data id? name?`, a kind, and DataVal*, to the end
 unfoldable pub data_segment : Production DataTy
-data_segment = behind (codes "data") (made (λ v. data_of v.0 v.1.0 v.1.1) (seq label (seq data_kind data_vals)))
+data_segment = after_word (codes "data") (made (λ v. data_of v.0 v.1.0 v.1.1) (seq label (seq data_kind data_vals)))

@@ -1,14 +1,11 @@
 -- Values of data segments.
-use Rattle.std.specs.Prelude.{◌≤◌, ℕ, Bool, true, List, map}
-use Rattle.std.proofs.Common.{arith}
-use Rattle.wat_tokens.specs.Tests.{more}
+use Rattle.std.specs.Prelude.{ℕ, Bool, true, List, map}
+use Rattle.wat_tokens.specs.Tests.{begins_lparen}
 use Rattle.wat_tokens.specs.Production.{Production}
 use Rattle.wat_tokens.specs.Parts.{made, where_else}
-use Rattle.wat_tokens.specs.Many.{many}
 use Rattle.wat_tokens.specs.Groups.{paren}
 use Rattle.wat_tokens.specs.Parses.{no_items}
 use Rattle.wat_tokens.specs.Strings.{string}
-use Rattle.wat_customs.specs.Raw.{begins_lparen}
 use Rattle.wat_segments.specs.Numbers.{number_list}
 use Rattle.wat_segments.specs.declared.data_val.DataVal.{DataVal}
 use Rattle.wat_segments.specs.declared.data_val.DataVal.TheVariants as code
@@ -42,11 +39,3 @@ bare_val (numbers bs) = no_items bs
 -- where `(` comes next, ( numbers ); else bytes
 unfoldable pub data_val : Production DataValTy
 data_val = where_else begins_lparen (made numbers (paren number_list)) (made written string)
-
-pub data_val_eats : 1 ≤ data_val.least
-unfolding data_val
-data_val_eats = omega arith
-
--- DataVal*, to the end
-unfoldable pub data_vals : Production (List DataValTy)
-data_vals = many more data_val data_val_eats

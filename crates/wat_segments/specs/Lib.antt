@@ -1,8 +1,11 @@
 pub use Rattle.wat_types.specs.Production
 pub use Rattle.wat_expr.specs.Expression
-pub mod Numbers
-pub mod DataVal
-pub mod Offset
 pub mod Data
+pub mod DataVal
+pub mod DataVals
+pub mod Laws
 pub mod Memory
+pub mod Numbers
+pub mod Offset
 pub mod Rows
+pub mod VectorBytes

@@ -1,20 +1,19 @@
 -- Memories.
 use Rattle.std.specs.Prelude.{ℕ, Bool, true, ◌&&◌, ◌||◌, List, codes, Option}
 use Rattle.wat_tokens.specs.Token.{Tok}
-use Rattle.wat_tokens.specs.Tests.{begins_word, second}
+use Rattle.wat_tokens.specs.Tests.{begins_word, second, begins_lparen}
 use Rattle.wat_tokens.specs.Production.{Production}
-use Rattle.wat_tokens.specs.Parts.{seq, made, where_else}
+use Rattle.wat_tokens.specs.Parts.{seq, made, where_else, after_word}
 use Rattle.wat_tokens.specs.Groups.{group}
 use Rattle.wat_tokens.specs.Parses.{no_items}
-use Rattle.wat_types.specs.Define.{behind}
 use Rattle.wat_types.specs.Label.{seen_label}
 use Rattle.wat_types.specs.Limits.{is_64, pagesize_or_none, memory_type}
 use Rattle.wat_types.specs.declared.limits.MemoryType.{MemoryType}
-use Rattle.wat_customs.specs.Raw.{begins_lparen}
 use Rattle.wat_links.specs.Export.{seen_inline_export}
 use Rattle.wat_links.specs.Head.{HeadTy, head_of, bare_head, head}
 use Rattle.wat_links.specs.Import.{seen_inline_import, inline_import, begins_inline_import}
-use Rattle.wat_segments.specs.DataVal.{DataValTy, seen_vals, data_vals}
+use Rattle.wat_segments.specs.DataVal.{DataValTy, seen_vals}
+use Rattle.wat_segments.specs.DataVals.{data_vals}
 use Rattle.wat_segments.specs.declared.memory.Memory.{Memory}
 use Rattle.wat_segments.specs.declared.memory.MemoryKind.{MemoryKind}
 use Rattle.wat_segments.specs.declared.memory.MemoryKind.TheVariants as code
@@ -72,4 +71,4 @@ memory_kind =
 
 -- `memory` head, and a kind
 unfoldable pub memory : Production MemoryTy
-memory = behind (codes "memory") (made (λ v. memory_of v.0 v.1) (seq head memory_kind))
+memory = after_word (codes "memory") (made (λ v. memory_of v.0 v.1) (seq head memory_kind))

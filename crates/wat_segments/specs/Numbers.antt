@@ -5,12 +5,12 @@ use Rattle.std.proofs.Common.{lit≤}
 use Rattle.wat_tokens.specs.Token.{Tok}
 use Rattle.wat_tokens.specs.Tests.{begins_word, begins_group, more}
 use Rattle.wat_tokens.specs.Production.{Production}
-use Rattle.wat_tokens.specs.Parts.{made, where_else}
+use Rattle.wat_tokens.specs.Parts.{made, where_else, after_word}
 use Rattle.wat_tokens.specs.Joined.{joined}
 use Rattle.wat_tokens.specs.Integers.{signed}
 use Rattle.wat_tokens.specs.Floats.{none}
-use Rattle.wat_types.specs.Define.{behind}
-use Rattle.wat_immediates.specs.Vector.{two, four, eight, sixteen, float_const, wide_const, v128_const, bytes_of}
+use Rattle.wat_segments.specs.VectorBytes.{vector_as_bytes}
+use Rattle.wat_segments.specs.Laws.Numbers.{vector_eats}
 
 -- ---- one number, as its bytes, the lowest first
 
@@ -26,19 +26,11 @@ integer_as_bytes w n = made (integer_bytes w) (signed n)
 abbrev pub float_as_bytes : Width → Production (List ℕ)
 float_as_bytes w = made (to_le_bytes w) none
 
--- V128Const, as the bytes of its lanes
-abbrev pub vector_as_bytes : Production (List ℕ)
-vector_as_bytes = made bytes_of v128_const
-
-pub vector_eats : 1 ≤ vector_as_bytes.least
-unfolding v128_const wide_const float_const two four eight sixteen
-vector_eats = lit≤ tt
-
 -- ---- the word of a kind, and numbers of it to the end
 
 -- w g*, to the end, as all their bytes in order
 abbrev pub all_behind : List ℕ → (g : Production (List ℕ)) → 1 ≤ g.least → Production (List ℕ)
-all_behind w g eats = behind w (joined more g eats)
+all_behind w g eats = after_word w (joined more g eats)
 
 -- `v128` V128Const* | `f32`, and `f64`, with no number, since none has a spelling
 unfoldable pub other_numbers : Production (List ℕ)

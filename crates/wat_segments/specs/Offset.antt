@@ -2,11 +2,10 @@
 use Rattle.std.specs.Prelude.{[], ◌∷◌, ◌++◌, codes}
 use Rattle.wat_tokens.specs.Tests.{begins_word}
 use Rattle.wat_tokens.specs.Production.{Production}
-use Rattle.wat_tokens.specs.Parts.{seq, made, where_else}
-use Rattle.wat_types.specs.Define.{behind}
+use Rattle.wat_tokens.specs.Parts.{seq, made, where_else, after_word}
 use Rattle.wat_instr.specs.Instruction.{Instr, instruction}
 use Rattle.wat_expr.specs.Expression.{Expr}
-use Rattle.wat_expr.specs.Reading.{expression}
+use Rattle.wat_expr.specs.ExpressionProduction.{expression}
 
 -- the instruction behind those of the expression
 abbrev pub head_behind : Instr → Expr → Expr
@@ -18,4 +17,4 @@ head_last = made (λ v. head_behind v.0 v.1) (seq instruction expression)
 
 -- `offset` Expression, where `offset` comes next; else the sugar, an instruction and items
 unfoldable pub offset_inside : Production Expr
-offset_inside = where_else (begins_word (codes "offset")) (behind (codes "offset") expression) head_last
+offset_inside = where_else (begins_word (codes "offset")) (after_word (codes "offset") expression) head_last

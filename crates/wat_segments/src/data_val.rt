@@ -1,10 +1,11 @@
 //! Values of data segments.
 
 ghost use Rattle.std.specs.Prelude.{◌≡◌, ◌+◌, ◌++◌, length, false, IfOk, IfErr, MatchResult};
-ghost use Rattle.wat_customs.specs.Raw.{begins_lparen};
+ghost use Rattle.wat_tokens.specs.Tests.{begins_lparen};
 ghost use Rattle.wat_tokens.specs.Parses.{no_items};
 ghost use Rattle.wat_tokens.specs.Reads.{Reads};
-ghost use Rattle.wat_segments.specs.DataVal.{DataValTy, bytes_in, seen_val, seen_vals, bare_val, data_val, data_vals};
+ghost use Rattle.wat_segments.specs.DataVal.{DataValTy, bytes_in, seen_val, seen_vals, bare_val, data_val};
+ghost use Rattle.wat_segments.specs.DataVals.{data_vals};
 
 use crate::numbers::{append, read_numbers};
 use wat_tokens::repeat::all_to_end;
@@ -97,7 +98,7 @@ impl<'a> Parse<'a> for DataVal<'a> {
 }
 
 /// Values, to the end.
-#[tactic(auto, using(crate::specs::DataVal::data_val_eats), unfolding(crate::specs::DataVal::data_vals))]
+#[tactic(auto, using(crate::specs::Laws::DataVal::data_val_eats), unfolding(crate::specs::DataVals::data_vals))]
 pub(crate) fn read_vals<'a>(parser: &mut Parser<'a>) -> Result<Vec<DataVal<'a>>>
     ensures reads { Reads no_items (λ v. seen_vals v.items) result
         (data_vals.reads parser.old.left) parser.old parser.new }

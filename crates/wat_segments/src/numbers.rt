@@ -5,7 +5,8 @@ ghost use Rattle.std.specs.Int.{w8, w16, w32, w64};
 ghost use Rattle.wat_tokens.specs.Parses.{no_items};
 ghost use Rattle.wat_tokens.specs.Reads.{Reads};
 ghost use Rattle.wat_tokens.specs.Tests.{more};
-ghost use Rattle.wat_segments.specs.Numbers.{integer_as_bytes, float_as_bytes, vector_as_bytes, other_numbers, wide_numbers, number_list, begins_integers, begins_numbers};
+ghost use Rattle.wat_segments.specs.Numbers.{integer_as_bytes, float_as_bytes, other_numbers, wide_numbers, number_list, begins_integers, begins_numbers};
+ghost use Rattle.wat_segments.specs.VectorBytes.{vector_as_bytes};
 
 use wat_immediates::V128Const;
 use wat_tokens::repeat::{Group, all_groups};
@@ -38,7 +39,7 @@ impl<'a> Group<'a, u8> for I8Bytes {
         !parser.is_empty()
     }
 
-    #[tactic(auto, using(crate::proofs::Bytes::bytes_again, wat_tokens::specs::Filled::filled_behind))]
+    #[tactic(auto, using(crate::proofs::Bytes::bytes_again, wat_tokens::specs::Laws::Filled::filled_behind))]
     fn take(parser: &mut Parser<'a>, out: &mut Vec<u8>) -> Result<()> {
         let number = i8::parse(parser)?;
         append(out, &number.cast_unsigned().to_le_bytes())
@@ -61,7 +62,7 @@ impl<'a> Group<'a, u8> for I16Bytes {
         !parser.is_empty()
     }
 
-    #[tactic(auto, using(crate::proofs::Bytes::bytes_again, wat_tokens::specs::Filled::filled_behind))]
+    #[tactic(auto, using(crate::proofs::Bytes::bytes_again, wat_tokens::specs::Laws::Filled::filled_behind))]
     fn take(parser: &mut Parser<'a>, out: &mut Vec<u8>) -> Result<()> {
         let number = i16::parse(parser)?;
         append(out, &number.cast_unsigned().to_le_bytes())
@@ -84,7 +85,7 @@ impl<'a> Group<'a, u8> for I32Bytes {
         !parser.is_empty()
     }
 
-    #[tactic(auto, using(crate::proofs::Bytes::bytes_again, wat_tokens::specs::Filled::filled_behind))]
+    #[tactic(auto, using(crate::proofs::Bytes::bytes_again, wat_tokens::specs::Laws::Filled::filled_behind))]
     fn take(parser: &mut Parser<'a>, out: &mut Vec<u8>) -> Result<()> {
         let number = i32::parse(parser)?;
         append(out, &number.cast_unsigned().to_le_bytes())
@@ -107,7 +108,7 @@ impl<'a> Group<'a, u8> for I64Bytes {
         !parser.is_empty()
     }
 
-    #[tactic(auto, using(crate::proofs::Bytes::bytes_again, wat_tokens::specs::Filled::filled_behind))]
+    #[tactic(auto, using(crate::proofs::Bytes::bytes_again, wat_tokens::specs::Laws::Filled::filled_behind))]
     fn take(parser: &mut Parser<'a>, out: &mut Vec<u8>) -> Result<()> {
         let number = i64::parse(parser)?;
         append(out, &number.cast_unsigned().to_le_bytes())
@@ -130,7 +131,7 @@ impl<'a> Group<'a, u8> for F32Bytes {
         !parser.is_empty()
     }
 
-    #[tactic(auto, using(crate::proofs::Bytes::bytes_again, wat_tokens::specs::Filled::filled_behind))]
+    #[tactic(auto, using(crate::proofs::Bytes::bytes_again, wat_tokens::specs::Laws::Filled::filled_behind))]
     fn take(parser: &mut Parser<'a>, out: &mut Vec<u8>) -> Result<()> {
         let number = F32::parse(parser)?;
         append(out, &number.bits.to_le_bytes())
@@ -153,7 +154,7 @@ impl<'a> Group<'a, u8> for F64Bytes {
         !parser.is_empty()
     }
 
-    #[tactic(auto, using(crate::proofs::Bytes::bytes_again, wat_tokens::specs::Filled::filled_behind))]
+    #[tactic(auto, using(crate::proofs::Bytes::bytes_again, wat_tokens::specs::Laws::Filled::filled_behind))]
     fn take(parser: &mut Parser<'a>, out: &mut Vec<u8>) -> Result<()> {
         let number = F64::parse(parser)?;
         append(out, &number.bits.to_le_bytes())
@@ -176,7 +177,7 @@ impl<'a> Group<'a, u8> for V128Bytes {
         !parser.is_empty()
     }
 
-    #[tactic(auto, using(crate::proofs::Bytes::bytes_again, wat_tokens::specs::Filled::filled_behind))]
+    #[tactic(auto, using(crate::proofs::Bytes::bytes_again, wat_tokens::specs::Laws::Filled::filled_behind))]
     fn take(parser: &mut Parser<'a>, out: &mut Vec<u8>) -> Result<()> {
         let constant = V128Const::parse(parser)?;
         append(out, &constant.to_le_bytes())
@@ -184,7 +185,7 @@ impl<'a> Group<'a, u8> for V128Bytes {
 }
 
 /// `f32` and `f64`, behind which no number can be read, or `v128` and constants.
-#[tactic(auto, using(wat_tokens::specs::Joined::joined_reads, crate::specs::Numbers::vector_eats, crate::proofs::Bytes::bytes_again), unfolding(crate::specs::Numbers::other_numbers))]
+#[tactic(auto, using(wat_tokens::specs::Laws::Joined::joined_reads, crate::specs::Laws::Numbers::vector_eats, crate::proofs::Bytes::bytes_again), unfolding(crate::specs::Numbers::other_numbers))]
 fn read_other<'a>(parser: &mut Parser<'a>) -> Result<Vec<u8>>
     ensures reads { Reads no_items (λ v. v.items) result
         (other_numbers.reads parser.old.left) parser.old parser.new }
@@ -202,7 +203,7 @@ fn read_other<'a>(parser: &mut Parser<'a>) -> Result<Vec<u8>>
 }
 
 /// `i32` or `i64` and integers of so many bits, or other numbers.
-#[tactic(auto, using(wat_tokens::specs::Joined::joined_reads, crate::proofs::Bytes::bytes_again), unfolding(crate::specs::Numbers::wide_numbers))]
+#[tactic(auto, using(wat_tokens::specs::Laws::Joined::joined_reads, crate::proofs::Bytes::bytes_again), unfolding(crate::specs::Numbers::wide_numbers))]
 fn read_wide<'a>(parser: &mut Parser<'a>) -> Result<Vec<u8>>
     ensures reads { Reads no_items (λ v. v.items) result
         (wide_numbers.reads parser.old.left) parser.old parser.new }
@@ -223,7 +224,7 @@ fn read_wide<'a>(parser: &mut Parser<'a>) -> Result<Vec<u8>>
 /// An integer is read with a sign: it is refused with Range, at the integer, where it is out of
 /// range. A number behind `f32` or `f64` is refused with FloatLiteral, and another word in front
 /// with Unexpected, at the word.
-#[tactic(auto, using(wat_tokens::specs::Joined::joined_reads, crate::proofs::Bytes::bytes_again), unfolding(crate::specs::Numbers::number_list))]
+#[tactic(auto, using(wat_tokens::specs::Laws::Joined::joined_reads, crate::proofs::Bytes::bytes_again), unfolding(crate::specs::Numbers::number_list))]
 pub(crate) fn read_numbers<'a>(parser: &mut Parser<'a>) -> Result<Vec<u8>>
     ensures reads { Reads no_items (λ v. v.items) result
         (number_list.reads parser.old.left) parser.old parser.new }

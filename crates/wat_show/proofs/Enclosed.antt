@@ -5,10 +5,12 @@ use Rattle.std.proofs.lemmas.Bool.{cases_Bool}
 use Rattle.wat_core.specs.Module.{ModuleTy, module_}
 use Rattle.wat_show.specs.Whole.{IsModule, SpelledModule}
 use Rattle.wat_tokens.specs.Cut.{IsCut}
-use Rattle.wat_tokens.specs.Parts.{one_reads}
-use Rattle.wat_tokens.specs.Production.{Front, some_is}
+use Rattle.wat_tokens.specs.PartSpells.{one_reads}
+use Rattle.wat_tokens.specs.Production.{Front}
+use Rattle.wat_tokens.specs.Laws.Production.{some_is}
 use Rattle.wat_tokens.specs.Sight.{hides, annotated, annotation_name, is_standard, shuts, deeper, visible, as_seen, hidden_at, hidden}
-use Rattle.wat_tokens.specs.State.{State, IsFresh, behind, behind_then, lit}
+use Rattle.wat_tokens.specs.State.{State, IsFresh, behind, lit}
+use Rattle.wat_tokens.specs.Laws.State.{behind_then}
 use Rattle.wat_tokens.specs.Tests.{is_lparen, ends}
 use Rattle.wat_tokens.specs.Token.{Tok, Placed, LParen, RParen, tokens_of}
 

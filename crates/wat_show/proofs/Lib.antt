@@ -1,4 +1,5 @@
 pub mod Enclosed
-pub mod Showing
+pub mod InstructionText
 pub mod Lines
 pub mod Lists
+pub mod Showing

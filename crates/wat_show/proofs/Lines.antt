@@ -10,8 +10,9 @@ use Rattle.wat_expr.specs.declared.expression.Expression.{Expression}
 use Rattle.wat_instr.specs.Instruction.{Instr, Instruction, head_in, operand_in, seen_instruction}
 use Rattle.wat_mnemonics.specs.Heads.{head_word}
 use Rattle.wat_show.specs.Expressions.{hint_at, line, lines, AreMarks, lines_of}
-use Rattle.wat_show.specs.Instructions.{instr_text, instruction_text, shown_operand}
-use Rattle.wat_tokens.specs.Production.{by_test}
+use Rattle.wat_show.specs.Instructions.{instr_text, shown_operand}
+use Rattle.wat_show.proofs.InstructionText.{instruction_text}
+use Rattle.wat_tokens.specs.Laws.Production.{by_test}
 
 -- one more hint behind the others has an index that none of them has
 pub hint_more : (hs : List (ℕ × ℕ)) (h : ℕ × ℕ) (k : ℕ) → hint_at hs k ≡ None → hint_at (hs ++ h ∷ []) k ≡ (if h.0 == k then Some h.1 else None)

@@ -1,8 +1,8 @@
 -- The modes of the program, and what it writes in each.
 use Rattle.std.specs.Prelude.{ℕ, List, Option, Some, None, codes, if◌then◌else◌}
 use Rattle.std.specs.Str.{bytes_eq}
-use Rattle.wat_expr.specs.Folded.{folded_instruction}
-use Rattle.wat_expr.specs.Reading.{expression}
+use Rattle.wat_expr.specs.FoldedProduction.{folded_instruction}
+use Rattle.wat_expr.specs.ExpressionProduction.{expression}
 use Rattle.wat_show.specs.Expressions.{expression_text}
 use Rattle.wat_show.specs.Listing.{function_text}
 use Rattle.wat_show.specs.Modules.{module_text}

@@ -3,8 +3,8 @@
 ghost use Rattle.std.specs.Prelude.{◌≡◌, ◌≢◌, ◌++◌, ℕ, List, OnOk, IfOk, IfErr};
 ghost use Rattle.wat_core.specs.Module.{ModuleTy, seen_module};
 ghost use Rattle.wat_expr.specs.Expression.{Expr, seen_expression};
-ghost use Rattle.wat_expr.specs.Folded.{folded_instruction};
-ghost use Rattle.wat_expr.specs.Reading.{expression};
+ghost use Rattle.wat_expr.specs.FoldedProduction.{folded_instruction};
+ghost use Rattle.wat_expr.specs.ExpressionProduction.{expression};
 ghost use Rattle.wat_show.specs.Expressions.{expression_text};
 ghost use Rattle.wat_show.specs.Listing.{function_text};
 ghost use Rattle.wat_show.specs.Modules.{module_text};

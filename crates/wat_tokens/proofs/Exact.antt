@@ -1,12 +1,15 @@
 -- What follows from an answer that is exactly what is read.
-use Rattle.std.proofs.Common.{◌≡◌, ◌≢◌, Bool, true, false, ℕ, zero, suc, List, [], ◌∷◌, length, ◌++◌, Some, None, Result, Ok, Err, refl, sym, ap, ◌∙◌, subst}
+use Rattle.std.proofs.Common.{◌≡◌, ◌≢◌, Bool, true, ℕ, zero, suc, List, ◌∷◌, length, ◌++◌, Some, None, Result, Ok, Err, refl, sym, ap, ◌∙◌}
 use Rattle.std.specs.Prelude.{IfErr}
 use Rattle.wat_lexer.specs.Token.{Tok}
-use Rattle.wat_tokens.specs.Error.{Error, Fault, Memory}
-use Rattle.wat_tokens.specs.Filled.{filled_behind}
-use Rattle.wat_tokens.specs.Many.{after_front, many_at, many_reads}
+use Rattle.wat_tokens.specs.Error.{Error, Memory}
+use Rattle.wat_tokens.specs.Many.{after_front}
 use Rattle.wat_tokens.specs.Parses.{Gives, Accepts, NotBare, no_items}
-use Rattle.wat_tokens.specs.Production.{Production, Read, bind, by_read, some_is}
+use Rattle.wat_tokens.specs.Production.{Production, Read, bind}
+use Rattle.wat_tokens.specs.Laws.Production.{some_is, by_read}
+use Rattle.wat_tokens.specs.Laws.Error.{by_fault}
+use Rattle.wat_tokens.specs.Laws.Filled.{filled_behind}
+use Rattle.wat_tokens.specs.ManySpells.{many_at, many_reads}
 
 pub gives_refused : {X A : Type 0} (light : Bool) (bare : A → Bool) (view : X → A) (g : Production A) (res : Result X Error) (t left : List Tok) → Gives light bare view res (g.reads t) left
     → IfErr res (λ e. e.fault ≢ Memory → (v : A) (c r : List Tok) → t ≡ c ++ r → g.spells v c r → ⊥)
@@ -15,10 +18,6 @@ gives_refused light bare view g (Err e) t left h = λ not v c r whole s.
     (let read : g.reads t ≡ Some (v, r) = ap (λ (u : List Tok). g.reads u) whole ∙ g.complete v c r s in
     let none : g.reads t ≡ None = h.0 not in
     cc)
-
-by_fault : {P : Type 0} (f : Fault) → (f ≡ Memory → P) → (f ≢ Memory → P) → P
-by_fault Memory is not = is refl
-by_fault _ is not = not (λ e. cc)
 
 pub gives_accepts : {X A : Type 0} (light : Bool) (bare : A → Bool) (view : X → A) (g : Production A) (res : Result X Error) (t left : List Tok) → Gives light bare view res (g.reads t) left
     → (v : A) (c r : List Tok) → t ≡ c ++ r → g.spells v c r → Accepts view bare res v left r

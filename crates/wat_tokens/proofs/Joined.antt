@@ -1,9 +1,12 @@
 -- Where a group that was read left something, the groups together are no list without parts.
 use Rattle.std.proofs.Common.{◌≡◌, ◌≤◌, Bool, true, false, List, [], ◌∷◌, ◌++◌, Some, None, refl}
 use Rattle.wat_lexer.specs.Token.{Tok}
-use Rattle.wat_tokens.specs.Production.{Production, Read, by_read}
-use Rattle.wat_tokens.specs.Parts.{with_rest}
-use Rattle.wat_tokens.specs.Many.{many_reads, add_all, add_read, adding_goes_on, adding_fails}
+use Rattle.wat_tokens.specs.Production.{Production, Read}
+use Rattle.wat_tokens.specs.Laws.Production.{by_read}
+use Rattle.wat_tokens.specs.PartSpells.{with_rest}
+use Rattle.wat_tokens.specs.ManySpells.{many_reads}
+use Rattle.wat_tokens.specs.Adding.{add_all, add_read}
+use Rattle.wat_tokens.specs.Laws.Many.{adding_goes_on, adding_fails}
 use Rattle.wat_tokens.specs.Parses.{NotBare, no_items}
 use Rattle.wat_tokens.specs.Joined.{join, joined_behind}
 

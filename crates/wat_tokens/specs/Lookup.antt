@@ -4,7 +4,7 @@ use Rattle.wat_lexer.specs.Token.{Tok}
 use Rattle.wat_lexer.specs.Sight.{as_seen}
 use Rattle.wat_lexer.specs.View.{view, toks}
 use Rattle.wat_lexer.specs.declared.token.Token.{Token}
-use Rattle.wat_tokens.specs.Parts.{one_reads}
+use Rattle.wat_tokens.specs.PartSpells.{one_reads}
 use Rattle.wat_tokens.specs.declared.cursor.Cursor.{Cursor}
 
 -- the tokens that a lookup sees

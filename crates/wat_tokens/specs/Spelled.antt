@@ -1,5 +1,5 @@
 -- Facts of texts: what their tokens spell.
-use Rattle.std.specs.Prelude.{◌≡◌, List, [], ◌∷◌, ◌++◌, Some}
+use Rattle.std.specs.Prelude.{List, [], ◌∷◌, ◌++◌}
 use Rattle.wat_lexer.specs.Token.{Tok, LParen, RParen}
 use Rattle.wat_tokens.specs.Production.{Production, Front}
 
@@ -10,6 +10,3 @@ in_parens ts = LParen ∷ (ts ++ RParen ∷ [])
 -- the tokens spell the value, to the last one
 abbrev pub Spelled : {A : Type 0} → Production A → List Tok → A → Type 0
 Spelled g ts v = Front g.spells ts (v, [])
-
-pub spelled : {A : Type 0} (g : Production A) (ts : List Tok) (v : A) → g.reads ts ≡ Some (v, []) → Spelled g ts v
-spelled g ts v e = g.sound ts (v, []) e

@@ -108,3 +108,8 @@ more t = not (ends t)
 abbrev pub second : (List Tok → Bool) → List Tok → Bool
 second test [] = false
 second test (x ∷ r) = test r
+
+-- a `(` in front
+abbrev pub begins_lparen : List Tok → Bool
+begins_lparen (LParen ∷ r) = true
+begins_lparen _ = false

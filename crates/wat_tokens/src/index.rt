@@ -6,7 +6,8 @@ ghost use Rattle.std.specs.Cmp.Lexicographic.{bytes_decides, nat_list_eq_equiv};
 ghost use Rattle.std.specs.Hash as fed;
 ghost use Rattle.std.specs.Str.{bytes_eq};
 ghost use Rattle.std.proofs.Common.{ap};
-ghost use Rattle.wat_tokens.specs.Index.{name_of, span_of, identifier, Idx, seen_index, index, begins_index, same_index, same_index_decides, index_writes};
+ghost use Rattle.wat_tokens.specs.Index.{name_of, span_of, identifier, Idx, seen_index, index, begins_index, same_index, index_writes};
+ghost use Rattle.wat_tokens.specs.Laws.Index.{same_index_decides};
 ghost use Rattle.wat_tokens.specs.Lookup.{front};
 ghost use Rattle.wat_tokens.specs.Tests.{begins_id};
 

@@ -10,7 +10,8 @@ ghost use Rattle.wat_lexer.specs.View.{toks, AreLeaps};
 ghost use Rattle.wat_tokens.specs.Counts.{Carries, Counted, Quiet, Kept};
 ghost use Rattle.wat_tokens.specs.Lookup.{front, FirstIs};
 ghost use Rattle.wat_tokens.specs.Error.{Error};
-ghost use Rattle.wat_tokens.specs.Parts.{one_reads, flag};
+ghost use Rattle.wat_tokens.specs.Parts.{flag};
+ghost use Rattle.wat_tokens.specs.PartSpells.{one_reads};
 ghost use Rattle.wat_tokens.specs.Reads.{ReadsLight, Unmoved, BehindOne};
 ghost use Rattle.wat_tokens.specs.State.{begun, IsFresh};
 ghost use Rattle.wat_tokens.specs.Tests.{is_lparen, is_rparen, is_keyword, is_id, is_integer, is_string, word_only, annotation_only, begins_word, begins_group, begins_annotation, none_left, ends, second};
@@ -141,7 +142,7 @@ impl<'a> Parser<'a> {
     }
 
     /// Counts one turn of a loop over the tokens, in `turns`. It takes no time.
-    #[tactic(auto, using(crate::specs::Counts::carries_still))]
+    #[tactic(auto, using(crate::proofs::CountSteps::carries_still))]
     pub fn tick(&mut self)
         ensures only { self.new ≡ record self.old { turns = self.old.turns + 1 } }
         ensures counts { Carries self.old self.new }
@@ -150,7 +151,7 @@ impl<'a> Parser<'a> {
     }
 
     /// Counts one comparison of a word with an entry of a table, in `probes`. It takes no time.
-    #[tactic(auto, using(crate::specs::Counts::carries_still))]
+    #[tactic(auto, using(crate::proofs::CountSteps::carries_still))]
     pub fn probe(&mut self)
         ensures only { self.new ≡ record self.old { probes = self.old.probes + 1 } }
         ensures counts { Carries self.old self.new }
@@ -167,7 +168,7 @@ impl<'a> Parser<'a> {
 
     /// Notes how many heads a stack holds: `held` becomes the greater of what it was and the
     /// number.
-    #[tactic(auto, using(crate::specs::Counts::carries_still))]
+    #[tactic(auto, using(crate::proofs::CountSteps::carries_still))]
     pub fn note_held(&mut self, heads: usize)
         ensures only { self.new ≡ record self.old { held = max self.old.held heads } }
         ensures counts { Carries self.old self.new }

@@ -4,7 +4,8 @@ ghost use Rattle.std.specs.Prelude.{◌≡◌, ◌≤◌, [], map, List, Bool, I
 ghost use Rattle.wat_lexer.specs.Token.{Tok};
 ghost use Rattle.wat_tokens.specs.Counts.{Counted, Quiet, Kept};
 ghost use Rattle.wat_tokens.specs.Joined.{joined_behind};
-ghost use Rattle.wat_tokens.specs.Many.{after_front, many_reads};
+ghost use Rattle.wat_tokens.specs.Many.{after_front};
+ghost use Rattle.wat_tokens.specs.ManySpells.{many_reads};
 ghost use Rattle.wat_tokens.specs.Parses.{Gives, no_items};
 ghost use Rattle.wat_tokens.specs.Production.{Production};
 ghost use Rattle.wat_tokens.specs.Reads.{ReadsIf};

@@ -1,10 +1,10 @@
 -- Where no value type begins, none is read.
 use Rattle.std.proofs.lemmas.Bool.{or_parts}
-use Rattle.std.proofs.Common.{◌≡◌, ℕ, Bool, true, false, List, [], ◌∷◌, Option, Some, None, refl}
+use Rattle.std.proofs.Common.{◌≡◌, ℕ, false, List, [], ◌∷◌, Option, Some, None, refl}
 use Rattle.std.specs.Prelude.{◌||◌, codes, is_some}
 use Rattle.wat_tokens.specs.Token.{Tok}
 use Rattle.wat_tokens.specs.Tests.{word_in, begins_group}
-use Rattle.wat_tokens.specs.Parts.{one_reads, with_rest}
+use Rattle.wat_tokens.specs.PartSpells.{one_reads, with_rest}
 use Rattle.wat_tokens.specs.Begin.{begins_one_of}
 use Rattle.wat_types.specs.Reference.{ref_type, shorthand, shorthand_words, begins_shorthand, begins_long_ref}
 use Rattle.wat_types.specs.Value.{plain_words, val_type, begins_plain, begins_val}

@@ -4,9 +4,12 @@ use Rattle.std.proofs.Common.{◌≡◌, Bool, true, false, List, [], ◌∷◌,
 use Rattle.std.specs.Prelude.{◌&&◌, codes}
 use Rattle.wat_tokens.specs.Token.{Tok, RParen}
 use Rattle.wat_tokens.specs.Tests.{is_lparen, is_rparen, begins_word}
-use Rattle.wat_tokens.specs.Production.{Read, by_read}
-use Rattle.wat_tokens.specs.Parts.{one_reads, word, flag}
-use Rattle.wat_tokens.specs.Many.{after_front, many_reads}
+use Rattle.wat_tokens.specs.Production.{Read}
+use Rattle.wat_tokens.specs.Laws.Production.{by_read}
+use Rattle.wat_tokens.specs.Parts.{word, flag}
+use Rattle.wat_tokens.specs.PartSpells.{one_reads}
+use Rattle.wat_tokens.specs.Many.{after_front}
+use Rattle.wat_tokens.specs.ManySpells.{many_reads}
 use Rattle.wat_tokens.specs.Index.{Idx, index, begins_index}
 use Rattle.wat_tokens.specs.Parses.{NotBare, no_items}
 use Rattle.wat_types.specs.Define.{DefTy, bare_kind, bare_def, described, maybe_shared, type_def}

@@ -3,14 +3,18 @@ use Rattle.std.proofs.Common.{◌≡◌, Bool, true, false, List, [], ◌∷◌,
 use Rattle.std.specs.Prelude.{◌&&◌}
 use Rattle.std.proofs.lemmas.List.{append-nil}
 use Rattle.wat_tokens.specs.Token.{Tok}
-use Rattle.wat_tokens.specs.Production.{Read, by_test, by_read}
-use Rattle.wat_tokens.specs.Parts.{with_rest}
-use Rattle.wat_tokens.specs.Many.{add_all, add_rest, add_read, adding_goes_on, adding_fails}
+use Rattle.wat_tokens.specs.Production.{Read}
+use Rattle.wat_tokens.specs.Laws.Production.{by_test, by_read}
+use Rattle.wat_tokens.specs.PartSpells.{with_rest}
+use Rattle.wat_tokens.specs.Adding.{add_all, add_rest, add_read}
+use Rattle.wat_tokens.specs.Laws.Many.{adding_goes_on, adding_fails}
 use Rattle.wat_tokens.specs.Parses.{NotBare, no_items}
 use Rattle.wat_types.specs.Value.{ValTy}
-use Rattle.wat_types.specs.Group.{ParamTy, Group, param, result, FuncTy, function_of, func_group, func_group_eats, group_follows}
+use Rattle.wat_types.specs.Group.{ParamTy, Group, param, result, FuncTy, function_of, func_group, group_follows}
+use Rattle.wat_types.specs.Laws.Group.{func_group_eats}
 use Rattle.wat_types.specs.Order.{add}
-use Rattle.wat_types.specs.Function.{bare_function, func_groups}
+use Rattle.wat_types.specs.Function.{bare_function}
+use Rattle.wat_types.specs.FunctionSpells.{func_groups}
 
 filled : {A B : Type 0} (xs ys : List A) (zs ws : List B) → (no_items xs && no_items zs) ≡ false → (no_items (xs ++ ys) && no_items (zs ++ ws)) ≡ false
 filled [] ys [] ws e = absurd cc

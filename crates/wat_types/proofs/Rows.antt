@@ -3,20 +3,23 @@ use Rattle.std.proofs.Common.{◌≡◌, List, [], ◌∷◌, ◌++◌, Some, re
 use Rattle.std.specs.Prelude.{codes}
 use Rattle.wat_tokens.specs.Token.{Tok, RParen, Keyword, Integer}
 use Rattle.wat_tokens.specs.NameAnnotation.{name_annotation}
-use Rattle.wat_tokens.specs.Spelled.{in_parens, Spelled, spelled}
-use Rattle.wat_tokens.specs.Many.{many_at, many_reads}
+use Rattle.wat_tokens.specs.Spelled.{in_parens, Spelled}
+use Rattle.wat_tokens.specs.Laws.Spelled.{spelled}
+use Rattle.wat_tokens.specs.ManySpells.{many_at, many_reads}
 use Rattle.wat_tokens.specs.Number.{read}
 use Rattle.wat_types.specs.Define.{kind, linked, described, maybe_shared, type_def, type_}
 use Rattle.wat_types.specs.Exponent.{exponent}
-use Rattle.wat_types.specs.Function.{function_type, func_groups, function_groups}
-use Rattle.wat_types.specs.Group.{plain_params, params, val_types, func_group, begins_func}
-use Rattle.wat_types.specs.Heap.{abstract_heap_type, heap_type}
+use Rattle.wat_types.specs.Function.{function_type, function_groups}
+use Rattle.wat_types.specs.FunctionSpells.{func_groups}
+use Rattle.wat_types.specs.Group.{plain_params, params, func_group, begins_func}
 use Rattle.wat_types.specs.Label.{label}
 use Rattle.wat_types.specs.Limits.{is_64, limits_type, page_exponent, pagesize, pagesize_or_none}
 use Rattle.wat_types.specs.Reference.{shorthand, ref_type}
 use Rattle.wat_types.specs.Rows.{PageSizes, Globals, LongLimits, FinalSub, OpenSub, Structure, Described, Uses}
 use Rattle.wat_types.specs.Storage.{storage_type, global_type}
-use Rattle.wat_types.specs.Struct.{field_type, plain_members, members, member_group, struct_type}
+use Rattle.wat_types.specs.Struct.{plain_members, members, member_group}
+use Rattle.wat_types.specs.FieldType.{field_type}
+use Rattle.wat_types.specs.StructType.{struct_type}
 use Rattle.wat_types.specs.Use.{type_use}
 use Rattle.wat_types.specs.Value.{val_type}
 

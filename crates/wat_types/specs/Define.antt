@@ -1,10 +1,10 @@
 -- Definitions of types, and recursion groups.
-use Rattle.std.specs.Prelude.{◌≤◌, ℕ, Bool, true, false, ◌&&◌, List, [], codes, Option, Some, None, map}
-use Rattle.std.proofs.Common.{lit≤, arith}
+use Rattle.std.specs.Prelude.{ℕ, Bool, true, false, ◌&&◌, List, [], codes, Option, Some, None, map}
+use Rattle.std.proofs.Common.{lit≤}
 use Rattle.wat_tokens.specs.Token.{Tok}
-use Rattle.wat_tokens.specs.Tests.{begins_word, second}
+use Rattle.wat_tokens.specs.Tests.{begins_word}
 use Rattle.wat_tokens.specs.Production.{Production}
-use Rattle.wat_tokens.specs.Parts.{seq, made, where_else, opt, word, flag}
+use Rattle.wat_tokens.specs.Parts.{seq, made, where_else, opt, flag, after_word}
 use Rattle.wat_tokens.specs.Many.{many}
 use Rattle.wat_tokens.specs.Groups.{paren, turn}
 use Rattle.wat_tokens.specs.Index.{Idx, seen_index, index, begins_index}
@@ -12,12 +12,13 @@ use Rattle.wat_tokens.specs.Parses.{seen_option, no_items}
 use Rattle.wat_types.specs.Label.{Label, seen_label, label}
 use Rattle.wat_types.specs.Group.{FuncTy}
 use Rattle.wat_types.specs.Function.{seen_function, bare_function, function_type}
-use Rattle.wat_types.specs.Struct.{FieldTy, seen_array, field_type, MemberTy, seen_struct, struct_type}
+use Rattle.wat_types.specs.Struct.{seen_array, MemberTy, seen_struct}
 use Rattle.wat_types.specs.declared.define.InnerTypeKind.{InnerTypeKind}
 use Rattle.wat_types.specs.declared.define.InnerTypeKind.TheVariants as code
 use Rattle.wat_types.specs.declared.define.TypeDef.{TypeDef}
 use Rattle.wat_types.specs.declared.define.«Type».{«Type»}
-use Rattle.wat_types.specs.declared.define.Rec.{Rec}
+use Rattle.wat_types.specs.FieldType.{FieldTy, field_type}
+use Rattle.wat_types.specs.StructType.{struct_type}
 
 -- ---- what is defined
 
@@ -41,17 +42,13 @@ bare_kind (struct_ ms) = no_items ms
 bare_kind (array f) = true
 bare_kind (cont i) = true
 
--- w g, the value of g
-abbrev pub behind : {A : Type 0} → List ℕ → Production A → Production A
-behind w g = made (λ v. v.1) (seq (word w) g)
-
 -- `func` FunctionType | `struct` StructType | `array` ArrayType | `cont` ContType
 unfoldable pub kind : Production KindTy
 kind =
-    where_else (begins_word (codes "func")) (made func (behind (codes "func") function_type))
-    (where_else (begins_word (codes "struct")) (made struct_ (behind (codes "struct") struct_type))
-    (where_else (begins_word (codes "array")) (made array (behind (codes "array") field_type))
-    (made cont (behind (codes "cont") index))))
+    where_else (begins_word (codes "func")) (made func (after_word (codes "func") function_type))
+    (where_else (begins_word (codes "struct")) (made struct_ (after_word (codes "struct") struct_type))
+    (where_else (begins_word (codes "array")) (made array (after_word (codes "array") field_type))
+    (made cont (after_word (codes "cont") index))))
 
 -- ---- definitions
 
@@ -73,7 +70,7 @@ bare_def d = no_items d.parents && bare_kind d.kind
 
 -- the word, an index, and then `) (`; or nothing, where the word doesn't stand
 unfoldable pub linked : List ℕ → Production (Option Idx)
-linked w = opt (begins_word w) (behind w (made (λ v. v.0) (seq index turn)))
+linked w = opt (begins_word w) (after_word w (made (λ v. v.0) (seq index turn)))
 
 abbrev pub plain_def : Option Idx × (Option Idx × KindTy) → DefTy
 plain_def v = record { kind = v.1.1; shared = false; parents = []; descriptor = v.1.0; describes = v.0; final_type = None }
@@ -87,14 +84,14 @@ shared_def d = record d { shared = true }
 
 -- `shared (` K `)` | K
 unfoldable pub maybe_shared : Production DefTy
-maybe_shared = where_else (begins_word (codes "shared")) (made shared_def (behind (codes "shared") (paren described))) described
+maybe_shared = where_else (begins_word (codes "shared")) (made shared_def (after_word (codes "shared") (paren described))) described
 
 abbrev pub sub_def : Bool × (List Idx × DefTy) → DefTy
 sub_def v = record v.1.1 { parents = v.1.0; final_type = Some v.0 }
 
 -- `sub final? idx* (` S `)` | S
 unfoldable pub type_def : Production DefTy
-type_def = where_else (begins_word (codes "sub")) (made sub_def (behind (codes "sub") (seq (flag (codes "final")) (seq (many begins_index index (lit≤ tt)) (paren maybe_shared))))) maybe_shared
+type_def = where_else (begins_word (codes "sub")) (made sub_def (after_word (codes "sub") (seq (flag (codes "final")) (seq (many begins_index index (lit≤ tt)) (paren maybe_shared))))) maybe_shared
 
 -- ---- types and recursion groups
 
@@ -111,7 +108,7 @@ bare_type t = bare_def t.def
 
 -- `type id? name? (` TypeDef `)`
 unfoldable pub type_ : Production TypeTy
-type_ = made (λ v. record { label = v.0; def = v.1 }) (behind (codes "type") (seq label (paren type_def)))
+type_ = made (λ v. record { label = v.0; def = v.1 }) (after_word (codes "type") (seq label (paren type_def)))
 
 abbrev pub begins_type : List Tok → Bool
 begins_type t = begins_word (codes "type") t
@@ -121,17 +118,3 @@ seen_types ts = map seen_type ts
 
 abbrev pub grouped_type : Production TypeTy
 grouped_type = paren type_
-
-pub grouped_type_eats : 1 ≤ grouped_type.least
-grouped_type_eats = omega arith
-
--- ( Type )*, to where the second token isn't `type`
-unfoldable pub types : Production (List TypeTy)
-types = many (second begins_type) grouped_type grouped_type_eats
-
-abbrev pub seen_rec : Rec → List TypeTy
-seen_rec r = seen_types r.types.items
-
--- `rec ( Type )*`
-unfoldable pub rec : Production (List TypeTy)
-rec = behind (codes "rec") types

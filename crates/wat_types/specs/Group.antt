@@ -1,17 +1,14 @@
 -- The groups of a function type, and the order in which they may stand.
-use Rattle.std.specs.Prelude.{◌≤◌, Bool, true, not, ◌&&◌, ◌||◌, List, [], ◌∷◌, codes, flat_map, AllPairs, ⊤}
-use Rattle.std.proofs.Common.{lit≤}
+use Rattle.std.specs.Prelude.{Bool, true, not, ◌&&◌, ◌||◌, List, [], ◌∷◌, codes, flat_map, AllPairs, ⊤}
 use Rattle.wat_tokens.specs.Token.{Tok}
 use Rattle.wat_tokens.specs.Tests.{begins_word, begins_group, more, second}
 use Rattle.wat_tokens.specs.Production.{Production}
 use Rattle.wat_tokens.specs.Parts.{seq, made, where_else}
 use Rattle.wat_tokens.specs.Many.{many}
 use Rattle.wat_tokens.specs.Groups.{group}
-use Rattle.wat_tokens.specs.NameAnnotation.{name_annotation}
-use Rattle.wat_types.specs.Heap.{heap_type, abstract_heap_type}
-use Rattle.wat_types.specs.Reference.{ref_type, shorthand}
-use Rattle.wat_types.specs.Value.{ValTy, val_type, val_type_eats}
+use Rattle.wat_types.specs.Value.{ValTy, val_type}
 use Rattle.wat_types.specs.Label.{Label, no_label, labelled, label, begins_label}
+use Rattle.wat_types.specs.Laws.Value.{val_type_eats}
 
 -- a parameter, and what names it
 pub record ParamTy : Type 0 where
@@ -49,10 +46,6 @@ unfoldable pub func_group : Bool → Production Group
 func_group labels =
     where_else (begins_group (codes "param")) (made param (group (codes "param") (params labels)))
     (made result (group (codes "result") val_types))
-
-pub func_group_eats : (labels : Bool) → 1 ≤ (func_group labels).least
-unfolding func_group params label name_annotation plain_params val_types val_type ref_type heap_type abstract_heap_type shorthand
-func_group_eats labels = lit≤ tt
 
 -- one more group has to follow: the second token is `param` or `result`, whatever the first is
 abbrev pub group_follows : List Tok → Bool

@@ -1,6 +1,6 @@
 -- Heap types.
-use Rattle.std.specs.Prelude.{◌≡◌, ℕ, Bool, true, false, ◌||◌, List, [], ◌∷◌, None, codes, refl}
-use Rattle.wat_tokens.specs.Token.{Tok, LParen}
+use Rattle.std.specs.Prelude.{ℕ, Bool, true, false, ◌||◌, List, [], ◌∷◌, codes, refl}
+use Rattle.wat_tokens.specs.Token.{Tok}
 use Rattle.wat_tokens.specs.Tests.{word_in, begins_group}
 use Rattle.wat_tokens.specs.Production.{Production}
 use Rattle.wat_tokens.specs.Parts.{one, made, where_else}
@@ -23,10 +23,6 @@ abstract_words =
 -- one of the words
 unfoldable pub abstract_heap_type : Production AbstractHeapType
 abstract_heap_type = one (word_in abstract_words) (refl, refl)
-
-pub abstract_no_group : (t : List Tok) → abstract_heap_type.reads (LParen ∷ t) ≡ None
-unfolding abstract_heap_type
-abstract_no_group t = refl
 
 -- one of the words
 unfoldable pub begins_abstract : List Tok → Bool

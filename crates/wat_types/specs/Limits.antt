@@ -1,17 +1,17 @@
 -- Limits, page sizes, table types and memory types.
-use Rattle.std.specs.Prelude.{◌≡◌, ℕ, Bool, true, false, List, codes, Option, is_some, unwrap_or, refl}
-use Rattle.wat_tokens.specs.Token.{Tok}
+use Rattle.std.specs.Prelude.{ℕ, Bool, true, false, codes, Option}
 use Rattle.wat_tokens.specs.Tests.{begins_word, begins_group, begins_integer}
-use Rattle.wat_tokens.specs.Production.{Production, by_option}
-use Rattle.wat_tokens.specs.Parts.{word, seq, made, made_where, where_else, opt, flag}
+use Rattle.wat_tokens.specs.Production.{Production}
+use Rattle.wat_tokens.specs.Parts.{word, seq, made, where_else, opt, flag}
 use Rattle.wat_tokens.specs.Groups.{group}
 use Rattle.wat_tokens.specs.Integers.{unsigned}
 use Rattle.wat_tokens.specs.Restated.{restated}
 use Rattle.wat_types.specs.Reference.{RefTy, seen_ref, ref_type}
-use Rattle.wat_types.specs.Exponent.{IsTwoTo, exponent, exponent_sound, exponent_complete}
 use Rattle.wat_types.specs.declared.limits.Limits.{Limits}
 use Rattle.wat_types.specs.declared.limits.MemoryType.{MemoryType}
 use Rattle.wat_types.specs.declared.limits.TableType.{TableType}
+use Rattle.wat_types.specs.PageSize.{ExponentSpells, exponent_tested}
+use Rattle.wat_types.specs.Laws.Limits.{exponent_to, exponent_from}
 
 -- ---- limits
 
@@ -27,28 +27,6 @@ unfoldable pub limits_type : Production Limits
 limits_type = made limits_of (seq is_64 (seq (unsigned 64) (opt begins_integer (unsigned 64))))
 
 -- ---- page sizes
-
--- u32, which is 2 to the k
-abbrev pub ExponentSpells : ℕ → List Tok → List Tok → Type 0
-ExponentSpells k c r = (n : ℕ) × (unsigned 32).spells n c r × IsTwoTo k n
-
-abbrev has_exponent : ℕ → Bool
-has_exponent n = is_some (exponent n)
-
-abbrev exponent_or_0 : ℕ → ℕ
-exponent_or_0 n = unwrap_or (exponent n) 0
-
-abbrev pub exponent_tested : Production ℕ
-exponent_tested = made_where has_exponent exponent_or_0 (unsigned 32)
-
-is_two_to : (k n : ℕ) → has_exponent n ≡ true → exponent_or_0 n ≡ k → IsTwoTo k n
-is_two_to k n s e = by_option (exponent n) (λ j f. exponent_sound n k (let g : j ≡ k = rw f at e in rw g at f)) (λ f. absurd (let g : false ≡ true = rw f at s in cc))
-
-pub exponent_to : (k : ℕ) (c r : List Tok) → exponent_tested.spells k c r → ExponentSpells k c r
-exponent_to k c r s = (s.0, s.1, is_two_to k s.0 s.2 s.3)
-
-pub exponent_from : (k : ℕ) (c r : List Tok) → ExponentSpells k c r → exponent_tested.spells k c r
-exponent_from k c r s = let e = exponent_complete s.0 k s.2 in (s.0, s.1, rw e refl, rw e refl)
 
 -- u32, a power of two, as its exponent
 unfoldable pub page_exponent : Production ℕ

@@ -1,6 +1,6 @@
 -- Reference types.
-use Rattle.std.specs.Prelude.{◌≡◌, ℕ, Bool, true, false, ◌||◌, List, [], ◌∷◌, codes, Option, Some, None, refl}
-use Rattle.wat_tokens.specs.Token.{Tok, LParen}
+use Rattle.std.specs.Prelude.{ℕ, Bool, true, false, ◌||◌, List, [], ◌∷◌, codes, Option, Some, None, refl}
+use Rattle.wat_tokens.specs.Token.{Tok}
 use Rattle.wat_tokens.specs.Tests.{word_in, begins_group}
 use Rattle.wat_tokens.specs.Production.{Production}
 use Rattle.wat_tokens.specs.Parts.{one, seq, made, where_else, flag}
@@ -31,10 +31,6 @@ shorthand_words =
 -- one of the shorthands
 unfoldable pub shorthand : Production AbstractHeapType
 shorthand = one (word_in shorthand_words) (refl, refl)
-
-pub shorthand_no_group : (t : List Tok) → shorthand.reads (LParen ∷ t) ≡ None
-unfolding shorthand
-shorthand_no_group t = refl
 
 -- one of the shorthands
 unfoldable pub begins_shorthand : List Tok → Bool

@@ -6,13 +6,14 @@ use Rattle.wat_tokens.specs.Spelled.{in_parens, Spelled}
 use Rattle.wat_types.specs.Define.{func, struct_, array, cont, type_def, type_}
 use Rattle.wat_types.specs.Function.{function_type}
 use Rattle.wat_types.specs.Group.{plain_param, function_of, empty_function, begins_func}
-use Rattle.wat_types.specs.Heap.{abstract_}
 use Rattle.wat_types.specs.Label.{label_of, no_label}
 use Rattle.wat_types.specs.Limits.{limits_type, pagesize_or_none}
 use Rattle.wat_types.specs.Reference.{short}
 use Rattle.wat_types.specs.Storage.{val, global_type}
 use Rattle.wat_types.specs.Storage as storage
-use Rattle.wat_types.specs.Struct.{member_of, field_of, struct_type}
+use Rattle.wat_types.specs.Struct.{member_of}
+use Rattle.wat_types.specs.FieldType.{field_of}
+use Rattle.wat_types.specs.StructType.{struct_type}
 use Rattle.wat_types.specs.Use.{use_of, type_use}
 use Rattle.wat_types.specs.Value.{ref, i32, i64}
 use Rattle.wat_types.specs.declared.heap.AbstractHeapType.TheVariants as word

@@ -1,13 +1,11 @@
 -- Value types.
-use Rattle.std.specs.Prelude.{◌≡◌, ℕ, ◌≤◌, Bool, ◌||◌, List, [], ◌∷◌, codes, Option, Some, None, refl}
-use Rattle.std.proofs.Common.{lit≤}
+use Rattle.std.specs.Prelude.{◌≡◌, ℕ, Bool, ◌||◌, List, [], ◌∷◌, codes, Option, Some, None, refl}
 use Rattle.wat_tokens.specs.Token.{Tok}
 use Rattle.wat_tokens.specs.Tests.{word_in, look_up}
 use Rattle.wat_tokens.specs.Production.{Production}
 use Rattle.wat_tokens.specs.Parts.{one, made, where_else}
 use Rattle.wat_tokens.specs.Begin.{begins_one_of}
-use Rattle.wat_types.specs.Heap.{heap_type, abstract_heap_type}
-use Rattle.wat_types.specs.Reference.{RefTy, seen_ref, ref_type, shorthand, begins_shorthand, begins_long_ref}
+use Rattle.wat_types.specs.Reference.{RefTy, seen_ref, ref_type, begins_shorthand, begins_long_ref}
 use Rattle.wat_types.specs.declared.value.ValType.{ValType}
 use Rattle.wat_types.specs.declared.value.ValType.TheVariants as code
 
@@ -35,10 +33,6 @@ plain_words = (codes "i32", i32) ∷ (codes "i64", i64) ∷ (codes "f32", f32) �
 -- one of five words, or a RefType
 unfoldable pub val_type : Production ValTy
 val_type = where_else (begins_one_of (word_in plain_words)) (one (word_in plain_words) (refl, refl)) (made ref ref_type)
-
-pub val_type_eats : 1 ≤ val_type.least
-unfolding val_type ref_type shorthand heap_type abstract_heap_type
-val_type_eats = lit≤ tt
 
 -- the type that the word names, where it is one of the five
 abbrev pub IsPlain : List ℕ → Option ValType → Type 0

@@ -7,7 +7,8 @@ ghost use Rattle.wat_tokens.specs.Many.{after_front};
 ghost use Rattle.wat_tokens.specs.Parses.{no_items, seen_option};
 ghost use Rattle.wat_tokens.specs.Reads.{Reads, ReadsLight};
 ghost use Rattle.wat_tokens.specs.Tests.{second};
-ghost use Rattle.wat_types.specs.Define.{KindTy, seen_kind, bare_kind, kind, linked, DefTy, seen_def, bare_def, described, maybe_shared, type_def, TypeTy, seen_type, bare_type, type_, begins_type, grouped_type, seen_types, types, seen_rec, rec};
+ghost use Rattle.wat_types.specs.Define.{KindTy, seen_kind, bare_kind, kind, linked, DefTy, seen_def, bare_def, described, maybe_shared, type_def, TypeTy, seen_type, bare_type, type_, begins_type, grouped_type, seen_types};
+ghost use Rattle.wat_types.specs.Recursion.{types, seen_rec, rec};
 
 use crate::function::FunctionType;
 use crate::structure::{ArrayType, StructType};
@@ -289,7 +290,7 @@ impl<'a> Parse<'a> for Rec<'a> {
 
     ghost grammar = { rec };
 
-    #[tactic(auto, using(crate::specs::Define::grouped_type_eats), unfolding(crate::specs::Define::rec, crate::specs::Define::types))]
+    #[tactic(auto, using(crate::specs::Laws::Define::grouped_type_eats), unfolding(crate::specs::Recursion::rec, crate::specs::Recursion::types))]
     fn parse(parser: &mut Parser<'a>) -> Result<Self> {
         let span = parser.keyword("rec")?;
         let mut types = Vec::new(parser.alloc());

@@ -3,11 +3,13 @@
 ghost use Rattle.std.specs.Prelude.{◌≡◌, [], true, false};
 ghost use Rattle.wat_tokens.specs.Copies.{Copies};
 ghost use Rattle.wat_tokens.specs.Lookup.{front};
-ghost use Rattle.wat_tokens.specs.Many.{after_front, add_read};
+ghost use Rattle.wat_tokens.specs.Many.{after_front};
+ghost use Rattle.wat_tokens.specs.Adding.{add_read};
 ghost use Rattle.wat_tokens.specs.Parses.{no_items};
 ghost use Rattle.wat_tokens.specs.Reads.{Reads};
 ghost use Rattle.wat_tokens.specs.Tests.{more};
-ghost use Rattle.wat_types.specs.Function.{seen_param, seen_params, seen_function, seen_unnamed, bare_function, function_groups, function_type, function_type_no_names};
+ghost use Rattle.wat_types.specs.Function.{seen_param, seen_params, seen_function, seen_unnamed, bare_function, function_groups, function_type};
+ghost use Rattle.wat_types.specs.FunctionNoNames.{function_type_no_names};
 ghost use Rattle.wat_types.specs.Group.{FuncTy, ParamTy, params, plain_param_only, func_group, group_follows, begins_func};
 ghost use Rattle.wat_types.specs.Order.{add};
 
@@ -56,7 +58,7 @@ impl<'a> Part<'a, (Option<Id<'a>>, Option<NameAnnotation<'a>>, ValType<'a>)> for
 
 /// The parameters of a group, each put behind those that are there; `labels` says whether one may
 /// have a label.
-#[tactic(auto, using(crate::specs::Value::val_type_eats), unfolding(crate::specs::Group::params, crate::specs::Group::plain_params, crate::specs::Label::label))]
+#[tactic(auto, using(crate::specs::Laws::Value::val_type_eats), unfolding(crate::specs::Group::params, crate::specs::Group::plain_params, crate::specs::Label::label))]
 fn read_params<'a>(
     parser: &mut Parser<'a>,
     labels: bool,
@@ -77,7 +79,7 @@ fn read_params<'a>(
 }
 
 /// One group, put behind what is there.
-#[tactic(auto, using(crate::specs::Value::val_type_eats), unfolding(crate::specs::Group::func_group, crate::specs::Group::val_types))]
+#[tactic(auto, using(crate::specs::Laws::Value::val_type_eats), unfolding(crate::specs::Group::func_group, crate::specs::Group::val_types))]
 fn read_group<'a>(parser: &mut Parser<'a>, labels: bool, out: &mut FunctionType<'a>) -> Result<()>
     ensures reads { Reads bare_function (λ _. seen_function out.new) result (add_read add
         (seen_function out.old) ((func_group labels).reads parser.old.left)) parser.old

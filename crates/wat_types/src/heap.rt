@@ -92,7 +92,7 @@ impl<'a> Parse<'a> for AbstractHeapType {
 
     ghost grammar = { abstract_heap_type };
 
-    #[tactic(auto, using(wat_tokens::specs::Begin::reads_table, wat_tokens::specs::Begin::reads_no_table), unfolding(crate::specs::Heap::abstract_heap_type))]
+    #[tactic(auto, using(wat_tokens::specs::Laws::Begin::reads_table, wat_tokens::specs::Laws::Begin::reads_no_table), unfolding(crate::specs::Heap::abstract_heap_type))]
     fn parse(parser: &mut Parser<'a>) -> Result<Self> {
         let span = parser.cur_span();
         match abstract_of(parser.take_keyword()?) {
@@ -108,7 +108,7 @@ impl<'a> Parse<'a> for AbstractHeapType {
 impl Peek for AbstractHeapType {
     ghost begins = { begins_abstract };
 
-    #[tactic(auto, using(wat_tokens::specs::Begin::begins_table, wat_tokens::specs::Begin::begins_no_table), unfolding(crate::specs::Heap::begins_abstract))]
+    #[tactic(auto, using(wat_tokens::specs::Laws::Begin::begins_table, wat_tokens::specs::Laws::Begin::begins_no_table), unfolding(crate::specs::Heap::begins_abstract))]
     fn peek(cursor: Cursor<'_>) -> bool {
         match cursor.keyword() {
             Some((word, _)) => abstract_of(word).is_some(),
@@ -131,7 +131,7 @@ impl<'a> Parse<'a> for HeapType<'a> {
 
     ghost grammar = { heap_type };
 
-    #[tactic(auto, using(crate::specs::Heap::abstract_no_group), unfolding(crate::specs::Heap::heap_type))]
+    #[tactic(auto, using(crate::proofs::NoGroup::abstract_no_group), unfolding(crate::specs::Heap::heap_type))]
     fn parse(parser: &mut Parser<'a>) -> Result<Self> {
         if parser.peek::<Index>() {
             return Ok(HeapType::Concrete(Index::parse(parser)?));

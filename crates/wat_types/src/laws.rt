@@ -6,7 +6,7 @@ ghost use Rattle.wat_types.specs.Rows.{PageSizes, Globals, LongLimits, FinalSub,
 
 /// No two fronts of one token list spell a page size, written or left out, unless they are one
 /// front and one size.
-#[tactic(auto, using(wat_tokens::specs::Once::reads_once))]
+#[tactic(auto, using(wat_tokens::specs::Laws::Once::reads_once))]
 pub fn one_page_size()
     ensures { HasOneReading pagesize_or_none }
 {}

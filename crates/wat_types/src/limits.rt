@@ -84,7 +84,7 @@ impl<'a> Parse<'a> for Limits {
 }
 
 /// The k for which the number is 2 to the k.
-#[tactic(auto, using(crate::specs::Exponent::exponent_of_none))]
+#[tactic(auto, using(crate::proofs::ExponentFound::exponent_of_none))]
 fn exponent(number: u32) -> Option<u32>
     ensures { result ≡ exponent number }
 {

@@ -42,7 +42,7 @@ fn shorthand_of(word: &str) -> Option<AbstractHeapType>
 }
 
 /// The shorthand in front.
-#[tactic(auto, using(wat_tokens::specs::Begin::reads_table, wat_tokens::specs::Begin::reads_no_table), unfolding(crate::specs::Reference::shorthand))]
+#[tactic(auto, using(wat_tokens::specs::Laws::Begin::reads_table, wat_tokens::specs::Laws::Begin::reads_no_table), unfolding(crate::specs::Reference::shorthand))]
 fn take_shorthand<'a>(parser: &mut Parser<'a>) -> Result<AbstractHeapType>
     ensures reads { ReadsLight (λ t. t) result (shorthand.reads parser.old.left) parser.old
         parser.new }
@@ -58,7 +58,7 @@ fn take_shorthand<'a>(parser: &mut Parser<'a>) -> Result<AbstractHeapType>
 }
 
 /// Whether a shorthand stands there.
-#[tactic(auto, using(wat_tokens::specs::Begin::begins_table, wat_tokens::specs::Begin::begins_no_table), unfolding(crate::specs::Reference::begins_shorthand))]
+#[tactic(auto, using(wat_tokens::specs::Laws::Begin::begins_table, wat_tokens::specs::Laws::Begin::begins_no_table), unfolding(crate::specs::Reference::begins_shorthand))]
 pub(crate) fn shorthand_at(cursor: Cursor<'_>) -> bool
     ensures { result ≡ begins_shorthand (front cursor.entry) }
 {
@@ -213,7 +213,7 @@ impl<'a> Parse<'a> for RefType<'a> {
 
     ghost grammar = { ref_type };
 
-    #[tactic(auto, using(crate::specs::Reference::shorthand_no_group), unfolding(crate::specs::Reference::ref_type))]
+    #[tactic(auto, using(crate::proofs::NoGroup::shorthand_no_group), unfolding(crate::specs::Reference::ref_type))]
     fn parse(parser: &mut Parser<'a>) -> Result<Self> {
         if parser.cursor().lparen().is_none() {
             return Ok(RefType::nullable(take_shorthand(parser)?));

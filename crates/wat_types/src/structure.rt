@@ -6,7 +6,9 @@ ghost use Rattle.wat_tokens.specs.Many.{after_front};
 ghost use Rattle.wat_tokens.specs.Parses.{no_items};
 ghost use Rattle.wat_tokens.specs.Reads.{Reads};
 ghost use Rattle.wat_tokens.specs.Tests.{more};
-ghost use Rattle.wat_types.specs.Struct.{FieldTy, seen_array, field_type, MemberTy, seen_member, seen_members, plain_member, members, member_group, seen_struct, struct_type};
+ghost use Rattle.wat_types.specs.Struct.{seen_array, MemberTy, seen_member, seen_members, plain_member, members, member_group, seen_struct};
+ghost use Rattle.wat_types.specs.FieldType.{FieldTy, field_type};
+ghost use Rattle.wat_types.specs.StructType.{struct_type};
 
 use crate::storage::StorageType;
 use wat_tokens::repeat::{Group, Part, groups, parts};
@@ -52,7 +54,7 @@ impl<'a> Parse<'a> for ArrayType<'a> {
 
     ghost grammar = { field_type };
 
-    #[tactic(auto, unfolding(crate::specs::Struct::field_type))]
+    #[tactic(auto, unfolding(crate::specs::FieldType::field_type))]
     fn parse(parser: &mut Parser<'a>) -> Result<Self> {
         if parser.second_is("mut") {
             parser.open()?;
@@ -96,7 +98,7 @@ impl<'a> Part<'a, StructField<'a>> for PlainField {
 }
 
 /// The fields of a group, each put behind those that are there.
-#[tactic(auto, using(crate::specs::Struct::field_type_eats), unfolding(crate::specs::Struct::members, crate::specs::Struct::plain_members, crate::specs::Label::label))]
+#[tactic(auto, using(crate::specs::Laws::FieldType::field_type_eats), unfolding(crate::specs::Struct::members, crate::specs::Struct::plain_members, crate::specs::Label::label))]
 fn read_fields<'a>(parser: &mut Parser<'a>, out: &mut Vec<StructField<'a>>) -> Result<()>
     ensures reads { Reads no_items (λ _. seen_members out.new.items) result (after_front
         (seen_members out.old.items) (members.reads parser.old.left)) parser.old parser.new }
@@ -170,7 +172,7 @@ impl<'a> Parse<'a> for StructType<'a> {
 
     ghost grammar = { struct_type };
 
-    #[tactic(auto, using(wat_tokens::specs::Joined::joined_reads, crate::specs::Struct::member_group_eats), unfolding(crate::specs::Struct::struct_type))]
+    #[tactic(auto, using(wat_tokens::specs::Laws::Joined::joined_reads, crate::specs::Laws::Struct::member_group_eats), unfolding(crate::specs::StructType::struct_type))]
     fn parse(parser: &mut Parser<'a>) -> Result<Self> {
         let mut fields = Vec::new(parser.alloc());
         groups::<_, FieldGroup>(parser, &mut fields)?;

@@ -66,7 +66,7 @@ impl<'a> Parse<'a> for ValType<'a> {
 }
 
 /// Whether one of the five words stands there.
-#[tactic(auto, using(wat_tokens::specs::Begin::begins_table, wat_tokens::specs::Begin::begins_no_table), unfolding(crate::specs::Value::begins_plain))]
+#[tactic(auto, using(wat_tokens::specs::Laws::Begin::begins_table, wat_tokens::specs::Laws::Begin::begins_no_table), unfolding(crate::specs::Value::begins_plain))]
 fn plain_at(cursor: Cursor<'_>) -> bool
     ensures { result ≡ begins_plain (front cursor.entry) }
 {

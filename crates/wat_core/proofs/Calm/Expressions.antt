@@ -5,8 +5,9 @@ use Rattle.wat_tokens.specs.Token.{Tok, LParen, RParen, String}
 use Rattle.wat_instr.specs.Instruction.{Instr}
 use Rattle.wat_expr.specs.Items.{reads, word, hint_name, Items, Nil, Plain, Folded, Block, IfThen, IfElse, Hinted, lists}
 use Rattle.wat_expr.specs.Expression.{Expr, expression_spells}
-use Rattle.wat_expr.specs.Reading.{expression}
-use Rattle.wat_expr.specs.Folded.{Groups, NoGroup, Group, groups, folded_instruction, folded_spells}
+use Rattle.wat_expr.specs.ExpressionProduction.{expression}
+use Rattle.wat_expr.specs.Folded.{Groups, NoGroup, Group, groups, folded_spells}
+use Rattle.wat_expr.specs.FoldedProduction.{folded_instruction}
 use Rattle.wat_core.proofs.Calm.Rests.{Alike, alike_behind, ends_test}
 use Rattle.wat_core.proofs.Calm.Productions.{Calm}
 use Rattle.wat_core.proofs.Calm.Operands.{instruction_calm}

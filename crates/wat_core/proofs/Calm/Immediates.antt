@@ -3,9 +3,10 @@ use Rattle.std.proofs.Common.{ℕ, Bool, true}
 use Rattle.wat_tokens.specs.Production.{Production}
 use Rattle.wat_tokens.specs.Parts.{opt}
 use Rattle.wat_immediates.specs.Aggregates.{array_of_length}
-use Rattle.wat_immediates.specs.Branch.{br_table}
+use Rattle.wat_immediates.specs.BranchTable.{br_table}
 use Rattle.wat_immediates.specs.Lanes.{lane_arg, lane_access}
-use Rattle.wat_immediates.specs.Memory.{target, field, offset_or_0, align, align_or, mem_arg, atomic_mem_arg}
+use Rattle.wat_immediates.specs.Memory.{target, offset_or_0, align, align_or, mem_arg, atomic_mem_arg}
+use Rattle.wat_immediates.specs.Align.{field}
 use Rattle.wat_immediates.specs.Ordering.{ordering, begins_ordering, ordered}
 use Rattle.wat_immediates.specs.Tables.{index_or_0, index_pair, init, copy}
 use Rattle.wat_immediates.specs.Vector.{two, four, eight, sixteen, float_const, wide_const, v128_const, shuffle}

@@ -2,17 +2,24 @@
 use Rattle.std.proofs.Common.{ℕ, true, List, refl}
 use Rattle.wat_tokens.specs.Production.{Production}
 use Rattle.wat_customs.specs.Custom.{custom}
-use Rattle.wat_customs.specs.Raw.{annotation, raw_place, raw_data, raw_custom}
+use Rattle.wat_customs.specs.Raw.{raw_place, raw_data, raw_custom}
+use Rattle.wat_tokens.specs.Parts.{annotation}
 use Rattle.wat_customs.specs.Place.{section, before, after, custom_place}
 use Rattle.wat_customs.specs.Place as place
-use Rattle.wat_customs.specs.Producers.{field_word, producer_entry, producer_entries, producers}
-use Rattle.wat_customs.specs.Flags.{flag_bits, flag_list, symbol_flags}
-use Rattle.wat_customs.specs.Dylink.{sizes, mem_info_entry, names_entry, lone_entry, export_entry, import_entry, subsection, subsections}
+use Rattle.wat_customs.specs.Producers.{producer_entries, producers}
+use Rattle.wat_customs.specs.ProducerEntry.{field_word, producer_entry}
+use Rattle.wat_customs.specs.Flags.{flag_list, symbol_flags}
+use Rattle.wat_customs.specs.FlagBits.{flag_bits}
+use Rattle.wat_customs.specs.Dylink.{sizes, mem_info_entry, names_entry, lone_entry, subsection}
+use Rattle.wat_customs.specs.DylinkEntries.{export_entry, import_entry}
+use Rattle.wat_customs.specs.Subsections.{subsections}
 use Rattle.wat_customs.specs.Cutting.{cut_subsections, dylink}
 use Rattle.wat_links.specs.Item.{KindTy, func_use, func_kind, labelled, global_or_tag, item_sig}
-use Rattle.wat_links.specs.Import.{typed_item, named_item, shared_sig, single_item, typed_list, named_list, typed_items, named_items, import_choice, inline_import}
+use Rattle.wat_links.specs.Import.{shared_sig, single_item, typed_list, named_list, typed_items, named_items, import_choice, inline_import}
+use Rattle.wat_links.specs.ImportItem.{typed_item, named_item}
 use Rattle.wat_links.specs.Forms.{import_items, imports}
-use Rattle.wat_links.specs.Export.{export_kind, export_, inline_name, inline_export}
+use Rattle.wat_links.specs.Export.{export_kind, export_, inline_export}
+use Rattle.wat_links.specs.InlineName.{inline_name}
 use Rattle.wat_links.specs.Head.{head}
 use Rattle.wat_core.proofs.Calm.Productions.{Calm, calm, one_calm, made_calm, seq_calm, behind_calm}
 use Rattle.wat_core.proofs.Calm.Types.{label_calm, use_calm, begins_func_test, function_calm, tag_calm, table_calm, memory_calm, global_calm}

@@ -3,7 +3,8 @@ use Rattle.std.proofs.Common.{◌≡◌, true, false, List, codes, refl, lit≤}
 use Rattle.wat_tokens.specs.Token.{Tok}
 use Rattle.wat_tokens.specs.Tests.{ends}
 use Rattle.wat_core.specs.Field.{module_field}
-use Rattle.wat_core.specs.Module.{ModuleTy, field_group_eats, fields, pieces, module_kind, module_}
+use Rattle.wat_core.specs.Module.{ModuleTy, fields, pieces, module_kind, module_}
+use Rattle.wat_core.specs.Laws.Module.{field_group_eats}
 use Rattle.wat_core.proofs.Ends.{spelled_ends}
 use Rattle.wat_core.proofs.Calm.Rests.{alike_at_once, word_test, more_test}
 use Rattle.wat_core.proofs.Calm.Productions.{Calm, one_calm, made_calm, seq_calm, where_calm, many_calm, behind_calm, groups_calm}

@@ -4,13 +4,14 @@ use Rattle.wat_tokens.specs.Token.{Tok, RParen}
 use Rattle.wat_tokens.specs.Tests.{more}
 use Rattle.wat_tokens.specs.Parens.{NoParens}
 use Rattle.wat_tokens.specs.Production.{Production}
-use Rattle.wat_tokens.specs.Parts.{one, seq, where_else, where_spells, made_where, opt, opt_spells}
-use Rattle.wat_tokens.specs.Many.{many, many_spells}
+use Rattle.wat_tokens.specs.Parts.{one, seq, where_else, made_where, opt, after_word}
+use Rattle.wat_tokens.specs.PartSpells.{where_spells, opt_spells}
+use Rattle.wat_tokens.specs.Many.{many}
+use Rattle.wat_tokens.specs.ManySpells.{many_spells}
 use Rattle.wat_tokens.specs.Groups.{paren, group}
 use Rattle.wat_tokens.specs.Restated.{restated}
 use Rattle.wat_tokens.specs.Floats.{none}
-use Rattle.wat_types.specs.Define.{behind}
-use Rattle.wat_instr.specs.Followed.{followed, blank}
+use Rattle.wat_tokens.specs.Followed.{followed, blank}
 use Rattle.wat_core.proofs.Calm.Rests.{quiet, Rest, Alike, alike_at_once, alike_behind, CalmTest, more_test, tests}
 
 -- what is spelled before t is spelled before u, where the two are alike
@@ -73,7 +74,7 @@ group_calm p = paren_calm (made_calm (seq_calm (one_calm (refl, refl)) p))
 
 -- ---- words
 
-pub behind_calm : {i : Bool} {A : Type 0} {g : Production A} {w : List ℕ} → Calm i g → Calm i (behind w g)
+pub behind_calm : {i : Bool} {A : Type 0} {g : Production A} {w : List ℕ} → Calm i g → Calm i (after_word w g)
 behind_calm p = made_calm (seq_calm (one_calm (refl, refl)) p)
 
 -- ---- a part that decides what follows it, and no tokens

@@ -1,12 +1,11 @@
 -- Two rests that differ only behind where a group, or the text, ends; and the tests that don't tell them apart.
 use Rattle.std.proofs.Common.{◌≡◌, ℕ, Bool, true, false, not, ◌||◌, ◌&&◌, List, [], ◌∷◌, ◌++◌, codes, Option, refl, ap, sym, ◌∙◌, append_assoc, bytes_eq}
 use Rattle.wat_tokens.specs.Token.{Tok, LParen, RParen, Keyword, Id, Annotation, Integer, String}
-use Rattle.wat_tokens.specs.Tests.{begins_word, begins_group, begins_annotation, begins_id, begins_integer, ends, more, second}
+use Rattle.wat_tokens.specs.Tests.{begins_word, begins_group, begins_annotation, begins_id, begins_integer, ends, more, second, begins_lparen}
 use Rattle.wat_tokens.specs.Begin.{begins_one_of}
 use Rattle.wat_tokens.specs.Index.{begins_index}
 use Rattle.wat_immediates.specs.Memory.{begins_with}
 use Rattle.wat_immediates.specs.Lanes.{goes_on, is_alone}
-use Rattle.wat_customs.specs.Raw.{begins_lparen}
 use Rattle.wat_customs.specs.Custom.{begins_annotated}
 use Rattle.wat_links.specs.Import.{opens_typed, typed, begins_inline_import}
 use Rattle.wat_links.specs.Export.{begins_inline_export}

@@ -7,14 +7,19 @@ use Rattle.wat_types.specs.Heap.{heap_type, abstract_heap_type}
 use Rattle.wat_types.specs.Reference.{ref_type, shorthand, begins_shorthand, begins_ref}
 use Rattle.wat_types.specs.Value.{val_type}
 use Rattle.wat_types.specs.Storage.{storage_type, global_type}
-use Rattle.wat_types.specs.Struct.{field_type, plain_members, members, member_group, struct_type}
+use Rattle.wat_types.specs.Struct.{plain_members, members, member_group}
+use Rattle.wat_types.specs.FieldType.{field_type}
+use Rattle.wat_types.specs.StructType.{struct_type}
 use Rattle.wat_types.specs.Label.{label, begins_label}
 use Rattle.wat_types.specs.Limits.{is_64, limits_type, page_exponent, pagesize, pagesize_or_none, table_type, memory_type}
 use Rattle.wat_types.specs.Group.{plain_params, params, val_types, func_group, group_follows, begins_func}
-use Rattle.wat_types.specs.Function.{func_groups, function_groups, function_type, function_type_no_names}
+use Rattle.wat_types.specs.Function.{function_groups, function_type}
+use Rattle.wat_types.specs.FunctionSpells.{func_groups}
+use Rattle.wat_types.specs.FunctionNoNames.{function_type_no_names}
 use Rattle.wat_types.specs.Use.{type_use}
 use Rattle.wat_types.specs.Tag.{tag_type}
-use Rattle.wat_types.specs.Define.{kind, linked, described, maybe_shared, type_def, type_, types, rec}
+use Rattle.wat_types.specs.Define.{kind, linked, described, maybe_shared, type_def, type_}
+use Rattle.wat_types.specs.Recursion.{types, rec}
 use Rattle.wat_operands.specs.Block.{signature}
 use Rattle.wat_core.proofs.Calm.Rests.{CalmTest, second_word_test}
 use Rattle.wat_core.proofs.Calm.Productions.{Calm, calm, one_calm, made_calm, seq_calm, opt_calm, group_calm}

@@ -1,4 +1,4 @@
-use Rattle.wat_expr.specs.Reading.{expression}
+use Rattle.wat_expr.specs.ExpressionProduction.{expression}
 use Rattle.wat_expr.proofs.FlatForm.{elsewhere, written, spells_again, folded_again, headed_again}
 use Rattle.wat_expr.proofs.laws.flat_again.Goals as goal
 

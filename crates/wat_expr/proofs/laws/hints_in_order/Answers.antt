@@ -1,4 +1,4 @@
-use Rattle.wat_expr.specs.Reading.{expression}
+use Rattle.wat_expr.specs.ExpressionProduction.{expression}
 use Rattle.wat_expr.proofs.Bounds.{spelled_hints_rise, none_lost}
 use Rattle.wat_expr.proofs.laws.hints_in_order.Goals as goal
 

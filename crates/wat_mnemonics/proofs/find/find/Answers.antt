@@ -1,8 +1,10 @@
 use Rattle.std.proofs.Common.{◌≡◌, ◌<◌, ℕ, ◌+◌, ◌-◌, ◌/◌, ◌≤◌, length, get_or, List, [], sym, ◌∙◌, ap, arith}
 use Rattle.std.proofs.lemmas.Map.Lookups.{exact_bytes}
 use Rattle.wat_mnemonics.specs.Heads.{head_word}
-use Rattle.wat_mnemonics.specs.Order.{words, first, cmp, below_less, above_greater, absent}
-use Rattle.wat_mnemonics.specs.Places.{in_order, words_length, entry_at, found_at}
+use Rattle.wat_mnemonics.specs.Order.{words, first, cmp}
+use Rattle.wat_mnemonics.proofs.WordOrder.{below_less, above_greater, absent}
+use Rattle.wat_mnemonics.specs.Laws.Places.{in_order, words_length, entry_at}
+use Rattle.wat_mnemonics.proofs.RowsBelow.{found_at}
 use Rattle.wat_mnemonics.specs.declared.head.Head.{Head}
 use Rattle.wat_mnemonics.specs.Table.{all_heads}
 use Rattle.wat_mnemonics.proofs.Halves.{few_above, few_below, made_one, probed_only}

@@ -1,7 +1,7 @@
 use Rattle.std.proofs.Common.{rules, map, sym, ◌∙◌, refl}
 use Rattle.std.proofs.lemmas.Result.{err_from_is_err_and}
 use Rattle.wat_tokens.specs.Joined.{join}
-use Rattle.wat_tokens.specs.Many.{adding_goes_on, adding_ends, adding_fails, adding_takes}
+use Rattle.wat_tokens.specs.Laws.Many.{adding_goes_on, adding_ends, adding_fails, adding_takes}
 use Rattle.wat_tokens.proofs.Joined.{joined_not_bare}
 use Rattle.wat_tokens.proofs.repeat.groups.Goals as goal
 

@@ -2,7 +2,7 @@ use Rattle.std.proofs.Common.{◌≡◌, length}
 use Rattle.std.specs.Prelude.{map, IsTrue, ◌≤◌, ◌+◌}
 use Rattle.wat_tokens.specs.Counts.{Carries, Quiet, Kept}
 use Rattle.wat_tokens.specs.Joined.{joined_behind}
-use Rattle.wat_tokens.specs.Many.{many_reads}
+use Rattle.wat_tokens.specs.ManySpells.{many_reads}
 use Rattle.wat_tokens.proofs.repeat.groups.Given as goal
 
 abbrev pub invariant-groups : goal.invariant-groups

@@ -2,7 +2,7 @@ use Rattle.std.proofs.Common.{rules, ap, ◌≡◌, ◌∷◌, [], ◌++◌, map
 use Rattle.std.proofs.lemmas.Result.{err_from_is_err_and}
 use Rattle.std.proofs.lemmas.List.{map_push}
 use Rattle.wat_tokens.specs.Error.{Error}
-use Rattle.wat_tokens.specs.Many.{loop_goes_on, loop_ends, loop_fails}
+use Rattle.wat_tokens.proofs.Loops.{loop_goes_on, loop_ends, loop_fails}
 use Rattle.wat_tokens.proofs.Exact.{not_bare}
 use Rattle.wat_tokens.proofs.repeat.parts.Goals as goal
 

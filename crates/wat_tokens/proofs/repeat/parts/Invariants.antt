@@ -1,7 +1,8 @@
 use Rattle.std.proofs.Common.{◌≡◌, length}
 use Rattle.std.specs.Prelude.{map, IsTrue, ◌≤◌, ◌+◌}
 use Rattle.wat_tokens.specs.Counts.{Carries, Quiet}
-use Rattle.wat_tokens.specs.Many.{after_front, many_reads}
+use Rattle.wat_tokens.specs.Many.{after_front}
+use Rattle.wat_tokens.specs.ManySpells.{many_reads}
 use Rattle.wat_tokens.proofs.repeat.parts.Given as goal
 
 abbrev pub invariant-parts : goal.invariant-parts

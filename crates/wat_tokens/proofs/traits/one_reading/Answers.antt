@@ -1,4 +1,4 @@
-use Rattle.wat_tokens.specs.Once.{reads_once}
+use Rattle.wat_tokens.specs.Laws.Once.{reads_once}
 use Rattle.wat_tokens.proofs.traits.one_reading.Goals as goal
 
 pub returns : goal.returns

@@ -1,9 +1,13 @@
 use Rattle.std.proofs.Common.{rules, ◌≡◌, refl, sym, ap, ◌∙◌}
 use Rattle.std.proofs.lemmas.Result.{err_from_is_err_and}
-use Rattle.wat_tokens.specs.Many.{add_rest, adding_goes_on, adding_ends, adding_fails, adding_takes}
-use Rattle.wat_types.specs.Group.{FuncTy, empty_function, func_group, func_group_eats, group_follows}
+use Rattle.wat_tokens.specs.Adding.{add_rest}
+use Rattle.wat_tokens.specs.Laws.Many.{adding_goes_on, adding_ends, adding_fails, adding_takes}
+use Rattle.wat_types.specs.Group.{FuncTy, empty_function, func_group, group_follows}
+use Rattle.wat_types.specs.Laws.Group.{func_group_eats}
 use Rattle.wat_types.specs.Order.{add}
-use Rattle.wat_types.specs.Function.{seen_function, func_groups, function_begins_at}
+use Rattle.wat_types.specs.Function.{seen_function}
+use Rattle.wat_types.specs.FunctionSpells.{func_groups}
+use Rattle.wat_types.proofs.FunctionFront.{function_begins_at}
 use Rattle.wat_types.proofs.Groups.{groups_not_bare}
 use Rattle.wat_types.proofs.function.read_groups.Goals as goal
 

@@ -1,9 +1,10 @@
 use Rattle.std.proofs.Common.{◌≡◌, length}
 use Rattle.std.specs.Prelude.{◌≤◌, ◌+◌}
-use Rattle.wat_tokens.specs.Many.{add_rest}
+use Rattle.wat_tokens.specs.Adding.{add_rest}
 use Rattle.wat_tokens.specs.Counts.{Carries, Quiet, Kept}
 use Rattle.wat_types.specs.Order.{add}
-use Rattle.wat_types.specs.Function.{seen_function, func_groups, function_groups}
+use Rattle.wat_types.specs.Function.{seen_function, function_groups}
+use Rattle.wat_types.specs.FunctionSpells.{func_groups}
 use Rattle.wat_types.proofs.function.read_groups.Given as goal
 
 abbrev pub invariant-groups : goal.invariant-groups

@@ -1,5 +1,6 @@
 use Rattle.std.proofs.Common.{arith, sym}
-use Rattle.wat_types.specs.Exponent.{exponent_complete, exponent_of_other}
+use Rattle.wat_types.specs.Laws.Exponent.{exponent_complete}
+use Rattle.wat_types.proofs.ExponentFound.{exponent_of_other}
 use Rattle.wat_types.proofs.limits.exponent.Goals as goal
 
 pub returns-then-pow-number : goal.returns-then-pow-number

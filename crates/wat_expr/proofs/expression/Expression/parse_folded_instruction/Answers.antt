@@ -1,7 +1,7 @@
 use Rattle.std.proofs.Common.{rules, Ok, None, refl, ap, ◌∙◌}
 use Rattle.std.proofs.lemmas.Result.{err_from_is_err_and}
 use Rattle.wat_expr.specs.Flat.{no_output}
-use Rattle.wat_expr.specs.Folded.{folded_instruction}
+use Rattle.wat_expr.specs.FoldedProduction.{folded_instruction}
 use Rattle.wat_expr.proofs.FoldedLoop.{is_some, is_none, going_begins, going_on, going_smaller, going_halts, going_ends, going_reads, refused_first, refused_later}
 use Rattle.wat_expr.proofs.FoldedReads.{begun, not_begun, no_word, read_folded, read_not_bare}
 use Rattle.wat_expr.proofs.Whole.{read_accepted}

@@ -1,5 +1,5 @@
 use Rattle.std.proofs.Common.{rules, ◌∙◌, sym, ap}
-use Rattle.wat_mnemonics.specs.Word.{reads_word}
+use Rattle.wat_mnemonics.proofs.WordReads.{reads_word}
 use Rattle.wat_tokens.specs.Production.{some_of}
 use Rattle.wat_tokens.specs.State.{State}
 use Rattle.wat_mnemonics.proofs.head.Head.take.Goals as goal

@@ -1,4 +1,5 @@
-use Rattle.wat_tokens.specs.Counts.{counts_taken, counts_within, counts_peak, counts_stands, counts_end, counts_grows}
+use Rattle.wat_tokens.proofs.CountSteps.{counts_taken, counts_peak, counts_stands, counts_end, counts_grows}
+use Rattle.wat_tokens.specs.Laws.Counts.{counts_within}
 use Rattle.wat_tokens.proofs.Exact.{gives_accepts, gives_refused}
 use Rattle.wat_tokens.proofs.parser.Parser.parse.Goals as goal
 

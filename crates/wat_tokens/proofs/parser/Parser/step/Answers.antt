@@ -1,4 +1,4 @@
-use Rattle.wat_tokens.specs.Counts.{carries_step}
+use Rattle.wat_tokens.proofs.CountSteps.{carries_step}
 use Rattle.wat_tokens.proofs.parser.Parser.step.Goals as goal
 
 pub returns-clause-counts : goal.returns-clause-counts

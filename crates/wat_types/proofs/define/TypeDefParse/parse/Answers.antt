@@ -3,7 +3,8 @@ use Rattle.std.specs.Prelude.{codes, map}
 use Rattle.std.proofs.lemmas.Result.{err_from_is_err_and}
 use Rattle.wat_tokens.specs.Tests.{begins_word}
 use Rattle.wat_tokens.specs.Index.{seen_index, index, begins_index}
-use Rattle.wat_tokens.specs.Many.{after_front, many_reads}
+use Rattle.wat_tokens.specs.Many.{after_front}
+use Rattle.wat_tokens.specs.ManySpells.{many_reads}
 use Rattle.wat_types.proofs.Definitions.{sub_fails, sub_not_bare}
 use Rattle.wat_types.proofs.define.TypeDefParse.parse.Goals as goal
 

@@ -1,4 +1,4 @@
--- Lists that have an item, with another list behind them or before.
+-- Laws: lists that have an item, with another list behind them or before.
 use Rattle.std.proofs.Common.{◌≡◌, false, List, [], ◌∷◌, ◌++◌, refl}
 use Rattle.wat_tokens.specs.Parses.{no_items}
 

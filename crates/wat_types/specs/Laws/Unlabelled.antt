@@ -1,16 +1,17 @@
--- Proofs: groups in which no label may stand are those in which one may and none does.
-use Rattle.std.specs.Prelude.{◌≡◌, ℕ, Bool, true, false, not, ◌&&◌, List, [], ◌∷◌, ◌++◌, codes, Option, Some, None, flat_map, refl}
+-- Laws: groups in which no label may stand are those in which one may and none does.
+use Rattle.std.specs.Prelude.{◌≡◌, ℕ, true, false, not, ◌&&◌, List, [], ◌∷◌, ◌++◌, codes, Option, Some, None, flat_map, refl}
 use Rattle.std.specs.Cmp.{first_so, second_so}
 use Rattle.std.specs.Cmp.Derive.{both_true}
 use Rattle.std.proofs.Common.{sym, ◌∙◌, inl, inr, append_assoc, subst}
 use Rattle.wat_tokens.specs.Token.{Tok, LParen, RParen, Id, Annotation}
 use Rattle.wat_tokens.specs.Tests.{begins_id, more}
-use Rattle.wat_tokens.specs.Production.{Production, by_test}
-use Rattle.wat_tokens.specs.Parts.{opt_spells}
-use Rattle.wat_tokens.specs.Many.{many_spells}
+use Rattle.wat_tokens.specs.Production.{Production}
 use Rattle.wat_tokens.specs.Groups.{group}
 use Rattle.wat_tokens.specs.Index.{identifier}
 use Rattle.wat_tokens.specs.NameAnnotation.{name_annotation, begins_name}
+use Rattle.wat_tokens.specs.PartSpells.{opt_spells}
+use Rattle.wat_tokens.specs.Laws.Production.{by_test}
+use Rattle.wat_tokens.specs.ManySpells.{many_spells}
 use Rattle.wat_types.specs.Reference.{ref_type, shorthand}
 use Rattle.wat_types.specs.Value.{ValTy, val_type}
 use Rattle.wat_types.specs.Label.{Label, label_of, label, labelled, begins_label}

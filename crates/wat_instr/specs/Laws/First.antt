@@ -1,10 +1,11 @@
--- What an instruction begins with.
+-- Laws: what an instruction begins with.
 use Rattle.std.specs.Prelude.{◌≡◌, ℕ, ◌≤◌, List, [], ◌∷◌, ◌++◌, codes, Some, None, refl}
 use Rattle.std.proofs.Common.{ap, ◌∙◌, arith}
 use Rattle.wat_tokens.specs.Token.{Tok, Keyword}
-use Rattle.wat_tokens.specs.Production.{bind_some}
+use Rattle.wat_tokens.specs.Laws.Production.{bind_some}
 use Rattle.wat_mnemonics.specs.Heads.{head_word}
-use Rattle.wat_mnemonics.specs.Word.{head_of, mnemonic_reads, mnemonic_sound}
+use Rattle.wat_mnemonics.specs.Word.{head_of, mnemonic_reads}
+use Rattle.wat_mnemonics.specs.Laws.Word.{mnemonic_sound}
 use Rattle.wat_instr.specs.Instruction.{Instr, behind_word, instruction}
 
 -- nothing is read from no tokens

@@ -1,10 +1,10 @@
--- Where no import in line begins, none is read.
+-- Laws: where no import in line begins, none is read.
 use Rattle.std.proofs.Common.{◌≡◌, ℕ, true, false, List, ◌∷◌, codes, Option, Some, None}
 use Rattle.std.specs.Str.{bytes_eq}
 use Rattle.wat_tokens.specs.Token.{Tok, LParen, RParen, Keyword, String}
 use Rattle.wat_tokens.specs.Tests.{word_only}
-use Rattle.wat_tokens.specs.Production.{by_test, by_read}
 use Rattle.wat_tokens.specs.Strings.{text_in}
+use Rattle.wat_tokens.specs.Laws.Production.{by_test, by_read}
 use Rattle.wat_links.specs.Import.{inline_import, begins_inline_import}
 
 abbrev no_unit : Option (Unit {0})

@@ -1,0 +1,10 @@
+-- A field in its group.
+use Rattle.wat_tokens.specs.Groups.{paren}
+use Rattle.wat_tokens.specs.Production.{Production}
+use Rattle.wat_core.specs.Field.{FieldTy, module_field}
+
+-- ---- the grammar
+
+-- ( ModuleField )
+abbrev pub field_group : Production FieldTy
+field_group = paren module_field

@@ -1,0 +1,2 @@
+-- Laws of the definitions: lemmas that definitions or other crates rest on.
+pub mod Module

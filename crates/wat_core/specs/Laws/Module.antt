@@ -1,0 +1,9 @@
+-- Laws: modules.
+use Rattle.std.specs.Prelude.{◌≤◌}
+use Rattle.std.proofs.Common.{arith}
+use Rattle.wat_core.specs.FieldGroup.{field_group}
+
+-- ---- the grammar
+
+pub field_group_eats : 1 ≤ field_group.least
+field_group_eats = omega arith

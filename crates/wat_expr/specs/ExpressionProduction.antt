@@ -1,0 +1,19 @@
+-- The production of an expression.
+use Rattle.wat_tokens.specs.Production.{Production}
+use Rattle.wat_expr.specs.Expression.{Expr, expression_spells}
+use Rattle.wat_expr.specs.Reading.{expression_reads}
+use Rattle.wat_expr.specs.Laws.Reading.{expression_sound, expression_complete, expression_takes, expression_level}
+
+-- ---- the production
+
+-- items, to the end
+unfoldable pub expression : Production Expr
+expression = record {
+  spells = expression_spells;
+  reads = expression_reads;
+  least = 0;
+  sound = expression_sound;
+  complete = expression_complete;
+  takes = expression_takes;
+  level = expression_level;
+}

@@ -1,0 +1,19 @@
+-- The production of a folded instruction.
+use Rattle.wat_tokens.specs.Production.{Production}
+use Rattle.wat_expr.specs.Expression.{Expr}
+use Rattle.wat_expr.specs.Folded.{folded_reads, folded_spells}
+use Rattle.wat_expr.specs.Laws.Folded.{folded_sound, folded_complete, folded_takes, folded_level}
+
+-- ---- the production
+
+-- ( i groups )
+unfoldable pub folded_instruction : Production Expr
+folded_instruction = record {
+  spells = folded_spells;
+  reads = folded_reads;
+  least = 1;
+  sound = folded_sound;
+  complete = folded_complete;
+  takes = folded_takes;
+  level = folded_level;
+}

@@ -1,0 +1,11 @@
+-- The name of an export within a field.
+use Rattle.std.specs.Prelude.{ℕ, List, codes}
+use Rattle.wat_tokens.specs.Production.{Production}
+use Rattle.wat_tokens.specs.Groups.{group}
+use Rattle.wat_tokens.specs.Strings.{text}
+
+-- ---- exports in line
+
+-- ( export name )
+unfoldable pub inline_name : Production (List ℕ)
+inline_name = group (codes "export") text

@@ -1,0 +1,10 @@
+-- Laws: exports.
+use Rattle.std.specs.Prelude.{◌≤◌}
+use Rattle.std.proofs.Common.{lit≤}
+use Rattle.wat_links.specs.InlineName.{inline_name}
+
+-- ---- exports in line
+
+pub inline_name_eats : 1 ≤ inline_name.least
+unfolding inline_name
+inline_name_eats = lit≤ tt

@@ -1,0 +1,14 @@
+-- Laws: imports.
+use Rattle.std.specs.Prelude.{◌≤◌}
+use Rattle.std.proofs.Common.{arith, lit≤}
+use Rattle.wat_links.specs.ImportItem.{typed_item, named_item}
+
+-- ---- the grammar
+
+pub typed_item_eats : 1 ≤ typed_item.least
+unfolding typed_item
+typed_item_eats = omega arith
+
+pub named_item_eats : 1 ≤ named_item.least
+unfolding named_item
+named_item_eats = lit≤ tt

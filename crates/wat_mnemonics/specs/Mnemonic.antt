@@ -1,0 +1,19 @@
+-- The word of an instruction.
+use Rattle.wat_tokens.specs.Production.{Production}
+use Rattle.wat_mnemonics.specs.declared.head.Head.{Head}
+use Rattle.wat_mnemonics.specs.Word.{mnemonic_spells, mnemonic_reads}
+use Rattle.wat_mnemonics.specs.Laws.Word.{mnemonic_sound, mnemonic_complete, mnemonic_takes, mnemonic_level}
+
+-- ---- the production
+
+-- the word of an instruction
+abbrev pub mnemonic : Production Head
+mnemonic = record {
+  spells = mnemonic_spells;
+  reads = mnemonic_reads;
+  least = 1;
+  sound = mnemonic_sound;
+  complete = mnemonic_complete;
+  takes = mnemonic_takes;
+  level = mnemonic_level;
+}

@@ -1,0 +1,26 @@
+-- One handler of a resume table.
+use Rattle.std.specs.Prelude.{codes, Option, Some, None}
+use Rattle.wat_tokens.specs.Tests.{begins_word}
+use Rattle.wat_tokens.specs.Production.{Production}
+use Rattle.wat_tokens.specs.Parts.{seq, made, where_else, word}
+use Rattle.wat_tokens.specs.Groups.{group}
+use Rattle.wat_tokens.specs.Index.{Idx, index}
+
+-- ---- handlers
+
+-- a handler, without places: its tag, and the label where it has one
+pub data HandleTy : Type 0 where
+  on_label : Idx → Idx → HandleTy
+  on_switch : Idx → HandleTy
+
+-- `switch`, which is no label, or the index of a label
+unfoldable pub aim : Production (Option Idx)
+aim = where_else (begins_word (codes "switch")) (made (λ _. None) (word (codes "switch"))) (made Some index)
+
+abbrev pub handler_to : Idx → Option Idx → HandleTy
+handler_to tag (Some label) = on_label tag label
+handler_to tag None = on_switch tag
+
+-- ( on idx switch ) | ( on idx idx )
+unfoldable pub handler : Production HandleTy
+handler = group (codes "on") (made (λ v. handler_to v.0 v.1) (seq index aim))

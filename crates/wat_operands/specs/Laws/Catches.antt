@@ -1,0 +1,10 @@
+-- Laws: what a try_table catches.
+use Rattle.std.specs.Prelude.{◌≤◌}
+use Rattle.std.proofs.Common.{arith}
+use Rattle.wat_operands.specs.CatchClause.{catch_kind, catch_clause}
+
+-- ---- the grammar
+
+pub catch_clause_eats : 1 ≤ catch_clause.least
+unfolding catch_clause catch_kind
+catch_clause_eats = omega arith

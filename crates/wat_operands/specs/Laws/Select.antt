@@ -1,0 +1,9 @@
+-- Laws: the types of a select.
+use Rattle.std.specs.Prelude.{◌≤◌}
+use Rattle.std.proofs.Common.{arith}
+use Rattle.wat_operands.specs.ResultGroup.{result_group}
+
+-- ---- the grammar
+
+pub result_group_eats : 1 ≤ result_group.least
+result_group_eats = omega arith

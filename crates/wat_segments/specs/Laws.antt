@@ -1,0 +1,3 @@
+-- Laws of the definitions: lemmas that definitions or other crates rest on.
+pub mod DataVal
+pub mod Numbers

@@ -1,0 +1,11 @@
+-- A vector as a value of data.
+use Rattle.std.specs.Prelude.{ℕ, List}
+use Rattle.wat_tokens.specs.Production.{Production}
+use Rattle.wat_tokens.specs.Parts.{made}
+use Rattle.wat_immediates.specs.Vector.{v128_const, bytes_of}
+
+-- ---- one number, as its bytes, the lowest first
+
+-- V128Const, as the bytes of its lanes
+abbrev pub vector_as_bytes : Production (List ℕ)
+vector_as_bytes = made bytes_of v128_const

@@ -1,0 +1,32 @@
+-- A part that decides what follows it, and no tokens at all.
+use Rattle.wat_tokens.specs.Production.{Production}
+use Rattle.wat_tokens.specs.FollowedSpells.{followed_spells, followed_reads, blank_spells, blank_reads}
+use Rattle.wat_tokens.specs.Laws.Followed.{followed_sound, followed_complete, followed_takes, followed_level, blank_sound, blank_complete, blank_takes, blank_level}
+
+-- ---- what is in front, and then what it is followed by
+
+-- g, and then what the value of g is followed by
+abbrev pub followed : {A B : Type 0} → Production A → (A → Production B) → Production B
+followed g h = record {
+  spells = followed_spells g h;
+  reads = followed_reads g h;
+  least = g.least;
+  sound = followed_sound g h;
+  complete = followed_complete g h;
+  takes = followed_takes g h;
+  level = followed_level g h;
+}
+
+-- ---- no tokens
+
+-- nothing, which means a
+abbrev pub blank : {A : Type 0} → A → Production A
+blank a = record {
+  spells = blank_spells a;
+  reads = blank_reads a;
+  least = 0;
+  sound = blank_sound a;
+  complete = blank_complete a;
+  takes = blank_takes a;
+  level = blank_level a;
+}

@@ -1,0 +1,22 @@
+-- What a part spells that its front decides, and what nothing spells.
+use Rattle.std.specs.Prelude.{◌≡◌, List, [], ◌++◌, Some}
+use Rattle.wat_lexer.specs.Token.{Tok}
+use Rattle.wat_tokens.specs.Production.{Read, bind, Production}
+
+-- ---- what is in front, and then what it is followed by
+
+module _ {A B : Type 0} (g : Production A) (h : A → Production B) where
+  abbrev pub followed_spells : B → List Tok → List Tok → Type 0
+  followed_spells v c r = (a : A) × (d : List Tok) × (e : List Tok) × (c ≡ d ++ e) × g.spells a d (e ++ r) × (h a).spells v e r
+
+  abbrev pub followed_reads : List Tok → Read B
+  followed_reads t = bind (g.reads t) (λ a t'. (h a).reads t')
+
+-- ---- no tokens
+
+module _ {A : Type 0} (a : A) where
+  abbrev pub blank_spells : A → List Tok → List Tok → Type 0
+  blank_spells v c r = (c ≡ []) × (v ≡ a)
+
+  abbrev pub blank_reads : List Tok → Read A
+  blank_reads t = Some (a, t)

@@ -1,0 +1,7 @@
+-- Laws: out of memory, or another fault.
+use Rattle.std.proofs.Common.{◌≡◌, ◌≢◌, refl}
+use Rattle.wat_tokens.specs.Error.{Fault, Memory}
+
+pub by_fault : {P : Type 0} (f : Fault) → (f ≡ Memory → P) → (f ≢ Memory → P) → P
+by_fault Memory is not = is refl
+by_fault _ is not = not (λ e. cc)

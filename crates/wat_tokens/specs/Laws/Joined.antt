@@ -1,0 +1,22 @@
+-- Laws: groups of parts, one behind the other, as the list of all their parts.
+use Rattle.std.specs.Prelude.{◌≡◌, ◌≤◌, Bool, List, [], ◌∷◌, ◌++◌, Some, None, refl}
+use Rattle.std.proofs.Common.{ap, sym, ◌∙◌, append_assoc}
+use Rattle.std.proofs.lemmas.List.{append-nil}
+use Rattle.wat_lexer.specs.Token.{Tok}
+use Rattle.wat_tokens.specs.Production.{Production, Read, bind, some_of, option_of}
+use Rattle.wat_tokens.specs.Adding.{add_all}
+use Rattle.wat_tokens.specs.Joined.{all_of, join, joined_behind, joined}
+use Rattle.wat_tokens.specs.ManySpells.{many_reads}
+
+module _ {A : Type 0} where
+  pub joins : (gs : List (List A)) (before : List A) → add_all join gs before ≡ Some (before ++ all_of gs)
+  joins [] before = ap (λ (u : List A). option_of u) (sym (append-nil before))
+  joins (g ∷ gs) before = joins gs (before ++ g) ∙ ap (λ (u : List A). option_of u) (append_assoc before g (all_of gs))
+
+  pub join_all : (x : Read (List (List A))) → joined_behind [] x ≡ bind x (λ gs r. some_of (all_of gs, r))
+  join_all (Some x) = rw (joins x.0 []) refl
+  join_all None = refl
+
+-- put behind nothing, they are what `joined` reads
+pub joined_reads : {A : Type 0} (follows : List Tok → Bool) (g : Production (List A)) (eats : 1 ≤ g.least) (t : List Tok) → joined_behind [] (many_reads follows g t) ≡ (joined follows g eats).reads t
+joined_reads follows g eats t = join_all (many_reads follows g t)

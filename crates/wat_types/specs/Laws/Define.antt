@@ -1,0 +1,9 @@
+-- Laws: definitions of types, and recursion groups.
+use Rattle.std.specs.Prelude.{◌≤◌}
+use Rattle.std.proofs.Common.{arith}
+use Rattle.wat_types.specs.Define.{grouped_type}
+
+-- ---- types and recursion groups
+
+pub grouped_type_eats : 1 ≤ grouped_type.least
+grouped_type_eats = omega arith

@@ -1,0 +1,22 @@
+-- Recursion groups.
+use Rattle.std.specs.Prelude.{List, codes}
+use Rattle.wat_tokens.specs.Tests.{second}
+use Rattle.wat_tokens.specs.Production.{Production}
+use Rattle.wat_tokens.specs.Parts.{after_word}
+use Rattle.wat_tokens.specs.Many.{many}
+use Rattle.wat_types.specs.declared.define.Rec.{Rec}
+use Rattle.wat_types.specs.Define.{TypeTy, begins_type, grouped_type, seen_types}
+use Rattle.wat_types.specs.Laws.Define.{grouped_type_eats}
+
+-- ---- types and recursion groups
+
+-- ( Type )*, to where the second token isn't `type`
+unfoldable pub types : Production (List TypeTy)
+types = many (second begins_type) grouped_type grouped_type_eats
+
+abbrev pub seen_rec : Rec → List TypeTy
+seen_rec r = seen_types r.types.items
+
+-- `rec ( Type )*`
+unfoldable pub rec : Production (List TypeTy)
+rec = after_word (codes "rec") types
