@@ -1,7 +1,7 @@
 -- Hints rise, none is lost, and an expression has no more instructions than tokens.
 use Rattle.std.proofs.Common.{◌≡◌, ℕ, ◌+◌, ◌≤◌, List, [], ◌∷◌, ◌++◌, length, Option, Some, None, refl, ap, subst, arith, length-append}
 use Rattle.wat_tokens.specs.Token.{Tok, RParen}
-use Rattle.wat_instr.specs.Instruction.{else_instr, end_instr}
+use Rattle.wat_instr.specs.Instruction.{Instr, else_instr, end_instr}
 use Rattle.wat_expr.specs.Expression.{Expr, expression_spells}
 use Rattle.wat_expr.specs.Laws.Facts.{reads_shorter}
 use Rattle.wat_expr.specs.Folded.{Groups, NoGroup, Group, groups, plain, folded_spells}
@@ -29,35 +29,44 @@ skips : (b e : ℕ) (hs : List (ℕ × ℕ)) → Rises b hs e → Rises b hs (e 
 skips b e [] r = omega arith
 skips b e (h ∷ hs) r = (r.0, skips (h.0 + 1) e hs r.1)
 
+-- how many instructions there are
+long_block : (i : Instr) (ys xs : Items) → length (unfolded (Block i ys xs)) ≡ length (unfolded ys) + length (unfolded xs) + 2
+long_block i ys xs = omega (arith, length-append (i ∷ (unfolded ys ++ end_instr ∷ [])) (unfolded xs), length-append (unfolded ys) (end_instr ∷ []))
+
+long_then : (i : Instr) (ops th xs : Items) → length (unfolded (IfThen i ops th xs)) ≡ length (unfolded ops) + length (unfolded th) + length (unfolded xs) + 2
+long_then i ops th xs =
+    let t = unfolded th ++ end_instr ∷ [] in omega (arith, length-append (unfolded ops ++ (i ∷ t)) (unfolded xs), length-append (unfolded ops) (i ∷ t), length-append (unfolded th) (end_instr ∷ []))
+
+long_else : (i : Instr) (ops th el xs : Items) → length (unfolded (IfElse i ops th el xs)) ≡ length (unfolded ops) + length (unfolded th) + length (unfolded el) + length (unfolded xs) + 3
+long_else i ops th el xs =
+    let u = else_instr ∷ (unfolded el ++ end_instr ∷ []) in
+    let t = i ∷ (unfolded th ++ u) in
+    omega (arith, length-append (unfolded ops ++ t) (unfolded xs), length-append (unfolded ops) t, length-append (unfolded th) u, length-append (unfolded el) (end_instr ∷ []))
+
 hints_rise : (p : Option ℕ) (xs : Items) (b : ℕ) → Rises b (hints_behind p xs b) (b + length (unfolded xs))
 hints_rise p Nil b = omega arith
 hints_rise p (Plain i xs) b =
-    let n = length (unfolded xs) in
-    let q : b + 1 + n ≡ b + length (i ∷ unfolded xs) = omega arith in
-    till b (b + 1 + n) _ _ q (joins b (b + 1) (b + 1 + n) (mark p b) (hints xs (b + 1)) (one_mark p b) (hints_rise None xs (b + 1)))
+    let q : b + 1 + length (unfolded xs) ≡ b + length (unfolded (Plain i xs)) = omega arith in
+    till b _ _ _ q (joins _ _ _ _ _ (one_mark p b) (hints_rise None xs (b + 1)))
 hints_rise p (Folded i ys xs) b =
     let m = b + length (unfolded ys) in
-    let q : m + 1 + length (unfolded xs) ≡ b + length (unfolded (Folded i ys xs)) = omega (arith, length-append (unfolded ys ++ i ∷ []) (unfolded xs), length-append (unfolded ys) (i ∷ [])) in
-    till b (m + 1 + length (unfolded xs)) _ _ q (joins b (m + 1) _ (hints ys b ++ mark p m) (hints xs (m + 1)) (joins b m (m + 1) (hints ys b) (mark p m) (hints_rise None ys b) (one_mark p m)) (hints_rise None xs (m + 1)))
+    let q : m + 1 + length (unfolded xs) ≡ b + length (unfolded (Folded i ys xs)) = omega (arith, length-append {A = Instr}) in
+    till b _ _ _ q (joins _ _ _ _ _ (joins _ _ _ _ _ (hints_rise None ys b) (one_mark p m)) (hints_rise None xs (m + 1)))
 hints_rise p (Block i ys xs) b =
     let m = b + 1 + length (unfolded ys) in
-    let q : m + 1 + length (unfolded xs) ≡ b + length (unfolded (Block i ys xs)) = omega (arith, length-append (i ∷ (unfolded ys ++ end_instr ∷ [])) (unfolded xs), length-append (unfolded ys) (end_instr ∷ [])) in
-    till b (m + 1 + length (unfolded xs)) _ _ q (joins b (m + 1) _ (mark p b ++ hints ys (b + 1)) (hints xs (m + 1)) (skips b m _ (joins b (b + 1) m (mark p b) (hints ys (b + 1)) (one_mark p b) (hints_rise None ys (b + 1)))) (hints_rise None xs (m + 1)))
+    let q : m + 1 + length (unfolded xs) ≡ b + length (unfolded (Block i ys xs)) = omega (arith, long_block i ys xs) in
+    till b _ _ _ q (joins _ _ _ _ _ (skips _ _ _ (joins _ _ _ _ _ (one_mark p b) (hints_rise None ys (b + 1)))) (hints_rise None xs (m + 1)))
 hints_rise p (IfThen i ops th xs) b =
     let h = b + length (unfolded ops) in
     let m = h + 1 + length (unfolded th) in
-    let q : m + 1 + length (unfolded xs) ≡ b + length (unfolded (IfThen i ops th xs)) = omega (arith, length-append (unfolded ops ++ (i ∷ (unfolded th ++ end_instr ∷ []))) (unfolded xs), length-append (unfolded ops) (i ∷ (unfolded th ++ end_instr ∷ [])), length-append (unfolded th) (end_instr ∷ [])) in
-    till b (m + 1 + length (unfolded xs)) _ _ q (joins b (m + 1) _ (hints ops b ++ (mark p h ++ hints th (h + 1))) (hints xs (m + 1))
-    (skips b m _ (joins b h m (hints ops b) _ (hints_rise None ops b) (joins h (h + 1) m (mark p h) (hints th (h + 1)) (one_mark p h) (hints_rise None th (h + 1)))))
-    (hints_rise None xs (m + 1)))
+    let q : m + 1 + length (unfolded xs) ≡ b + length (unfolded (IfThen i ops th xs)) = omega (arith, long_then i ops th xs) in
+    till b _ _ _ q (joins _ _ _ _ _ (skips _ _ _ (joins _ _ _ _ _ (hints_rise None ops b) (joins _ _ _ _ _ (one_mark p h) (hints_rise None th (h + 1))))) (hints_rise None xs (m + 1)))
 hints_rise p (IfElse i ops th el xs) b =
     let h = b + length (unfolded ops) in
     let m = h + 1 + length (unfolded th) in
     let n = m + 1 + length (unfolded el) in
-    let q : n + 1 + length (unfolded xs) ≡ b + length (unfolded (IfElse i ops th el xs)) = omega (arith, length-append (unfolded ops ++ (i ∷ (unfolded th ++ (else_instr ∷ (unfolded el ++ end_instr ∷ []))))) (unfolded xs), length-append (unfolded ops) (i ∷ (unfolded th ++ (else_instr ∷ (unfolded el ++ end_instr ∷ [])))), length-append (unfolded th) (else_instr ∷ (unfolded el ++ end_instr ∷ [])), length-append (unfolded el) (end_instr ∷ [])) in
-    till b (n + 1 + length (unfolded xs)) _ _ q (joins b (n + 1) _ (hints ops b ++ (mark p h ++ (hints th (h + 1) ++ hints el (m + 1)))) (hints xs (n + 1))
-    (skips b n _ (joins b h n (hints ops b) _ (hints_rise None ops b) (joins h (h + 1) n (mark p h) _ (one_mark p h) (joins (h + 1) (m + 1) n (hints th (h + 1)) (hints el (m + 1)) (skips (h + 1) m _ (hints_rise None th (h + 1))) (hints_rise None el (m + 1))))))
-    (hints_rise None xs (n + 1)))
+    let q : n + 1 + length (unfolded xs) ≡ b + length (unfolded (IfElse i ops th el xs)) = omega (arith, long_else i ops th el xs) in
+    till b _ _ _ q (joins _ _ _ _ _ (skips _ _ _ (joins _ _ _ _ _ (hints_rise None ops b) (joins _ _ _ _ _ (one_mark p h) (joins _ _ _ _ _ (skips _ _ _ (hints_rise None th (h + 1))) (hints_rise None el (m + 1)))))) (hints_rise None xs (n + 1)))
 hints_rise p (Hinted v xs) b = hints_rise (Some v) xs b
 
 pub spelled_hints_rise : (v : Expr) (c r : List Tok) → expression_spells v c r → Rises 0 v.hints (length v.instrs)
@@ -79,35 +88,24 @@ as_marked (Some v) b = refl
 as_many : (p : Option ℕ) (xs : Items) (b : ℕ) (t r : List Tok) → Fits p xs → lists xs t r → length (hints_behind p xs b) ≡ pending p + count_hints xs
 as_many None Nil b t r f l = refl
 as_many (Some v) Nil b t r f l = absurd f
-as_many p (Plain i xs) b t r f (m, h, l) =
-    let a = as_many None xs (b + 1) m r tt l in
-    omega (arith, a, as_marked p b, length-append (mark p b) (hints xs (b + 1)))
+as_many p (Plain i xs) b t r f (m, h, l) = omega (arith, as_many None xs (b + 1) m r tt l, as_marked p b, length-append {A = ℕ × ℕ})
 as_many p (Folded i ys xs) b t r f (u, v, w, e, k, h, ly, lx) =
     let n = b + length (unfolded ys) in
-    let a = as_many None ys b v (RParen ∷ w) tt ly in
-    let c = as_many None xs (n + 1) w r tt lx in
-    omega (arith, a, c, as_marked p n, length-append (hints ys b ++ mark p n) (hints xs (n + 1)), length-append (hints ys b) (mark p n))
+    omega (arith, as_many None ys b v (RParen ∷ w) tt ly, as_many None xs (n + 1) w r tt lx, as_marked p n, length-append {A = ℕ × ℕ})
 as_many p (Block i ys xs) b t r f (u, v, w, e, k, h, ly, lx) =
-    let n = b + 1 + length (unfolded ys) + 1 in
-    let a = as_many None ys (b + 1) v (RParen ∷ w) tt ly in
-    let c = as_many None xs n w r tt lx in
-    omega (arith, a, c, as_marked p b, length-append (mark p b ++ hints ys (b + 1)) (hints xs n), length-append (mark p b) (hints ys (b + 1)))
+    omega (arith, as_many None ys (b + 1) v (RParen ∷ w) tt ly, as_many None xs (b + 1 + length (unfolded ys) + 1) w r tt lx, as_marked p b, length-append {A = ℕ × ℕ})
 as_many p (IfThen i ops th xs) b t r f (u, v, w, x, e, k, h, g, lo, lt, lx) =
     let n = b + length (unfolded ops) in
-    let m = n + 1 + length (unfolded th) + 1 in
     let a = as_many None ops b v _ tt lo in
     let c = as_many None th (n + 1) w _ tt lt in
-    let d = as_many None xs m x r tt lx in
-    omega (arith, a, c, d, as_marked p n, length-append (hints ops b ++ (mark p n ++ hints th (n + 1))) (hints xs m), length-append (hints ops b) (mark p n ++ hints th (n + 1)), length-append (mark p n) (hints th (n + 1)))
+    omega (arith, a, c, as_many None xs (n + 1 + length (unfolded th) + 1) x r tt lx, as_marked p n, length-append {A = ℕ × ℕ})
 as_many p (IfElse i ops th el xs) b t r f (u, v, w, x, y, e, k, h, g, lo, lt, le, lx) =
     let n = b + length (unfolded ops) in
     let o = n + 1 + length (unfolded th) + 1 in
-    let m = o + length (unfolded el) + 1 in
     let a = as_many None ops b v _ tt lo in
     let c = as_many None th (n + 1) w _ tt lt in
     let d = as_many None el o x _ tt le in
-    let z = as_many None xs m y r tt lx in
-    omega (arith, a, c, d, z, as_marked p n, length-append (hints ops b ++ (mark p n ++ (hints th (n + 1) ++ hints el o))) (hints xs m), length-append (hints ops b) (mark p n ++ (hints th (n + 1) ++ hints el o)), length-append (mark p n) (hints th (n + 1) ++ hints el o), length-append (hints th (n + 1)) (hints el o))
+    omega (arith, a, c, d, as_many None xs (o + length (unfolded el) + 1) y r tt lx, as_marked p n, length-append {A = ℕ × ℕ})
 as_many None (Hinted v xs) b t r f (d, e, lt, g, l) = omega (arith, as_many (Some v) xs b d r g l)
 as_many (Some u) (Hinted v xs) b t r f l = absurd f
 
@@ -118,36 +116,21 @@ none_lost xs t r l = omega (arith, as_many None xs 0 t r tt l)
 
 fewer_than_tokens : (xs : Items) (t r : List Tok) → lists xs t r → length (unfolded xs) + length r ≤ length t
 fewer_than_tokens Nil t r l = rw l (omega arith)
-fewer_than_tokens (Plain i xs) t r (m, h, l) =
-    let a = reads_shorter i t m h in
-    let b = fewer_than_tokens xs m r l in
-    omega (arith, a, b)
+fewer_than_tokens (Plain i xs) t r (m, h, l) = omega (arith, reads_shorter i t m h, fewer_than_tokens xs m r l)
 fewer_than_tokens (Folded i ys xs) t r (u, v, w, e, k, h, ly, lx) =
-    let a = reads_shorter i u v h in
-    let b = fewer_than_tokens ys v (RParen ∷ w) ly in
-    let c = fewer_than_tokens xs w r lx in
-    omega (arith, a, b, c, ap length e, length-append (unfolded ys ++ i ∷ []) (unfolded xs), length-append (unfolded ys) (i ∷ []))
+    omega (arith, ap length e, length-append {A = Instr}, reads_shorter i u v h, fewer_than_tokens ys v (RParen ∷ w) ly, fewer_than_tokens xs w r lx)
 fewer_than_tokens (Block i ys xs) t r (u, v, w, e, k, h, ly, lx) =
-    let a = reads_shorter i u v h in
-    let b = fewer_than_tokens ys v (RParen ∷ w) ly in
-    let c = fewer_than_tokens xs w r lx in
-    omega (arith, a, b, c, ap length e, length-append (i ∷ (unfolded ys ++ end_instr ∷ [])) (unfolded xs), length-append (unfolded ys) (end_instr ∷ []))
+    omega (arith, ap length e, long_block i ys xs, reads_shorter i u v h, fewer_than_tokens ys v (RParen ∷ w) ly, fewer_than_tokens xs w r lx)
 fewer_than_tokens (IfThen i ops th xs) t r (u, v, w, x, e, k, h, g, lo, lt, lx) =
-    let a = reads_shorter i u v h in
-    let b = fewer_than_tokens ops v _ lo in
-    let d = fewer_than_tokens th w _ lt in
-    let c = fewer_than_tokens xs x r lx in
-    omega (arith, a, b, c, d, ap length e, length-append (unfolded ops ++ (i ∷ (unfolded th ++ end_instr ∷ []))) (unfolded xs), length-append (unfolded ops) (i ∷ (unfolded th ++ end_instr ∷ [])), length-append (unfolded th) (end_instr ∷ []))
+    let a = fewer_than_tokens ops v _ lo in
+    let b = fewer_than_tokens th w _ lt in
+    omega (arith, ap length e, long_then i ops th xs, reads_shorter i u v h, a, b, fewer_than_tokens xs x r lx)
 fewer_than_tokens (IfElse i ops th el xs) t r (u, v, w, x, y, e, k, h, g, lo, lt, le, lx) =
-    let a = reads_shorter i u v h in
-    let b = fewer_than_tokens ops v _ lo in
-    let d = fewer_than_tokens th w _ lt in
-    let f = fewer_than_tokens el x _ le in
-    let c = fewer_than_tokens xs y r lx in
-    omega (arith, a, b, c, d, f, ap length e, length-append (unfolded ops ++ (i ∷ (unfolded th ++ (else_instr ∷ (unfolded el ++ end_instr ∷ []))))) (unfolded xs), length-append (unfolded ops) (i ∷ (unfolded th ++ (else_instr ∷ (unfolded el ++ end_instr ∷ [])))), length-append (unfolded th) (else_instr ∷ (unfolded el ++ end_instr ∷ [])), length-append (unfolded el) (end_instr ∷ []))
-fewer_than_tokens (Hinted v xs) t r (d, e, lt, g, l) =
-    let b = fewer_than_tokens xs d r l in
-    omega (arith, b, ap length e)
+    let a = fewer_than_tokens ops v _ lo in
+    let b = fewer_than_tokens th w _ lt in
+    let c = fewer_than_tokens el x _ le in
+    omega (arith, ap length e, long_else i ops th el xs, reads_shorter i u v h, a, b, c, fewer_than_tokens xs y r lx)
+fewer_than_tokens (Hinted v xs) t r (d, e, lt, g, l) = omega (arith, ap length e, fewer_than_tokens xs d r l)
 
 pub spelled_fewer : (v : Expr) (c r : List Tok) → expression_spells v c r → length v.instrs ≤ length c
 spelled_fewer v c r (xs, l, k, e) =
@@ -157,12 +140,9 @@ spelled_fewer v c r (xs, l, k, e) =
 groups_fewer : (gs : Groups) (t r : List Tok) → groups gs t r → length (plain gs) + length r ≤ length t
 groups_fewer NoGroup t r l = rw l (omega arith)
 groups_fewer (Group i gs hs) t r (u, v, w, e, h, l, k) =
-    let a = reads_shorter i u v h in
-    let b = groups_fewer gs v (RParen ∷ w) l in
-    let c = groups_fewer hs w r k in
-    omega (arith, a, b, c, ap length e, length-append (plain gs ++ i ∷ []) (plain hs), length-append (plain gs) (i ∷ []))
+    omega (arith, ap length e, length-append {A = Instr}, reads_shorter i u v h, groups_fewer gs v (RParen ∷ w) l, groups_fewer hs w r k)
 
 pub folded_fewer : (v : Expr) (c r : List Tok) → folded_spells v c r → length v.instrs ≤ length c
 folded_fewer v c r (i, gs, (a, b, e, h, l), k) =
     let f : length v.instrs ≡ length (plain gs ++ i ∷ []) = ap (λ (x : Expr). length x.instrs) k in
-    omega (arith, f, reads_shorter i a b h, groups_fewer gs b (RParen ∷ r) l, ap length e, length-append c r, length-append (plain gs) (i ∷ []))
+    omega (arith, f, reads_shorter i a b h, groups_fewer gs b (RParen ∷ r) l, ap length e, length-append c r, length-append {A = Instr})

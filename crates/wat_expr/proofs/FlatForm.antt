@@ -1,5 +1,6 @@
 -- What is listed is listed by its flat form too.
-use Rattle.std.proofs.Common.{◌≡◌, ℕ, ◌+◌, ◌-◌, Bool, false, List, [], ◌∷◌, ◌++◌, length, take, true, None, codes, refl, ap, subst, sym, ◌∙◌, append_assoc, arith, length-append, inr}
+use Rattle.std.specs.Prelude.{if◌then◌else◌}
+use Rattle.std.proofs.Common.{◌≡◌, ℕ, ◌+◌, ◌-◌, Bool, List, [], ◌∷◌, ◌++◌, length, take, true, None, codes, refl, ap, subst, sym, ◌∙◌, append_assoc, arith, length-append, inr}
 use Rattle.std.proofs.Math.Seq.{take-append_seam}
 use Rattle.std.proofs.lemmas.List.{append-nil}
 use Rattle.wat_tokens.specs.Token.{Tok, LParen, RParen, String}
@@ -21,6 +22,12 @@ own_is : (c m : List Tok) → own (c ++ m) m ≡ c
 own_is c m =
     let n : length (c ++ m) - length m ≡ length c = omega (arith, length-append c m) in
     ap (λ (k : ℕ). take k (c ++ m)) n ∙ take-append_seam c m
+
+-- the own tokens are those of the text
+pub own_front : (i : Instr) (ts m : List Tok) → reads i ts m → (ts ≡ own ts m ++ m) × instruction.spells i (own ts m) m
+own_front i ts m h =
+    let o : h.0 ≡ own ts m = sym (ap (λ (t : List Tok). own t m) h.1 ∙ own_is h.0 m) in
+    (h.1 ∙ ap (λ (c : List Tok). c ++ m) o, subst (λ (c : List Tok). instruction.spells i c m) o h.2)
 
 -- ---- items of instructions alone
 
@@ -62,8 +69,7 @@ both : {is js : List Instr} {c d : List Tok} → IsFlat is c → IsFlat js d →
 both {is = is} {js = js} {c = c} {d = d} p q = record {
   before = λ s f. (let y = q.before s f in
       let x = p.before (d ++ s) y.1 in
-      let e : (c ++ d) ++ s ≡ c ++ (d ++ s) = append_assoc c d s in
-      (subst (λ (t : List Tok). lists (one_by_one (is ++ js)) t s) (sym e) (chained is js (c ++ (d ++ s)) (d ++ s) s x.0 y.0), subst MayFollow (sym e) x.1));
+      (rw (append_assoc c d s) (chained is js (c ++ (d ++ s)) (d ++ s) s x.0 y.0), rw (append_assoc c d s) x.1));
 }
 
 -- what the law of instructions says
@@ -78,13 +84,7 @@ module _ (stands : Stands) (follow : Follow) where
   spelled i c r h = record { before = λ s f. ((s, (c, refl, stands i c r s h f), refl), follow i c r s h f) }
 
   single : (i : Instr) (ts m : List Tok) → reads i ts m → IsFlat (i ∷ []) (own ts m)
-  single i ts m h =
-      let k = h in
-      let o : own ts m ≡ k.0 = ap (λ (t : List Tok). own t m) k.1 ∙ own_is k.0 m in
-      subst (IsFlat (i ∷ [])) (sym o) (spelled i k.0 m k.2)
-
-  else_flat : IsFlat (else_instr ∷ []) (word (codes "else") ∷ [])
-  else_flat = spelled else_instr (word (codes "else") ∷ []) [] else_spelled
+  single i ts m h = spelled i (own ts m) m (own_front i ts m h).1
 
   end_flat : IsFlat (end_instr ∷ []) (word (codes "end") ∷ [])
   end_flat = spelled end_instr (word (codes "end") ∷ []) [] end_spelled
@@ -99,7 +99,7 @@ module _ (stands : Stands) (follow : Follow) where
   items_flat (IfThen i ops th xs) ts r (a, b, d, e, q, s, h, g, lo, lt, lx) =
       both (both (items_flat ops b _ lo) (both (single i a b h) (both (items_flat th d _ lt) end_flat))) (items_flat xs e r lx)
   items_flat (IfElse i ops th el xs) ts r (a, b, d, e, f, q, s, h, g, lo, lt, le, lx) =
-      both (both (items_flat ops b _ lo) (both (single i a b h) (both (items_flat th d _ lt) (both else_flat (both (items_flat el e _ le) end_flat))))) (items_flat xs f r lx)
+      both (both (items_flat ops b _ lo) (both (single i a b h) (both (items_flat th d _ lt) (both (spelled else_instr _ [] else_spelled) (both (items_flat el e _ le) end_flat))))) (items_flat xs f r lx)
   items_flat (Hinted v xs) ts r (d, e, lt, g, l) = items_flat xs d r l
 
   groups_flat : (gs : Groups) (ts r : List Tok) (l : groups gs ts r) → IsFlat (plain gs) (flat_groups gs ts r l)
@@ -126,129 +126,49 @@ module _ (stands : Stands) (follow : Follow) where
   pub headed_again : (i : Instr) (xs : Items) (a b r : List Tok) (h : reads i a b) (l : lists xs b (RParen ∷ r)) → lists (one_by_one (unfolded xs ++ i ∷ [])) (flat_tokens xs b (RParen ∷ r) l ++ own a b) []
   headed_again i xs a b r h l = at_end _ _ (both (items_flat xs b _ l) (single i a b h))
 
--- ---- the own tokens are those of the text
-
-pub own_front : (i : Instr) (ts m : List Tok) → reads i ts m → (ts ≡ own ts m ++ m) × instruction.spells i (own ts m) m
-own_front i ts m h =
-    let k = h in
-    let o : k.0 ≡ own ts m = sym (ap (λ (t : List Tok). own t m) k.1 ∙ own_is k.0 m) in
-    (k.1 ∙ ap (λ (c : List Tok). c ++ m) o, subst (λ (c : List Tok). instruction.spells i c m) o k.2)
-
 number-append : (test : Tok → Bool) (c d : List Tok) → number test (c ++ d) ≡ number test c + number test d
 number-append test [] d = omega arith
 number-append test (x ∷ c) d = omega (arith, number-append test c d)
 
 module _ (test : Tok → Bool) (p : PassesOwnAlone test) where
-  frame : (x : Tok) (ts : List Tok) → test x ≡ false → number test (x ∷ ts) ≡ number test ts
-  frame x ts e = rw e (omega arith)
+  abbrev IsNone : Tok → Type 0
+  IsNone x = ◌≡◌ {A = ℕ} (if test x then 1 else 0) 0
 
-  parted : (ts c m : List Tok) → ts ≡ c ++ m → number test ts ≡ number test c + number test m
-  parted ts c m e = ap (number test) e ∙ number-append test c m
+  frames : IsNone LParen × IsNone RParen × IsNone (word (codes "then")) × IsNone (word (codes "else")) × IsNone (word (codes "end")) × IsNone hint_name
+  frames = (rw p.0, rw p.1, rw p.2, rw p.3, rw p.4, rw p.5)
 
   own_number : (i : Instr) (ts m : List Tok) → reads i ts m → number test ts ≡ number test (own ts m) + number test m
-  own_number i ts m h = parted ts (own ts m) m (own_front i ts m h).0
-
-  -- a group's instruction
-  opened : (i : Instr) (ts a b : List Tok) → ts ≡ LParen ∷ a → reads i a b → number test ts ≡ number test (own a b) + number test b
-  opened i ts a b e h = ap (number test) e ∙ frame LParen a p.0 ∙ own_number i a b h
-
-  shut : (d : List Tok) → number test (RParen ∷ d) ≡ number test d
-  shut d = frame RParen d p.1
-
-  shut_twice : (d : List Tok) → number test (RParen ∷ RParen ∷ d) ≡ number test d
-  shut_twice d = shut (RParen ∷ d) ∙ shut d
-
-  at_then : (d : List Tok) → number test (LParen ∷ word (codes "then") ∷ d) ≡ number test d
-  at_then d = frame LParen (word (codes "then") ∷ d) p.0 ∙ frame (word (codes "then")) d p.2
-
-  at_else : (d : List Tok) → number test (RParen ∷ LParen ∷ word (codes "else") ∷ d) ≡ number test d
-  at_else d = shut (LParen ∷ word (codes "else") ∷ d) ∙ frame LParen (word (codes "else") ∷ d) p.0 ∙ frame (word (codes "else")) d p.3
-
-  at_hint : (v : ℕ) (d : List Tok) → number test (LParen ∷ hint_name ∷ String (v ∷ []) ∷ RParen ∷ d) ≡ number test d
-  at_hint v d =
-      frame LParen (hint_name ∷ String (v ∷ []) ∷ RParen ∷ d) p.0 ∙ frame hint_name (String (v ∷ []) ∷ RParen ∷ d) p.5 ∙ frame (String (v ∷ [])) (RParen ∷ d) (p.6 v) ∙ shut d
-
-  added_end : (c : List Tok) → number test (c ++ word (codes "end") ∷ []) ≡ number test c
-  added_end c = omega (arith, number-append test c (word (codes "end") ∷ []), frame (word (codes "end")) [] p.4)
-
-  added_else : (c d : List Tok) → number test (c ++ word (codes "else") ∷ d) ≡ number test c + number test d
-  added_else c d = omega (arith, number-append test c (word (codes "else") ∷ d), frame (word (codes "else")) d p.3)
+  own_number i ts m h = ap (number test) (own_front i ts m h).0 ∙ number-append test (own ts m) m
 
   pub items_number : (xs : Items) (ts r : List Tok) (l : lists xs ts r) → number test ts ≡ number test (flat_tokens xs ts r l) + number test r
   items_number Nil ts r l = ap (number test) l ∙ omega arith
-  items_number (Plain i xs) ts r (m, h, l) =
-      omega (arith, own_number i ts m h, items_number xs m r l, number-append test (own ts m) (flat_tokens xs m r l))
+  items_number (Plain i xs) ts r (m, h, l) = omega (arith, own_number i ts m h, items_number xs m r l, number-append)
   items_number (Folded i ys xs) ts r (a, b, d, e, s, h, ly, lx) =
-      let y = flat_tokens ys b (RParen ∷ d) ly in
-      let x = flat_tokens xs d r lx in
-      omega (arith, opened i ts a b e h, items_number ys b (RParen ∷ d) ly, shut d, items_number xs d r lx, number-append test (y ++ own a b) x, number-append test y (own a b))
+      omega (arith, frames, number-append, ap (number test) e, own_number i a b h, items_number ys b (RParen ∷ d) ly, items_number xs d r lx)
   items_number (Block i ys xs) ts r (a, b, d, e, s, h, ly, lx) =
-      let y = flat_tokens ys b (RParen ∷ d) ly in
-      let x = flat_tokens xs d r lx in
-      omega (arith, opened i ts a b e h, items_number ys b (RParen ∷ d) ly, shut d, items_number xs d r lx, number-append test (own a b ++ (y ++ word (codes "end") ∷ [])) x, number-append test (own a b) (y ++ word (codes "end") ∷ []), added_end y)
+      omega (arith, frames, number-append, ap (number test) e, own_number i a b h, items_number ys b (RParen ∷ d) ly, items_number xs d r lx)
   items_number (IfThen i ops th xs) ts r (a, b, d, e, q, s, h, g, lo, lt, lx) =
-      let o = flat_tokens ops b (LParen ∷ word (codes "then") ∷ d) lo in
-      let t = flat_tokens th d (RParen ∷ RParen ∷ e) lt in
-      let x = flat_tokens xs e r lx in
-      omega (
-        arith,
-        opened i ts a b q h,
-        items_number ops b (LParen ∷ word (codes "then") ∷ d) lo,
-        at_then d,
-        items_number th d (RParen ∷ RParen ∷ e) lt,
-        shut_twice e,
-        items_number xs e r lx,
-        number-append test (o ++ (own a b ++ (t ++ word (codes "end") ∷ []))) x,
-        number-append test o (own a b ++ (t ++ word (codes "end") ∷ [])),
-        number-append test (own a b) (t ++ word (codes "end") ∷ []),
-        added_end t,
-      )
+      let o = items_number ops b _ lo in
+      let t = items_number th d _ lt in
+      omega (arith, frames, number-append, ap (number test) q, own_number i a b h, o, t, items_number xs e r lx)
   items_number (IfElse i ops th el xs) ts r (a, b, d, e, f, q, s, h, g, lo, lt, le, lx) =
-      let o = flat_tokens ops b (LParen ∷ word (codes "then") ∷ d) lo in
-      let t = flat_tokens th d (RParen ∷ LParen ∷ word (codes "else") ∷ e) lt in
-      let u = flat_tokens el e (RParen ∷ RParen ∷ f) le in
-      let x = flat_tokens xs f r lx in
-      let w = t ++ (word (codes "else") ∷ (u ++ word (codes "end") ∷ [])) in
-      omega (
-        arith,
-        opened i ts a b q h,
-        items_number ops b (LParen ∷ word (codes "then") ∷ d) lo,
-        at_then d,
-        items_number th d (RParen ∷ LParen ∷ word (codes "else") ∷ e) lt,
-        at_else e,
-        items_number el e (RParen ∷ RParen ∷ f) le,
-        shut_twice f,
-        items_number xs f r lx,
-        number-append test (o ++ (own a b ++ w)) x,
-        number-append test o (own a b ++ w),
-        number-append test (own a b) w,
-        added_else t (u ++ word (codes "end") ∷ []),
-        added_end u,
-      )
+      let o = items_number ops b _ lo in
+      let t = items_number th d _ lt in
+      let u = items_number el e _ le in
+      omega (arith, frames, number-append, number-append test (flat_tokens el e (RParen ∷ RParen ∷ f) le) (word (codes "end") ∷ []), ap (number test) q, own_number i a b h, o, t, u, items_number xs f r lx)
   items_number (Hinted v xs) ts r (d, e, lt, g, l) =
-      omega (arith, ap (number test) e ∙ at_hint v d, items_number xs d r l)
+      let z : IsNone (String (v ∷ [])) = rw (p.6 v) in omega (arith, frames, z, ap (number test) e, items_number xs d r l)
 
   pub groups_number : (gs : Groups) (ts r : List Tok) (l : groups gs ts r) → number test ts ≡ number test (flat_groups gs ts r l) + number test r
   groups_number NoGroup ts r l = ap (number test) l ∙ omega arith
   groups_number (Group i gs hs) ts r (a, b, d, e, h, l, k) =
-      let y = flat_groups gs b (RParen ∷ d) l in
-      let x = flat_groups hs d r k in
-      omega (arith, opened i ts a b e h, groups_number gs b (RParen ∷ d) l, shut d, groups_number hs d r k, number-append test (y ++ own a b) x, number-append test y (own a b))
+      omega (arith, frames, number-append, ap (number test) e, own_number i a b h, groups_number gs b (RParen ∷ d) l, groups_number hs d r k)
 
   pub folded_number : (i : Instr) (gs : Groups) (ts r : List Tok) (l : is_folded i gs ts r) → number test ts ≡ number test (flat_folded i gs ts r l) + number test r
-  folded_number i gs ts r (a, b, e, h, l) =
-      let y = flat_groups gs b (RParen ∷ r) l in
-      omega (arith, opened i ts a b e h, groups_number gs b (RParen ∷ r) l, shut r, number-append test y (own a b))
+  folded_number i gs ts r (a, b, e, h, l) = omega (arith, frames, number-append, ap (number test) e, own_number i a b h, groups_number gs b (RParen ∷ r) l)
 
 -- instructions alone are their own flat form
 pub already_flat : (xs : Items) (ts r : List Tok) (l : lists xs ts r) → AreInstrs xs → flat_tokens xs ts r l ++ r ≡ ts
 already_flat Nil ts r l p = sym l
-already_flat (Plain i xs) ts r (m, h, l) p =
-    let k = h in
-    let o : own ts m ≡ k.0 = ap (λ (t : List Tok). own t m) k.1 ∙ own_is k.0 m in
-    append_assoc (own ts m) (flat_tokens xs m r l) r ∙ ap (λ (t : List Tok). own ts m ++ t) (already_flat xs m r l p.1) ∙ ap (λ (c : List Tok). c ++ m) o ∙ sym k.1
-already_flat (Folded i ys xs) ts r l p = absurd p.0
-already_flat (Block i ys xs) ts r l p = absurd p.0
-already_flat (IfThen i ops th xs) ts r l p = absurd p.0
-already_flat (IfElse i ops th el xs) ts r l p = absurd p.0
-already_flat (Hinted v xs) ts r l p = absurd p.0
+already_flat (Plain i xs) ts r (m, h, l) p = append_assoc (own ts m) (flat_tokens xs m r l) r ∙ ap (λ (t : List Tok). own ts m ++ t) (already_flat xs m r l p.1) ∙ sym (own_front i ts m h).0
+already_flat xs ts r l p = absurd p.0

@@ -1,37 +1,172 @@
--- What the loop over the groups of a folded instruction keeps.
-use Rattle.std.specs.Prelude.{MatchBool, max, if◌then◌else◌}
-use Rattle.std.proofs.Common.{◌≡◌, ◌⊎◌, inl, inr, ℕ, suc, ◌+◌, ◌≤◌, ◌<◌, List, [], ◌∷◌, ◌++◌, length, Option, Some, None, Bool, true, false, refl, sym, ap, subst, ◌∙◌, arith, length-append}
+-- What is read of a folded instruction, and what the loop over its groups keeps.
+use Rattle.std.proofs.Common.{◌≡◌, suc, List, [], ◌∷◌, length, Some, None, false, refl, sym, ap, ◌∙◌, arith, ◌⊎◌, inl, inr, ℕ, ◌+◌, ◌≤◌, ◌<◌, ◌++◌, Option, Bool, true, append_assoc}
+use Rattle.wat_tokens.specs.Token.{Tok, LParen, RParen}
+use Rattle.wat_tokens.specs.Laws.Filled.{filled_behind}
+use Rattle.wat_tokens.specs.Parses.{NotBare, no_items}
+use Rattle.wat_tokens.specs.PartSpells.{one_reads}
+use Rattle.wat_tokens.specs.Production.{Read, some_of}
+use Rattle.wat_tokens.specs.Laws.Production.{by_read, some_is, none_is_not}
+use Rattle.wat_tokens.specs.Tests.{is_lparen}
+use Rattle.wat_instr.specs.Instruction.{Instr}
+use Rattle.wat_expr.specs.Expression.{Expr, bare_expression, seen_expression}
+use Rattle.wat_expr.specs.Laws.Facts.{read_of, reads_level, reads_shorter}
+use Rattle.wat_expr.specs.Items.{reads}
+use Rattle.wat_expr.specs.Folded.{Groups, plain, is_folded, folded_value, folded_reads, NoGroup, Group, groups, count_groups, depth_groups}
+use Rattle.wat_expr.specs.Laws.Folded.{groups_at_complete, folded_sound}
+use Rattle.std.specs.Prelude.{MatchBool, max}
 use Rattle.std.proofs.lemmas.List.{append-nil}
 use Rattle.wat_tokens.specs.Counts.{Carries, Kept, Quiet, Stays}
 use Rattle.wat_tokens.specs.Parens.{opens, closes}
-use Rattle.wat_tokens.specs.Production.{some_of}
 use Rattle.wat_tokens.specs.State.{State}
-use Rattle.wat_tokens.specs.Token.{Tok, LParen, RParen}
-use Rattle.wat_instr.specs.Instruction.{Instr}
-use Rattle.wat_expr.specs.Laws.Facts.{reads_level, reads_shorter}
-use Rattle.wat_expr.specs.Flat.{Flat, flat, no_output, one_more, push}
+use Rattle.wat_expr.specs.Flat.{Flat, flat, no_output}
 use Rattle.wat_expr.specs.declared.expression.Expression.{Expression}
-use Rattle.wat_expr.specs.Expression.{Expr, seen_expression}
-use Rattle.wat_expr.specs.Folded.{plain, folded_reads}
 use Rattle.wat_expr.specs.GroupTurn.{spot, Opens, Closes, IsHalted}
-use Rattle.wat_expr.specs.Items.{reads}
 use Rattle.wat_expr.specs.Levels.{Level, InFolded, heads_in}
 use Rattle.wat_expr.specs.Listed.{IsFolded}
+use Rattle.wat_expr.proofs.Flatten.{Spanned, spanned}
+use Rattle.wat_expr.proofs.Fronts.{same_group}
 use Rattle.wat_expr.proofs.Heights.{carries_height, taken_more, taken_one}
-use Rattle.wat_expr.proofs.Folding.{Sum, start, SameToDo, Unwinding, begins, goes_on, opened_same, closes_in, found, halted, whole_instrs, whole_turns, whole_peak, whole_held}
-use Rattle.wat_expr.proofs.FoldedReads.{read_folded, read_none}
+
+-- the group that stands in front is read
+pub read_folded : (i : Instr) (gs : Groups) (ts r : List Tok) → is_folded i gs ts r → folded_reads ts ≡ Some (folded_value i gs, r)
+read_folded i gs ts r (a, b, e, h, l) = rw (e, read_of i a b h, groups_at_complete gs (suc (length b)) b r (omega arith) l) refl
+
+-- where no group stands in front, nothing is read
+pub read_none : (ts : List Tok) → ((i : Instr) (gs : Groups) (r : List Tok) → is_folded i gs ts r → ⊥) → folded_reads ts ≡ None
+read_none ts never =
+    by_read (folded_reads ts)
+    (λ y e. (let f = folded_sound ts y e in
+    let s = f.2 in
+    absurd (never s.0 s.1 y.1 (rw (← f.1) at s.2))))
+    (λ e. e)
+
+pub not_bare_of : (x : Read Expr) → ((y : Expr × List Tok) → x ≡ Some y → no_items y.0.instrs ≡ false) → NotBare bare_expression x
+not_bare_of (Some y) k = k y refl
+not_bare_of None k = tt
+
+-- it has an instruction
+pub read_not_bare : (ts : List Tok) → NotBare bare_expression (folded_reads ts)
+read_not_bare ts =
+    not_bare_of (folded_reads ts) (λ y e. (let s = (folded_sound ts y e).2 in
+    ap (λ (v : Expr). no_items v.instrs) s.3 ∙ filled_behind (plain s.1) (s.0 ∷ []) refl))
+
+-- ---- the first tokens
+
+pub begun : (ts r : List Tok) (x : Unit {0}) → one_reads is_lparen ts ≡ Some (x, r) → ts ≡ LParen ∷ r
+begun [] r x e = none_is_not (x, r) e
+begun (LParen ∷ ts) r x e = ap (λ (u : Unit {0} × List Tok). LParen ∷ u.1) (some_is (tt, ts) (x, r) e)
+begun (_ ∷ ts) r x e = none_is_not (x, r) e
+
+pub not_begun : (ts : List Tok) → one_reads is_lparen ts ≡ None → folded_reads ts ≡ None
+not_begun [] e = refl
+not_begun (LParen ∷ ts) e = absurd cc
+not_begun (_ ∷ ts) e = refl
+
+pub no_word : (ts a : List Tok) → ts ≡ LParen ∷ a → ((i : Instr) (m : List Tok) → reads i a m → ⊥) → folded_reads ts ≡ None
+no_word ts a e never = read_none ts (λ i gs r k. (let f = k.2 in let ea : k.0 ≡ a = cc in never i k.1 (rw ea at k.3)))
+
+-- the instructions so far, the turns, and the greatest numbers of levels and of heads
+pub record Sum : Type 0 where
+  pub instrs : List Instr
+  pub turns : ℕ
+  pub peak : ℕ
+  pub held : ℕ
+
+-- the turn at which a group opens, to k levels that hold h heads
+abbrev pub opened : ℕ → ℕ → Sum → Sum
+opened k h f = record { instrs = f.instrs; turns = f.turns + 1; peak = max f.peak k; held = max f.held h }
+
+-- the turn at which a group of the instruction closes, to k levels that hold h heads
+abbrev pub closed : ℕ → ℕ → Instr → Sum → Sum
+closed k h i f = record { instrs = f.instrs ++ i ∷ []; turns = f.turns + 1; peak = max f.peak k; held = max f.held h }
+
+-- what groups come to, in k levels that hold h heads
+abbrev pub fold : ℕ → ℕ → Groups → Sum → Sum
+fold k h NoGroup f = f
+fold k h (Group i gs hs) f = fold k h hs (closed k h i (fold (suc k) (suc h) gs (opened (suc k) (suc h) f)))
+
+-- what the loop has still to do, until r is left and the sum is o
+abbrev pub unwinds : Sum → List Tok → List Level → List Tok → Sum → Type 0
+unwinds o r [] ts f = (ts ≡ r) × (f ≡ o)
+unwinds o r (InFolded i p ∷ s) ts f =
+    (gs : Groups) × (m : List Tok) × groups gs ts (RParen ∷ m) × unwinds o r s m (closed (length s) (heads_in s) i (fold (suc (length s)) (suc (heads_in s)) gs f))
+unwinds o r (l ∷ s) ts f = ⊥
+
+-- from one place the loop has the same to do as from the other
+pub record SameToDo (s : List Level) (ts : List Tok) (f : Sum) (s' : List Level) (ts' : List Tok) (f' : Sum) : Type 0 where
+  pub forth : (o : Sum) (r : List Tok) → unwinds o r s ts f → unwinds o r s' ts' f'
+  pub back : (o : Sum) (r : List Tok) → unwinds o r s' ts' f' → unwinds o r s ts f
+
+-- a group opens in a group
+opened_same : (j : Instr) (q : Option ℕ) (s : List Level) (a b : List Tok) (f : Sum) → (s ≡ [] → ⊥) → reads j a b → SameToDo s (LParen ∷ a) f (InFolded j q ∷ s) b (opened (suc (length s)) (suc (heads_in s)) f)
+opened_same j q [] a b f some h = absurd (some refl)
+opened_same j q (InFolded i p ∷ s) a b f some rj = record {
+  forth = forth;
+  back = λ o r (gs, m, l, (hs, n, l', u)). (Group j gs hs, n, (a, b, m, refl, rj, l, l'), u);
+}
+  where
+    forth : (o : Sum) (r : List Tok) → unwinds o r (InFolded i p ∷ s) (LParen ∷ a) f → unwinds o r (InFolded j q ∷ (InFolded i p ∷ s)) b (opened (suc (suc (length s))) (suc (suc (heads_in s))) f)
+    forth o r (NoGroup, m, l, u) = cc
+    forth o r (Group k gs hs, m, l, u) = let one = same_group j k a b l.0 l.1 l.3 rj l.4 in rw (← one.0, ← one.1) (gs, l.2, l.5, (hs, m, l.6, u))
+opened_same j q (l ∷ s) a b f some h = record { forth = λ o r u. absurd u; back = λ o r u. absurd u.3 }
+
+-- a group closes
+closes_in : (i : Instr) (p : Option ℕ) (s : List Level) (m : List Tok) (f : Sum) → SameToDo (InFolded i p ∷ s) (RParen ∷ m) f s m (closed (length s) (heads_in s) i f)
+closes_in i p s m f = record {
+  forth = forth;
+  back = λ o r u. (NoGroup, m, refl, u);
+}
+  where
+    forth : (o : Sum) (r : List Tok) → unwinds o r (InFolded i p ∷ s) (RParen ∷ m) f → unwinds o r s m (closed (length s) (heads_in s) i f)
+    forth o r (NoGroup, n, l, u) = let e : n ≡ m = cc in rw e at u
+    forth o r (Group k gs hs, n, l, u) = let e = l.3 in cc
+
+-- nothing is to be done in a group that can neither hold a group nor close
+halts : (s : List Level) (ts : List Tok) (f : Sum) → (s ≡ [] → ⊥) → ((i : Instr) (a b : List Tok) → ts ≡ LParen ∷ a → reads i a b → ⊥) → ((i : Instr) (h : Option ℕ) (q : List Level) (d : List Tok) → s ≡ InFolded i h ∷ q → ts ≡ RParen ∷ d → ⊥)
+    → (o : Sum) (r : List Tok) → unwinds o r s ts f → ⊥
+halts [] ts f some open_ close_ o r u = some refl
+halts (InFolded i p ∷ s) ts f some open_ close_ o r (NoGroup, m, l, u) = close_ i p s m refl l
+halts (InFolded i p ∷ s) ts f some open_ close_ o r (Group j gs hs, m, l, u) = open_ j l.0 l.1 l.3 l.4
+halts (l ∷ s) ts f some open_ close_ o r u = u
+
+-- what groups come to, where k levels and h heads were noted already
+folds : (k h : ℕ) (gs : Groups) (f : Sum) → k ≤ f.peak → h ≤ f.held
+    → ((fold k h gs f).instrs ≡ f.instrs ++ plain gs) × (f.turns + count_groups gs ≤ (fold k h gs f).turns) × ((fold k h gs f).peak ≡ max f.peak (k + depth_groups gs)) × ((fold k h gs f).held ≡ max f.held (h + depth_groups gs))
+folds k h NoGroup f p q = (sym (append-nil f.instrs), omega arith, omega arith, omega arith)
+folds k h (Group i gs hs) f p q =
+    let g = opened (suc k) (suc h) f in
+    let y = folds (suc k) (suc h) gs g (omega arith) (omega arith) in
+    let x = folds k h hs (closed k h i (fold (suc k) (suc h) gs g)) (omega (arith, y.2)) (omega (arith, y.3)) in
+    (x.0 ∙ rw y.0 (simp append_assoc), omega (arith, x.1, y.1), omega (arith, x.2, y.2), omega (arith, x.3, y.3))
+
+-- ---- one group
+
+-- what a group comes to, from the place behind its instruction
+abbrev pub whole : Instr → Groups → Sum → Sum
+whole i gs f = closed 0 0 i (fold 1 1 gs f)
+
+-- behind its instruction one group is open, in which nothing was counted yet
+abbrev pub start : ℕ → ℕ → ℕ → Sum
+start t p h = record { instrs = []; turns = t; peak = max p 1; held = max h 1 }
+
+-- What is left to do is what the group at the front of ts asks for, which was begun with the sum g.
+pub record Unwinding (ts : List Tok) (g : Sum) (s : List Level) (u : List Tok) (f : Sum) : Type 0 where
+  pub forth : (i : Instr) (gs : Groups) (r : List Tok) → is_folded i gs ts r → unwinds (whole i gs g) r s u f
+  pub back : (o : Sum) (r : List Tok) → unwinds o r s u f → (i : Instr) × (gs : Groups) × is_folded i gs ts r × (o ≡ whole i gs g)
+
+whole_is : (i : Instr) (gs : Groups) (t p h : ℕ)
+    → ((whole i gs (start t p h)).instrs ≡ plain gs ++ i ∷ []) × (t + suc (count_groups gs) ≤ (whole i gs (start t p h)).turns) × (suc (depth_groups gs) ≤ (whole i gs (start t p h)).peak) × ((whole i gs (start t p h)).held ≡ max h (suc (depth_groups gs)))
+whole_is i gs t p h = let a = folds 1 1 gs (start t p h) (omega arith) (omega arith) in (ap (λ (l : List Instr). l ++ i ∷ []) a.0, omega (arith, a.1), omega (arith, a.2), omega (arith, a.3))
+
+begins : (i : Instr) (p : Option ℕ) (ts a b : List Tok) (g : Sum) → ts ≡ LParen ∷ a → reads i a b → Unwinding ts g (InFolded i p ∷ []) b g
+begins i p ts a b g e ri = record {
+  forth = λ j gs r (a', b', e', rj, l). (let one = same_group i j a b a' b' (sym e ∙ e') ri rj in (gs, r, rw one.1 at l, (refl, ap (λ (x : Instr). whole x gs g) (sym one.0))));
+  back = λ o r (gs, m, l, (em, ef)). (i, gs, (a, b, e, ri, rw em at l), sym ef);
+}
 
 -- what was put out, and what the parser counted
 abbrev pub sum_of : Flat → State → Sum
 sum_of f b = record { instrs = f.instrs; turns = b.turns; peak = b.peak; held = b.held }
-
--- how many spans are kept of n instructions
-abbrev pub spans_of : Bool → ℕ → Option ℕ
-spans_of keeps n = if keeps then Some n else None
-
-one_span : (keeps : Bool) (n : ℕ) → one_more (spans_of keeps n) ≡ spans_of keeps (suc n)
-one_span true n = refl
-one_span false n = refl
 
 pub is_some : (b : Bool) (s : List Level) → MatchBool b (s ≡ []) (s ≡ [] → ⊥) → b ≡ false → s ≡ [] → ⊥
 is_some true s m e = absurd cc
@@ -45,33 +180,14 @@ is_none false s m e = absurd cc
 pub record Going (a : State) (s : List Level) (f : Flat) (b : State) : Type 0 where
   pub exact : Unwinding a.left (start a.turns a.peak a.held) s b.left (sum_of f b)
   pub hints : f.hints ≡ []
-  pub spans : f.spans ≡ spans_of a.tracks (length f.instrs)
+  pub spans : Spanned a.tracks f
   pub counts : Carries a b
   pub turned : b.turns + a.taken ≤ a.turns + b.taken
   pub level : length s + closes a.left + opens b.left ≡ opens a.left + closes b.left
   pub names : Kept a b
 
--- after a turn the heights are noted: from u to w
-pub record IsNoted (u w : State) (s : List Level) : Type 0 where
-  pub left : w.left ≡ u.left
-  pub taken : w.taken ≡ u.taken
-  pub turns : w.turns ≡ u.turns
-  pub peak : w.peak ≡ max u.peak (length s)
-  pub held : w.held ≡ max u.held (heads_in s)
-  pub names : Kept u w
-
-pub noted : (u v w : State) (s : List Level) (k h : ℕ) → k ≡ length s → h ≡ heads_in s → v ≡ record u { peak = max u.peak k } → w ≡ record v { held = max v.held h } → IsNoted u w s
-noted u v w s k h ek eh ev ew = rw (ew, ev, ek, eh) (record { left = refl; taken = refl; turns = refl; peak = refl; held = refl; names = (refl, refl) })
-
 abbrev pub sum : List Instr → ℕ → ℕ → ℕ → Sum
 sum x t p h = record { instrs = x; turns = t; peak = p; held = h }
-
-same_sum : (x : List Instr) (t1 t2 p1 p2 h1 h2 : ℕ) → t1 ≡ t2 → p1 ≡ p2 → h1 ≡ h2 → sum x t1 p1 h1 ≡ sum x t2 p2 h2
-same_sum x t1 t2 p1 p2 h1 h2 a b c = rw (a, b, c) refl
-
--- the heights were noted, and the counts still carry
-carries_noted : (a u v w : State) (s : List Level) (k : ℕ) → Carries a u → k ≡ length s → length s + closes a.left + opens u.left ≡ opens a.left + closes u.left → v ≡ record u { peak = max u.peak k } → Carries v w → Carries a w
-carries_noted a u v w s k c ek l ev cw = λ x n. cw x (carries_height a u v k c (omega (arith, ek, l)) ev x n)
 
 -- ---- a turn
 
@@ -81,131 +197,72 @@ pub record Stepped (s s' : List Level) (ts us : List Tok) (f f' : Flat) : Type 0
   pub level : length s' + closes ts + opens us ≡ length s + opens ts + closes us
   pub shorter : length us < length ts
   pub hints : f.hints ≡ [] → f'.hints ≡ []
-  pub spans : (keeps : Bool) → f.spans ≡ spans_of keeps (length f.instrs) → f'.spans ≡ spans_of keeps (length f'.instrs)
+  pub spans : (keeps : Bool) → Spanned keeps f → Spanned keeps f'
 
-opens_step : (i : Instr) (s : List Level) (a us : List Tok) (f : Flat) → (s ≡ [] → ⊥) → reads i a us → Stepped s (InFolded i None ∷ s) (LParen ∷ a) us f f
-opens_step i s a us f some h =
-    let v = reads_level i a us h in
-    let z = reads_shorter i a us h in
+steps : (s s' : List Level) (ts us : List Tok) (f f' : Flat) → (s ≡ [] → ⊥) → Opens (spot s ts f) (spot s' us f') ⊎ Closes (spot s ts f) (spot s' us f') → Stepped s s' ts us f f'
+steps s s' ts us f f' some (inl (i, a, e, h, l, o)) =
+    rw (e, l, o) (record { same = λ t p n. opened_same i None s a us (sum f.instrs t p n) some h; level = omega (arith, reads_level i a us h); shorter = omega (arith, reads_shorter i a us h); hints = λ e. e; spans = λ k e. e })
+steps s s' ts us f f' some (inr (i, h, l, e, o)) =
+    rw (e, l, o) (record { same = λ t p n. closes_in i h s' us (sum f.instrs t p n); level = omega arith; shorter = omega arith; hints = λ e. append-nil f.hints ∙ e; spans = λ k e. spanned k None i f e })
+
+pub going_on : (a b t u v w : State) (s s' : List Level) (f f' : Flat) (k h : ℕ) → t ≡ record b { turns = b.turns + 1 } → k ≡ length s' → v ≡ record u { peak = max u.peak k } → h ≡ heads_in s' → w ≡ record v { held = max v.held h }
+    → (s ≡ [] → ⊥) → Opens (spot s t.left f) (spot s' u.left f') ⊎ Closes (spot s t.left f) (spot s' u.left f') → Going a s f b → Carries b t → Carries t u → Stays t u → Kept t u → Carries v w → Going a s' f' w
+going_on a b t u v w s s' f f' k h et ek ev eh ew = rw (et, ew, ev, ek, eh) (λ some turned g ct cu su ku cw.
+    let x = steps s s' b.left u.left f f' some turned in
+    let level : length s' + closes a.left + opens u.left ≡ opens a.left + closes u.left = omega (arith, x.level, g.level) in
+    let more : b.taken + 1 ≤ u.taken = taken_one _ u cu x.shorter in
+    let same : SameToDo s b.left (sum_of f b) s' u.left (sum f'.instrs u.turns (max u.peak (length s')) (max u.held (heads_in s'))) = rw (su.0, su.1, su.2) (x.same b.turns b.peak b.held) in
     record {
-      same = λ t p n. opened_same i None s a us (sum f.instrs t p n) some h;
-      level = omega (arith, v);
-      shorter = omega (arith, z);
-      hints = λ e. e;
-      spans = λ k e. e;
-    }
-
-closes_step : (i : Instr) (h : Option ℕ) (s : List Level) (us : List Tok) (f : Flat) → Stepped (InFolded i h ∷ s) s (RParen ∷ us) us f (push None i f)
-closes_step i h s us f = record {
-  same = λ t p n. closes_in i h s us (sum f.instrs t p n);
-  level = omega arith;
-  shorter = omega arith;
-  hints = λ e. append-nil f.hints ∙ e;
-  spans = λ k e. ap one_more e ∙ one_span k (length f.instrs) ∙ ap (spans_of k) (omega (arith, length-append f.instrs (i ∷ [])));
-}
-
-pub steps : (s s' : List Level) (ts us : List Tok) (f f' : Flat) → (s ≡ [] → ⊥) → Opens (spot s ts f) (spot s' us f') ⊎ Closes (spot s ts f) (spot s' us f') → Stepped s s' ts us f f'
-steps s s' ts us f f' some (inl (i, a, e, h, l, o)) = rw (e, l, o) (opens_step i s a us f some h)
-steps s s' ts us f f' some (inr (i, h, l, e, o)) = rw (e, l, o) (closes_step i h s' us f)
-
-pub going_on : (a b t u v w : State) (s s' : List Level) (f f' : Flat) (k h : ℕ) → Going a s f b → (s ≡ [] → ⊥)
-    → t ≡ record b { turns = b.turns + 1 } → Carries b t
-    → Opens (spot s t.left f) (spot s' u.left f') ⊎ Closes (spot s t.left f) (spot s' u.left f') → Carries t u → Stays t u → Kept t u
-    → k ≡ length s' → v ≡ record u { peak = max u.peak k } → h ≡ heads_in s' → w ≡ record v { held = max v.held h } → Carries v w
-    → Going a s' f' w
-going_on a b t u v w s s' f f' k h g some et ct turned cu su ku ek ev eh ew cw =
-    let x = steps s s' t.left u.left f f' some turned in
-    let n = noted u v w s' k h ek eh ev ew in
-    let left : t.left ≡ b.left = ap (λ (y : State). y.left) et in
-    let now : t.turns ≡ b.turns + 1 = ap (λ (y : State). y.turns) et in
-    let taken : t.taken ≡ b.taken = ap (λ (y : State). y.taken) et in
-    let peak : t.peak ≡ b.peak = ap (λ (y : State). y.peak) et in
-    let held : t.held ≡ b.held = ap (λ (y : State). y.held) et in
-    let o : opens t.left ≡ opens b.left = ap opens left in
-    let c : closes t.left ≡ closes b.left = ap closes left in
-    let level : length s' + closes a.left + opens u.left ≡ opens a.left + closes u.left = omega (arith, x.level, g.level, o, c) in
-    let more : t.taken + 1 ≤ u.taken = taken_one t u cu x.shorter in
-    let same : SameToDo s b.left (sum_of f b) s' w.left (sum_of f' w) =
-    rw (n.left, sym left) (subst (λ (z : Sum). SameToDo s t.left (sum_of f b) s' u.left z)
-    (same_sum f'.instrs (b.turns + 1) w.turns (max b.peak (length s')) w.peak (max b.held (heads_in s')) w.held (omega (arith, n.turns, su.0, now)) (omega (arith, n.peak, su.1, peak)) (omega (arith, n.held, su.2, held)))
-    (x.same b.turns b.peak b.held)) in
-    record {
-      exact = goes_on a.left (start a.turns a.peak a.held) s s' b.left w.left (sum_of f b) (sum_of f' w) g.exact same;
+      exact = record { forth = λ i gs r k. same.forth (whole i gs (start a.turns a.peak a.held)) r (g.exact.forth i gs r k); back = λ o r k. g.exact.back o r (same.back o r k) };
       hints = x.hints g.hints;
       spans = x.spans a.tracks g.spans;
-      counts = carries_noted a u v w s' k (λ y z. cu y (ct y (g.counts y z))) ek level ev cw;
-      turned = omega (arith, g.turned, n.turns, su.0, now, n.taken, more, taken);
-      level = rw n.left level;
-      names = (n.names.0 ∙ ku.0 ∙ ap (λ (y : State). y.known) et ∙ g.names.0, n.names.1 ∙ ku.1 ∙ ap (λ (y : State). y.tracks) et ∙ g.names.1);
-    }
+      counts = λ y z. cw y (carries_height a u _ (length s') (λ y z. cu y (ct y (g.counts y z))) level refl y z);
+      turned = omega (arith, g.turned, su.0, more);
+      level = level;
+      names = (ku.0 ∙ g.names.0, ku.1 ∙ g.names.1);
+    })
 
 -- ---- behind the first instruction
 
-pub going_begins : (a o t v w : State) (i : Instr) (p : Option ℕ) (s : List Level) (f : Flat) (k h : ℕ)
-    → a.left ≡ LParen ∷ o.left → Carries a o → Quiet a o → Kept a o → reads i o.left t.left → Carries o t → Stays o t → Kept o t
-    → s ≡ InFolded i p ∷ [] → f ≡ no_output a.tracks
-    → k ≡ length s → v ≡ record t { peak = max t.peak k } → h ≡ heads_in s → w ≡ record v { held = max v.held h } → Carries v w
-    → Going a s f w
-going_begins a o t v w i p s f k h e co qo ko ri ct st kt es ef ek ev eh ew cw =
-    let n = noted t v w s k h ek eh ev ew in
-    let one : length s ≡ 1 = ap length es in
-    let heads : heads_in s ≡ 1 = ap heads_in es in
-    let y = reads_level i o.left t.left ri in
-    let oo : opens a.left ≡ opens o.left + 1 = ap opens e in
-    let cc' : closes a.left ≡ closes o.left = ap closes e in
-    let level : length s + closes a.left + opens t.left ≡ opens a.left + closes t.left = omega (arith, one, y, oo, cc') in
-    let counts : Carries a w = carries_noted a t v w s k (λ x z. ct x (co x z)) ek level ev cw in
-    let same : sum_of f w ≡ start a.turns a.peak a.held =
-    ap (λ (x : List Instr). sum x w.turns w.peak w.held) (ap (λ (x : Flat). x.instrs) ef)
-    ∙ same_sum [] w.turns a.turns w.peak (max a.peak 1) w.held (max a.held 1) (omega (arith, n.turns, st.0, qo.0)) (omega (arith, n.peak, one, st.1, qo.2)) (omega (arith, n.held, heads, st.2, qo.3)) in
+pub going_begins : (a o t v w : State) (i : Instr) (p : Option ℕ) (s : List Level) (f : Flat) (k h : ℕ) → s ≡ InFolded i p ∷ [] → f ≡ no_output a.tracks → k ≡ length s → v ≡ record t { peak = max t.peak k } → h ≡ heads_in s → w ≡ record v { held = max v.held h }
+    → a.left ≡ LParen ∷ o.left → Carries a o → Quiet a o → Kept a o → reads i o.left t.left → Carries o t → Stays o t → Kept o t → Carries v w → Going a s f w
+going_begins a o t v w i p s f k h es ef ek ev eh ew = rw (ew, ev, ek, eh, es, ef) (λ e co qo ko ri ct st kt cw.
+    let level : 1 + closes a.left + opens t.left ≡ opens a.left + closes t.left = omega (arith, reads_level i o.left t.left ri, ap opens e, ap closes e) in
+    let more : a.taken ≤ t.taken = taken_more a t (λ x z. ct x (co x z)) in
     record {
-      exact = rw (n.left, es) (subst (λ (z : Sum). Unwinding a.left (start a.turns a.peak a.held) (InFolded i p ∷ []) t.left z) (sym same) (begins i p a.left o.left t.left (start a.turns a.peak a.held) e ri));
-      hints = ap (λ (x : Flat). x.hints) ef;
-      spans = rw ef refl;
-      counts = counts;
-      turned = omega (arith, n.turns, st.0, qo.0, taken_more a w counts);
-      level = rw n.left level;
-      names = (n.names.0 ∙ kt.0 ∙ ko.0, n.names.1 ∙ kt.1 ∙ ko.1);
-    }
+      exact = rw (st.0, qo.0, st.1, qo.2, st.2, qo.3) (begins i p a.left o.left t.left (start a.turns a.peak a.held) e ri);
+      hints = refl;
+      spans = refl;
+      counts = λ x z. cw x (carries_height a t _ 1 (λ x z. ct x (co x z)) level refl x z);
+      turned = omega (arith, st.0, qo.0, more);
+      level = level;
+      names = (kt.0 ∙ ko.0, kt.1 ∙ ko.1);
+    })
 
 -- ---- the exits
 
-pub going_smaller : (b t u v w : State) (s s' : List Level) (f f' : Flat) (k h : ℕ) → (s ≡ [] → ⊥) → t ≡ record b { turns = b.turns + 1 }
-    → Opens (spot s t.left f) (spot s' u.left f') ⊎ Closes (spot s t.left f) (spot s' u.left f')
-    → v ≡ record u { peak = max u.peak k } → w ≡ record v { held = max v.held h } → length w.left < length b.left
-going_smaller b t u v w s s' f f' k h some et turned ev ew =
-    let left : length t.left ≡ length b.left = ap (λ (y : State). length y.left) et in
-    let same : length w.left ≡ length u.left = ap (λ (y : State). length y.left) ew ∙ ap (λ (y : State). length y.left) ev in
-    let x = (steps s s' t.left u.left f f' some turned).shorter in
-    omega (arith, x, left, same)
+pub going_smaller : (b t u v w : State) (s s' : List Level) (f f' : Flat) (k h : ℕ) → t ≡ record b { turns = b.turns + 1 } → v ≡ record u { peak = max u.peak k } → w ≡ record v { held = max v.held h }
+    → (s ≡ [] → ⊥) → Opens (spot s t.left f) (spot s' u.left f') ⊎ Closes (spot s t.left f) (spot s' u.left f') → length w.left < length b.left
+going_smaller b t u v w s s' f f' k h et ev ew = rw (et, ew, ev) (λ some turned. (steps s s' b.left u.left f f' some turned).shorter)
 
 -- where the turn couldn't be made, nothing is read
-pub going_halts : (a b t : State) (s : List Level) (f : Flat) → Going a s f b → (s ≡ [] → ⊥) → t ≡ record b { turns = b.turns + 1 } → IsHalted (spot s t.left f) → folded_reads a.left ≡ None
-going_halts a b t s f g some et x =
-    let left : t.left ≡ b.left = ap (λ (y : State). y.left) et in
-    read_none a.left (halted a.left (start a.turns a.peak a.held) s b.left f (sum_of f b) some g.exact (subst (λ (l : List Tok). IsHalted (spot s l f)) left x))
-
-abbrev expr : List Instr → List (ℕ × ℕ) → Expr
-expr x h = record { instrs = x; hints = h }
-
-same_expr : (x y : List Instr) (h : List (ℕ × ℕ)) → x ≡ y → h ≡ [] → expr x h ≡ expr y []
-same_expr x y h a b = rw (a, b) refl
+pub going_halts : (a b t : State) (s : List Level) (f : Flat) → t ≡ record b { turns = b.turns + 1 } → Going a s f b → (s ≡ [] → ⊥) → IsHalted (spot s t.left f) → folded_reads a.left ≡ None
+going_halts a b t s f et = rw et (λ g some x. read_none a.left (λ i gs r k. halts s b.left (sum_of f b) some x.opens x.closes (whole i gs (start a.turns a.peak a.held)) r (g.exact.forth i gs r k)))
 
 -- where no group is open, one was read
 pub going_ends : (a b : State) (s : List Level) (e : Expression) → Going a s (flat e) b → s ≡ [] → IsFolded a b e
 going_ends a b s e g none =
-    let w = found a.left (start a.turns a.peak a.held) s b.left (sum_of (flat e) b) none g.exact in
-    let turns = ap (λ (y : Sum). y.turns) w.3 in
-    let peak = ap (λ (y : Sum). y.peak) w.3 in
-    let held = ap (λ (y : Sum). y.held) w.3 in
+    let w = g.exact.back (sum_of (flat e) b) b.left (rw none (refl, refl)) in
+    let y = whole_is w.0 w.1 a.turns a.peak a.held in
+    let p = ap (λ (y : Sum). y.instrs) w.3 ∙ y.0 in
     record {
       instr = w.0;
       within = w.1;
       listed = w.2;
-      value = same_expr (flat e).instrs (plain w.1 ++ w.0 ∷ []) (flat e).hints (ap (λ (y : Sum). y.instrs) w.3 ∙ whole_instrs w.0 w.1 a.turns a.peak a.held) g.hints;
-      turned = omega (arith, turns, whole_turns w.0 w.1 a.turns a.peak a.held);
-      peak = omega (arith, peak, whole_peak w.0 w.1 a.turns a.peak a.held);
-      held = held ∙ whole_held w.0 w.1 a.turns a.peak a.held;
+      value = λ j. record { instrs = p j; hints = g.hints j };
+      turned = omega (arith, ap (λ (y : Sum). y.turns) w.3, y.1);
+      peak = omega (arith, ap (λ (y : Sum). y.peak) w.3, y.2);
+      held = ap (λ (y : Sum). y.held) w.3 ∙ y.3;
     }
 
 pub going_reads : (a b : State) (s : List Level) (e : Expression) → Going a s (flat e) b → s ≡ [] → folded_reads a.left ≡ Some (seen_expression e, b.left)
@@ -218,7 +275,4 @@ pub refused_first : (a o b : State) → Carries a o → o.turns ≡ a.turns → 
 refused_first a o b c e d f = omega (arith, taken_more a o c, taken_more o b d, e, f)
 
 pub refused_later : (a b t u : State) → b.turns + a.taken ≤ a.turns + b.taken → t ≡ record b { turns = b.turns + 1 } → Carries t u → u.turns ≡ t.turns → u.turns + a.taken ≤ a.turns + u.taken + 1
-refused_later a b t u l e c f =
-    let turns : t.turns ≡ b.turns + 1 = ap (λ (y : State). y.turns) e in
-    let taken : t.taken ≡ b.taken = ap (λ (y : State). y.taken) e in
-    omega (arith, l, turns, taken, taken_more t u c, f)
+refused_later a b t u l e c f = omega (arith, l, ap (λ (y : State). y.turns) e, ap (λ (y : State). y.taken) e, taken_more t u c, f)

@@ -1,6 +1,6 @@
 -- What stands in front of a list of items and behind it.
-use Rattle.std.specs.Prelude.{◌≡◌, ℕ, List, [], ◌∷◌}
-use Rattle.std.proofs.Common.{ap, subst, sym, ◌∙◌}
+use Rattle.std.specs.Prelude.{◌≡◌, List, [], ◌∷◌}
+use Rattle.std.proofs.Common.{ap, sym, ◌∙◌}
 use Rattle.wat_tokens.specs.Token.{Tok, LParen, RParen, Keyword}
 use Rattle.wat_tokens.specs.Laws.Production.{some_is}
 use Rattle.wat_instr.specs.Instruction.{Instr}
@@ -19,7 +19,7 @@ reads_one i j ts m n h k =
 -- ---- where a list of items ends
 
 pub stops_at : (ts r : List Tok) → ts ≡ r → Stops r → Stops ts
-stops_at ts r e s = subst Stops (sym e) s
+stops_at ts r e s = rw e s
 
 pub stops_no_word : (i : Instr) (ts m : List Tok) → reads i ts m → Stops ts → ⊥
 stops_no_word i [] m h s = reads_nothing i m h
@@ -30,22 +30,22 @@ stops_no_word i (t ∷ ts) m h s = word_front i t ts m h
 
 pub stops_no_group : (i : Instr) (a m : List Tok) → reads i a m → Stops (LParen ∷ a) → ⊥
 stops_no_group i [] m h s = reads_nothing i m h
-stops_no_group i (Keyword w ∷ ts) m h s = reads_not_then i ts m (subst (λ (v : List ℕ). reads i (Keyword v ∷ ts) m) s h)
+stops_no_group i (Keyword w ∷ ts) m h s = reads_not_then i ts m (rw s at h)
 stops_no_group i (t ∷ ts) m h s = word_front i t ts m h
 
 -- no group stands where an instruction does
 pub no_paren : (i : Instr) (ts a m : List Tok) → reads i ts m → ts ≡ LParen ∷ a → ⊥
-no_paren i ts a m h e = word_front i LParen a m (subst (λ (t : List Tok). reads i t m) e h)
+no_paren i ts a m h e = word_front i LParen a m (rw e at h)
 
 pub same_group : (i j : Instr) (a b a2 b2 : List Tok) → LParen ∷ a ≡ LParen ∷ a2 → reads i a b → reads j a2 b2 → (j ≡ i) × (b2 ≡ b)
 same_group i j a b a2 b2 e h k =
-    let e2 : a2 ≡ a = cc in reads_one j i a b2 b (subst (λ (t : List Tok). reads j t b2) e2 k) h
+    let e2 : a2 ≡ a = cc in reads_one j i a b2 b (rw e2 at k) h
 
 -- two sorts of one instruction
 pub one_sort : (i j : Instr) (k l : Sort) → j ≡ i → sort i ≡ k → sort j ≡ l → k ≡ l
-one_sort i j k l e h g = let e2 : sort j ≡ sort i = ap (λ (x : Instr). sort x) e in sym h ∙ sym e2 ∙ g
+one_sort i j k l e h g = cc
 
 -- a hint is no instruction
 pub no_hint_word : (i : Instr) (a b d : List Tok) → LParen ∷ a ≡ LParen ∷ hint_name ∷ d → reads i a b → ⊥
 no_hint_word i a b d e h =
-    let e2 : a ≡ hint_name ∷ d = cc in word_front i hint_name d b (subst (λ (t : List Tok). reads i t b) e2 h)
+    let e2 : a ≡ hint_name ∷ d = cc in word_front i hint_name d b (rw e2 at h)

@@ -1,5 +1,5 @@
 -- What a call answers that reads an instruction, and what it means where it reads none.
-use Rattle.std.proofs.Common.{◌≡◌, List, ◌∷◌, false, Result, Ok, Err, sym, ◌∙◌, subst}
+use Rattle.std.proofs.Common.{◌≡◌, List, ◌∷◌, false, Result, Ok, Err, sym, ◌∙◌}
 use Rattle.wat_tokens.specs.Error.{Error}
 use Rattle.wat_tokens.specs.Parses.{Gives}
 use Rattle.wat_tokens.specs.Token.{Tok, LParen, RParen}
@@ -18,6 +18,6 @@ reads_instr (Err e) ts left g = λ n i m h. (let none = g.0 n in let some = read
 -- behind `(` stands no instruction: no group can open, and none can close
 pub no_group_turn : (s : List Level) (ts u : List Tok) (f : Flat) → ts ≡ LParen ∷ u → ((i : Instr) (m : List Tok) → reads i u m → ⊥) → IsHalted (spot s ts f)
 no_group_turn s ts u f e never = record {
-  opens = λ i a b e2 h. (let q : a ≡ u = cc in never i b (subst (λ (t : List Tok). reads i t b) q h));
+  opens = λ i a b e2 h. (let q : a ≡ u = cc in never i b (rw q at h));
   closes = λ i h q d k e2. (let bad : LParen ∷ u ≡ RParen ∷ d = sym e ∙ e2 in absurd cc);
 }

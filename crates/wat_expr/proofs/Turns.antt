@@ -1,268 +1,307 @@
--- Each turn of the loop leaves as much to do as there was.
-use Rattle.std.proofs.Common.{◌≡◌, inl, inr, ℕ, suc, ◌<◌, true, List, [], ◌∷◌, length, Option, Some, None, refl, sym, subst, arith}
+-- Turns: each leaves as much to do as there was, and where one is refused nothing could be read.
+use Rattle.std.proofs.Common.{◌≡◌, ◌||◌, ◌==◌, ℕ, Bool, true, false, refl, subst, inl, inr, ◌<◌, List, [], ◌∷◌, length, Option, Some, None, sym, suc, ◌≤◌, Result, Ok, Err, MatchResult, MatchOption, ap, arith}
+use Rattle.std.proofs.lemmas.Bool.{eqb-true}
+use Rattle.wat_instr.specs.Instruction.{Instr, is_block, is_if, is_br_if, end_instr, else_instr}
+use Rattle.wat_tokens.specs.Laws.Production.{by_test}
+use Rattle.wat_expr.specs.Items.{sort, sort_of, IsBlock, IsIf, IsOther, is_branch, Sort, reads, word, hint_name, Items, Nil, Plain, Folded, Block, IfThen, IfElse, Hinted, Only, BeginsWithBranch}
 use Rattle.std.specs.Prelude.{codes}
 use Rattle.wat_tokens.specs.Token.{Tok, LParen, RParen, String}
-use Rattle.wat_instr.specs.Instruction.{Instr, else_instr, end_instr}
 use Rattle.wat_expr.specs.Facts.{Stops}
-use Rattle.wat_expr.specs.Laws.Facts.{reads_shorter, reads_level}
+use Rattle.wat_expr.specs.Laws.Facts.{word_front, reads_shorter, reads_level}
 use Rattle.wat_expr.specs.Flat.{Flat, push}
-use Rattle.wat_expr.specs.Items.{sort, IsBlock, IsIf, IsOther, reads, word, hint_name, Nil, Plain, Folded, Block, IfThen, IfElse, Hinted}
 use Rattle.wat_expr.specs.Levels.{Level, InFolded, InBlock, InIf, AfterThen, AfterElse, InArm, heads_in}
-use Rattle.wat_expr.specs.Progress.{Counted, add, counted, noted, emit, suits, After, Open, closing, after_else, after_then, arm, IsOpen, TakesPlain, after_level, Place, Same, with_tallies, Stand, Turn}
-use Rattle.wat_expr.proofs.Steps.{Ends, plain_forth, folded_forth, block_forth, if_forth, hint_forth, end_forth, plain_back, folded_back, block_back, if_back, hint_back, end_back}
+use Rattle.wat_expr.specs.Progress.{Counted, counted, noted, Fits, suits, After, Open, closing, arm, IsOpen, TakesPlain, after_level, Finishes, Tallies, with_tallies, Stand, standing, risen, Balanced, Turn, Turned, Stuck}
+use Rattle.wat_expr.proofs.Fronts.{reads_one, stops_at, stops_no_word, stops_no_group, no_paren, same_group, one_sort, no_hint_word}
+use Rattle.wat_tokens.specs.Error.{Error, Memory}
+use Rattle.wat_tokens.specs.Tests.{ends}
 
-abbrev pub now : List Level → Option ℕ → List Tok → Counted → Place
-now s p ts f = record { levels = s; pending = p; left = ts; flat = f }
+if_either : (a b c : Bool) → sort_of b c ≡ IsIf → (a || c) ≡ true
+if_either true b c e = refl
+if_either false true c e = absurd cc
+if_either false false true e = refl
+if_either false false false e = absurd cc
 
--- the items further on in the innermost level
-abbrev pub resume : Counted → List Tok → List Level → After
-resume o r s = Open (TakesPlain s) (IsOpen s) (after_level o r s) (length s) (heads_in s) None
+-- an `if` can stand behind a hint
+pub if_branch : (i : Instr) → sort i ≡ IsIf → is_branch i ≡ true
+if_branch i e = if_either (is_br_if i.row) (is_block i.row) (is_if i.row) e
 
-pub same_refl : (s : Place) → Same s s
-same_refl s = record { forth = λ o r k. k; back = λ o r k. k }
+-- so can a folded `br_if`
+pub folded_branch : (i : Instr) → is_br_if i.row ≡ true → is_branch i ≡ true
+folded_branch i e = rw e refl
 
-pub same_then : (s t u : Place) → Same s t → Same t u → Same s u
-same_then s t u a b = record { forth = λ o r k. b.forth o r (a.forth o r k); back = λ o r k. a.back o r (b.back o r k) }
+other_either : (a b c : Bool) → sort_of b c ≡ IsOther → (a || c) ≡ true → a ≡ true
+other_either true b c e h = refl
+other_either false true c e h = absurd cc
+other_either false false true e h = absurd cc
+other_either false false false e h = absurd cc
 
-pub ends_behind : (o : Counted) (r : List Tok) (s : List Level) → IsOpen s → Ends (after_level o r s)
+-- no other folded instruction can
+pub branch_folded : (i : Instr) → sort i ≡ IsOther → is_branch i ≡ true → is_br_if i.row ≡ true
+branch_folded i e h = other_either (is_br_if i.row) (is_block i.row) (is_if i.row) e h
+
+-- the row m opens what the row n does
+same_sort : (n m : ℕ) → (n == m) ≡ true → sort_of (is_block n) (is_if n) ≡ IsBlock → sort_of (is_block m) (is_if m) ≡ IsBlock
+same_sort n m e s = subst (λ (k : ℕ). sort_of (is_block k) (is_if k) ≡ IsBlock) (eqb-true n m e) s
+
+-- no block can
+pub branch_block : (i : Instr) → sort i ≡ IsBlock → is_branch i ≡ true → ⊥
+branch_block i s h =
+    by_test (is_br_if i.row)
+    (λ e. (let k : IsOther ≡ IsBlock = same_sort i.row _ e s in cc))
+    (λ e. (let f : is_if i.row ≡ true = rw e at h in let k : IsIf ≡ IsBlock = same_sort i.row _ f s in cc))
+
+pub any_items : (xs : Items) → Only (Unit {0}) (Unit {0}) xs
+any_items Nil = tt
+any_items (Plain i xs) = (tt, any_items xs)
+any_items (Folded i ys xs) = (tt, any_items xs)
+any_items (Block i ys xs) = (tt, any_items xs)
+any_items (IfThen i ops th xs) = (tt, any_items xs)
+any_items (IfElse i ops th el xs) = (tt, any_items xs)
+any_items (Hinted v xs) = (tt, any_items xs)
+
+-- what finishes from the levels s
+abbrev pub Rest : Counted → List Tok → List Level → Option ℕ → After
+Rest o r s p = Open (TakesPlain s) (IsOpen s) (after_level o r s) (length s) (heads_in s) p
+
+-- the output changes, and the levels are s
+abbrev pub goes : List Level → Flat → Counted → Counted
+goes s g f = noted (length s) (heads_in s) (record { out = g; items = f.items; peak = f.peak; held = f.held })
+
+-- the level that a group opens, and the output there
+abbrev pub inside : Sort → Instr → Option ℕ → Level
+inside IsOther i p = InFolded i p
+inside IsBlock i p = InBlock
+inside IsIf i p = InIf i p
+
+abbrev pub put : Sort → Option ℕ → Instr → Flat → Flat
+put IsOther p i f = f
+put IsBlock p i f = push p i f
+put IsIf p i f = f
+
+-- the output where a level closes
+abbrev pub closed : Level → Flat → Flat
+closed (InFolded i p) f = push p i f
+closed (InIf i p) f = f
+closed InArm f = f
+closed _ f = push None end_instr f
+
+abbrev pub CanClose : Level → Type 0
+CanClose (InIf i p) = ⊥
+CanClose _ = Unit {0}
+
+ends_behind : (o : Counted) (r : List Tok) (s : List Level) → IsOpen s → (ts : List Tok) (f : Counted) → after_level o r s ts f → Stops ts
 ends_behind o r [] h [] f k = tt
 ends_behind o r [] h (RParen ∷ ts) f k = tt
 ends_behind o r [] h (t ∷ ts) f k = absurd (let e = k.0 in cc)
-ends_behind o r (InFolded i p ∷ s) h ts f k = subst Stops (sym k.1) tt
-ends_behind o r (InBlock ∷ s) h ts f k = subst Stops (sym k.1) tt
 ends_behind o r (InIf i p ∷ s) h ts f k = subst Stops (sym k.1) refl
-ends_behind o r (InArm ∷ s) h ts f k = subst Stops (sym k.1) tt
 ends_behind o r (AfterThen ∷ s) h ts f k = absurd h
 ends_behind o r (AfterElse ∷ s) h ts f k = absurd h
+ends_behind o r (l ∷ s) h ts f k = subst Stops (sym k.1) tt
 
 pub plain_is_open : (s : List Level) → TakesPlain s → IsOpen s
 plain_is_open [] h = tt
-plain_is_open (InFolded i p ∷ s) h = tt
-plain_is_open (InBlock ∷ s) h = tt
 plain_is_open (InIf i p ∷ s) h = tt
-plain_is_open (InArm ∷ s) h = tt
-plain_is_open (AfterThen ∷ s) h = h
-plain_is_open (AfterElse ∷ s) h = h
+plain_is_open (l ∷ s) h = h
 
-counted_plain : (s : List Level) (p : Option ℕ) (i : Instr) (ts m : List Tok) (f : Counted) → TakesPlain s → reads i ts m → suits p i ≡ true → Same (now s p ts f) (now s None m (noted (length s) (heads_in s) (add p i (counted f))))
-counted_plain s p i ts m f a h t = record {
-  forth = λ o r k. (plain_forth (TakesPlain s) (IsOpen s) (after_level o r s) (ends_behind o r s (plain_is_open s a)) (length s) (heads_in s) p i ts m f h k).1;
-  back = λ o r k. plain_back (TakesPlain s) (IsOpen s) (after_level o r s) (length s) (heads_in s) p i ts m f h t a k;
-}
+-- an item fits where its instruction suits
+fits_by : (p : Option ℕ) (i : Instr) (xs : Items) → (is_branch i ≡ true → BeginsWithBranch xs) → suits p i ≡ true → Fits p xs
+fits_by None i xs k t = tt
+fits_by (Some v) i xs k t = k t
 
-counted_folded : (s : List Level) (p : Option ℕ) (i : Instr) (a b : List Tok) (f : Counted) → IsOpen s → reads i a b → suits p i ≡ true → sort i ≡ IsOther → Same (now s p (LParen ∷ a) f) (now (InFolded i p ∷ s) None b (noted (suc (length s)) (suc (heads_in s)) (counted f)))
-counted_folded s p i a b f g h t ki = record {
-  forth = λ o r k. folded_forth (TakesPlain s) (IsOpen s) (after_level o r s) (ends_behind o r s g) (length s) (heads_in s) p i a b f h ki k;
-  back = λ o r k. folded_back (TakesPlain s) (IsOpen s) (after_level o r s) (length s) (heads_in s) p i a b f h t ki g k;
-}
+suits_by : (p : Option ℕ) (i : Instr) (xs : Items) → (BeginsWithBranch xs → is_branch i ≡ true) → Fits p xs → suits p i ≡ true
+suits_by None i xs k f = refl
+suits_by (Some v) i xs k f = k f
 
-counted_block : (s : List Level) (p : Option ℕ) (i : Instr) (a b : List Tok) (f : Counted) → IsOpen s → reads i a b → suits p i ≡ true → sort i ≡ IsBlock → Same (now s p (LParen ∷ a) f) (now (InBlock ∷ s) None b (noted (suc (length s)) (heads_in s) (add p i (counted f))))
-counted_block s p i a b f g h t ki = record {
-  forth = λ o r k. block_forth (TakesPlain s) (IsOpen s) (after_level o r s) (ends_behind o r s g) (length s) (heads_in s) p i a b f h ki k;
-  back = λ o r k. block_back (TakesPlain s) (IsOpen s) (after_level o r s) (length s) (heads_in s) p i a b f h t ki g k;
-}
+no_hint : (p : Option ℕ) (xs : Items) → (BeginsWithBranch xs → ⊥) → Fits p xs → p ≡ None
+no_hint None xs k f = refl
+no_hint (Some v) xs k f = absurd (k f)
 
-counted_if : (s : List Level) (p : Option ℕ) (i : Instr) (a b : List Tok) (f : Counted) → IsOpen s → reads i a b → sort i ≡ IsIf → Same (now s p (LParen ∷ a) f) (now (InIf i p ∷ s) None b (noted (suc (length s)) (suc (heads_in s)) (counted f)))
-counted_if s p i a b f g h ki = record {
-  forth = λ o r k. if_forth (TakesPlain s) (IsOpen s) (after_level o r s) (ends_behind o r s g) (length s) (heads_in s) p i a b f h ki k;
-  back = λ o r k. if_back (TakesPlain s) (IsOpen s) (after_level o r s) (length s) (heads_in s) p i a b f h ki g k;
-}
+-- what stands in front: nothing, an instruction, a group or a hint
+pub next : {C : Type 0} (o : Counted) (r : List Tok) (s : List Level) (p : Option ℕ) (ts : List Tok) (f : Counted)
+    → (p ≡ None → after_level o r s ts f → C)
+    → ((i : Instr) (m : List Tok) → TakesPlain s → reads i ts m → suits p i ≡ true → Rest o r s None m (goes s (push p i f.out) (counted f)) → C)
+    → ((k : Sort) (i : Instr) (a b : List Tok) → IsOpen s → ts ≡ LParen ∷ a → reads i a b → suits p i ≡ true → sort i ≡ k → Rest o r (inside k i p ∷ s) None b (goes (inside k i p ∷ s) (put k p i f.out) (counted f)) → C)
+    → ((v : ℕ) (d : List Tok) → IsOpen s → p ≡ None → v < 2 → ts ≡ LParen ∷ hint_name ∷ String (v ∷ []) ∷ RParen ∷ d → Rest o r s (Some v) d (goes s f.out (counted f)) → C)
+    → Rest o r s p ts f → C
+next o r s p ts f over plain group hint (Nil, u, l, fit, only, z) = over (no_hint p Nil (λ b. b) fit) (rw l z)
+next o r s p ts f over plain group hint (Plain j xs, u, l, fit, only, z) = plain j l.0 only.0 l.1 (suits_by p j (Plain j xs) (λ b. b) fit) (xs, u, l.2, tt, only.1, z)
+next o r s p ts f over plain group hint (Folded j ys xs, u, l, fit, only, z) =
+    group IsOther j l.0 l.1 only.0 l.3 l.5 (suits_by p j (Folded j ys xs) (folded_branch j) fit) l.4 (ys, RParen ∷ l.2, l.6, tt, any_items ys, (l.2, refl, (xs, u, l.7, tt, only.1, z)))
+next o r s p ts f over plain group hint (Block j ys xs, u, l, fit, only, z) =
+    group IsBlock j l.0 l.1 only.0 l.3 l.5 (suits_by p j (Block j ys xs) (λ b. absurd b) fit) l.4 (ys, RParen ∷ l.2, l.6, tt, any_items ys, (l.2, refl, (xs, u, l.7, tt, only.1, z)))
+next o r s p ts f over plain group hint (IfThen j ops th xs, u, l, fit, only, z) =
+    group IsIf j l.0 l.1 only.0 l.4 l.6 (suits_by p j (IfThen j ops th xs) (λ b. if_branch j l.5) fit) l.5
+    (ops, _, l.8, tt, l.7, (l.2, refl, (th, _, l.9, tt, any_items th, (RParen ∷ l.3, refl, inl (l.3, refl, (xs, u, l.10, tt, only.1, z))))))
+next o r s p ts f over plain group hint (IfElse j ops th el xs, u, l, fit, only, z) =
+    group IsIf j l.0 l.1 only.0 l.5 l.7 (suits_by p j (IfElse j ops th el xs) (λ b. if_branch j l.6) fit) l.6
+    (ops, _, l.9, tt, l.8, (l.2, refl, (th, _, l.10, tt, any_items th, (LParen ∷ word (codes "else") ∷ l.3, refl, inr (l.3, refl, (el, _, l.11, tt, any_items el, (RParen ∷ l.4, refl, (l.4, refl, (xs, u, l.12, tt, only.1, z)))))))))
+next o r s p ts f over plain group hint (Hinted v xs, u, l, fit, only, z) = hint v l.0 only.0 (no_hint p (Hinted v xs) (λ b. b) fit) l.2 l.1 (xs, u, l.4, l.3, only.1, z)
 
-counted_hint : (s : List Level) (v : ℕ) (d : List Tok) (f : Counted) → IsOpen s → v < 2 → Same (now s None (LParen ∷ hint_name ∷ String (v ∷ []) ∷ RParen ∷ d) f) (now s (Some v) d (noted (length s) (heads_in s) (counted f)))
-counted_hint s v d f g lt = record {
-  forth = λ o r k. (hint_forth (TakesPlain s) (IsOpen s) (after_level o r s) (ends_behind o r s g) (length s) (heads_in s) None v d f k).2;
-  back = λ o r k. hint_back (TakesPlain s) (IsOpen s) (after_level o r s) (length s) (heads_in s) v d f lt g k;
-}
+-- where no item can stand, the list ends
+pub ended : (o : Counted) (r : List Tok) (s : List Level) (p : Option ℕ) (ts : List Tok) (f : Counted) → (IsOpen s → Stops ts) → Rest o r s p ts f → (p ≡ None) × after_level o r s ts f
+ended o r s p ts f st =
+    next o r s p ts f (λ e k. (e, k)) (λ j m a h t z. absurd (stops_no_word j ts m h (st (plain_is_open s a))))
+    (λ k j a b g e h t q z. absurd (stops_no_group j a b h (stops_at _ ts (sym e) (st g)))) (λ v d g e lt q z. absurd (stops_at _ ts (sym q) (st g)))
 
--- a closing parenthesis
-close_token : (k h : ℕ) (N : After) (m : List Tok) (f : Counted) → closing k h N (RParen ∷ m) f → N m (noted k h f)
-close_token k h N m f (d, e, n) = let e2 : d ≡ m = cc in subst (λ (t : List Tok). N t (noted k h f)) e2 n
+module _ (o : Counted) (r : List Tok) (s : List Level) where
+  pub group_back : (k : Sort) (p : Option ℕ) (i : Instr) (a b : List Tok) (f : Counted) → IsOpen s → reads i a b → suits p i ≡ true → sort i ≡ k → Rest o r (inside k i p ∷ s) None b (goes (inside k i p ∷ s) (put k p i f.out) (counted f)) → Rest o r s p (LParen ∷ a) f
+  group_back IsOther p i a b f g h t ki (ys, q, l, fit, only, (d, e, (xs, u, l', fit', only', z))) =
+      (Folded i ys xs, u, (a, b, d, refl, ki, h, rw e at l, l'), fits_by p i (Folded i ys xs) (branch_folded i ki) t, (g, only'), z)
+  group_back IsBlock p i a b f g h t ki (ys, q, l, fit, only, (d, e, (xs, u, l', fit', only', z))) =
+      (Block i ys xs, u, (a, b, d, refl, ki, h, rw e at l, l'), fits_by p i (Block i ys xs) (branch_block i ki) t, (g, only'), z)
+  group_back IsIf p i a b f g h t ki (ops, q, l, fit, only, (d, e, (th, q2, l2, fit2, only2, (d2, e2, inl (d3, e3, (xs, u, l', fit', only', z)))))) =
+      let e4 : q2 ≡ RParen ∷ RParen ∷ d3 = cc in
+      (IfThen i ops th xs, u, (a, b, d, d3, refl, ki, h, only, rw e at l, rw e4 at l2, l'), fits_by p i (IfThen i ops th xs) (λ b. tt) t, (g, only'), z)
+  group_back IsIf p i a b f g h t ki (ops, q, l, fit, only, (d, e, (th, q2, l2, fit2, only2, (d2, e2, inr (d3, e3, (el, q4, l4, fit4, only4, (d5, e5, (d6, e6, (xs, u, l', fit', only', z))))))))) =
+      let e7 : q2 ≡ RParen ∷ LParen ∷ word (codes "else") ∷ d3 = cc in
+      let e8 : q4 ≡ RParen ∷ RParen ∷ d6 = cc in
+      (IfElse i ops th el xs, u, (a, b, d, d3, d6, refl, ki, h, only, rw e at l, rw e7 at l2, rw e8 at l4, l'), fits_by p i (IfElse i ops th el xs) (λ b. tt) t, (g, only'), z)
 
-counted_close : (s : List Level) (i : Instr) (p : Option ℕ) (m : List Tok) (f : Counted) → Same (now (InFolded i p ∷ s) None (RParen ∷ m) f) (now s None m (noted (length s) (heads_in s) (add p i f)))
-counted_close s i p m f = record {
-  forth = λ o r k. let top = InFolded i p ∷ s in close_token (length s) (heads_in s) (λ m f. resume o r s m (add p i f)) m f (end_forth (Unit {0}) (Unit {0}) (after_level o r top) (ends_behind o r top tt) (length top) (heads_in top) None (RParen ∷ m) f tt k).1;
-  back = λ o r k. let top = InFolded i p ∷ s in end_back (Unit {0}) (Unit {0}) (after_level o r top) (length top) (heads_in top) (RParen ∷ m) f (m, refl, k);
-}
+  -- a level closes
+  shut : (l : Level) (m : List Tok) (f : Counted) → CanClose l → after_level o r (l ∷ s) (RParen ∷ m) f → closing (length s) (heads_in s) (λ t g. Rest o r s None t (record { out = closed l g.out; items = g.items; peak = g.peak; held = g.held })) (RParen ∷ m) f
+  shut (InIf i p) m f c k = absurd c
+  shut AfterThen m f c (inl k) = k
+  shut AfterThen m f c (inr (d, e, k)) = cc
+  shut l m f c k = k
 
-counted_close_block : (s : List Level) (m : List Tok) (f : Counted) → Same (now (InBlock ∷ s) None (RParen ∷ m) f) (now s None m (noted (length s) (heads_in s) (add None end_instr f)))
-counted_close_block s m f = record {
-  forth = λ o r k. let top = InBlock ∷ s in close_token (length s) (heads_in s) (λ m f. resume o r s m (add None end_instr f)) m f (end_forth (Unit {0}) (Unit {0}) (after_level o r top) (ends_behind o r top tt) (length top) (heads_in top) None (RParen ∷ m) f tt k).1;
-  back = λ o r k. let top = InBlock ∷ s in end_back (Unit {0}) (Unit {0}) (after_level o r top) (length top) (heads_in top) (RParen ∷ m) f (m, refl, k);
-}
+  pub close_forth : (l : Level) (m : List Tok) (f : Counted) → CanClose l → Rest o r (l ∷ s) None (RParen ∷ m) f → Rest o r s None m (goes s (closed l f.out) f)
+  close_forth l m f c k =
+      let z = shut l m f c (ended o r (l ∷ s) None (RParen ∷ m) f (λ _. tt) k).1 in
+      let q : z.0 ≡ m = (let e = z.1 in cc) in rw q at z.2
 
-counted_close_arm : (s : List Level) (m : List Tok) (f : Counted) → Same (now (InArm ∷ s) None (RParen ∷ m) f) (now s None m (noted (length s) (heads_in s) f))
-counted_close_arm s m f = record {
-  forth = λ o r k. let top = InArm ∷ s in close_token (length s) (heads_in s) (resume o r s) m f (end_forth (Unit {0}) (Unit {0}) (after_level o r top) (ends_behind o r top tt) (length top) (heads_in top) None (RParen ∷ m) f tt k).1;
-  back = λ o r k. let top = InArm ∷ s in end_back (Unit {0}) (Unit {0}) (after_level o r top) (length top) (heads_in top) (RParen ∷ m) f (m, refl, k);
-}
+  pub close_back : (l : Level) (m : List Tok) (f : Counted) → CanClose l → Rest o r s None m (goes s (closed l f.out) f) → Rest o r (l ∷ s) None (RParen ∷ m) f
+  close_back (InIf i p) m f c k = absurd c
+  close_back AfterThen m f c k = (Nil, RParen ∷ m, refl, tt, tt, inl (m, refl, k))
+  close_back l m f c k = (Nil, RParen ∷ m, refl, tt, tt, (m, refl, k))
 
--- where no item can stand
-pub only_end : (K : After) (n h : ℕ) (p : Option ℕ) (ts : List Tok) (f : Counted) → Open ⊥ ⊥ K n h p ts f → (p ≡ None) × K ts f
-only_end K n h None ts f (Nil, r, l, fit, only, k) = (refl, subst (λ (t : List Tok). K t f) (sym l) k)
-only_end K n h (Some v) ts f (Nil, r, l, fit, only, k) = absurd fit
-only_end K n h p ts f (Plain i xs, r, l, fit, only, k) = absurd only.0
-only_end K n h p ts f (Folded i ys xs, r, l, fit, only, k) = absurd only.0
-only_end K n h p ts f (Block i ys xs, r, l, fit, only, k) = absurd only.0
-only_end K n h p ts f (IfThen i ops th xs, r, l, fit, only, k) = absurd only.0
-only_end K n h p ts f (IfElse i ops th el xs, r, l, fit, only, k) = absurd only.0
-only_end K n h p ts f (Hinted v xs, r, l, fit, only, k) = absurd only.0
+  -- an arm, and the level around it, in which no item can stand
+  pub arm_forth : (l : Level) (w : Tok) (m : List Tok) (f : Counted) → (d : List Tok) × (LParen ∷ w ∷ m ≡ LParen ∷ w ∷ d) × arm (length s) (heads_in (l ∷ s)) (after_level o r (l ∷ s)) d f → Rest o r (InArm ∷ l ∷ s) None m f
+  arm_forth l w m f (d, e, (xs, u, t, fit, only, (c, e2, k))) = let q : d ≡ m = cc in (xs, u, rw q at t, fit, only, (c, e2, (Nil, c, refl, tt, tt, k)))
 
-open_map : (P G : Type 0) (K L : After) (n h : ℕ) (p : Option ℕ) (ts : List Tok) (f : Counted) → ((r : List Tok) (g : Counted) → K r g → L r g) → Open P G K n h p ts f → Open P G L n h p ts f
-open_map P G K L n h p ts f g (xs, r, l, fit, only, k) = (xs, r, l, fit, only, g r (emit n h p xs f) k)
-
--- an arm, and the level around it, in which no item can stand
-module _ (n h : ℕ) (K : After) where
-  abbrev within : After
-  within = Open ⊥ ⊥ K (suc n) h None
-
-  arm_forth : (ts : List Tok) (f : Counted) → arm n h K ts f → arm n h within ts f
-  arm_forth ts f = open_map (Unit {0}) (Unit {0}) (closing (suc n) h K) (closing (suc n) h within) (suc (suc n)) h None ts f (λ r g (d, e, k). (d, e, end_back ⊥ ⊥ K (suc n) h d (noted (suc n) h g) k))
-
-  arm_back : (ts : List Tok) (f : Counted) → arm n h within ts f → arm n h K ts f
-  arm_back ts f = open_map (Unit {0}) (Unit {0}) (closing (suc n) h within) (closing (suc n) h K) (suc (suc n)) h None ts f (λ r g (d, e, k). (d, e, (only_end K (suc n) h None d (noted (suc n) h g) k).1))
-
--- (then
-counted_then_arm : (s : List Level) (i : Instr) (p : Option ℕ) (m : List Tok) (f : Counted) → Same (now (InIf i p ∷ s) None (LParen ∷ word (codes "then") ∷ m) f) (now (InArm ∷ AfterThen ∷ s) None m (noted (suc (suc (length s))) (heads_in s) (add p i f)))
-counted_then_arm s i p m f = record {
-  forth = λ o r k.
-      let top = InIf i p ∷ s in
-      let N : After = resume o r s in
-      let a = (end_forth ⊥ (Unit {0}) (after_level o r top) (ends_behind o r top tt) (length top) (heads_in top) None (LParen ∷ word (codes "then") ∷ m) f refl k).1 in
-      let e = a.1 in let e2 : a.0 ≡ m = cc in
-      arm_forth (length s) (heads_in s) (after_then (length s) (heads_in s) N) m (noted (suc (suc (length s))) (heads_in s) (add p i f)) (subst (λ (t : List Tok). arm (length s) (heads_in s) (after_then (length s) (heads_in s) N) t (noted (suc (suc (length s))) (heads_in s) (add p i f))) e2 a.2);
-  back = λ o r k.
-      let top = InIf i p ∷ s in
-      let N : After = resume o r s in
-      end_back ⊥ (Unit {0}) (after_level o r top) (length top) (heads_in top) (LParen ∷ word (codes "then") ∷ m) f (m, refl, arm_back (length s) (heads_in s) (after_then (length s) (heads_in s) N) m (noted (suc (suc (length s))) (heads_in s) (add p i f)) k);
-}
-
--- (else
-counted_else_arm : (s : List Level) (m : List Tok) (f : Counted) → Same (now (AfterThen ∷ s) None (LParen ∷ word (codes "else") ∷ m) f) (now (InArm ∷ AfterElse ∷ s) None m (noted (suc (suc (length s))) (heads_in s) (add None else_instr f)))
-counted_else_arm s m f = record {
-  forth = λ o r k.
-      let N : After = resume o r s in
-      go N (only_end (after_then (length s) (heads_in s) N) (suc (length s)) (heads_in s) None _ f k).1;
-  back = λ o r k.
-      let N : After = resume o r s in
-      end_back ⊥ ⊥ (after_then (length s) (heads_in s) N) (suc (length s)) (heads_in s) _ f (inr (m, refl, arm_back (length s) (heads_in s) (after_else (length s) (heads_in s) N) m (noted (suc (suc (length s))) (heads_in s) (add None else_instr f)) k));
-}
-  where
-    go : (N : After) → after_then (length s) (heads_in s) N (LParen ∷ word (codes "else") ∷ m) f → arm (length s) (heads_in s) (Open ⊥ ⊥ (after_else (length s) (heads_in s) N) (suc (length s)) (heads_in s) None) m (noted (suc (suc (length s))) (heads_in s) (add None else_instr f))
-    go N (inl (d, e, k)) = cc
-    go N (inr (d, e, k)) =
-        let e2 : d ≡ m = cc in
-        arm_forth (length s) (heads_in s) (after_else (length s) (heads_in s) N) m (noted (suc (suc (length s))) (heads_in s) (add None else_instr f)) (subst (λ (t : List Tok). arm (length s) (heads_in s) (after_else (length s) (heads_in s) N) t (noted (suc (suc (length s))) (heads_in s) (add None else_instr f))) e2 k)
-
--- the end of an `if`
-counted_close_then : (s : List Level) (m : List Tok) (f : Counted) → Same (now (AfterThen ∷ s) None (RParen ∷ m) f) (now s None m (noted (length s) (heads_in s) (add None end_instr f)))
-counted_close_then s m f = record {
-  forth = λ o r k.
-      let N : After = resume o r s in
-      go N (only_end (after_then (length s) (heads_in s) N) (suc (length s)) (heads_in s) None _ f k).1;
-  back = λ o r k.
-      let N : After = resume o r s in
-      end_back ⊥ ⊥ (after_then (length s) (heads_in s) N) (suc (length s)) (heads_in s) _ f (inl (m, refl, k));
-}
-  where
-    go : (N : After) → after_then (length s) (heads_in s) N (RParen ∷ m) f → N m (noted (length s) (heads_in s) (add None end_instr f))
-    go N (inl (d, e, k)) = let e2 : d ≡ m = cc in subst (λ (t : List Tok). N t (noted (length s) (heads_in s) (add None end_instr f))) e2 k
-    go N (inr (d, e, k)) = cc
-
-counted_close_else : (s : List Level) (m : List Tok) (f : Counted) → Same (now (AfterElse ∷ s) None (RParen ∷ m) f) (now s None m (noted (length s) (heads_in s) (add None end_instr f)))
-counted_close_else s m f = record {
-  forth = λ o r k.
-      let N : After = resume o r s in
-      close_token (length s) (heads_in s) (λ m f. N m (add None end_instr f)) m f (only_end (after_else (length s) (heads_in s) N) (suc (length s)) (heads_in s) None _ f k).1;
-  back = λ o r k.
-      let N : After = resume o r s in
-      end_back ⊥ ⊥ (after_else (length s) (heads_in s) N) (suc (length s)) (heads_in s) _ f (m, refl, k);
-}
-
--- ---- the turns, whatever was counted before
+  pub arm_back : (l : Level) (m : List Tok) (f : Counted) → (IsOpen (l ∷ s) → ⊥) → Rest o r (InArm ∷ l ∷ s) None m f → arm (length s) (heads_in (l ∷ s)) (after_level o r (l ∷ s)) m f
+  arm_back l m f n (xs, u, t, fit, only, (c, e, k)) = (xs, u, t, fit, only, (c, e, (ended o r (l ∷ s) None c _ (λ g. absurd (n g)) k).1))
 
 abbrev pub at : List Level → Option ℕ → List Tok → Flat → Stand
 at s p ts f = record { levels = s; pending = p; left = ts; out = f }
 
-pub turn_plain_is : (s : List Level) (p : Option ℕ) (i : Instr) (ts m : List Tok) (f : Flat) → TakesPlain s → reads i ts m → suits p i ≡ true → Turn (at s p ts f) (at s None m (push p i f))
-turn_plain_is s p i ts m f a h t = record {
-  same = λ c. (suc c.items, omega arith, counted_plain s p i ts m (with_tallies f c) a h t);
-  shorter = reads_shorter i ts m h;
-  level = omega (arith, reads_level i ts m h);
-}
+turn_is : (s t : Stand) (n : ℕ → ℕ) → ((m : ℕ) → n m ≤ suc m) → ((c : Tallies) (o : Counted) (r : List Tok) → Finishes o r (standing s c) → Finishes o r (standing t (risen (n c.items) t.levels c)))
+    → ((c : Tallies) (o : Counted) (r : List Tok) → Finishes o r (standing t (risen (n c.items) t.levels c)) → Finishes o r (standing s c))
+    → length t.left < length s.left → Balanced (length s.levels) s.left (length t.levels) t.left → Turn s t
+turn_is s t n le forth back shorter level = record { same = λ c. (n c.items, le c.items, record { forth = forth c; back = back c }); shorter = shorter; level = level }
 
-pub turn_folded_is : (s : List Level) (p : Option ℕ) (i : Instr) (a b : List Tok) (f : Flat) → IsOpen s → reads i a b → suits p i ≡ true → sort i ≡ IsOther → Turn (at s p (LParen ∷ a) f) (at (InFolded i p ∷ s) None b f)
-turn_folded_is s p i a b f g h t ki = record {
-  same = λ c. (suc c.items, omega arith, counted_folded s p i a b (with_tallies f c) g h t ki);
-  shorter = omega (arith, reads_shorter i a b h);
-  level = omega (arith, reads_level i a b h);
-}
+-- ---- what each exit owes
 
-pub turn_block_is : (s : List Level) (p : Option ℕ) (i : Instr) (a b : List Tok) (f : Flat) → IsOpen s → reads i a b → suits p i ≡ true → sort i ≡ IsBlock → Turn (at s p (LParen ∷ a) f) (at (InBlock ∷ s) None b (push p i f))
-turn_block_is s p i a b f g h t ki = record {
-  same = λ c. (suc c.items, omega arith, counted_block s p i a b (with_tallies f c) g h t ki);
-  shorter = omega (arith, reads_shorter i a b h);
-  level = omega (arith, reads_level i a b h);
-}
+-- where memory didn't run out, the turn was made
+moved : {A : Type 0} (res : Result A Error) {C : Type 0} {s t : Stand} → MatchResult res (λ _. C) (λ e. e.fault ≡ Memory) → (C → Turn s t) → Turned res s t
+moved (Ok x) m k = k m
+moved (Err x) m k = λ n. absurd (n m)
 
-pub turn_if_is : (s : List Level) (p : Option ℕ) (i : Instr) (a b : List Tok) (f : Flat) → IsOpen s → reads i a b → sort i ≡ IsIf → Turn (at s p (LParen ∷ a) f) (at (InIf i p ∷ s) None b f)
-turn_if_is s p i a b f g h ki = record {
-  same = λ c. (suc c.items, omega arith, counted_if s p i a b (with_tallies f c) g h ki);
-  shorter = omega (arith, reads_shorter i a b h);
-  level = omega (arith, reads_level i a b h);
-}
+pub turn_close : {A : Type 0} (res : Result A Error) (l : Level) (levels s : List Level) (p : Option ℕ) (m : List Tok) (f g : Flat) → p ≡ None → levels ≡ l ∷ s → CanClose l → MatchResult res (λ _. g ≡ closed l f) (λ e. e.fault ≡ Memory) → Turned res (at levels p (RParen ∷ m) f) (at s p m g)
+turn_close res l levels s p m f g none e a r = moved res r (λ q. rw (e, none, q) (turn_is _ _ (λ n. n) (omega arith) (λ c o r. close_forth o r s l m (with_tallies f c) a) (λ c o r. close_back o r s l m (with_tallies f c) a) (omega arith) (omega arith)))
 
-pub turn_hint_is : (s : List Level) (v : ℕ) (d : List Tok) (f : Flat) → IsOpen s → v < 2 → Turn (at s None (LParen ∷ hint_name ∷ String (v ∷ []) ∷ RParen ∷ d) f) (at s (Some v) d f)
-turn_hint_is s v d f g lt = record {
-  same = λ c. (suc c.items, omega arith, counted_hint s v d (with_tallies f c) g lt);
-  shorter = omega arith;
-  level = omega arith;
-}
+pub turn_then : {A : Type 0} (res : Result A Error) (levels s new mid : List Level) (p h : Option ℕ) (i : Instr) (m : List Tok) (f g : Flat) → p ≡ None → levels ≡ InIf i h ∷ s → g ≡ push h i f → mid ≡ AfterThen ∷ s → MatchResult res (λ _. new ≡ InArm ∷ mid) (λ e. e.fault ≡ Memory) → Turned res (at levels p (LParen ∷ word (codes "then") ∷ m) f) (at new p m g)
+turn_then res levels s new mid p h i m f g none e q k r =
+    moved res r (λ n. rw (e, none, q, n, k) (turn_is _ _ (λ n. n) (omega arith)
+    (λ c o r k. arm_forth o r s AfterThen _ m _ (ended o r (InIf i h ∷ s) None _ (with_tallies f c) (λ _. refl) k).1)
+    (λ c o r k. (Nil, _, refl, tt, tt, (m, refl, arm_back o r s AfterThen m _ (λ a. a) k))) (omega arith) (omega arith)))
 
-pub turn_close_is : (s : List Level) (i : Instr) (p : Option ℕ) (m : List Tok) (f : Flat) → Turn (at (InFolded i p ∷ s) None (RParen ∷ m) f) (at s None m (push p i f))
-turn_close_is s i p m f = record {
-  same = λ c. (c.items, omega arith, counted_close s i p m (with_tallies f c));
-  shorter = omega arith;
-  level = omega arith;
-}
+pub turn_else : {A : Type 0} (res : Result A Error) (levels s new : List Level) (p : Option ℕ) (ts m : List Tok) (f g : Flat) → p ≡ None → levels ≡ AfterThen ∷ s → ts ≡ word (codes "else") ∷ m → new ≡ InArm ∷ AfterElse ∷ s → MatchResult res (λ _. g ≡ push None else_instr f) (λ e. e.fault ≡ Memory) → Turned res (at levels p (LParen ∷ ts) f) (at new p m g)
+turn_else res levels s new p ts m f g none e t n r =
+    moved res r (λ q. rw (e, none, t, n, q) (turn_is _ _ (λ n. n) (omega arith)
+    (λ c o r k. elim (ended o r (AfterThen ∷ s) None _ (with_tallies f c) (λ a. absurd a) k).1 [ inl x ↦ (let e = x.1 in cc) | inr x ↦ arm_forth o r s AfterElse _ m _ x ])
+    (λ c o r k. (Nil, _, refl, tt, tt, inr (m, refl, arm_back o r s AfterElse m _ (λ a. a) k))) (omega arith) (omega arith)))
 
-pub turn_close_block_is : (s : List Level) (m : List Tok) (f : Flat) → Turn (at (InBlock ∷ s) None (RParen ∷ m) f) (at s None m (push None end_instr f))
-turn_close_block_is s m f = record {
-  same = λ c. (c.items, omega arith, counted_close_block s m (with_tallies f c));
-  shorter = omega arith;
-  level = omega arith;
-}
+pub turn_plain : {A : Type 0} (res : Result A Error) (s : List Level) (p after : Option ℕ) (i : Instr) (ts m : List Tok) (f g : Flat) → TakesPlain s → reads i ts m → suits p i ≡ true → after ≡ None → MatchResult res (λ _. g ≡ push p i f) (λ e. e.fault ≡ Memory) → Turned res (at s p ts f) (at s after m g)
+turn_plain res s p after i ts m f g a h t n r =
+    moved res r (λ q. rw (n, q) (turn_is _ _ suc (omega arith)
+    (λ c o r. next o r s p ts (with_tallies f c) (λ e k. absurd (stops_no_word i ts m h (ends_behind o r s (plain_is_open s a) ts _ k))) (λ j n a rj t z. let one = reads_one j i ts n m rj h in rw (← one.0, ← one.1) z)
+    (λ k j a b g e rj t q z. absurd (no_paren i ts a m h e)) (λ v d g e lt q z. absurd (no_paren i ts _ m h q)))
+    (λ c o r (xs, u, l, fit, only, z). (Plain i xs, u, (m, h, l), fits_by p i (Plain i xs) (λ b. b) t, (a, only), z)) (reads_shorter i ts m h) (omega (arith, reads_level i ts m h))))
 
-pub turn_close_arm_is : (s : List Level) (m : List Tok) (f : Flat) → Turn (at (InArm ∷ s) None (RParen ∷ m) f) (at s None m f)
-turn_close_arm_is s m f = record {
-  same = λ c. (c.items, omega arith, counted_close_arm s m (with_tallies f c));
-  shorter = omega arith;
-  level = omega arith;
-}
+pub turn_group : {A : Type 0} (res : Result A Error) (k : Sort) (s new : List Level) (p after : Option ℕ) (i : Instr) (ts m : List Tok) (f g : Flat) → sort i ≡ k → IsOpen s → reads i ts m → suits p i ≡ true → after ≡ None → g ≡ put k p i f → MatchResult res (λ _. new ≡ inside k i p ∷ s) (λ e. e.fault ≡ Memory) → Turned res (at s p (LParen ∷ ts) f) (at new after m g)
+turn_group res k s new p after i ts m f g q a h t n l r =
+    moved res r (λ e. rw (n, l, e) (turn_is _ _ suc (omega arith)
+    (λ c o r. next o r s p (LParen ∷ ts) (with_tallies f c) (λ e z. absurd (stops_no_group i ts m h (ends_behind o r s a _ _ z))) (λ j n b rj t z. absurd (word_front j LParen ts n rj))
+    (λ x j b d g e rj t lj z. let one = same_group i j ts m b d e h rj in rw (one_sort i j k x one.0 q lj, ← one.0, ← one.1) z) (λ v d g e lt y z. absurd (no_hint_word i ts m _ y h)))
+    (λ c o r. group_back o r s k p i ts m (with_tallies f c) a h t q) (omega (arith, reads_shorter i ts m h)) (omega (arith, reads_level i ts m h))))
 
-pub turn_then_is : (s : List Level) (i : Instr) (p : Option ℕ) (m : List Tok) (f : Flat) → Turn (at (InIf i p ∷ s) None (LParen ∷ word (codes "then") ∷ m) f) (at (InArm ∷ AfterThen ∷ s) None m (push p i f))
-turn_then_is s i p m f = record {
-  same = λ c. (c.items, omega arith, counted_then_arm s i p m (with_tallies f c));
-  shorter = omega arith;
-  level = omega arith;
-}
+pub popped : {A : Type 0} (seen : A → Level) (res : Option A) (old new s : List Level) (l : Level) → MatchOption res ((old ≡ []) × (new ≡ [])) (λ l. old ≡ seen l ∷ new) → old ≡ l ∷ s → new ≡ s
+popped seen None old new s l m e = let f = m.0 in cc
+popped seen (Some x) old new s l m e = cc
 
-pub turn_else_is : (s : List Level) (m : List Tok) (f : Flat) → Turn (at (AfterThen ∷ s) None (LParen ∷ word (codes "else") ∷ m) f) (at (InArm ∷ AfterElse ∷ s) None m (push None else_instr f))
-turn_else_is s m f = record {
-  same = λ c. (c.items, omega arith, counted_else_arm s m (with_tallies f c));
-  shorter = omega arith;
-  level = omega arith;
-}
+pub turn_hint : (s : List Level) (p : Option ℕ) (v : ℕ) (w : List ℕ) (u u2 d : List Tok) (f : Flat) → IsOpen s → p ≡ None → u ≡ String w ∷ u2 → w ≡ v ∷ [] → u2 ≡ RParen ∷ d → v < 2 → Turn (at s p (LParen ∷ hint_name ∷ u) f) (at s (Some v) d f)
+turn_hint s p v w u u2 d f g n e ew e2 lt =
+    rw (n, e, ew, e2) (turn_is _ _ suc (omega arith)
+    (λ c o r. next o r s None _ (with_tallies f c) (λ e z. absurd (ends_behind o r s g _ _ z)) (λ j m a rj t z. absurd (word_front j LParen _ m rj)) (λ k j a b g2 e rj t q z. absurd (no_hint_word j a b _ (sym e) rj))
+    (λ x y g2 e lt q z. let ex : x ≡ v = cc in let ey : y ≡ d = cc in rw (← ex, ← ey) z))
+    (λ c o r (xs, x, l, fit, only, z). (Hinted v xs, x, (d, refl, lt, fit, l), tt, (g, only), z)) (omega arith) (omega arith))
 
-pub turn_close_then_is : (s : List Level) (m : List Tok) (f : Flat) → Turn (at (AfterThen ∷ s) None (RParen ∷ m) f) (at s None m (push None end_instr f))
-turn_close_then_is s m f = record {
-  same = λ c. (c.items, omega arith, counted_close_then s m (with_tallies f c));
-  shorter = omega arith;
-  level = omega arith;
-}
+-- one instruction stands in front, and it doesn't suit
+pub unsuited : (p : Option ℕ) (j : Instr) (ts r : List Tok) → reads j ts r → suits p j ≡ false → (i : Instr) (m : List Tok) → reads i ts m → suits p i ≡ true → ⊥
+unsuited p j ts r h other i m k same = let e = ap (λ (x : Instr). suits p x) (reads_one i j ts m r k h).0 in cc
 
-pub turn_close_else_is : (s : List Level) (m : List Tok) (f : Flat) → Turn (at (AfterElse ∷ s) None (RParen ∷ m) f) (at s None m (push None end_instr f))
-turn_close_else_is s m f = record {
-  same = λ c. (c.items, omega arith, counted_close_else s m (with_tallies f c));
-  shorter = omega arith;
-  level = omega arith;
-}
+pub sort_block : (i : Instr) → is_block i.row ≡ true → sort i ≡ IsBlock
+sort_block i b = rw b refl
+
+pub sort_if : (i : Instr) → is_block i.row ≡ false → is_if i.row ≡ true → sort i ≡ IsIf
+sort_if i b c = rw (b, c) refl
+
+pub sort_other : (i : Instr) → is_block i.row ≡ false → is_if i.row ≡ false → sort i ≡ IsOther
+sort_other i b c = rw (b, c) refl
+
+-- a hint waits where the list ends
+pub unpending : (s : List Level) (p : Option ℕ) (v : ℕ) (ts : List Tok) (f : Flat) → p ≡ Some v → (IsOpen s → Stops ts) → Stuck (at s p ts f)
+unpending s p v ts f e st c o r k = let n = (ended o r s p ts (with_tallies f c) st k).0 in cc
+
+-- an `if` without (then
+pub if_close : (levels s : List Level) (p h : Option ℕ) (i : Instr) (m : List Tok) (f : Flat) → levels ≡ InIf i h ∷ s → Stuck (at levels p (RParen ∷ m) f)
+if_close levels s p h i m f e = rw e (λ c o r k. let q = (ended o r (InIf i h ∷ s) p _ (with_tallies f c) (λ _. tt) k).1.1 in cc)
+
+-- a third group in an `if`
+pub too_many : (levels s : List Level) (p : Option ℕ) (m : List Tok) (f : Flat) → levels ≡ AfterElse ∷ s → Stuck (at levels p (LParen ∷ m) f)
+too_many levels s p m f e = rw e (λ c o r k. let q = (ended o r (AfterElse ∷ s) p _ (with_tallies f c) (λ a. absurd a) k).1.1 in cc)
+
+-- behind (then ..) only (else opens
+pub else_wanted : (levels s : List Level) (p : Option ℕ) (m : List Tok) (f : Flat) → levels ≡ AfterThen ∷ s → ((d : List Tok) → m ≡ word (codes "else") ∷ d → ⊥) → Stuck (at levels p (LParen ∷ m) f)
+else_wanted levels s p m f e never =
+    rw e (λ c o r k. elim (ended o r (AfterThen ∷ s) p _ (with_tallies f c) (λ a. absurd a) k).1 [ inl x ↦ (let q = x.1 in cc) | inr x ↦ never x.0 (let q = x.1 in cc) ])
+
+-- what behind a level begins with
+no_behind : (s : List Level) (o : Counted) (r ts : List Tok) (f : Counted) → ((i : Instr) (h : Option ℕ) (q : List Level) (d : List Tok) → s ≡ InIf i h ∷ q → ts ≡ LParen ∷ word (codes "then") ∷ d → ⊥) → ((IsOpen s → ⊥) → (d : List Tok) → ts ≡ LParen ∷ d → ⊥)
+    → ((s ≡ [] → ⊥) → (d : List Tok) → ts ≡ RParen ∷ d → ⊥) → (s ≡ [] → ends ts ≡ true → ⊥) → after_level o r s ts f → ⊥
+no_behind [] o r ts f no_then no_else no_close no_end k = no_end refl k.0
+no_behind (InIf i h ∷ s) o r ts f no_then no_else no_close no_end k = no_then i h s k.0 refl k.1
+no_behind (AfterThen ∷ s) o r ts f no_then no_else no_close no_end (inl k) = no_close (λ e. cc) k.0 k.1
+no_behind (AfterThen ∷ s) o r ts f no_then no_else no_close no_end (inr k) = no_else (λ a. a) _ k.1
+no_behind (l ∷ s) o r ts f no_then no_else no_close no_end k = no_close (λ e. cc) k.0 k.1
+
+-- no instruction where one is needed
+pub no_plain : (s : List Level) (p : Option ℕ) (ts : List Tok) (f : Flat) → ((d : List Tok) → ts ≡ LParen ∷ d → ⊥) → ((s ≡ [] → ⊥) → (d : List Tok) → ts ≡ RParen ∷ d → ⊥) → (s ≡ [] → ends ts ≡ true → ⊥) → (TakesPlain s → (i : Instr) (m : List Tok) → reads i ts m → suits p i ≡ true → ⊥) → Stuck (at s p ts f)
+no_plain s p ts f no_group no_close no_end never c o r =
+    next o r s p ts _ (λ e. no_behind s o r ts (with_tallies f c) (λ i h q d e. no_group _) (λ n. no_group) no_close no_end) (λ i m a h t z. never a i m h t) (λ k i a b g e h t q z. no_group a e) (λ v d g e lt q z. no_group _ q)
+
+-- what opens is no instruction, no hint and no (then
+pub no_item : (s : List Level) (p : Option ℕ) (u : List Tok) (f : Flat) → IsOpen s → ((d : List Tok) → u ≡ hint_name ∷ d → ⊥) → ((ts : List Tok) → u ≡ word (codes "then") ∷ ts → (i : Instr) (h : Option ℕ) (q : List Level) → s ≡ InIf i h ∷ q → ⊥) → ((i : Instr) (m : List Tok) → reads i u m → suits p i ≡ true → ⊥) → Stuck (at s p (LParen ∷ u) f)
+no_item s p u f g no_hint no_then never c o r =
+    next o r s p _ _ (λ e. no_behind s o r _ (with_tallies f c) (λ i h q d e e2. no_then d (cc) i h q e) (λ n. absurd (n g)) (λ n d e. cc) (λ e e2. cc)) (λ i m a h t z. word_front i LParen u m h)
+    (λ k i a b g e h t q z. let e2 : a ≡ u = cc in never i b (rw e2 at h) t) (λ v d g e lt q z. no_hint (String (v ∷ []) ∷ RParen ∷ d) (cc))
+
+-- ---- hints
+
+module _ (s : List Level) (p : Option ℕ) (u : List Tok) (f : Flat) (g : IsOpen s) where
+  unless : (p ≡ None → (v : ℕ) (d : List Tok) → v < 2 → u ≡ String (v ∷ []) ∷ RParen ∷ d → ⊥) → Stuck (at s p (LParen ∷ hint_name ∷ u) f)
+  unless never c o r =
+      next o r s p _ _ (λ e. no_behind s o r _ (with_tallies f c) (λ i h q d e e2. cc) (λ n. absurd (n g)) (λ n d e. cc) (λ e e2. cc)) (λ i m a h t z. word_front i LParen _ m h)
+      (λ k i a b g e h t q z. no_hint_word i a b u (sym e) h) (λ v d g e lt q z. never e v d lt (cc))
+
+  pub hint_pending : (v : ℕ) → p ≡ Some v → Stuck (at s p (LParen ∷ hint_name ∷ u) f)
+  hint_pending v e = unless (λ n v d lt q. cc)
+
+  pub hint_text : ((w : List ℕ) (ts : List Tok) → u ≡ String w ∷ ts → ⊥) → Stuck (at s p (LParen ∷ hint_name ∷ u) f)
+  hint_text never = unless (λ n v d lt q. never (v ∷ []) (RParen ∷ d) q)
+
+  pub hint_value : (w : List ℕ) (ts : List Tok) → u ≡ String w ∷ ts → ((v : ℕ) → v < 2 → w ≡ v ∷ [] → ⊥) → Stuck (at s p (LParen ∷ hint_name ∷ u) f)
+  hint_value w ts e never = unless (λ n v d lt q. never v lt (cc))
+
+  pub hint_close : (w : List ℕ) (ts : List Tok) → u ≡ String w ∷ ts → ((d : List Tok) → ts ≡ RParen ∷ d → ⊥) → Stuck (at s p (LParen ∷ hint_name ∷ u) f)
+  hint_close w ts e never = unless (λ n v d lt q. never d (cc))

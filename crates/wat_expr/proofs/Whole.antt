@@ -16,30 +16,30 @@ use Rattle.wat_instr.specs.Instruction.{seen_instruction}
 use Rattle.wat_expr.specs.declared.expression.Expression.{Expression}
 use Rattle.wat_expr.specs.declared.reader.Reader.{Reader}
 use Rattle.wat_expr.specs.Expression.{Expr, seen_expression, bare_expression, value_of, SpansAre}
-use Rattle.wat_expr.specs.Flat.{Flat, flat, no_output}
+use Rattle.wat_expr.specs.Flat.{flat, no_output}
 use Rattle.wat_expr.specs.Items.{Items, Nil, Plain, Folded, Block, IfThen, IfElse, Hinted, lists, unfolded}
-use Rattle.wat_expr.specs.Levels.{Level, heads_in}
+use Rattle.wat_expr.specs.Levels.{heads_in}
 use Rattle.wat_expr.specs.Listed.{IsListed}
-use Rattle.wat_expr.specs.Progress.{Counted, emit, Fits, all_done, Place, Finishes, Same, IsStuck, Tallies, with_tallies, standing, risen, Balanced, Turn, Stuck}
+use Rattle.wat_expr.specs.Progress.{Counted, emit, Fits, Place, Finishes, Same, Tallies, with_tallies, standing, Balanced, Turn, Stuck}
 use Rattle.wat_expr.specs.Turned.{stand}
-use Rattle.wat_expr.proofs.Flatten.{flat_instrs, flat_hints, flat_count, flat_peak, flat_held, flat_spans, Spanned}
+use Rattle.wat_expr.proofs.FoldedLoop.{not_bare_of}
+use Rattle.wat_expr.proofs.Flatten.{flat_out, Spanned}
 use Rattle.wat_expr.proofs.Heights.{carries_height, taken_more, taken_one}
-use Rattle.wat_expr.proofs.Steps.{any_items, end_back}
-use Rattle.wat_expr.proofs.Stuck.{pending_over}
-use Rattle.wat_expr.proofs.Turns.{now, same_refl, same_then}
+use Rattle.wat_expr.proofs.Turns.{any_items, unpending, at}
 use Rattle.wat_expr.specs.Laws.Facts.{lists_between}
+use Rattle.wat_expr.specs.Laws.Reading.{stops_end}
 use Rattle.wat_expr.specs.ExpressionProduction.{expression}
-
--- before anything was read
-abbrev pub first : State → Counted
-first a = with_tallies (no_output a.tracks) (record { items = 0; peak = a.peak; held = a.held })
-
-abbrev pub start : State → Place
-start a = now [] None a.left (first a)
 
 -- what was counted, with n items
 abbrev pub tallies : ℕ → State → Tallies
 tallies n b = record { items = n; peak = b.peak; held = b.held }
+
+-- before anything was read
+abbrev pub first : State → Counted
+first a = with_tallies (no_output a.tracks) (tallies 0 a)
+
+abbrev pub start : State → Place
+start a = standing (at [] None a.left (no_output a.tracks)) (tallies 0 a)
 
 -- From the parser a on, the reader r is in front of what the parser b has left.
 pub record Reading (a b : State) (r : Reader) : Type 0 where
@@ -52,16 +52,11 @@ pub record Reading (a b : State) (r : Reader) : Type 0 where
   pub idle : ends a.left ≡ true → (r.levels ≡ []) × (b.left ≡ a.left)
   pub names : Kept a b
 
--- ---- its first state
-
-begins_with : (a : State) (s : List Level) (f : Flat) (p : Option ℕ) → s ≡ [] → f ≡ no_output a.tracks → p ≡ None → Same (start a) (standing (record { levels = s; pending = p; left = a.left; out = f }) (tallies 0 a))
-begins_with a s f p es ef ep = rw (es, ef, ep) (same_refl (start a))
-
 pub begins : (a : State) (r : Reader) → r.levels ≡ [] → flat r.out ≡ no_output a.tracks → r.pending ≡ None → Reading a a r
 begins a r es ef ep = record {
   items = 0;
   turns = omega arith;
-  same = begins_with a r.levels (flat r.out) r.pending es ef ep;
+  same = rw (es, ef, ep) (record { forth = λ o r k. k; back = λ o r k. k });
   counts = λ s c. c;
   turned = omega arith;
   height = let l : length r.levels ≡ 0 = ap length es in omega (arith, l);
@@ -69,62 +64,27 @@ begins a r es ef ep = record {
   names = (refl, refl);
 }
 
--- ---- a turn
+-- where a turn was refused
+pub refused_counts : (a b t u : State) (r : Reader) → t ≡ record b { turns = b.turns + 1 } → Reading a b r → Carries t u → Stays t u → Carries b t → Carries a u × (u.turns + a.taken ≤ a.turns + u.taken + 1)
+refused_counts a b t u r tick = rw tick (λ w counts stays c. ((λ s k. counts s (c s (w.counts s k))), (let m : b.taken ≤ u.taken = taken_more _ u counts in omega (arith, m, stays.0, w.turned))))
 
--- the parser that counted one more turn, and the one after the reader's turn
-module _ (a b t u : State) (r : Reader) (w : Reading a b r) (tick : t ≡ record b { turns = b.turns + 1 }) (counts : Carries t u) (stays : Stays t u) (names : Kept t u) where
-  tick_left : t.left ≡ b.left
-  tick_left = ap (λ (s : State). s.left) tick
-
-  tick_turns : t.turns ≡ b.turns + 1
-  tick_turns = ap (λ (s : State). s.turns) tick
-
-  tick_taken : t.taken ≡ b.taken
-  tick_taken = ap (λ (s : State). s.taken) tick
-
-  carried_on : Carries b t → Carries a u
-  carried_on c = λ s k. counts s (c s (w.counts s k))
-
-  kept_on : Kept a u
-  kept_on = let k = ap (λ (s : State). s.known) tick in let q = ap (λ (s : State). s.tracks) tick in (names.0 ∙ k ∙ w.names.0, names.1 ∙ q ∙ w.names.1)
-
-  -- where it was refused
-  pub refused_counts : Carries b t → Carries a u × (u.turns + a.taken ≤ a.turns + u.taken + 1)
-  refused_counts c = (carried_on c, (let m = taken_more t u counts in let s = stays.0 in let x = w.turned in omega (arith, m, s, x, tick_turns, tick_taken)))
-
-  -- where it was made, and the heights were noted
-  pub goes_on : (v x : State) (r2 : Reader) (k h : ℕ) → Carries b t → (r.levels ≡ [] → ends b.left ≡ true → ⊥) → Turn (stand r t.left) (stand r2 u.left) → k ≡ length r2.levels → h ≡ heads_in r2.levels
-      → v ≡ record u { peak = max u.peak k } → x ≡ record v { held = max v.held h } → Carries v x → Reading a x r2
-  goes_on v x r2 k h c undone turn ek eh ev ex cx =
-      let s = turn.same (tallies w.items b) in
-      let left : x.left ≡ u.left = ap (λ (q : State). q.left) ex ∙ ap (λ (q : State). q.left) ev in
-      let turns : x.turns ≡ u.turns = ap (λ (q : State). q.turns) ex ∙ ap (λ (q : State). q.turns) ev in
-      let taken : x.taken ≡ u.taken = ap (λ (q : State). q.taken) ex ∙ ap (λ (q : State). q.taken) ev in
-      let known : x.known ≡ u.known = ap (λ (q : State). q.known) ex ∙ ap (λ (q : State). q.known) ev in
-      let tracks : x.tracks ≡ u.tracks = ap (λ (q : State). q.tracks) ex ∙ ap (λ (q : State). q.tracks) ev in
-      let peak : x.peak ≡ max b.peak (length r2.levels) = ap (λ (q : State). q.peak) ex ∙ ap (λ (q : State). q.peak) ev ∙ ap (λ (n : ℕ). max u.peak n) ek ∙ ap (λ (n : ℕ). max n (length r2.levels)) (stays.1 ∙ ap (λ (q : State). q.peak) tick) in
-      let held : x.held ≡ max b.held (heads_in r2.levels) = ap (λ (q : State). q.held) ex ∙ ap (λ (n : ℕ). max n h) (ap (λ (q : State). q.held) ev) ∙ ap (λ (n : ℕ). max u.held n) eh ∙ ap (λ (n : ℕ). max n (heads_in r2.levels)) (stays.2 ∙ ap (λ (q : State). q.held) tick) in
-      let level : Balanced (length r.levels) b.left (length r2.levels) u.left = subst (λ (l : List Tok). Balanced (length r.levels) l (length r2.levels) u.left) tick_left turn.level in
-      let high : Balanced 0 a.left (length r2.levels) u.left = (let m = w.height in omega (arith, m, level)) in
-      record {
-        items = s.0;
-        turns = (let m = w.turns in let l = s.1 in let y = stays.0 in omega (arith, m, l, y, turns, tick_turns));
-        same = same_then _ _ _ w.same (to_here s.0 r2 tick_left left peak held s.2);
-        counts = (λ q z. cx q (carries_height a u v k (carried_on c) (omega (arith, high, ek)) ev q z));
-        turned = (let m = w.turned in let y = stays.0 in let l = taken_one t u counts turn.shorter in omega (arith, m, y, l, turns, taken, tick_turns, tick_taken));
-        height = subst (λ (l : List Tok). Balanced 0 a.left (length r2.levels) l) (sym left) high;
-        idle = (λ e. let i = w.idle e in absurd (undone i.0 (ap ends i.1 ∙ e)));
-        names = (known ∙ kept_on.0, tracks ∙ kept_on.1);
-      }
-    where
-      to_here : (n : ℕ) (r2 : Reader) → t.left ≡ b.left → x.left ≡ u.left → x.peak ≡ max b.peak (length r2.levels) → x.held ≡ max b.held (heads_in r2.levels)
-          → Same (standing (stand r t.left) (tallies w.items b)) (standing (stand r2 u.left) (risen n r2.levels (tallies w.items b)))
-          → Same (standing (stand r b.left) (tallies w.items b)) (standing (stand r2 x.left) (tallies n x))
-      to_here n r2 el ex ep eh s =
-          subst (λ (l : List Tok). Same (standing (stand r l) (tallies w.items b)) (standing (stand r2 x.left) (tallies n x))) el
-          (subst (λ (l : List Tok). Same (standing (stand r t.left) (tallies w.items b)) (standing (stand r2 l) (tallies n x))) (sym ex)
-          (subst (λ (m : ℕ). Same (standing (stand r t.left) (tallies w.items b)) (standing (stand r2 u.left) (record { items = n; peak = m; held = x.held }))) (sym ep)
-          (subst (λ (m : ℕ). Same (standing (stand r t.left) (tallies w.items b)) (standing (stand r2 u.left) (record { items = n; peak = max b.peak (length r2.levels); held = m }))) (sym eh) s)))
+-- where it was made, and the heights were noted
+pub goes_on : (a b t u v x : State) (r r2 : Reader) (k h : ℕ) → t ≡ record b { turns = b.turns + 1 } → k ≡ length r2.levels → h ≡ heads_in r2.levels → v ≡ record u { peak = max u.peak k } → x ≡ record v { held = max v.held h }
+    → Reading a b r → Carries t u → Stays t u → Kept t u → Carries b t → (r.levels ≡ [] → ends b.left ≡ true → ⊥) → Turn (stand r t.left) (stand r2 u.left) → Carries v x → Reading a x r2
+goes_on a b t u v x r r2 k h tick ek eh ev ex = rw (tick, ex, ev, ek, eh) (λ w counts stays names c undone turn cx.
+    let s = turn.same (tallies w.items b) in
+    let more : b.taken + 1 ≤ u.taken = taken_one _ u counts turn.shorter in
+    let high : Balanced 0 a.left (length r2.levels) u.left = (let m = w.height in let n = turn.level in omega (arith, m, n)) in
+    record {
+      items = s.0;
+      turns = omega (arith, w.turns, s.1, stays.0);
+      same = rw (stays.1, stays.2) (record { forth = λ o r k. s.2.forth o r (w.same.forth o r k); back = λ o r k. w.same.back o r (s.2.back o r k) });
+      counts = λ q z. cx q (carries_height a u _ (length r2.levels) (λ s k. counts s (c s (w.counts s k))) (omega (arith, high)) refl q z);
+      turned = omega (arith, w.turned, stays.0, more);
+      height = high;
+      idle = λ e. let i = w.idle e in absurd (undone i.0 (ap ends i.1 ∙ e));
+      names = (names.0 ∙ w.names.0, names.1 ∙ w.names.1);
+    })
 
 -- ---- nothing was listed
 
@@ -132,68 +92,43 @@ module _ (a b t u : State) (r : Reader) (w : Reading a b r) (tick : t ≡ record
 abbrev pub Unlisted : List Tok → Type 0
 Unlisted ts = (xs : Items) (r : List Tok) → lists xs ts r → ends r ≡ true → ⊥
 
--- listed items finish from the start
-begun : (a : State) (xs : Items) (r : List Tok) → lists xs a.left r → ends r ≡ true → Finishes (emit 0 0 None xs (first a)) r (start a)
-begun a xs r l e = (xs, r, l, tt, any_items xs, (e, refl, refl))
+not_listed : (a b : State) (r : Reader) → Reading a b r → Stuck (stand r b.left) → Unlisted a.left
+not_listed a b r w stuck xs u l e = stuck (tallies w.items b) (emit 0 0 None xs (first a)) u (w.same.forth (emit 0 0 None xs (first a)) u (xs, u, l, tt, any_items xs, (e, refl, refl)))
 
-pub not_listed : (a b : State) (r : Reader) (w : Reading a b r) → Stuck (stand r b.left) → Unlisted a.left
-not_listed a b r w stuck xs rest l e = stuck (tallies w.items b) (emit 0 0 None xs (first a)) rest (w.same.forth (emit 0 0 None xs (first a)) rest (begun a xs rest l e))
+pub left_pending : (a b : State) (r : Reader) (v : ℕ) → Reading a b r → r.pending ≡ Some v → ends b.left ≡ true → Unlisted a.left
+left_pending a b r v w ep e = not_listed a b r w (unpending r.levels r.pending v b.left (flat r.out) ep (λ _. stops_end b.left e))
 
 -- ---- the end
-
-over_at : (s : List Level) (p : Option ℕ) (l : List Tok) (f : Counted) (st : Place) → s ≡ [] → p ≡ None → Same st (now s p l f) → Same st (now [] None l f)
-over_at s p l f st es ep h = subst (λ (q : Option ℕ). Same st (now [] q l f)) ep (subst (λ (s : List Level). Same st (now s p l f)) es h)
-
-pub left_pending : (a b : State) (r : Reader) (v : ℕ) → Reading a b r → r.levels ≡ [] → r.pending ≡ Some v → ends b.left ≡ true → Unlisted a.left
-left_pending a b r v w es ep e xs rest l k =
-    let o = emit 0 0 None xs (first a) in
-    let f = with_tallies (flat r.out) (tallies w.items b) in
-    let fin = w.same.forth o rest (begun a xs rest l k) in
-    subst (λ (s : List Level). IsStuck (now s r.pending b.left f)) (sym es) (subst (λ (q : Option ℕ). IsStuck (now [] q b.left f)) (sym ep) (pending_over v b.left f e)) o rest fin
-
-same_expr : (x : Expression) (e : Expr) → (seen_expression x).instrs ≡ e.instrs → (seen_expression x).hints ≡ e.hints → seen_expression x ≡ e
-same_expr x e i h = rw (i, h) refl
 
 -- spans as many as instructions
 span_cases : (V : Type 0) (len : V → ℕ) (o : Option V) (keeps : Bool) (n m : ℕ) → n ≡ m → (elim o as (λ _. Option ℕ) [ Some v ↦ Some (len v) | None ↦ None ]) ≡ (if keeps then Some n else None) → elim o as (λ _. Type 0) [ Some v ↦ (keeps ≡ true) × (len v ≡ m) | None ↦ keeps ≡ false ]
 span_cases V len (Some v) true n m q e = (refl, (let k : len v ≡ n = cc in k ∙ q))
-span_cases V len (Some v) false n m q e = absurd cc
-span_cases V len None true n m q e = absurd cc
 span_cases V len None false n m q e = refl
+span_cases V len o keeps n m q e = absurd cc
 
 spans_are : (keeps : Bool) (x : Expression) → Spanned keeps (flat x) → SpansAre keeps x
 spans_are keeps x s = span_cases _ (λ v. length v.items) x.instr_spans keeps (length (map seen_instruction x.instrs.items)) (length x.instrs.items) (length-map x.instrs.items seen_instruction) s
 
--- the value, and the numbers
-finished : (a b : State) (r : Reader) (n : ℕ) → a.turns + n ≤ b.turns → ends b.left ≡ true → Finishes (with_tallies (flat r.out) (tallies n b)) b.left (start a) → IsListed a b r.out
-finished a b r n turns e (xs, rest, l, fit, only, (e2, at, is)) =
-    record {
-      items = xs;
-      listed = subst (λ (u : List Tok). lists xs a.left u) at l;
-      ended = e;
-      value = same_expr r.out (value_of xs) (ap (λ (c : Counted). c.out.instrs) (sym is) ∙ flat_instrs 0 0 None xs (first a)) (ap (λ (c : Counted). c.out.hints) (sym is) ∙ flat_hints 0 0 None xs (first a));
-      turned = (let c = flat_count 0 0 None xs (first a) in let m = ap (λ (c : Counted). c.items) is in omega (arith, turns, c, m));
-      peak = (let c = flat_peak 0 0 None xs (first a) (omega arith) in let m = ap (λ (c : Counted). c.peak) is in omega (arith, c, m));
-      held = (let c = flat_held 0 0 None xs (first a) (omega arith) in let m = ap (λ (c : Counted). c.held) is in omega (arith, c, m));
-    }
+-- the value, the numbers and the spans
+finished : (a b : State) (r : Reader) (n : ℕ) → a.turns + n ≤ b.turns → ends b.left ≡ true → Finishes (with_tallies (flat r.out) (tallies n b)) b.left (start a) → IsListed a b r.out × SpansAre a.tracks r.out
+finished a b r n turns e (xs, rest, l, fit, only, (e2, here, is)) =
+    let c = flat_out xs (first a) in
+    let p = ap (λ (c : Counted). c.out.instrs) (sym is) ∙ c.0 in
+    let q = ap (λ (c : Counted). c.out.hints) (sym is) ∙ c.1 in (
+      record {
+        items = xs;
+        listed = rw here at l;
+        ended = e;
+        value = λ j. record { instrs = p j; hints = q j };
+        turned = omega (arith, turns, c.3.0, ap (λ (c : Counted). c.items) is);
+        peak = omega (arith, c.3.1, ap (λ (c : Counted). c.peak) is);
+        held = omega (arith, c.3.2, ap (λ (c : Counted). c.held) is);
+      },
+      spans_are a.tracks r.out (subst (λ (c : Counted). Spanned a.tracks c.out) is (c.2 a.tracks refl)),
+    )
 
-pub listed : (a b : State) (r : Reader) → Reading a b r → r.levels ≡ [] → r.pending ≡ None → ends b.left ≡ true → IsListed a b r.out
-listed a b r w es ep e =
-    let f = with_tallies (flat r.out) (tallies w.items b) in
-    let same = over_at r.levels r.pending b.left f (start a) es ep w.same in
-    finished a b r w.items w.turns e (same.back f b.left (end_back (Unit {0}) (Unit {0}) (all_done f b.left) 0 0 b.left f (e, refl, refl)))
-
--- what was found is the only thing that stands there
-pub spans_kept : (a b : State) (r : Reader) → Reading a b r → r.levels ≡ [] → r.pending ≡ None → ends b.left ≡ true → SpansAre a.tracks r.out
-spans_kept a b r w es ep e =
-    let f = with_tallies (flat r.out) (tallies w.items b) in
-    let same = over_at r.levels r.pending b.left f (start a) es ep w.same in
-    let fin = same.back f b.left (end_back (Unit {0}) (Unit {0}) (all_done f b.left) 0 0 b.left f (e, refl, refl)) in
-    let s = flat_spans a.tracks 0 0 None fin.0 (first a) refl_span in
-    spans_are a.tracks r.out (subst (λ (c : Counted). Spanned a.tracks c.out) (fin.5.2) s)
-  where
-    refl_span : Spanned a.tracks (no_output a.tracks)
-    refl_span = refl
+pub listed : (a b : State) (r : Reader) → Reading a b r → r.levels ≡ [] → r.pending ≡ None → ends b.left ≡ true → IsListed a b r.out × SpansAre a.tracks r.out
+listed a b r w es ep e = let same = rw (es, ep) at w.same in finished a b r w.items w.turns e (same.back (with_tallies (flat r.out) (tallies w.items b)) b.left (Nil, b.left, refl, tt, tt, (e, refl, refl)))
 
 -- ---- what that says of the production
 
@@ -202,16 +137,14 @@ pub reads_listed : (xs : Items) (ts r : List Tok) → lists xs ts r → ends r �
 unfolding expression
 reads_listed xs ts r l e =
     let b = lists_between xs ts r l in
-    ap expression.reads b.is ∙ expression.complete (value_of xs) b.front r (xs, subst (λ (u : List Tok). lists xs u r) b.is l, e, refl)
+    ap expression.reads b.is ∙ expression.complete (value_of xs) b.front r (xs, rw b.is at l, e, refl)
 
 -- where nothing is listed, nothing is read
 pub reads_nothing_listed : (ts : List Tok) → Unlisted ts → expression.reads ts ≡ None
 unfolding expression
 reads_nothing_listed ts never =
     by_read (expression.reads ts)
-    (λ x e. (let f = expression.sound ts x e in
-    let l = f.2 in
-    absurd (never l.0 x.1 (subst (λ (u : List Tok). lists l.0 u x.1) (sym f.1) l.1) l.2)))
+    (λ x e. (let f = expression.sound ts x e in let l = f.2 in absurd (never l.0 x.1 (rw (← f.1) at l.1) l.2)))
     (λ e. e)
 
 -- items behind a hint, and items of some tokens, have an instruction
@@ -226,10 +159,6 @@ some_listed p (IfElse i ops th el xs) ts r f l n = filled_before _ (unfolded xs)
 some_listed None (Hinted v xs) ts r f l n = some_listed (Some v) xs l.0 r l.3 l.4 (λ e q. cc)
 some_listed (Some u) (Hinted v xs) ts r f l n = absurd f
 
-not_bare_of : (x : Read Expr) → ((y : Expr × List Tok) → x ≡ Some y → bare_expression y.0 ≡ false) → NotBare bare_expression x
-not_bare_of (Some y) f = f y refl
-not_bare_of None f = tt
-
 -- where something follows, no bare value stands in front
 pub not_bare : (ts : List Tok) → (ends ts ≡ true → ⊥) → NotBare bare_expression (expression.reads ts)
 unfolding expression
@@ -237,7 +166,7 @@ not_bare ts more =
     not_bare_of (expression.reads ts)
     (λ y e. (let f = expression.sound ts y e in
     let l = f.2 in
-    let k = some_listed None l.0 ts y.1 tt (subst (λ (u : List Tok). lists l.0 u y.1) (sym f.1) l.1) (λ p q. more (ap ends q ∙ l.2)) in
+    let k = some_listed None l.0 ts y.1 tt (rw (← f.1) at l.1) (λ p q. more (ap ends q ∙ l.2)) in
     ap (λ (v : Expr). no_items v.instrs) l.3 ∙ k))
 
 -- ---- the exits
@@ -249,7 +178,7 @@ found a b x l = reads_listed l.items a.left b.left l.listed l.ended ∙ ap (λ (
 pub refused : (a b t : State) (r : Reader) (e : Error) → Reading a b r → t ≡ record b { turns = b.turns + 1 } → (r.levels ≡ [] → ends b.left ≡ true → ⊥) → (e.fault ≢ Memory → Stuck (stand r t.left))
     → (e.fault ≢ Memory → expression.reads a.left ≡ None) × (e.fault ≡ Memory → (false ≡ false) × NotBare bare_expression (expression.reads a.left))
 refused a b t r e w tick undone stuck = (
-  (λ n. reads_nothing_listed a.left (not_listed a b r w (subst (λ (l : List Tok). Stuck (stand r l)) (ap (λ (s : State). s.left) tick) (stuck n)))),
+  (λ n. reads_nothing_listed a.left (not_listed a b r w (rw (ap (λ (s : State). s.left) tick) at (stuck n)))),
   (λ m. (refl, not_bare a.left (λ k. (let i = w.idle k in undone i.0 (ap ends i.1 ∙ k))))),
 )
 

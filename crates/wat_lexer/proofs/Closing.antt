@@ -1,9 +1,8 @@
 -- Where groups end, found from the right, and how far each hidden one leaps.
 use Rattle.std.specs.Cmp.{first_so}
-use Rattle.std.proofs.Common.{◌≡◌, ℕ, zero, suc, ◌+◌, ◌-◌, ◌<◌, ◌≤◌, List, [], ◌∷◌, ◌++◌, length, drop, get_or, refl, ap, sym, subst, ◌∙◌, arith, inl, inr, add-one, append-nil, drop-drop, length-drop}
-use Rattle.std.specs.Prelude.{Bool, true, false, Option, Some, None, option_map, slice_get, IsSome, MatchOption, ◌↔◌, option_to_list, reverse, nat_lt, ◌&&◌, not}
-use Rattle.std.proofs.lemmas.Bool.{cases_Bool, ltb-true, ltb-false}
-use Rattle.std.proofs.lemmas.List.{reverse-append, nil_from_length, drop-map, length-map, drop_more, drop-set, drop-set-add}
+use Rattle.std.proofs.Common.{◌≡◌, ℕ, zero, suc, ◌+◌, ◌-◌, ◌<◌, ◌≤◌, List, [], ◌∷◌, ◌++◌, length, drop, get_or, refl, ap, sym, ◌∙◌, arith, add-one, append-nil, length-drop}
+use Rattle.std.specs.Prelude.{Bool, true, false, if◌then◌else◌, Option, Some, None, slice_get, IsSome, MatchOption, ◌↔◌, option_to_list, reverse, ◌&&◌, not}
+use Rattle.std.proofs.lemmas.List.{reverse-append, drop-map, length-map, drop_more, drop-set, drop-set-add}
 use Rattle.std.proofs.lemmas.Option.{slice_get-get_or, slice_get-map}
 use Rattle.std.proofs.Math.ListN.{set, drop_of_length-le}
 use Rattle.std.proofs.Math.Seq.{map-set_same}
@@ -12,7 +11,8 @@ use Rattle.wat_lexer.specs.Sight.{hides, annotated, is_standard, annotation_name
 use Rattle.wat_lexer.specs.Cut.{Unclosed, Closed, FirstUnclosed}
 use Rattle.wat_lexer.specs.View.{lexeme_tok, toks, placed_of, placed, leap, AreLeaps}
 use Rattle.wat_lexer.specs.declared.token.Lexeme.{Lexeme}
-use Rattle.wat_lexer.proofs.Leaps.{leaps_drop}
+use Rattle.wat_lexer.specs.declared.token.Token.TheVariants as of
+use Rattle.wat_lexer.proofs.Leaps.{leaps_later}
 
 -- TOKENS AND THEIR PLACES
 
@@ -21,142 +21,95 @@ tokens_of-placed [] = refl
 tokens_of-placed (x ∷ ls) = ap (λ l. lexeme_tok x ∷ l) (tokens_of-placed ls)
 
 -- where only leaps were told, the tokens are the same
-pub toks_same : (ls before : List Lexeme) → placed ls ≡ placed before → toks ls ≡ toks before
-toks_same ls before e = sym (tokens_of-placed ls) ∙ ap tokens_of e ∙ tokens_of-placed before
+toks_at : (ls before : List Lexeme) (i : ℕ) → placed ls ≡ placed before → toks (drop i ls) ≡ drop i (tokens_of (placed before))
+toks_at ls before i e = rw (← e, tokens_of-placed ls, drop-map lexeme_tok i ls)
 
-pub toks_at : (ls before : List Lexeme) (i : ℕ) → placed ls ≡ placed before → toks (drop i ls) ≡ drop i (toks before)
-toks_at ls before i e = sym (drop-map lexeme_tok i ls) ∙ ap (drop i) (toks_same ls before e)
+pub placed_length : (ls before : List Lexeme) → placed ls ≡ placed before → length ls ≡ length before
+placed_length ls before e = omega (arith, ap length e, length-map ls placed_of, length-map before placed_of)
+
+-- what stands where there is no token
+abbrev pub blank : Lexeme
+blank = record { token = of.LParen; offset = 0; skip = 0 }
 
 -- GROUPS
 
+-- what follows a group, or nothing where it isn't closed
+abbrev pub left : Option (List Tok) → List Tok
+left None = []
+left (Some q) = q
+
 -- what is hidden of an annotation's group, from a place within it on
-hidden_within : (known : Bool) (r q : List Tok) (depth : ℕ) → behind_group depth r ≡ Some q → hidden_at known (Some depth) r + length q ≡ length r + hidden known q
+hidden_within : (known : Bool) (r : List Tok) (depth : ℕ) → hidden_at known (Some depth) r + length (left (behind_group depth r)) ≡ length r + hidden known (left (behind_group depth r))
 unfolding behind_group hidden_at hidden
-hidden_within known [] q depth e = absurd (let f : None ≡ Some q = e in cc)
-hidden_within known (x ∷ r) q depth e = elim (cases_Bool (shuts x depth)) [
-  | inl s ↦ (let f : Some r ≡ Some q = rw s at e in let same : r ≡ q = cc in
-      rw (s, ← same) (omega arith))
-  | inr s ↦ (let h = hidden_within known r q (deeper x depth) (rw s at e) in rw s (omega (arith, h)))
-]
+hidden_within known [] depth = refl
+hidden_within known (x ∷ r) depth = grind (arith, hidden_within known r (deeper x depth))
 
-hidden_open : (known : Bool) (r : List Tok) (depth : ℕ) → behind_group depth r ≡ None → hidden_at known (Some depth) r ≡ length r
-unfolding behind_group hidden_at
-hidden_open known [] depth e = refl
-hidden_open known (x ∷ r) depth e = elim (cases_Bool (shuts x depth)) [
-  | inl s ↦ absurd (let f : Some r ≡ None = rw s at e in cc)
-  | inr s ↦ (let h = hidden_open known r (deeper x depth) (rw s at e) in rw s (omega (arith, h)))
-]
-
-hidden_here : (known : Bool) (x : Tok) (r : List Tok) → hides known (x ∷ r) ≡ true → hidden known (x ∷ r) ≡ suc (hidden_at known (Some 0) r)
+group_counts : (known : Bool) (ts : List Tok) (i end : ℕ) (x : Tok) → i < end → end ≤ length ts → drop i ts ≡ x ∷ drop (i + 1) ts → left (behind_group 0 (drop (i + 1) ts)) ≡ drop end ts → hides known (drop i ts) ≡ true → hidden known (drop i ts) ≡ (end - i) + hidden known (drop end ts)
 unfolding hidden hidden_at
-hidden_here known x r h = rw h refl
-
-hidden_none : (known : Bool) → hidden known [] ≡ 0
-unfolding hidden hidden_at
-hidden_none known = refl
-
--- the end of a group, or of the text where it isn't closed
-abbrev pub EndsAt : List Tok → ℕ → ℕ → Type 0
-EndsAt ts i end = (i < end) × (end ≤ length ts) × ((known : Bool) → hides known (drop i ts) ≡ true → hidden known (drop i ts) ≡ (end - i) + hidden known (drop end ts))
-
-pub ends_closed : (ts : List Tok) (i end : ℕ) (t : Tok) → i < end → end ≤ length ts → drop i ts ≡ t ∷ drop (i + 1) ts → behind_group 0 (drop (i + 1) ts) ≡ Some (drop end ts) → EndsAt ts i end
-ends_closed ts i end t lt le front e = (
-  lt,
-  le,
-  λ known h.
-      let count = hidden_within known (drop (i + 1) ts) (drop end ts) 0 e in
-      let here : hidden known (drop i ts) ≡ suc (hidden_at known (Some 0) (drop (i + 1) ts)) = ap (hidden known) front ∙ hidden_here known t (drop (i + 1) ts) (ap (hides known) (sym front) ∙ h) in
-      omega (arith, count, here, length-drop (i + 1) ts, length-drop end ts),
-)
-
-pub ends_open : (ts : List Tok) (i end : ℕ) (t : Tok) → i < length ts → end ≡ length ts → drop i ts ≡ t ∷ drop (i + 1) ts → behind_group 0 (drop (i + 1) ts) ≡ None → EndsAt ts i end
-ends_open ts i end t lt all front e = (
-  omega arith,
-  omega arith,
-  λ known h.
-      let count = hidden_open known (drop (i + 1) ts) 0 e in
-      let here : hidden known (drop i ts) ≡ suc (hidden_at known (Some 0) (drop (i + 1) ts)) = ap (hidden known) front ∙ hidden_here known t (drop (i + 1) ts) (ap (hides known) (sym front) ∙ h) in
-      let rest : hidden known (drop end ts) ≡ 0 = ap (hidden known) (drop_of_length-le ts (omega arith)) ∙ hidden_none known in
-      omega (arith, count, here, rest, length-drop (i + 1) ts),
-)
+group_counts known ts i end x lt le front e h = rw (front, rw front at h) (omega (arith, rw e at (hidden_within known (drop (i + 1) ts) 0), length-drop (i + 1) ts, length-drop end ts))
 
 -- LEAPS
 
 -- what is hidden where the five names are known is hidden where none is
 hidden_anyway : (known : Bool) (t : List Tok) → hides known t ≡ true → hides false t ≡ true
-hidden_anyway known t h = rw (first_so (annotated t) (not (known && is_standard (annotation_name t))) h) refl
+hidden_anyway known t h = rw (first_so (annotated t) (not (known && is_standard (annotation_name t))) h)
 
 hides_is : (t : List Tok) → hides false t ≡ true → (n : List ℕ) × (r : List Tok) × (t ≡ LParen ∷ (Annotation n ∷ r))
-hides_is [] h = absurd cc
+hides_is [] h = cc
 hides_is (LParen ∷ Annotation n ∷ r) h = (n, r, refl)
-hides_is (LParen ∷ []) h = absurd cc
-hides_is (LParen ∷ _ ∷ r) h = absurd cc
-hides_is (_ ∷ r) h = absurd cc
+hides_is (LParen ∷ []) h = cc
+hides_is (LParen ∷ _ ∷ r) h = cc
+hides_is (_ ∷ r) h = cc
 
 -- leaps are told from a place on, where they are told behind it and there
-leaps_from : (ls : List Lexeme) (i : ℕ) → AreLeaps (drop (i + 1) ls) → ((known : Bool) → hides known (toks (drop i ls)) ≡ true → leap known (drop i ls) ≡ hidden known (toks (drop i ls))) → AreLeaps (drop i ls)
-leaps_from ls i behind here = λ known j. at known j
-  where
-    at : (known : Bool) (j : ℕ) → hides known (toks (drop j (drop i ls))) ≡ true → leap known (drop j (drop i ls)) ≡ hidden known (toks (drop j (drop i ls)))
-    at known zero h = here known h
-    at known (suc j) h =
-        let place : i + suc j ≡ (i + 1) + j = omega arith in
-        let same : drop (suc j) (drop i ls) ≡ drop j (drop (i + 1) ls) = drop-drop (suc j) i ls ∙ ap (λ n. drop n ls) place ∙ sym (drop-drop j (i + 1) ls) in
-        ap (leap known) same ∙ behind known j (ap (λ l. hides known (toks l)) (sym same) ∙ h) ∙ ap (λ l. hidden known (toks l)) (sym same)
+leaps_cons : (x : Lexeme) (ls : List Lexeme) → AreLeaps ls → ((known : Bool) → hides known (toks (x ∷ ls)) ≡ true → leap known (x ∷ ls) ≡ hidden known (toks (x ∷ ls))) → AreLeaps (x ∷ ls)
+leaps_cons x ls behind here known zero = here known
+leaps_cons x ls behind here known (suc j) = behind known j
 
 -- where no group is hidden, nothing is to be told
-pub leaps_past : (ls : List Lexeme) (i : ℕ) → AreLeaps (drop (i + 1) ls) → hides false (toks (drop i ls)) ≡ false → AreLeaps (drop i ls)
-leaps_past ls i behind none = leaps_from ls i behind (λ known h. let f = hidden_anyway known (toks (drop i ls)) h in let g : false ≡ true = sym none ∙ f in absurd cc)
+leaps_past : (x : Lexeme) (ls : List Lexeme) → AreLeaps ls → hides false (toks (x ∷ ls)) ≡ false → AreLeaps (x ∷ ls)
+leaps_past x ls behind none = leaps_cons x ls behind (λ known h. let f = hidden_anyway known (toks (x ∷ ls)) h in cc)
 
-told_at : (x y : Lexeme) (new r : List Lexeme) (t : List Tok) → new ≡ x ∷ (y ∷ r) → toks new ≡ t → x.skip ≡ hidden false t → (hides true t ≡ true → y.skip ≡ hidden true t)
-    → (known : Bool) → hides known (toks new) ≡ true → leap known new ≡ hidden known (toks new)
-told_at x y new r t e tokens all unknown false h = ap (leap false) e ∙ all ∙ ap (hidden false) (sym tokens)
-told_at x y new r t e tokens all unknown true h = ap (leap true) e ∙ unknown (ap (hides true) (sym tokens) ∙ h) ∙ ap (hidden true) (sym tokens)
+-- behind the first token of an annotation's group no group begins
+second : (a b : Tok) (r : List Tok) → hides false (a ∷ b ∷ r) ≡ true → hides false (b ∷ r) ≡ false
+second LParen (Annotation n) r h = refl
+second LParen _ r h = cc
+second _ b r h = cc
 
 -- what was told at a group's first two tokens is right
-pub told : (ls new : List Lexeme) (at : ℕ) (x y : Lexeme) → drop at new ≡ x ∷ (y ∷ drop (at + 2) ls) → toks new ≡ toks ls → hides false (toks (drop at ls)) ≡ true → AreLeaps (drop (at + 1) ls)
-    → x.skip ≡ hidden false (toks (drop at ls)) → (hides true (toks (drop at ls)) ≡ true → y.skip ≡ hidden true (toks (drop at ls))) → AreLeaps (drop at new)
-told ls new at x y e same begins behind all unknown =
-    let tokens : toks (drop at new) ≡ toks (drop at ls) = sym (drop-map lexeme_tok at new) ∙ ap (drop at) same ∙ drop-map lexeme_tok at ls in
-    let (n, r, is) = hides_is (toks (drop at new)) (ap (hides false) tokens ∙ begins) in
-    let seconds : lexeme_tok x ∷ (lexeme_tok y ∷ toks (drop (at + 2) ls)) ≡ LParen ∷ (Annotation n ∷ r) = ap toks (sym e) ∙ is in
-    let second : lexeme_tok y ≡ Annotation n = cc in
-    let tail : drop (at + 1) new ≡ y ∷ drop (at + 2) ls = sym (drop-drop 1 at new) ∙ ap (drop 1) e in
-    let tail_two : drop (at + 1 + 1) new ≡ drop (at + 2) ls = sym (drop-drop 1 (at + 1) new) ∙ ap (drop 1) tail in
-    let two : drop 1 (drop (at + 1) ls) ≡ drop (at + 2) ls = drop-drop 1 (at + 1) ls ∙ ap (λ k. drop k ls) {x = at + 1 + 1} {y = at + 2} (omega arith) in
-    let last : AreLeaps (drop (at + 1 + 1) new) = subst AreLeaps (two ∙ sym tail_two) (leaps_drop 1 (drop (at + 1) ls) behind) in
-    let no_group : hides false (toks (drop (at + 1) new)) ≡ false = ap (λ l. hides false (toks l)) tail ∙ ap (λ t. hides false (t ∷ toks (drop (at + 2) ls))) second in
-    let next : AreLeaps (drop (at + 1) new) = leaps_past new (at + 1) last no_group in
-    leaps_from new at next (told_at x y (drop at new) (drop (at + 2) ls) (toks (drop at ls)) e tokens all unknown)
-
--- writing leaps at two neighbouring places
-pub written : (ls : List Lexeme) (at : ℕ) (d x y : Lexeme) → at + 1 < length ls → drop at (set (set ls at x) (at + 1) y) ≡ x ∷ (y ∷ drop (at + 2) ls)
-written ls at d x y lt =
-    let first : drop at (set ls at x) ≡ x ∷ drop (at + 1) ls = drop-set ls at x (omega arith) in
-    let second : drop (at + 1) ls ≡ get_or ls (at + 1) d ∷ drop (at + 2) ls = drop_more ls (at + 1) d lt ∙ ap (λ k. get_or ls (at + 1) d ∷ drop k ls) {x = at + 1 + 1} {y = at + 2} (omega arith) in
-    drop-set-add at (set ls at x) 1 y ∙ ap (λ l. set l 1 y) (first ∙ ap (λ l. x ∷ l) second)
+told : (x y : Lexeme) (ls : List Lexeme) → AreLeaps ls → hides false (toks (x ∷ y ∷ ls)) ≡ true → x.skip ≡ hidden false (toks (x ∷ y ∷ ls)) → (hides true (toks (x ∷ y ∷ ls)) ≡ true → y.skip ≡ hidden true (toks (x ∷ y ∷ ls))) → AreLeaps (x ∷ y ∷ ls)
+told x y ls behind begins all unknown = leaps_cons x (y ∷ ls) (leaps_past y ls behind (second (lexeme_tok x) (lexeme_tok y) (toks ls) begins)) (elim [ true ↦ unknown | false ↦ λ _. all ])
 
 -- the list with another leap at a place
-abbrev pub marked : List Lexeme → ℕ → ℕ → Lexeme → List Lexeme
-marked ls i leap d = set ls i (record { token = (get_or ls i d).token; offset = (get_or ls i d).offset; skip = leap })
+abbrev leaping : List Lexeme → ℕ → ℕ → Lexeme
+leaping ls i leap = record { token = (get_or ls i blank).token; offset = (get_or ls i blank).offset; skip = leap }
 
-pub marked_same : (ls : List Lexeme) (i leap : ℕ) (d : Lexeme) → placed (marked ls i leap d) ≡ placed ls
-marked_same ls i leap d = map-set_same placed_of ls i (record { token = (get_or ls i d).token; offset = (get_or ls i d).offset; skip = leap }) d refl
+abbrev marked : List Lexeme → ℕ → ℕ → List Lexeme
+marked ls i leap = set ls i (leaping ls i leap)
 
-pub marked_leaps : (ls : List Lexeme) (at all unknown : ℕ) (d : Lexeme) → at + 1 < length ls → hides false (toks (drop at ls)) ≡ true → AreLeaps (drop (at + 1) ls) → all ≡ hidden false (toks (drop at ls)) → (hides true (toks (drop at ls)) ≡ true → unknown ≡ hidden true (toks (drop at ls)))
-    → AreLeaps (drop at (marked (marked ls at all d) (at + 1) unknown d))
-marked_leaps ls at all unknown d lt begins behind e f =
-    let one = marked ls at all d in
-    let new = marked one (at + 1) unknown d in
-    let x : Lexeme = record { token = (get_or ls at d).token; offset = (get_or ls at d).offset; skip = all } in
-    let y : Lexeme = record { token = (get_or one (at + 1) d).token; offset = (get_or one (at + 1) d).offset; skip = unknown } in
-    told ls new at x y (written ls at d x y lt) (toks_same new ls (marked_same one (at + 1) unknown d ∙ marked_same ls at all d)) begins behind e f
+marked_same : (ls : List Lexeme) (i leap : ℕ) → placed (marked ls i leap) ≡ placed ls
+marked_same ls i leap = map-set_same placed_of ls i (leaping ls i leap) blank refl
 
--- a group has two tokens at least
-pub begins_within : (ls : List Lexeme) (at : ℕ) → hides false (toks (drop at ls)) ≡ true → at + 1 < length ls
-begins_within ls at h =
-    let (n, r, e) = hides_is (toks (drop at ls)) h in
-    omega (arith, ap length e, length-map (drop at ls) lexeme_tok, length-drop at ls)
+-- the list with leaps at two neighbouring places
+abbrev pub twice_marked : List Lexeme → ℕ → ℕ → ℕ → List Lexeme
+twice_marked ls at all unknown = marked (marked ls at all) (at + 1) unknown
+
+pub twice_same : (ls : List Lexeme) (at all unknown : ℕ) → placed (twice_marked ls at all unknown) ≡ placed ls
+twice_same ls at all unknown = marked_same (marked ls at all) (at + 1) unknown ∙ marked_same ls at all
+
+pub twice_leaps : (ls : List Lexeme) (at all unknown : ℕ) → hides false (toks (drop at ls)) ≡ true → AreLeaps (drop (at + 1) ls) → all ≡ hidden false (toks (drop at ls)) → (hides true (toks (drop at ls)) ≡ true → unknown ≡ hidden true (toks (drop at ls)))
+    → AreLeaps (drop at (twice_marked ls at all unknown))
+twice_leaps ls at all unknown begins behind e f =
+    let (n, r, is) = hides_is (toks (drop at ls)) begins in
+    let lt : at + 1 < length ls = omega (arith, ap length is, length-map (drop at ls) lexeme_tok, length-drop at ls) in
+    let x = leaping ls at all in
+    let y = leaping (marked ls at all) (at + 1) unknown in
+    let next : at + 1 + 1 ≡ at + 2 = omega arith in
+    let new : drop at (twice_marked ls at all unknown) ≡ x ∷ y ∷ drop (at + 2) ls =
+    rw (drop-set-add at (marked ls at all) 1 y, drop-set ls at x (omega arith), drop_more ls (at + 1) blank lt, next) in
+    let same : toks (x ∷ y ∷ drop (at + 2) ls) ≡ toks (drop at ls) =
+    ap toks (sym new) ∙ toks_at (twice_marked ls at all unknown) ls at (twice_same ls at all unknown) ∙ sym (toks_at ls ls at refl) in
+    rw new (told x y (drop (at + 2) ls) (leaps_later ls (at + 1) (at + 2) (omega arith) behind) (ap (hides false) same ∙ begins) (e ∙ ap (hidden false) (sym same)) (λ h. f (ap (hides true) (sym same) ∙ h) ∙ ap (hidden true) (sym same)))
 
 -- THE PASS FROM THE RIGHT
 
@@ -166,51 +119,49 @@ at_top stack k = slice_get (reverse stack) k
 top_push : (stack : List ℕ) (x : ℕ) → reverse (stack ++ x ∷ []) ≡ x ∷ reverse stack
 top_push stack x = reverse-append stack (x ∷ [])
 
-empty_stack : (stack : List ℕ) → (IsSome {T = ℕ} None ↔ (0 < length stack)) → stack ≡ []
-empty_stack stack h = nil_from_length stack (elim (cases_Bool (nat_lt 0 (length stack))) [
-  | inl p ↦ (let f : false ≡ true = h.1 (ltb-true 0 (length stack) p) in cc)
-  | inr p ↦ (let f = ltb-false 0 (length stack) p in omega arith)
-])
+-- what the stack is behind the pop at a `(`
+pub record Popped (stack rest : List ℕ) (end : Option ℕ) : Type 0 where
+  pub top : at_top stack 0 ≡ end
+  pub below : (k : ℕ) → at_top stack (suc k) ≡ at_top rest k
 
-top_is : (stack rest : List ℕ) (end : Option ℕ) → stack ≡ rest ++ option_to_list end → (IsSome end ↔ (0 < length stack)) → at_top stack 0 ≡ end
-top_is stack rest None e h = ap (λ s. slice_get (reverse s) 0) (empty_stack stack h)
-top_is stack rest (Some x) e h = ap (λ s. slice_get s 0) (ap reverse e ∙ top_push rest x)
+split : (stack rest : List ℕ) (end : Option ℕ) → stack ≡ rest ++ option_to_list end → (IsSome end ↔ (0 < length stack)) → Popped stack rest end
+split [] rest None e some = let none : rest ≡ [] = sym (append-nil rest) ∙ sym e in record { top = refl; below = λ k. rw none refl }
+split (x ∷ stack) rest None e some = absurd (let f : false ≡ true = some.1 (omega arith) in cc)
+split stack rest (Some x) e some = record { top = rw (e, top_push rest x); below = λ k. rw (e, top_push rest x) refl }
 
-top_rest : (stack rest : List ℕ) (end : Option ℕ) (k : ℕ) → stack ≡ rest ++ option_to_list end → (IsSome end ↔ (0 < length stack)) → at_top stack (suc k) ≡ at_top rest k
-top_rest stack rest None k e h =
-    let none : stack ≡ [] = empty_stack stack h in
-    let rest_none : rest ≡ [] = sym (append-nil rest) ∙ sym e ∙ none in
-    ap (λ s. slice_get (reverse s) (suc k)) none ∙ sym (ap (λ s. slice_get (reverse s) k) rest_none)
-top_rest stack rest (Some x) k e h = ap (λ s. slice_get s (suc k)) (ap reverse e ∙ top_push rest x)
+pub popped : {size : ℕ} {stack rest : List ℕ} {end found : Option ℕ} → stack ≡ rest ++ option_to_list end → (IsSome end ↔ (0 < size)) → size ≡ length stack → end ≡ found → Popped stack rest found
+popped {stack} {rest} {end} e some all is = rw is at (split stack rest end e (rw all at some))
 
 -- the first group from the place on that isn't closed, by its offset
 abbrev pub FirstFrom : List Placed → ℕ → Option ℕ → Type 0
 FirstFrom ps i None = (j : ℕ) → i ≤ j → Unclosed (tokens_of ps) j → ⊥
 FirstFrom ps i (Some offset) = (j : ℕ) × (t : Placed) × (i ≤ j) × (slice_get ps j ≡ Some t) × (offset ≡ t.offset) × Unclosed (tokens_of ps) j × ((k : ℕ) → i ≤ k → k < j → Unclosed (tokens_of ps) k → ⊥)
 
+-- where the group closes, from the place on, in which k more lie open
+abbrev pub ClosesAt : List Lexeme → ℕ → ℕ → Option ℕ → Type 0
+ClosesAt before i k None = behind_group k (drop i (tokens_of (placed before))) ≡ None
+ClosesAt before i k (Some e) = (behind_group k (drop i (tokens_of (placed before))) ≡ Some (drop e (tokens_of (placed before)))) × (i < e) × (e ≤ length before)
+
 -- From the place on: where each group ends, by the stack; the leaps; the first group that isn't closed.
 pub record LeapsSoFar (before : List Lexeme) (i : ℕ) (ls : List Lexeme) (stack : List ℕ) (first : Option ℕ) : Type 0 where
   pub same : placed ls ≡ placed before
-  pub tops : (k : ℕ) → behind_group k (drop i (toks before)) ≡ option_map (λ e. drop e (toks before)) (at_top stack k)
-  pub bounds : (k e : ℕ) → at_top stack k ≡ Some e → (i < e) × (e ≤ length before)
+  pub within : i ≤ length ls
+  pub tops : (k : ℕ) → ClosesAt before i k (at_top stack k)
   pub leaps : AreLeaps (drop i ls)
   pub unclosed : FirstFrom (placed before) i first
 
-no_end : (k : ℕ) → behind_group k [] ≡ None
-unfolding behind_group
-no_end k = refl
+-- one place further to the left
+moved : (before : List Lexeme) (i k n : ℕ) (o : Option ℕ) → behind_group n (drop i (tokens_of (placed before))) ≡ behind_group k (drop (i + 1) (tokens_of (placed before))) → ClosesAt before (i + 1) k o → ClosesAt before i n o
+moved before i k n None e h = e ∙ h
+moved before i k n (Some x) e (h, low, high) = (e ∙ h, omega arith, high)
 
-group_close : (ts : List Tok) → behind_group 0 (RParen ∷ ts) ≡ Some ts
+group_nil : (k : ℕ) → behind_group k [] ≡ None
 unfolding behind_group
-group_close ts = refl
+group_nil k = refl
 
-group_closes : (k : ℕ) (ts : List Tok) → behind_group (suc k) (RParen ∷ ts) ≡ behind_group k ts
+group_cons : (k : ℕ) (x : Tok) (r : List Tok) → behind_group k (x ∷ r) ≡ (if shuts x k then Some r else behind_group (deeper x k) r)
 unfolding behind_group
-group_closes k ts = ap (λ d. behind_group d ts) {x = suc k - 1} {y = k} (omega arith)
-
-group_open : (k : ℕ) (ts : List Tok) → behind_group k (LParen ∷ ts) ≡ behind_group (suc k) ts
-unfolding behind_group
-group_open k ts = ap (λ d. behind_group d ts) (add-one k)
+group_cons k x r = refl
 
 group_other : (k : ℕ) (t : Tok) (ts : List Tok) → is_open t ≡ false → is_close t ≡ false → behind_group k (t ∷ ts) ≡ behind_group k ts
 unfolding behind_group
@@ -231,189 +182,119 @@ close_is : (t : Tok) → is_close t ≡ true → t ≡ RParen
 close_is RParen h = refl
 close_is _ h = cc
 
--- a group that isn't closed is hidden
-unclosed_hides : (ts : List Tok) (i : ℕ) → Unclosed ts i → hides false (drop i ts) ≡ true
-unclosed_hides ts i (n, r, e, k) = ap (hides false) e
-
-first_passed : (ps : List Placed) (i : ℕ) (first : Option ℕ) → (Unclosed (tokens_of ps) i → ⊥) → FirstFrom ps (i + 1) first → FirstFrom ps i first
-first_passed ps i None closed behind = λ j le u. elim (cases_Bool (nat_lt i j)) [
-  | inl e ↦ (let lt = ltb-true i j e in behind j (omega arith) u)
-  | inr e ↦ (let ge = ltb-false i j e in closed (subst (Unclosed (tokens_of ps)) {x = j} {y = i} (omega arith) u))
-]
-first_passed ps i (Some offset) closed (j, t, le, here, at, u, before) = (
-  j,
-  t,
-  omega arith,
-  here,
-  at,
-  u,
-  λ k from lt v. elim (cases_Bool (nat_lt i k)) [
-    | inl e ↦ (let more = ltb-true i k e in before k (omega arith) lt v)
-    | inr e ↦ (let ge = ltb-false i k e in closed (subst (Unclosed (tokens_of ps)) {x = k} {y = i} (omega arith) v))
-  ],
-)
-
-first_here : (ps : List Placed) (i : ℕ) (t : Placed) → slice_get ps i ≡ Some t → Unclosed (tokens_of ps) i → FirstFrom ps i (Some t.offset)
-first_here ps i t here u = (i, t, omega arith, here, refl, u, λ k from lt v. absurd (omega arith))
-
-pub nothing_yet : (ls : List Lexeme) (n : ℕ) → n ≡ length ls → LeapsSoFar ls n ls [] None
-nothing_yet ls n all =
-    let over : drop n (toks ls) ≡ [] = drop_of_length-le (toks ls) (omega (arith, length-map ls lexeme_tok)) in record {
-      same = refl;
-      tops = λ k. ap (behind_group k) over ∙ no_end k;
-      bounds = λ k e h. absurd cc;
-      leaps = λ known j h.
-          let none : drop j (drop n ls) ≡ [] = drop_of_length-le (drop n ls) (omega (arith, length-drop n ls)) in
-          absurd (let f : hides known [] ≡ true = ap (λ l. hides known (toks l)) (sym none) ∙ h in let g : false ≡ true = f in cc);
-      unclosed = λ j le u. absurd (let f = unclosed_hides (tokens_of (placed ls)) j u in
-          let none : drop j (tokens_of (placed ls)) ≡ [] = ap (drop j) (tokens_of-placed ls) ∙ drop_of_length-le (toks ls) (omega (arith, length-map ls lexeme_tok)) in
-          let g : false ≡ true = ap (hides false) (sym none) ∙ f in cc);
-    }
-
--- the token at a place
-front_at : (before ls : List Lexeme) (i : ℕ) (d : Lexeme) → placed ls ≡ placed before → i < length ls → drop i (toks before) ≡ lexeme_tok (get_or ls i d) ∷ drop (i + 1) (toks before)
-front_at before ls i d same lt =
-    sym (toks_at ls before i same) ∙ ap toks (drop_more ls i d lt) ∙ ap (λ l. lexeme_tok (get_or ls i d) ∷ l) (toks_at ls before (i + 1) same)
-
--- where no group is hidden at a place, leaps and faults stay
-stays : (before ls : List Lexeme) (i : ℕ) (stack : List ℕ) (first : Option ℕ) → LeapsSoFar before (i + 1) ls stack first → hides false (drop i (toks before)) ≡ false → AreLeaps (drop i ls) × FirstFrom (placed before) i first
-stays before ls i stack first so none = (
-  leaps_past ls i so.leaps (ap (hides false) (toks_at ls before i so.same) ∙ none),
-  first_passed (placed before) i first (λ u. let f = unclosed_hides (tokens_of (placed before)) i u in
-      let g : false ≡ true = sym none ∙ ap (λ l. hides false (drop i l)) (sym (tokens_of-placed before)) ∙ f in absurd cc) so.unclosed,
-)
-
 not_hidden : (t : Tok) (r : List Tok) → is_open t ≡ false → hides false (t ∷ r) ≡ false
-not_hidden LParen r h = absurd cc
+not_hidden LParen r h = cc
 not_hidden _ r h = refl
 
-close_no_open : (t : Tok) → is_close t ≡ true → is_open t ≡ false
-close_no_open RParen h = refl
-close_no_open _ h = cc
+-- a group that isn't closed is hidden
+not_unclosed : (ts : List Tok) (i : ℕ) → hides false (drop i ts) ≡ false → Unclosed ts i → ⊥
+not_unclosed ts i none (n, r, e, k) = absurd (let f : true ≡ false = ap (hides false) (sym e) ∙ none in cc)
 
-push_tops : (ts : List Tok) (i : ℕ) (stack : List ℕ) → ((k : ℕ) → behind_group k (drop (i + 1) ts) ≡ option_map (λ e. drop e ts) (at_top stack k)) → drop i ts ≡ RParen ∷ drop (i + 1) ts → (k : ℕ) → behind_group k (drop i ts) ≡ option_map (λ e. drop e ts) (at_top (stack ++ (i + 1) ∷ []) k)
-push_tops ts i stack tops front zero =
-    ap (behind_group 0) front ∙ group_close (drop (i + 1) ts) ∙ sym (ap (λ s. option_map (λ e. drop e ts) (slice_get s 0)) (top_push stack (i + 1)))
-push_tops ts i stack tops front (suc k) =
-    ap (behind_group (suc k)) front ∙ group_closes k (drop (i + 1) ts) ∙ tops k ∙ sym (ap (λ s. option_map (λ e. drop e ts) (slice_get s (suc k))) (top_push stack (i + 1)))
+-- at the place, or behind it
+past : (P : ℕ → Type 0) (i j : ℕ) → i ≤ j → (P i → ⊥) → (i + 1 ≤ j → P j → ⊥) → P j → ⊥
+past P i j le here behind p = grind arith
 
-push_bounds : (n i : ℕ) (stack : List ℕ) → i < n → ((k e : ℕ) → at_top stack k ≡ Some e → (i + 1 < e) × (e ≤ n)) → (k e : ℕ) → at_top (stack ++ (i + 1) ∷ []) k ≡ Some e → (i < e) × (e ≤ n)
-push_bounds n i stack lt bounds zero e h =
-    let top : Some (i + 1) ≡ Some e = ap (λ s. slice_get s 0) (sym (top_push stack (i + 1))) ∙ h in
-    let same : i + 1 ≡ e = cc in (omega arith, omega arith)
-push_bounds n i stack lt bounds (suc k) e h =
-    let (low, high) = bounds k e (ap (λ s. slice_get s (suc k)) (sym (top_push stack (i + 1))) ∙ h) in (omega arith, high)
+first_passed : (ps : List Placed) (i : ℕ) (first : Option ℕ) → (Unclosed (tokens_of ps) i → ⊥) → FirstFrom ps (i + 1) first → FirstFrom ps i first
+first_passed ps i None closed behind = λ j le. past (Unclosed (tokens_of ps)) i j le closed (behind j)
+first_passed ps i (Some offset) closed (j, t, le, here, at, u, before) =
+    (j, t, omega arith, here, at, u, λ k from lt. past (Unclosed (tokens_of ps)) i k from closed (λ more. before k more lt))
 
-pub pushed : (before ls : List Lexeme) (i : ℕ) (d : Lexeme) (stack : List ℕ) (first : Option ℕ) → LeapsSoFar before (i + 1) ls stack first → i < length ls → length ls ≡ length before → is_close (lexeme_tok (get_or ls i d)) ≡ true → LeapsSoFar before i ls (stack ++ (i + 1) ∷ []) first
-pushed before ls i d stack first so lt size close =
-    let front = front_at before ls i d so.same lt in
-    let kept = stays before ls i stack first so (ap (hides false) front ∙ not_hidden (lexeme_tok (get_or ls i d)) (drop (i + 1) (toks before)) (close_no_open (lexeme_tok (get_or ls i d)) close)) in record {
-      same = so.same;
-      tops = push_tops (toks before) i stack so.tops (front ∙ ap (λ t. t ∷ drop (i + 1) (toks before)) (close_is (lexeme_tok (get_or ls i d)) close));
-      bounds = push_bounds (length before) i stack (omega arith) so.bounds;
-      leaps = kept.0;
-      unclosed = kept.1;
+pub nothing_yet : (ls : List Lexeme) → LeapsSoFar ls (length ls) ls [] None
+nothing_yet ls =
+    let over : (j : ℕ) → length ls ≤ j → drop j (tokens_of (placed ls)) ≡ [] = λ j le. rw (tokens_of-placed ls) (drop_of_length-le (toks ls) (omega (arith, length-map ls lexeme_tok))) in
+    let none : drop (length ls) ls ≡ [] = drop_of_length-le ls (omega arith) in record {
+      same = refl;
+      within = omega arith;
+      tops = λ k. rw (over (length ls) (omega arith)) (group_nil k);
+      leaps = rw none (λ known. elim [ zero ↦ λ h. cc | suc j ↦ λ h. cc ]);
+      unclosed = λ j le. not_unclosed (tokens_of (placed ls)) j (rw (over j le));
     }
 
-pub passed_over : (before ls : List Lexeme) (i : ℕ) (d : Lexeme) (stack : List ℕ) (first : Option ℕ) → LeapsSoFar before (i + 1) ls stack first → i < length ls → is_open (lexeme_tok (get_or ls i d)) ≡ false → is_close (lexeme_tok (get_or ls i d)) ≡ false → LeapsSoFar before i ls stack first
-passed_over before ls i d stack first so lt no_open no_close =
-    let front = front_at before ls i d so.same lt in
-    let kept = stays before ls i stack first so (ap (hides false) front ∙ not_hidden (lexeme_tok (get_or ls i d)) (drop (i + 1) (toks before)) no_open) in record {
-      same = so.same;
-      tops = λ k. ap (behind_group k) front ∙ group_other k (lexeme_tok (get_or ls i d)) (drop (i + 1) (toks before)) no_open no_close ∙ so.tops k;
-      bounds = λ k e h. let (low, high) = so.bounds k e h in (omega arith, high);
-      leaps = kept.0;
-      unclosed = kept.1;
-    }
+-- the place in front of those passed
+module _ {before ls : List Lexeme} {j : ℕ} {stack : List ℕ} {first : Option ℕ} (i : ℕ) (so : LeapsSoFar before j ls stack first) (back : j ≡ i + 1) where
+  abbrev ts : List Tok
+  ts = tokens_of (placed before)
 
--- what the stack is behind the pop at a `(`
-pub record Popped (before : List Lexeme) (i : ℕ) (stack rest : List ℕ) (end : Option ℕ) : Type 0 where
-  pub split : stack ≡ rest ++ option_to_list end
-  pub some : IsSome end ↔ (0 < length stack)
+  abbrev tok : Tok
+  tok = lexeme_tok (get_or ls i blank)
 
-pub popped : (before : List Lexeme) (i size : ℕ) (stack rest : List ℕ) (end found : Option ℕ) → stack ≡ rest ++ option_to_list end → (IsSome end ↔ (0 < size)) → size ≡ length stack → end ≡ found → Popped before i stack rest found
-popped before i size stack rest end found e some all is =
-    subst (λ (o : Option ℕ). Popped before i stack rest o) is (record { split = e; some = subst (λ n. IsSome end ↔ (0 < n)) all some })
+  now : LeapsSoFar before (i + 1) ls stack first
+  now = rw (← back) so
 
-pop_tops : (before ls : List Lexeme) (i : ℕ) (d : Lexeme) (stack rest : List ℕ) (end first : Option ℕ) → LeapsSoFar before (i + 1) ls stack first → Popped before i stack rest end → i < length ls → is_open (lexeme_tok (get_or ls i d)) ≡ true → (k : ℕ) → behind_group k (drop i (toks before)) ≡ option_map (λ e. drop e (toks before)) (at_top rest k)
-pop_tops before ls i d stack rest end first so pop lt opens k =
-    let front = front_at before ls i d so.same lt ∙ ap (λ t. t ∷ drop (i + 1) (toks before)) (open_is (lexeme_tok (get_or ls i d)) opens) in
-    ap (behind_group k) front ∙ group_open k (drop (i + 1) (toks before)) ∙ so.tops (suc k) ∙ ap (option_map (λ e. drop e (toks before))) (top_rest stack rest end k pop.split pop.some)
+  within : (i < length ls) × (length ls ≡ length before)
+  within = (omega (arith, now.within), placed_length ls before so.same)
 
-pop_bounds : (before ls : List Lexeme) (i : ℕ) (stack rest : List ℕ) (end first : Option ℕ) → LeapsSoFar before (i + 1) ls stack first → Popped before i stack rest end → (k e : ℕ) → at_top rest k ≡ Some e → (i < e) × (e ≤ length before)
-pop_bounds before ls i stack rest end first so pop k e h =
-    let (low, high) = so.bounds (suc k) e (top_rest stack rest end k pop.split pop.some ∙ h) in (omega arith, high)
+  front : drop i ts ≡ tok ∷ drop (i + 1) ts
+  front = rw (← toks_at ls before i so.same, drop_more ls i blank within.0) (ap (λ l. tok ∷ l) (toks_at ls before (i + 1) so.same))
 
-pub opened : (before ls : List Lexeme) (i : ℕ) (d : Lexeme) (stack rest : List ℕ) (end first : Option ℕ) → LeapsSoFar before (i + 1) ls stack first → Popped before i stack rest end → i < length ls → is_open (lexeme_tok (get_or ls i d)) ≡ true → hides false (toks (drop i ls)) ≡ false → LeapsSoFar before i ls rest first
-opened before ls i d stack rest end first so pop lt opens none =
-    let kept = stays before ls i stack first so (ap (hides false) (sym (toks_at ls before i so.same)) ∙ none) in record {
-      same = so.same;
-      tops = pop_tops before ls i d stack rest end first so pop lt opens;
-      bounds = pop_bounds before ls i stack rest end first so pop;
-      leaps = kept.0;
-      unclosed = kept.1;
-    }
+  -- where no group is hidden at a place, leaps and faults stay
+  stays : hides false (drop i ts) ≡ false → AreLeaps (drop i ls) × FirstFrom (placed before) i first
+  stays none =
+      let more = drop_more ls i blank within.0 in (
+        rw more (leaps_past (get_or ls i blank) (drop (i + 1) ls) now.leaps (rw more at (rw (← toks_at ls before i so.same) at none))),
+        first_passed (placed before) i first (not_unclosed ts i none) now.unclosed,
+      )
 
--- what stands behind the `(` of a group is closed where the popped place says
-end_is : (before ls : List Lexeme) (i : ℕ) (stack rest : List ℕ) (end first : Option ℕ) → LeapsSoFar before (i + 1) ls stack first → Popped before i stack rest end → behind_group 0 (drop (i + 1) (toks before)) ≡ option_map (λ e. drop e (toks before)) end
-end_is before ls i stack rest end first so pop = so.tops 0 ∙ ap (option_map (λ e. drop e (toks before))) (top_is stack rest end pop.split pop.some)
+  passing : {rest : List ℕ} → ((k : ℕ) → ClosesAt before i k (at_top rest k)) → is_open tok ≡ false → LeapsSoFar before i ls rest first
+  passing tops h =
+      let kept = stays (rw front (not_hidden tok (drop (i + 1) ts) h)) in
+      record { same = so.same; within = omega (arith, within); tops = tops; leaps = kept.0; unclosed = kept.1 }
 
--- the group's end, as the place was popped
-pub ends_here : (before ls : List Lexeme) (i end : ℕ) (d : Lexeme) (stack rest : List ℕ) (first : Option ℕ) → LeapsSoFar before (i + 1) ls stack first → Popped before i stack rest (Some end) → i < length ls → length ls ≡ length before → EndsAt (toks before) i end
-ends_here before ls i end d stack rest first so pop lt size =
-    let (low, high) = so.bounds 0 end (top_is stack rest (Some end) pop.split pop.some) in
-    ends_closed (toks before) i end (lexeme_tok (get_or ls i d)) (omega arith) (omega (arith, length-map before lexeme_tok)) (front_at before ls i d so.same lt) (end_is before ls i stack rest (Some end) first so pop)
+  pub pushed : is_close tok ≡ true → LeapsSoFar before i ls (stack ++ (i + 1) ∷ []) first
+  pushed close =
+      let is = close_is tok close in
+      passing (rw (top_push stack (i + 1)) (elim [
+        | zero ↦ (rw (front, is, group_cons), omega arith, omega (arith, within))
+        | suc k ↦ (let e : suc k - 1 ≡ k = omega arith in moved before i k (suc k) (at_top stack k) (rw (front, is, group_cons, e)) (now.tops k))
+      ])) (rw is)
 
-pub ends_never : (before ls : List Lexeme) (i end : ℕ) (d : Lexeme) (stack rest : List ℕ) (first : Option ℕ) → LeapsSoFar before (i + 1) ls stack first → Popped before i stack rest None → i < length ls → length ls ≡ length before → end ≡ length ls → EndsAt (toks before) i end
-ends_never before ls i end d stack rest first so pop lt size all =
-    ends_open (toks before) i end (lexeme_tok (get_or ls i d)) (omega (arith, length-map before lexeme_tok)) (omega (arith, length-map before lexeme_tok)) (front_at before ls i d so.same lt) (end_is before ls i stack rest None first so pop)
+  pub passed_over : is_open tok ≡ false → is_close tok ≡ false → LeapsSoFar before i ls stack first
+  passed_over no_open no_close = passing (λ k. moved before i k k (at_top stack k) (rw front (group_other k tok (drop (i + 1) ts) no_open no_close)) (now.tops k)) no_open
 
-group_annotation : (n : List ℕ) (ts : List Tok) → behind_group 0 (Annotation n ∷ ts) ≡ behind_group 0 ts
-unfolding behind_group
-group_annotation n ts = refl
+  module _ {rest : List ℕ} {end : Option ℕ} (pop : Popped stack rest end) where
+    behind : ClosesAt before (i + 1) 0 end
+    behind = rw pop.top at (now.tops 0)
 
-behind_name : (ts r : List Tok) (i : ℕ) (n : List ℕ) → drop i ts ≡ LParen ∷ (Annotation n ∷ r) → behind_group 0 (drop (i + 1) ts) ≡ behind_group 0 r
-behind_name ts r i n e = ap (behind_group 0) (sym (drop-drop 1 i ts) ∙ ap (drop 1) e) ∙ group_annotation n r
+    counts : (e : ℕ) → i < e → e ≤ length ls → left (behind_group 0 (drop (i + 1) ts)) ≡ drop e ts → (known : Bool) → hides known (toks (drop i ls)) ≡ true → hidden known (toks (drop i ls)) ≡ (e - i) + hidden known (toks (drop e ls))
+    counts e low high there known =
+        rw (toks_at ls before i so.same, toks_at ls before e so.same) (group_counts known ts i e tok low (omega (arith, within, length-map before placed_of, length-map (placed before) (λ (p : Placed). p.token))) front there)
 
-pub hid_closed : (before ls new : List Lexeme) (i end : ℕ) (d : Lexeme) (stack rest : List ℕ) (first : Option ℕ) → LeapsSoFar before (i + 1) ls stack first → Popped before i stack rest (Some end) → i < length ls → is_open (lexeme_tok (get_or ls i d)) ≡ true → placed new ≡ placed ls → AreLeaps (drop i new) → LeapsSoFar before i new rest first
-hid_closed before ls new i end d stack rest first so pop lt opens same leaps = record {
-  same = same ∙ so.same;
-  tops = pop_tops before ls i d stack rest (Some end) first so pop lt opens;
-  bounds = pop_bounds before ls i stack rest (Some end) first so pop;
-  leaps = leaps;
-  unclosed = first_passed (placed before) i first (λ u. let (n, r, e, none) = subst (λ l. Unclosed l i) (tokens_of-placed before) u in
-      let f : Some (drop end (toks before)) ≡ None = sym (end_is before ls i stack rest (Some end) first so pop) ∙ behind_name (toks before) r i n e ∙ none in absurd cc) so.unclosed;
-}
-
-pub hid_open : (before ls new : List Lexeme) (i : ℕ) (d : Lexeme) (stack rest : List ℕ) (first : Option ℕ) → LeapsSoFar before (i + 1) ls stack first → Popped before i stack rest None → i < length ls → is_open (lexeme_tok (get_or ls i d)) ≡ true → hides false (toks (drop i ls)) ≡ true → placed new ≡ placed ls → AreLeaps (drop i new) → LeapsSoFar before i new rest (Some ((get_or ls i d).offset))
-hid_open before ls new i d stack rest first so pop lt opens begins same leaps =
-    let here : slice_get (placed before) i ≡ Some (placed_of (get_or ls i d)) = ap (λ l. slice_get l i) (sym so.same) ∙ slice_get-map placed_of ls i ∙ ap (option_map placed_of) (slice_get-get_or ls i d lt) in
-    let (n, r, e) = hides_is (drop i (toks before)) (ap (hides false) (sym (toks_at ls before i so.same)) ∙ begins) in
-    let u : Unclosed (toks before) i = (n, r, e, sym (behind_name (toks before) r i n e) ∙ end_is before ls i stack rest None first so pop) in record {
+    opening : {next : Option ℕ} (new : List Lexeme) → is_open tok ≡ true → placed new ≡ placed ls → AreLeaps (drop i new) → FirstFrom (placed before) i next → LeapsSoFar before i new rest next
+    opening new opens same leaps unclosed = record {
       same = same ∙ so.same;
-      tops = pop_tops before ls i d stack rest None first so pop lt opens;
-      bounds = pop_bounds before ls i stack rest None first so pop;
+      within = omega (arith, within, placed_length new ls same);
+      tops = λ k. rw (← pop.below k) (moved before i (suc k) k (at_top stack (suc k)) (rw (front, open_is tok opens, group_cons, add-one)) (now.tops (suc k)));
       leaps = leaps;
-      unclosed = first_here (placed before) i (placed_of (get_or ls i d)) here (subst (λ l. Unclosed l i) (sym (tokens_of-placed before)) u);
+      unclosed = unclosed;
     }
 
--- the end of a group, where leaps were told meanwhile
-pub counts_at : (before ls : List Lexeme) (i end : ℕ) → placed ls ≡ placed before → EndsAt (toks before) i end → (known : Bool) → hides known (toks (drop i ls)) ≡ true → hidden known (toks (drop i ls)) ≡ (end - i) + hidden known (toks (drop end ls))
-counts_at before ls i end same (lt, le, counts) known h =
-    let here = toks_at ls before i same in
-    let there = toks_at ls before end same in
-    ap (hidden known) here ∙ counts known (ap (hides known) (sym here) ∙ h) ∙ ap (λ t. (end - i) + hidden known t) (sym there)
+    pub opened : is_open tok ≡ true → hides false (toks (drop i ls)) ≡ false → LeapsSoFar before i ls rest first
+    opened opens none = let kept = stays (rw (toks_at ls before i so.same) at none) in opening ls opens refl kept.0 kept.1
 
-pub placed_length : (ls before : List Lexeme) → placed ls ≡ placed before → length ls ≡ length before
-placed_length ls before e = omega (arith, ap length e, length-map ls placed_of, length-map before placed_of)
+  pub ends_here : {rest : List ℕ} {end : ℕ} → Popped stack rest (Some end) → (i < end) × (end ≤ length ls) × ((known : Bool) → hides known (toks (drop i ls)) ≡ true → hidden known (toks (drop i ls)) ≡ (end - i) + hidden known (toks (drop end ls)))
+  ends_here {end = end} pop =
+      let (there, low, high) = behind pop in
+      (omega arith, omega (arith, within), counts pop end (omega arith) (omega (arith, within)) (rw there))
 
--- at the start all leaps are told, and the first group that isn't closed is found
-pub all_told : (before ls : List Lexeme) (i : ℕ) (stack : List ℕ) (first : Option ℕ) → i ≡ 0 → LeapsSoFar before i ls stack first → AreLeaps ls
-all_told before ls i stack first e so = subst (λ i. AreLeaps (drop i ls)) e so.leaps
+  pub ends_never : {rest : List ℕ} → Popped stack rest None → (known : Bool) → hides known (toks (drop i ls)) ≡ true → hidden known (toks (drop i ls)) ≡ (length ls - i) + hidden known (toks (drop (length ls) ls))
+  ends_never pop =
+      let none : drop (length ls) ls ≡ [] = drop_of_length-le ls (omega arith) in
+      counts pop (length ls) within.0 (omega arith) (rw (behind pop, ← toks_at ls before (length ls) so.same, none))
 
-first_from : (ps : List Placed) (first : Option ℕ) → FirstFrom ps 0 first → MatchOption first (Closed (tokens_of ps)) (FirstUnclosed ps)
-first_from ps None closed = λ j u. closed j (omega arith) u
-first_from ps (Some offset) (j, t, le, here, at, u, before) = (j, t, here, at, u, λ k lt v. before k (omega arith) lt v)
+  -- a group with an annotation: what stands behind its `(`
+  behind_name : (n : List ℕ) (r : List Tok) → drop i ts ≡ LParen ∷ (Annotation n ∷ r) → behind_group 0 (drop (i + 1) ts) ≡ behind_group 0 r
+  unfolding behind_group
+  behind_name n r e = let tail : drop (i + 1) ts ≡ Annotation n ∷ r = cc front in rw tail
 
-pub first_told : (before ls : List Lexeme) (i : ℕ) (stack : List ℕ) (first : Option ℕ) → i ≡ 0 → LeapsSoFar before i ls stack first → MatchOption first (Closed (tokens_of (placed before))) (FirstUnclosed (placed before))
-first_told before ls i stack first e so = first_from (placed before) first (subst (λ i. FirstFrom (placed before) i first) e so.unclosed)
+  pub hid_closed : {rest : List ℕ} {end : ℕ} (new : List Lexeme) → Popped stack rest (Some end) → is_open tok ≡ true → placed new ≡ placed ls → AreLeaps (drop i new) → LeapsSoFar before i new rest first
+  hid_closed new pop opens same leaps = opening pop new opens same leaps (first_passed (placed before) i first (λ (n, r, e, none). let f = sym (behind pop).0 ∙ behind_name n r e ∙ none in cc) now.unclosed)
+
+  pub hid_open : {rest : List ℕ} (new : List Lexeme) → Popped stack rest None → is_open tok ≡ true → hides false (toks (drop i ls)) ≡ true → placed new ≡ placed ls → AreLeaps (drop i new) → LeapsSoFar before i new rest (Some ((get_or ls i blank).offset))
+  hid_open new pop opens begins same leaps =
+      let (n, r, e) = hides_is (drop i ts) (rw (toks_at ls before i so.same) at begins) in
+      opening pop new opens same leaps (i, placed_of (get_or ls i blank), omega arith, rw (← so.same, slice_get-map placed_of ls i, slice_get-get_or ls i blank within.0), refl, (n, r, e, sym (behind_name n r e) ∙ behind pop), λ k from less v. absurd (omega arith))
+
+-- at the start the first group that isn't closed is found
+pub first_from : (ps : List Placed) (first : Option ℕ) → FirstFrom ps 0 first → MatchOption first (Closed (tokens_of ps)) (FirstUnclosed ps)
+first_from ps None closed = λ j. closed j (omega arith)
+first_from ps (Some offset) (j, t, le, here, at, u, before) = (j, t, here, at, u, λ k. before k (omega arith))

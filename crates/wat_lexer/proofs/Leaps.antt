@@ -1,18 +1,18 @@
 -- What is hidden in front is passed in one step.
-use Rattle.std.proofs.Common.{◌≡◌, ℕ, ◌+◌, ◌≤◌, Bool, true, false, List, [], ◌∷◌, length, drop, Some, None, refl, sym, ap, ◌∙◌, arith, subst, drop-drop}
+use Rattle.std.proofs.Common.{◌≡◌, ℕ, ◌+◌, ◌-◌, ◌≤◌, Bool, false, List, [], ◌∷◌, length, drop, Some, None, refl, arith, subst, drop-drop, inl, inr}
 use Rattle.std.specs.Prelude.{Option}
 use Rattle.std.proofs.lemmas.Bool.{cases_Bool}
 use Rattle.std.proofs.lemmas.List.{drop-map, length-map}
-use Rattle.std.proofs.Common.{inl, inr}
 use Rattle.wat_lexer.specs.Token.{Tok}
 use Rattle.wat_lexer.specs.Sight.{hides, shuts, deeper, visible, as_seen, hidden_at, hidden}
-use Rattle.wat_lexer.specs.View.{lexeme_tok, toks, leap, AreLeaps, Shown}
+use Rattle.wat_lexer.specs.View.{lexeme_tok, toks, AreLeaps, Shown}
 use Rattle.wat_lexer.specs.declared.token.Lexeme.{Lexeme}
 
 pub leaps_drop : (n : ℕ) (ls : List Lexeme) → AreLeaps ls → AreLeaps (drop n ls)
-leaps_drop n ls p = λ known i h.
-    let same : drop i (drop n ls) ≡ drop (n + i) ls = drop-drop i n ls in
-    ap (leap known) same ∙ p known (n + i) (ap (λ l. hides known (toks l)) (sym same) ∙ h) ∙ ap (λ l. hidden known (toks l)) (sym same)
+leaps_drop n ls p known i = rw (drop-drop i n ls) (p known (n + i))
+
+pub leaps_later : (ls : List Lexeme) (a b : ℕ) → a ≤ b → AreLeaps (drop a ls) → AreLeaps (drop b ls)
+leaps_later ls a b le p = let n : a + (b - a) ≡ b = omega arith in rw (drop-drop (b - a) a ls, n) at (leaps_drop (b - a) (drop a ls) p)
 
 -- behind what is hidden the rest is seen, and nothing more is hidden there
 pub record Passed (known : Bool) (place : Option ℕ) (t : List Tok) : Type 0 where
@@ -25,34 +25,19 @@ unfolding visible hidden_at
 passed known None [] = record { rest = refl; stands = refl; within = omega arith }
 passed known (Some depth) [] = record { rest = refl; stands = refl; within = omega arith }
 passed known None (x ∷ r) = elim (cases_Bool (hides known (x ∷ r))) [
-  | inl e ↦ (let p = passed known (Some 0) r in record {
-    rest = rw e p.rest;
-    stands = rw e p.stands;
-    within = rw e (omega (arith, p.within));
-  })
-  | inr e ↦ record { rest = rw e (rw e refl); stands = rw e e; within = rw e (omega arith) }
+  | inl e ↦ (let p = passed known (Some 0) r in record { rest = rw e p.rest; stands = rw e p.stands; within = rw e (omega (arith, p.within)) })
+  | inr e ↦ record { rest = rw e (rw e); stands = rw e e; within = rw e (omega arith) }
 ]
 passed known (Some depth) (x ∷ r) = elim (cases_Bool (shuts x depth)) [
-  | inl e ↦ (let p = passed known None r in record {
-    rest = rw e p.rest;
-    stands = rw e p.stands;
-    within = rw e (omega (arith, p.within));
-  })
-  | inr e ↦ (let p = passed known (Some (deeper x depth)) r in record {
-    rest = rw e p.rest;
-    stands = rw e p.stands;
-    within = rw e (omega (arith, p.within));
-  })
+  | inl e ↦ (let p = passed known None r in record { rest = rw e p.rest; stands = rw e p.stands; within = rw e (omega (arith, p.within)) })
+  | inr e ↦ (let p = passed known (Some (deeper x depth)) r in record { rest = rw e p.rest; stands = rw e p.stands; within = rw e (omega (arith, p.within)) })
 ]
 
 -- nothing is hidden in front
 pub hidden_none : (known : Bool) (t : List Tok) → hides known t ≡ false → hidden known t ≡ 0
 unfolding hidden hidden_at
 hidden_none known [] h = refl
-hidden_none known (x ∷ r) h = rw h refl
-
-pub leap_here : (known : Bool) (ls : List Lexeme) → AreLeaps ls → hides known (toks ls) ≡ true → leap known ls ≡ hidden known (toks ls)
-leap_here known ls p h = p known 0 h
+hidden_none known (x ∷ r) h = rw h
 
 pub hidden_within : (known : Bool) (ls : List Lexeme) → hidden known (toks ls) ≤ length ls
 unfolding hidden
@@ -62,15 +47,12 @@ hidden_within known ls = omega (arith, (passed known None (toks ls)).within, len
 shown_here : (known : Bool) (ls : List Lexeme) → hides known (toks ls) ≡ false → Shown known ls (as_seen known (toks ls))
 unfolding as_seen visible
 shown_here known [] h = refl
-shown_here known (x ∷ ls) h = rw h refl
-
-shown_by : (known : Bool) (ls : List Lexeme) (t : List Tok) → as_seen known (toks ls) ≡ t → hides known (toks ls) ≡ false → Shown known ls t
-shown_by known ls t e h = subst (Shown known ls) e (shown_here known ls h)
+shown_here known (x ∷ ls) h = rw h
 
 -- and it begins with the first behind what is hidden
 pub shown_at : (known : Bool) (ls : List Lexeme) (n : ℕ) → n ≡ hidden known (toks ls) → Shown known (drop n ls) (as_seen known (toks ls))
 unfolding as_seen hidden
 shown_at known ls n e =
     let p = passed known None (toks ls) in
-    let same : toks (drop n ls) ≡ drop (hidden_at known None (toks ls)) (toks ls) = sym (drop-map lexeme_tok n ls) ∙ ap (λ k. drop k (toks ls)) e in
-    shown_by known (drop n ls) (visible known None (toks ls)) (ap (visible known None) same ∙ sym p.rest) (ap (hides known) same ∙ p.stands)
+    let same : toks (drop n ls) ≡ drop (hidden_at known None (toks ls)) (toks ls) = rw (← drop-map lexeme_tok n ls, e) in
+    subst (Shown known (drop n ls)) (rw (same, p.rest)) (shown_here known (drop n ls) (rw same p.stands))

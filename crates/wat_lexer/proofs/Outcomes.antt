@@ -1,15 +1,14 @@
 -- A text has one outcome: its cut or its first fault.
 use Rattle.std.proofs.lemmas.Bool.{or_parts}
-use Rattle.std.proofs.Common.{◌≡◌, ℕ, zero, suc, ◌-◌, ◌<◌, List, [], ◌∷◌, ◌++◌, length, drop, take, refl, ap, sym, subst, ◌∙◌, arith, inl, inr, append-nil}
-use Rattle.std.specs.Prelude.{Bool, true, false, ◌||◌, ◌&&◌, not, Some, slice_get, nat_lt}
+use Rattle.std.proofs.Common.{◌≡◌, ℕ, zero, suc, ◌-◌, ◌<◌, List, [], ◌∷◌, ◌++◌, length, drop, take, refl, ap, sym, ◌∙◌, arith, append-nil}
+use Rattle.std.specs.Prelude.{true, false}
 use Rattle.std.proofs.lemmas.List.{drop-map}
 use Rattle.std.proofs.Math.ListN.{drop_of_length-le}
 use Rattle.std.proofs.Math.Seq.{take-length}
-use Rattle.std.proofs.lemmas.Bool.{cases_Bool, ltb-true, ltb-false}
 use Rattle.wat_lexer.specs.Place.{offset_of}
-use Rattle.wat_lexer.specs.Sight.{hides, annotated, is_standard, annotation_name}
+use Rattle.wat_lexer.specs.Sight.{annotated}
 use Rattle.wat_lexer.specs.Token.{Tok, LParen, Annotation, Placed, tokens_of, is_annotation, has_annotation}
-use Rattle.wat_lexer.specs.View.{lexeme_tok, toks, placed, AreLeaps, IfFault, FailsAt}
+use Rattle.wat_lexer.specs.View.{lexeme_tok, toks, placed, AreLeaps}
 use Rattle.wat_lexer.specs.declared.fault.Error.{Error}
 use Rattle.wat_lexer.specs.declared.fault.Fault.TheVariants.{LexAnnotation}
 use Rattle.wat_lexer.specs.declared.token.Lexeme.{Lexeme}
@@ -19,47 +18,31 @@ use Rattle.wat_lexer.specs.declared.fault.Fault.{Fault}
 use Rattle.wat_lexer.proofs.Fronts as fronts
 
 -- of two places each of which is the first, neither comes before the other
-same_place : (ts : List Placed) (i j : ℕ) → Unclosed (tokens_of ts) i → Unclosed (tokens_of ts) j → ((k : ℕ) → k < i → Unclosed (tokens_of ts) k → ⊥) → ((k : ℕ) → k < j → Unclosed (tokens_of ts) k → ⊥) → i ≡ j
-same_place ts i j p q before_i before_j = elim (cases_Bool (nat_lt i j)) [
-  | inl e ↦ absurd (before_j i (ltb-true i j e) p)
-  | inr e ↦ elim (cases_Bool (nat_lt j i)) [
-    | inl f ↦ absurd (before_i j (ltb-true j i f) q)
-    | inr f ↦ (let a = ltb-false i j e in let b = ltb-false j i f in omega arith)
-  ]
-]
+same_place : (P : ℕ → Type 0) (i j : ℕ) → P i → P j → ((k : ℕ) → k < i → P k → ⊥) → ((k : ℕ) → k < j → P k → ⊥) → i ≡ j
+same_place P i j p q before_i before_j = grind arith
 
 one_unclosed : (ts : List Placed) (a b : ℕ) → FirstUnclosed ts a → FirstUnclosed ts b → a ≡ b
 one_unclosed ts a b (i, t, here, at, p, before) (j, u, there, place, q, before_too) =
-    let same = same_place ts i j p q before before_too in
-    let both : Some t ≡ Some u = sym here ∙ ap (slice_get ts) same ∙ there in
-    let token : t ≡ u = cc in
-    at ∙ ap (λ (t : Placed). t.offset) token ∙ sym place
+    let same = same_place (Unclosed (tokens_of ts)) i j p q before before_too in cc
 
 pub one_fault : (text : List ℕ) (f g : Fault) (i j : ℕ) → FirstFault text f i → FirstFault text g j → (f ≡ g) × (i ≡ j)
 one_fault text f g i j (cutting t a at h) (cutting u b q k) =
-    let (same, place) = fronts.one_failure false t a b at q h k in (same, ap (λ r. length t - length r) place)
-one_fault text f g i j (cutting t a at h) (closing u ts offset c k) = absurd (fronts.no_cut (length t) false t a at ts h c)
-one_fault text f g i j (closing u ts offset c k) (cutting t a at h) = absurd (fronts.no_cut (length t) false t a at ts h c)
+    let (same, place) = fronts.one_failure h k in (same, ap (λ r. length t - length r) place)
+one_fault text f g i j (cutting t a at h) (closing u ts offset c k) = absurd (fronts.no_cut h c)
+one_fault text f g i j (closing u ts offset c k) (cutting t a at h) = absurd (fronts.no_cut h c)
 one_fault text f g i j (closing t ts a c h) (closing u us b d k) =
-    let same = fronts.one_cut (length t) false t ts us c d in
-    (refl, one_unclosed us a b (subst (λ l. FirstUnclosed l a) same h) k)
+    let same = fronts.one_cut c d in
+    (refl, one_unclosed us a b (rw same at h) k)
 
 pub no_cut : (text : List ℕ) (f : Fault) (i : ℕ) (ts : List Placed) → FirstFault text f i → IsCut text ts → ⊥
-no_cut text f i ts (cutting t a at h) k = fronts.no_cut (length t) false t a at ts h k.0
+no_cut text f i ts (cutting t a at h) k = fronts.no_cut h k.0
 no_cut text f i ts (closing t us offset c (j, u, here, at, p, before)) k =
-    let same = fronts.one_cut (length t) false t us ts c k.0 in
-    k.1 j (subst (λ l. Unclosed (tokens_of l) j) same p)
+    let same = fronts.one_cut c k.0 in
+    k.1 j (rw same at p)
 
--- the place at which a text fails is its first fault
-pub failed : (text : List ℕ) (e : Error) → IfFault e (FailsAt text e) → IfFault e (FirstFault text e.fault (offset_of e.span))
-failed text e h = λ no_memory. let (at, fails, place) = h no_memory in subst (FirstFault text e.fault) (sym place) (cutting text e.fault at fails)
-
-pub failed_none : (text : List ℕ) (e : Error) → IfFault e (FailsAt text e) → IfFault e ((ts : List Placed) → IsCut text ts → ⊥)
-failed_none text e h = λ no_memory ts cut. let (at, fails, place) = h no_memory in fronts.no_cut (length text) false text e.fault at ts fails cut.0
-
--- so is the first group that isn't closed
-pub left_open : (text : List ℕ) (ts : List Placed) (offset : ℕ) (e : Error) → Cuts (length text) false text ts → FirstUnclosed ts offset → e.fault ≡ LexAnnotation → offset_of e.span ≡ offset → FirstFault text e.fault (offset_of e.span)
-left_open text ts offset e c first f place = subst (λ f. FirstFault text f (offset_of e.span)) (sym f) (subst (FirstFault text LexAnnotation) (sym place) (closing text ts offset c first))
+-- the first group that isn't closed is the first fault
+pub left_open : {text : List ℕ} {ts : List Placed} {offset : ℕ} (e : Error) → Cuts (length text) false text ts → FirstUnclosed ts offset → e.fault ≡ LexAnnotation → offset_of e.span ≡ offset → FirstFault text e.fault (offset_of e.span)
+left_open {text} {ts} {offset} e c first f place = rw (f, place) (closing text ts offset c first)
 
 none_noted : (ts : List Tok) → has_annotation ts ≡ false → (i : ℕ) → annotated (drop i ts) ≡ false
 none_noted [] e zero = refl
@@ -73,18 +56,15 @@ none_noted (_ ∷ ts) e zero = refl
 -- where no annotation is among the tokens, each group of one is closed, and nothing is to be told
 pub closed_anyway : (ls : List Lexeme) → has_annotation (toks ls) ≡ false → Closed (tokens_of (placed ls))
 closed_anyway ls e i (n, r, is, open_group) =
-    let f : annotated (drop i (tokens_of (placed ls))) ≡ true = ap annotated is in
-    let g : annotated (drop i (tokens_of (placed ls))) ≡ false = ap (λ l. annotated (drop i l)) (tokens_of-placed ls) ∙ none_noted (toks ls) e i in
-    let h : false ≡ true = sym g ∙ f in cc
+    let f : true ≡ false = ap annotated (sym is) ∙ rw (tokens_of-placed ls) (none_noted (toks ls) e i) in cc
 
 pub told_anyway : (ls : List Lexeme) → has_annotation (toks ls) ≡ false → AreLeaps ls
 told_anyway ls e = λ known i h.
-    let none : annotated (toks (drop i ls)) ≡ false = ap annotated (sym (drop-map lexeme_tok i ls)) ∙ none_noted (toks ls) e i in
-    let f : hides known (toks (drop i ls)) ≡ false = ap (λ b. b && not (known && is_standard (annotation_name (toks (drop i ls))))) none in
-    absurd (let g : false ≡ true = sym f ∙ h in cc)
+    let none : annotated (toks (drop i ls)) ≡ false = rw (← drop-map lexeme_tok i ls) (none_noted (toks ls) e i) in
+    absurd (let f = rw none at h in cc)
 
 -- a slice that was written whole
 pub whole_back : (new old : List Lexeme) (size : ℕ) → size ≡ length old → length new ≡ length old → take size (new ++ drop (length new) old) ≡ new
 whole_back new old size e f =
     let none : drop (length new) old ≡ [] = drop_of_length-le old (omega arith) in
-    ap (λ l. take size (new ++ l)) none ∙ ap (take size) (append-nil new) ∙ ap (λ n. take n new) {x = size} {y = length new} (omega arith) ∙ take-length new
+    let all : size ≡ length new = omega arith in rw (none, append-nil new, all) (take-length new)

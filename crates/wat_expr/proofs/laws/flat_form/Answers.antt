@@ -1,5 +1,5 @@
 use Rattle.wat_expr.proofs.FlatForm.{own_front, items_number, folded_number, already_flat}
-use Rattle.wat_expr.proofs.OneFlat.{one_form}
+use Rattle.wat_expr.proofs.OneReading.{one_form}
 use Rattle.wat_expr.proofs.laws.flat_form.Goals as goal
 
 pub returns-clause-one : goal.returns-clause-one

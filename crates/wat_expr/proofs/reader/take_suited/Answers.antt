@@ -1,5 +1,5 @@
 use Rattle.std.proofs.Common.{sym, ◌∙◌}
-use Rattle.wat_expr.proofs.Cases.{unsuited}
+use Rattle.wat_expr.proofs.Turns.{unsuited}
 use Rattle.wat_expr.proofs.reader.take_suited.Goals as goal
 
 pub returns-in-Err-clause-exact : goal.returns-in-Err-clause-exact

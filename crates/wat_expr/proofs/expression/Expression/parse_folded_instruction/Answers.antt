@@ -2,8 +2,7 @@ use Rattle.std.proofs.Common.{rules, Ok, None, refl, ap, ◌∙◌}
 use Rattle.std.proofs.lemmas.Result.{err_from_is_err_and}
 use Rattle.wat_expr.specs.Flat.{no_output}
 use Rattle.wat_expr.specs.FoldedProduction.{folded_instruction}
-use Rattle.wat_expr.proofs.FoldedLoop.{is_some, is_none, going_begins, going_on, going_smaller, going_halts, going_ends, going_reads, refused_first, refused_later}
-use Rattle.wat_expr.proofs.FoldedReads.{begun, not_begun, no_word, read_folded, read_not_bare}
+use Rattle.wat_expr.proofs.FoldedLoop.{is_some, is_none, going_begins, going_on, going_smaller, going_halts, going_ends, going_reads, refused_first, refused_later, begun, not_begun, no_word, read_folded, read_not_bare}
 use Rattle.wat_expr.proofs.Whole.{read_accepted}
 use Rattle.wat_expr.proofs.expression.Expression.parse_folded_instruction.Goals as goal
 
@@ -51,7 +50,7 @@ pub returns-in_err-turn-clause-exact : goal.returns-in_err-turn-clause-exact
 unfolding folded_instruction
 returns-in_err-turn-clause-exact c =
     let p = err_from_is_err_and c.from_residual-in_err-turn.result c.from_residual-in_err-turn.ensures.1 in
-    rw (p.1, p.2) ((λ not. going_halts _ _ _ _ _ c.groups.invariant (is_some _ _ c.is_empty.ensures c.groups-test.true) c.tick.ensures.only (c.in_err-turn.ensures.turned not)), (λ m. (refl, read_not_bare c.args.parser.now.left)))
+    rw (p.1, p.2) ((λ not. going_halts _ _ _ _ _ c.tick.ensures.only c.groups.invariant (is_some _ _ c.is_empty.ensures c.groups-test.true) (c.in_err-turn.ensures.turned not)), (λ m. (refl, read_not_bare c.args.parser.now.left)))
 
 pub returns-in_err-turn-clause-only : goal.returns-in_err-turn-clause-only
 unfolding folded_instruction
@@ -65,15 +64,15 @@ returns-in_err-turn-clause-counts c =
 
 pub groups-init : goal.groups-init
 groups-init c =
-    going_begins _ _ _ _ _ _ None _ _ _ _ (begun _ _ _ c.in_ok-open.ensures.reads.exact) c.in_ok-open.ensures.reads.counts.0 c.in_ok-open.ensures.reads.quiet c.in_ok-open.ensures.reads.names c.in_ok-instr.ensures.exact c.in_ok-instr.ensures.steady.counts c.in_ok-instr.ensures.steady.stays c.in_ok-instr.ensures.steady.names (rw c.new-levels.ensures at c.in_ok-push.ensures) (c.empty-out.ensures ∙ ap no_output c.tracks.ensures) c.height.ensures c.note_height.ensures c.held.ensures c.note_held.ensures.only c.note_held.ensures.counts
+    going_begins _ _ _ _ _ _ None _ _ _ _ (rw c.new-levels.ensures at c.in_ok-push.ensures) (c.empty-out.ensures ∙ ap no_output c.tracks.ensures) c.height.ensures c.note_height.ensures c.held.ensures c.note_held.ensures.only (begun _ _ _ c.in_ok-open.ensures.reads.exact) c.in_ok-open.ensures.reads.counts.0 c.in_ok-open.ensures.reads.quiet c.in_ok-open.ensures.reads.names c.in_ok-instr.ensures.exact c.in_ok-instr.ensures.steady.counts c.in_ok-instr.ensures.steady.stays c.in_ok-instr.ensures.steady.names c.note_held.ensures.counts
 
 pub groups-smaller : goal.groups-smaller
 groups-smaller c =
-    going_smaller _ _ _ _ _ _ _ _ _ _ _ (is_some _ _ c.is_empty.ensures c.groups-test.true) c.tick.ensures.only c.in_ok-turn.ensures.turned c.note_height-in-groups.ensures c.note_held-in-groups.ensures.only
+    going_smaller _ _ _ _ _ _ _ _ _ _ _ c.tick.ensures.only c.note_height-in-groups.ensures c.note_held-in-groups.ensures.only (is_some _ _ c.is_empty.ensures c.groups-test.true) c.in_ok-turn.ensures.turned
 
 pub groups-preserved : goal.groups-preserved
 groups-preserved c =
-    going_on _ _ _ _ _ _ _ _ _ _ _ _ c.groups.invariant (is_some _ _ c.is_empty.ensures c.groups-test.true) c.tick.ensures.only c.tick.ensures.counts c.in_ok-turn.ensures.turned c.in_ok-turn.ensures.steady.counts c.in_ok-turn.ensures.steady.stays c.in_ok-turn.ensures.steady.names c.height-in-groups.ensures c.note_height-in-groups.ensures c.held-in-groups.ensures c.note_held-in-groups.ensures.only c.note_held-in-groups.ensures.counts
+    going_on _ _ _ _ _ _ _ _ _ _ _ _ c.tick.ensures.only c.height-in-groups.ensures c.note_height-in-groups.ensures c.held-in-groups.ensures c.note_held-in-groups.ensures.only (is_some _ _ c.is_empty.ensures c.groups-test.true) c.in_ok-turn.ensures.turned c.groups.invariant c.tick.ensures.counts c.in_ok-turn.ensures.steady.counts c.in_ok-turn.ensures.steady.stays c.in_ok-turn.ensures.steady.names c.note_held-in-groups.ensures.counts
 
 pub returns-clause-exact : goal.returns-clause-exact
 unfolding folded_instruction

@@ -1,11 +1,11 @@
 use Rattle.std.proofs.Common.{Ok}
 use Rattle.std.proofs.lemmas.Result.{err_from_is_err_and}
-use Rattle.wat_expr.proofs.Whole.{goes_on, refused, refused_counts, left_pending, reads_nothing_listed, listed, found, accepted, spans_kept}
+use Rattle.wat_expr.proofs.Whole.{goes_on, refused, refused_counts, left_pending, reads_nothing_listed, listed, found, accepted}
 use Rattle.wat_expr.proofs.expression.ExpressionParse.parse.Goals as goal
 
 pub turns-preserved : goal.turns-preserved
 turns-preserved c =
-    goes_on _ _ _ _ _ c.turns.invariant c.tick.ensures.only c.turn.ensures.steady.counts c.turn.ensures.steady.stays c.turn.ensures.steady.names _ _ _ _ _ c.tick.ensures.counts c.turns-test.ensures c.in_ok-turn.ensures.turned c.height.ensures c.held.ensures c.note_height.ensures c.note_held.ensures.only c.note_held.ensures.counts
+    goes_on _ _ _ _ _ _ _ _ _ _ c.tick.ensures.only c.height.ensures c.held.ensures c.note_height.ensures c.note_held.ensures.only c.turns.invariant c.turn.ensures.steady.counts c.turn.ensures.steady.stays c.turn.ensures.steady.names c.tick.ensures.counts c.turns-test.ensures c.in_ok-turn.ensures.turned c.note_held.ensures.counts
 
 pub returns-in_err-turn-clause-exact : goal.returns-in_err-turn-clause-exact
 returns-in_err-turn-clause-exact c =
@@ -18,17 +18,17 @@ returns-in_err-turn-clause-only c = accepted c.from_residual.result _ _ (returns
 pub returns-in_err-turn-clause-counts : goal.returns-in_err-turn-clause-counts
 returns-in_err-turn-clause-counts c =
     let p = err_from_is_err_and c.from_residual.result c.from_residual.ensures.1 in
-    rw p.1 (refused_counts _ _ _ _ _ c.turns.invariant c.tick.ensures.only c.turn.ensures.steady.counts c.turn.ensures.steady.stays c.turn.ensures.steady.names c.tick.ensures.counts)
+    rw p.1 (refused_counts _ _ _ _ _ c.tick.ensures.only c.turns.invariant c.turn.ensures.steady.counts c.turn.ensures.steady.stays c.tick.ensures.counts)
 
 pub returns-in-Some-clause-exact : goal.returns-in-Some-clause-exact
 returns-in-Some-clause-exact c =
-    ((λ n. reads_nothing_listed _ (left_pending _ _ _ _ c.turns.invariant c.turns-test.ensures.0 c.in-Some.is c.turns-test.ensures.1)), (λ m. absurd (cc)))
+    ((λ n. reads_nothing_listed _ (left_pending _ _ _ _ c.turns.invariant c.in-Some.is c.turns-test.ensures.1)), (λ m. absurd (cc)))
 
 pub returns-in-Some-clause-only : goal.returns-in-Some-clause-only
-returns-in-Some-clause-only c = λ xs r l e. absurd (left_pending _ _ _ _ c.turns.invariant c.turns-test.ensures.0 c.in-Some.is c.turns-test.ensures.1 xs r l e)
+returns-in-Some-clause-only c = λ xs r l e. absurd (left_pending _ _ _ _ c.turns.invariant c.in-Some.is c.turns-test.ensures.1 xs r l e)
 
 pub returns-clause-listed : goal.returns-clause-listed
-returns-clause-listed c = listed _ _ _ c.turns.invariant c.turns-test.ensures.0 c.in-None.is c.turns-test.ensures.1
+returns-clause-listed c = (listed _ _ _ c.turns.invariant c.turns-test.ensures.0 c.in-None.is c.turns-test.ensures.1).0
 
 pub returns-clause-exact : goal.returns-clause-exact
 returns-clause-exact c = found _ _ _ (returns-clause-listed c)
@@ -37,4 +37,4 @@ pub returns-clause-only : goal.returns-clause-only
 returns-clause-only c = accepted (Ok c.turns.reader.out) _ c.turns.parser.left (returns-clause-exact c)
 
 pub returns-clause-spans : goal.returns-clause-spans
-returns-clause-spans c = spans_kept _ _ _ c.turns.invariant c.turns-test.ensures.0 c.in-None.is c.turns-test.ensures.1
+returns-clause-spans c = (listed _ _ _ c.turns.invariant c.turns-test.ensures.0 c.in-None.is c.turns-test.ensures.1).1

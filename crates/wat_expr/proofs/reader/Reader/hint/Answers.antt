@@ -1,5 +1,5 @@
 use Rattle.std.proofs.lemmas.Result.{err_from_is_err_and}
-use Rattle.wat_expr.proofs.Cases.{hint_pending, hint_text, hint_value, hint_close, turn_hint}
+use Rattle.wat_expr.proofs.Turns.{hint_pending, hint_text, hint_value, hint_close, turn_hint}
 use Rattle.wat_expr.proofs.reader.Reader.hint.Goals as goal
 
 pub returns-in_err-bytes-clause-turned : goal.returns-in_err-bytes-clause-turned

@@ -1,4 +1,4 @@
-use Rattle.wat_expr.proofs.Cases.{too_many}
+use Rattle.wat_expr.proofs.Turns.{too_many}
 use Rattle.wat_expr.proofs.reader.Reader.open.Goals as goal
 
 pub returns-in-Some-AfterElse-clause-turned : goal.returns-in-Some-AfterElse-clause-turned

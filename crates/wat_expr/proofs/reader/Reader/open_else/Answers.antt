@@ -1,6 +1,6 @@
-use Rattle.std.proofs.Common.{◌≡◌, ◌∷◌, ap, ◌∙◌}
+use Rattle.std.proofs.Common.{◌≡◌, ◌∷◌}
 use Rattle.wat_expr.specs.Levels.{InArm, AfterElse, seen_level}
-use Rattle.wat_expr.proofs.Cases.{else_wanted, turn_else, popped}
+use Rattle.wat_expr.proofs.Turns.{else_wanted, turn_else, popped}
 use Rattle.wat_expr.proofs.reader.Reader.open_else.Goals as goal
 
 pub returns-then-not-take_word-clause-turned : goal.returns-then-not-take_word-clause-turned
@@ -11,4 +11,4 @@ returns-clause-turned c =
     let e : c.push.new.self ≡ AfterElse ∷ c.pop.new.self = c.in_ok-push.ensures in
     let e2 : c.push-2.new.self ≡ InArm ∷ c.push.new.self = c.in_ok-push-2.ensures in
     let p = popped seen_level _ _ _ _ _ c.pop.ensures c.requires.1 in
-    turn_else _ _ _ _ _ c.in_default.is _ _ _ _ _ c.requires.1 c.if-not-take_word.ensures.exact (e2 ∙ ap (λ s. InArm ∷ s) (e ∙ ap (λ s. AfterElse ∷ s) p)) c.push-3.ensures
+    turn_else _ _ _ _ _ _ _ _ _ c.in_default.is c.requires.1 c.if-not-take_word.ensures.exact (cc) c.push-3.ensures

@@ -1,21 +1,19 @@
-use Rattle.std.proofs.Common.{sym, subst, ◌∙◌}
-use Rattle.wat_expr.proofs.Cases.{turn_block, turn_folded, turn_if, sort_block, sort_if, sort_other}
-use Rattle.wat_expr.proofs.Stuck.{no_item}
-use Rattle.wat_expr.specs.Items.{reads}
+use Rattle.std.proofs.Common.{refl, sym, ◌∙◌}
+use Rattle.wat_expr.proofs.Turns.{no_item, turn_group, sort_block, sort_if, sort_other}
 use Rattle.wat_instr.specs.Instruction.{seen_instruction}
 use Rattle.wat_expr.proofs.reader.Reader.open_item.Goals as goal
 
 pub returns-in-Err-clause-turned : goal.returns-in-Err-clause-turned
-returns-in-Err-clause-turned c = λ n. no_item _ _ _ _ c.requires.place c.if-take_hint_name.ensures.exact.1 c.requires.no_then (λ i m h. c.in-Err.ensures.exact n i m (subst (λ t. reads i t m) (sym c.if-take_hint_name.ensures.exact.0) h))
+returns-in-Err-clause-turned c = λ n. no_item _ _ _ _ c.requires.place c.if-take_hint_name.ensures.exact.1 c.requires.no_then (λ i m h. c.in-Err.ensures.exact n i m (rw c.if-take_hint_name.ensures.exact.0 h))
 
 pub returns-then-is_block-clause-turned : goal.returns-then-is_block-clause-turned
 returns-then-is_block-clause-turned c =
-    turn_block _ _ _ _ _ _ _ _ _ _ _ c.requires.place (rw c.if-take_hint_name.ensures.exact.0 at c.in-Ok.ensures.exact.0) c.in-Ok.ensures.exact.1 (sort_block (seen_instruction c.in-Ok.instr) (sym c.is_block.ensures ∙ c.if-is_block.true)) c.take-hint.ensures.after (rw c.take-hint.ensures.value at c.in_ok-push.ensures) c.push-then-is_block.ensures
+    turn_group _ _ _ _ _ _ _ _ _ _ _ (sort_block (seen_instruction c.in-Ok.instr) (sym c.is_block.ensures ∙ c.if-is_block.true)) c.requires.place (rw c.if-take_hint_name.ensures.exact.0 at c.in-Ok.ensures.exact.0) c.in-Ok.ensures.exact.1 c.take-hint.ensures.after (rw c.take-hint.ensures.value at c.in_ok-push.ensures) c.push-then-is_block.ensures
 
 pub returns-then-is_if-clause-turned : goal.returns-then-is_if-clause-turned
 returns-then-is_if-clause-turned c =
-    turn_if _ _ _ _ _ _ _ _ _ _ c.requires.place (rw c.if-take_hint_name.ensures.exact.0 at c.in-Ok.ensures.exact.0) (sort_if (seen_instruction c.in-Ok.instr) (sym c.is_block.ensures ∙ c.if-is_block.false) (sym c.is_if-is_if.ensures ∙ c.if-is_if.true)) c.take-hint.ensures.after (rw c.take-hint.ensures.value at c.push-then-is_if.ensures)
+    turn_group _ _ _ _ _ _ _ _ _ _ _ (sort_if (seen_instruction c.in-Ok.instr) (sym c.is_block.ensures ∙ c.if-is_block.false) (sym c.is_if-is_if.ensures ∙ c.if-is_if.true)) c.requires.place (rw c.if-take_hint_name.ensures.exact.0 at c.in-Ok.ensures.exact.0) c.in-Ok.ensures.exact.1 c.take-hint.ensures.after refl (rw c.take-hint.ensures.value at c.push-then-is_if.ensures)
 
 pub returns-else-is_if-clause-turned : goal.returns-else-is_if-clause-turned
 returns-else-is_if-clause-turned c =
-    turn_folded _ _ _ _ _ _ _ _ _ _ c.requires.place (rw c.if-take_hint_name.ensures.exact.0 at c.in-Ok.ensures.exact.0) c.in-Ok.ensures.exact.1 (sort_other (seen_instruction c.in-Ok.instr) (sym c.is_block.ensures ∙ c.if-is_block.false) (sym c.is_if-is_if.ensures ∙ c.if-is_if.false)) c.take-hint.ensures.after (rw c.take-hint.ensures.value at c.push-else-is_if.ensures)
+    turn_group _ _ _ _ _ _ _ _ _ _ _ (sort_other (seen_instruction c.in-Ok.instr) (sym c.is_block.ensures ∙ c.if-is_block.false) (sym c.is_if-is_if.ensures ∙ c.if-is_if.false)) c.requires.place (rw c.if-take_hint_name.ensures.exact.0 at c.in-Ok.ensures.exact.0) c.in-Ok.ensures.exact.1 c.take-hint.ensures.after refl (rw c.take-hint.ensures.value at c.push-else-is_if.ensures)
