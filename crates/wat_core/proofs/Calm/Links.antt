@@ -5,7 +5,6 @@ use Rattle.wat_customs.specs.Custom.{custom}
 use Rattle.wat_customs.specs.Raw.{raw_place, raw_data, raw_custom}
 use Rattle.wat_tokens.specs.Parts.{annotation}
 use Rattle.wat_customs.specs.Place.{section, before, after, custom_place}
-use Rattle.wat_customs.specs.Place as place
 use Rattle.wat_customs.specs.Producers.{producer_entries, producers}
 use Rattle.wat_customs.specs.ProducerEntry.{field_word, producer_entry}
 use Rattle.wat_customs.specs.Flags.{flag_list, symbol_flags}
@@ -70,12 +69,9 @@ head_calm = search (calm, label_calm, inline_export_calm) depth 40
 
 -- ---- custom sections
 
-place_behind_calm : {A : Type 0} {g : Production A} {w : List ℕ} → Calm true g → Calm true (place.behind w g)
-place_behind_calm p = made_calm (seq_calm (one_calm (refl, refl)) p)
-
 place_calm : Calm true custom_place
 unfolding custom_place before after section
-place_calm = search (calm, place_behind_calm) depth 40
+place_calm = search (calm, behind_calm) depth 40
 
 annotated_calm : {A : Type 0} {g : Production A} {w : List ℕ} → Calm true g → Calm true (annotation w g)
 annotated_calm p = made_calm (seq_calm (one_calm (refl, refl)) p)
