@@ -40,7 +40,7 @@ fn fastest(rt: &impl Clock, alloc: Global, text: &str, rounds: u32) -> io::Resul
     Ok(best)
 }
 
-/// The nanoseconds of a million lookups in front of the text's first token that is seen.
+/// The nanoseconds of a million lookups in front of the text's first visible token.
 fn lookups(rt: &impl Clock, alloc: Global, text: &str) -> io::Result<u128> {
     let arena = Bump::new(alloc);
     let mut found = 0u32;

@@ -11,13 +11,13 @@ use Rattle.wat_customs.specs.Custom.{CustomTy, seen_custom, bare_custom, custom}
 use Rattle.wat_links.specs.Export.{ExportTy, seen_export, export_}
 use Rattle.wat_links.specs.Forms.{imports}
 use Rattle.wat_links.specs.Import.{Name, ImportsTy, seen_imports, bare_imports}
-use Rattle.wat_funcs.specs.Func.{FuncTy, seen_func, bare_func, func}
-use Rattle.wat_funcs.specs.Global.{GlobalTy, seen_global, bare_global, global}
+use Rattle.wat_funcs.specs.Func.{FuncFieldTy, seen_func, bare_func, func}
+use Rattle.wat_funcs.specs.Global.{GlobalFieldTy, seen_global, bare_global, global}
 use Rattle.wat_funcs.specs.Tag.{TagTy, seen_tag, bare_tag, tag}
 use Rattle.wat_segments.specs.Data.{DataTy, seen_data, bare_data, data_segment}
 use Rattle.wat_segments.specs.Memory.{MemoryTy, seen_memory, bare_memory, memory}
 use Rattle.wat_elems.specs.Elem.{ElemTy, seen_elem, bare_elem, elem}
-use Rattle.wat_elems.specs.Table.{TableTy, seen_table, bare_table, table}
+use Rattle.wat_elems.specs.Table.{TableFieldTy, seen_table, bare_table, table}
 use Rattle.wat_types.specs.declared.define.«Type».{«Type»}
 use Rattle.wat_types.specs.declared.define.Rec.{Rec}
 use Rattle.wat_tokens.specs.declared.index.Index.{Index}
@@ -38,26 +38,28 @@ use Rattle.wat_core.specs.declared.field.ModuleFieldOf.TheVariants as code
 -- ---- what contracts see
 
 -- one of thirteen kinds
-pub data FieldTy : Type 0 where
-  a_type : TypeTy → FieldTy
-  a_rec : List TypeTy → FieldTy
-  an_import : ImportsTy → FieldTy
-  a_func : FuncTy → FieldTy
-  a_table : TableTy → FieldTy
-  a_memory : MemoryTy → FieldTy
-  a_global : GlobalTy → FieldTy
-  an_export : ExportTy → FieldTy
-  a_start : Idx → FieldTy
-  an_elem : ElemTy → FieldTy
-  a_data : DataTy → FieldTy
-  a_tag : TagTy → FieldTy
-  a_custom : CustomTy → FieldTy
+pub data ModuleFieldTy : Type 0 where
+  a_type : TypeTy → ModuleFieldTy
+  a_rec : List TypeTy → ModuleFieldTy
+  an_import : ImportsTy → ModuleFieldTy
+  a_func : FuncFieldTy → ModuleFieldTy
+  a_table : TableFieldTy → ModuleFieldTy
+  a_memory : MemoryTy → ModuleFieldTy
+  a_global : GlobalFieldTy → ModuleFieldTy
+  an_export : ExportTy → ModuleFieldTy
+  a_start : Idx → ModuleFieldTy
+  an_elem : ElemTy → ModuleFieldTy
+  a_data : DataTy → ModuleFieldTy
+  a_tag : TagTy → ModuleFieldTy
+  a_custom : CustomTy → ModuleFieldTy
 
 -- a field as the code has it
 abbrev pub ModuleField : Type 0
-ModuleField = ModuleFieldOf «Type» Rec (ImportsOf Name ItemSig) Func Table Memory Global Export Index Elem Data Tag Custom
+ModuleField =
+    ModuleFieldOf «Type» Rec (ImportsOf Name ItemSig) Func Table Memory Global Export Index Elem
+    Data Tag Custom
 
-abbrev pub seen_field : ModuleField → FieldTy
+abbrev pub seen_field : ModuleField → ModuleFieldTy
 seen_field (code.«Type» t) = a_type (seen_type t)
 seen_field (code.Rec r) = a_rec (seen_rec r)
 seen_field (code.Import i) = an_import (seen_imports i)
@@ -73,7 +75,7 @@ seen_field (code.Tag t) = a_tag (seen_tag t)
 seen_field (code.Custom c) = a_custom (seen_custom c)
 
 -- what the value of its kind says
-abbrev pub bare_field : FieldTy → Bool
+abbrev pub bare_field : ModuleFieldTy → Bool
 bare_field (a_type t) = bare_type t
 bare_field (a_rec ts) = no_items ts
 bare_field (an_import i) = bare_imports i
@@ -95,7 +97,7 @@ unfoldable pub start : Production Idx
 start = after_word (codes "start") index
 
 -- Start | Elem | Data | Custom
-unfoldable pub last_field : Production FieldTy
+unfoldable pub last_field : Production ModuleFieldTy
 last_field =
     where_else (begins_word (codes "start")) (made a_start start)
     (where_else (begins_word (codes "elem")) (made an_elem elem)
@@ -103,7 +105,7 @@ last_field =
     (made a_custom custom)))
 
 -- Global | Export | Tag | one of the last
-unfoldable pub further_field : Production FieldTy
+unfoldable pub further_field : Production ModuleFieldTy
 further_field =
     where_else (begins_word (codes "global")) (made a_global global)
     (where_else (begins_word (codes "export")) (made an_export export_)
@@ -111,7 +113,7 @@ further_field =
     last_field))
 
 -- Func | Table | Memory | one of the further
-unfoldable pub defined_field : Production FieldTy
+unfoldable pub defined_field : Production ModuleFieldTy
 defined_field =
     where_else (begins_word (codes "func")) (made a_func func)
     (where_else (begins_word (codes "table")) (made a_table table)
@@ -119,7 +121,7 @@ defined_field =
     further_field))
 
 -- Type | Rec | Imports | one of the others
-unfoldable pub module_field : Production FieldTy
+unfoldable pub module_field : Production ModuleFieldTy
 module_field =
     where_else (begins_word (codes "type")) (made a_type type_)
     (where_else (begins_word (codes "rec")) (made a_rec rec)

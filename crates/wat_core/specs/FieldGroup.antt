@@ -1,10 +1,10 @@
 -- A field in its group.
 use Rattle.wat_tokens.specs.Groups.{paren}
 use Rattle.wat_tokens.specs.Production.{Production}
-use Rattle.wat_core.specs.Field.{FieldTy, module_field}
+use Rattle.wat_core.specs.Field.{ModuleFieldTy, module_field}
 
 -- ---- the grammar
 
 -- ( ModuleField )
-abbrev pub field_group : Production FieldTy
+abbrev pub field_group : Production ModuleFieldTy
 field_group = paren module_field

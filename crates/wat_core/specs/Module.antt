@@ -9,7 +9,7 @@ use Rattle.wat_tokens.specs.Production.{Production}
 use Rattle.wat_tokens.specs.Strings.{string}
 use Rattle.wat_tokens.specs.Tests.{begins_word, more}
 use Rattle.wat_types.specs.Label.{Label, seen_label, label}
-use Rattle.wat_core.specs.Field.{FieldTy, ModuleField, seen_field}
+use Rattle.wat_core.specs.Field.{ModuleFieldTy, ModuleField, seen_field}
 use Rattle.wat_core.specs.declared.module.«Module».{«Module»}
 use Rattle.wat_core.specs.declared.module.ModuleKindOf.{ModuleKindOf}
 use Rattle.wat_core.specs.declared.module.ModuleKindOf.TheVariants as code
@@ -20,7 +20,7 @@ use Rattle.wat_core.specs.Laws.Module.{field_group_eats}
 
 -- its fields, or the pieces of its binary form
 pub data ModuleKindTy : Type 0 where
-  text : List FieldTy → ModuleKindTy
+  text : List ModuleFieldTy → ModuleKindTy
   binary : List (List ℕ) → ModuleKindTy
 
 pub record ModuleTy : Type 0 where
@@ -34,7 +34,7 @@ module_of l k = record { label = l; kind = k }
 abbrev pub Piece : Type 0
 Piece = Bor (List ℕ)
 
-abbrev pub seen_fields : List ModuleField → List FieldTy
+abbrev pub seen_fields : List ModuleField → List ModuleFieldTy
 seen_fields fs = map seen_field fs
 
 abbrev pub seen_module_kind : ModuleKindOf ModuleField Piece → ModuleKindTy
@@ -55,7 +55,7 @@ bare_module m = bare_module_kind m.kind
 -- ---- the grammar
 
 -- ( ModuleField )*, to the end
-unfoldable pub fields : Production (List FieldTy)
+unfoldable pub fields : Production (List ModuleFieldTy)
 fields = many more field_group field_group_eats
 
 -- bytes*, to the end
@@ -64,7 +64,9 @@ pieces = many more string (lit≤ tt)
 
 -- `binary` bytes*, where `binary` comes next; else ( ModuleField )*
 unfoldable pub module_kind : Production ModuleKindTy
-module_kind = where_else (begins_word (codes "binary")) (made binary (after_word (codes "binary") pieces)) (made text fields)
+module_kind =
+    where_else (begins_word (codes "binary")) (made binary (after_word (codes "binary") pieces))
+    (made text fields)
 
 -- `module id? name?`, and then its kind
 unfoldable pub module_ : Production ModuleTy

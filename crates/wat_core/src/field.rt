@@ -3,7 +3,8 @@
 ghost use Rattle.std.specs.Prelude.{◌≡◌, false};
 ghost use Rattle.wat_tokens.specs.Index.{seen_index};
 ghost use Rattle.wat_tokens.specs.Reads.{ReadsIf, ReadsLight};
-ghost use Rattle.wat_core.specs.Field.{FieldTy, seen_field, bare_field, start, last_field, further_field, defined_field, module_field};
+ghost use Rattle.wat_core.specs.Field.{ModuleFieldTy, seen_field, bare_field, start, last_field};
+ghost use Rattle.wat_core.specs.Field.{further_field, defined_field, module_field};
 
 use wat_elems::{Elem, Table};
 use wat_funcs::{Func, Global, Tag};
@@ -141,7 +142,7 @@ fn read_defined<'a>(parser: &mut Parser<'a>) -> Result<ModuleField<'a>>
 /// `dylink.0` stands there, a custom section. Anything else in front is refused with Unexpected, at
 /// the token.
 impl<'a> Parse<'a> for ModuleField<'a> {
-    ghost Seen = { FieldTy };
+    ghost Seen = { ModuleFieldTy };
 
     ghost seen = { seen_field };
 

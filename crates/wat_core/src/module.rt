@@ -1,18 +1,20 @@
 //! Modules.
 
-ghost use Rattle.std.specs.Prelude.{◌≡◌, ◌≢◌, ◌≤◌, ◌+◌, ◌++◌, List, length, max, true, false, IfOk, IfErr};
+ghost use Rattle.std.specs.Prelude.{◌≡◌, ◌≢◌, ◌≤◌, ◌+◌, ◌++◌, List, length, max, true, false, IfOk};
+ghost use Rattle.std.specs.Prelude.{IfErr};
 ghost use Rattle.wat_tokens.specs.Counts.{Counted, Turned, Kept};
 ghost use Rattle.wat_tokens.specs.Error.{Memory};
 ghost use Rattle.wat_tokens.specs.Parens.{nest};
 ghost use Rattle.wat_tokens.specs.Parses.{Gives, Accepts};
 ghost use Rattle.wat_tokens.specs.Production.{Front};
 ghost use Rattle.wat_tokens.specs.Reads.{ReadsIf};
-ghost use Rattle.wat_tokens.specs.Sight.{as_seen};
+ghost use Rattle.wat_tokens.specs.Sight.{as_shown};
 ghost use Rattle.wat_tokens.specs.State.{behind, lit};
 ghost use Rattle.wat_tokens.specs.Tests.{ends, more};
 ghost use Rattle.wat_tokens.specs.Token.{Tok};
-ghost use Rattle.wat_core.specs.Field.{FieldTy, seen_field, bare_field};
-ghost use Rattle.wat_core.specs.Module.{ModuleTy, seen_module_kind, bare_module_kind, module_kind, seen_module, bare_module, module_};
+ghost use Rattle.wat_core.specs.Field.{ModuleFieldTy, seen_field, bare_field};
+ghost use Rattle.wat_core.specs.Module.{ModuleTy, seen_module_kind, bare_module_kind, module_kind};
+ghost use Rattle.wat_core.specs.Module.{seen_module, bare_module, module_};
 ghost use Rattle.wat_core.specs.FieldGroup.{field_group};
 
 use crate::field::ModuleField;
@@ -49,7 +51,7 @@ pub type ModuleKind<'a> = ModuleKindOf<ModuleField<'a>, &'a [u8]>;
 struct FieldGroup;
 
 impl<'a> Part<'a, ModuleField<'a>> for FieldGroup {
-    ghost Seen = { FieldTy };
+    ghost Seen = { ModuleFieldTy };
 
     ghost seen = { seen_field };
 
@@ -130,7 +132,7 @@ impl<'a> Module<'a> {
     /// field or a piece.
     #[tactic(auto, using(wat_tokens::specs::Laws::State::lit_is, crate::proofs::Ends::module_ends))]
     pub fn parse(parser: &mut Parser<'a>) -> Result<Module<'a>>
-        // The tokens that were taken, seen with the five names, spell the module.
+        // The tokens that were taken, visible with the five names, spell the module.
         ensures sound { IfOk result (λ m. Front module_.spells (lit parser.old).left
             (seen_module m, (lit parser.new).left)) }
         // Where tokens in front spell a module, it is that one, or memory ran out.
@@ -153,10 +155,10 @@ impl<'a> Module<'a> {
         // `peak` is at most the greater of what it was and how the tokens that were taken nest.
         ensures peak { (c : List Tok) → (lit parser.old).left ≡ c ++ (lit parser.new).left
             → parser.new.peak ≤ max parser.old.peak (nest c) }
-        // The parser stands directly behind them, and what is left is seen as before.
+        // The parser stands directly behind them, and what is left is visible as before.
         ensures stands { (c : List Tok) → (lit parser.old).left ≡ c ++ (lit parser.new).left
             → parser.new.rest ≡ behind true (length c) parser.old.rest }
-        ensures seen { parser.new.left ≡ as_seen parser.new.known parser.new.rest }
+        ensures visible { parser.new.left ≡ as_shown parser.new.known parser.new.rest }
         ensures names { Kept parser.old parser.new }
     {
         let was = parser.known();

@@ -40,10 +40,10 @@ place_of (code.Producers p) = AfterLast
 place_of (code.Dylink0 d) = BeforeFirst
 
 -- its name
-abbrev pub name_of : Custom → List ℕ
-name_of (code.Raw r) = r.name.now
-name_of (code.Producers p) = codes "producers"
-name_of (code.Dylink0 d) = codes "dylink.0"
+abbrev pub custom_name : Custom → List ℕ
+custom_name (code.Raw r) = r.name.now
+custom_name (code.Producers p) = codes "producers"
+custom_name (code.Dylink0 d) = codes "dylink.0"
 
 -- the annotation of the name
 abbrev pub begins_annotated : List ℕ → List Tok → Bool

@@ -69,11 +69,14 @@ no_size = (0, 0)
 
 -- ( word size alignment ), where the second token is the word; else 0 and 0
 unfoldable pub sizes : List ℕ → Production (ℕ × ℕ)
-sizes w = made (λ o. unwrap_or o no_size) (opt (second (begins_word w)) (group w (seq (unsigned 32) (unsigned 32))))
+sizes w = made (λ o. unwrap_or o no_size)
+    (opt (second (begins_word w)) (group w (seq (unsigned 32) (unsigned 32))))
 
 -- ( mem-info ( memory u32 u32 )? ( table u32 u32 )? )
 unfoldable pub mem_info_entry : Production SubsectionTy
-mem_info_entry = group (codes "mem-info") (made (λ v. mem_info v.0.0 v.0.1 v.1.0 v.1.1) (seq (sizes (codes "memory")) (sizes (codes "table"))))
+mem_info_entry =
+    group (codes "mem-info") (made (λ v. mem_info v.0.0 v.0.1 v.1.0 v.1.1)
+    (seq (sizes (codes "memory")) (sizes (codes "table"))))
 
 -- ( word name* )
 unfoldable pub names_entry : List ℕ → Production (List (List ℕ))
@@ -84,7 +87,8 @@ unfoldable pub lone_entry : Production SubsectionTy
 lone_entry =
     where_else (begins_group (codes "mem-info")) mem_info_entry
     (where_else (begins_group (codes "needed")) (made needed (names_entry (codes "needed")))
-    (where_else (begins_group (codes "runtime-path")) (made runtime_path (names_entry (codes "runtime-path")))
+    (where_else (begins_group (codes "runtime-path"))
+    (made runtime_path (names_entry (codes "runtime-path")))
     (made target_arch (group (codes "target-arch") text))))
 
 -- ---- entries of exports and of imports
@@ -96,7 +100,8 @@ abbrev pub begins_import : List Tok → Bool
 begins_import t = begins_group (codes "import-info") t
 
 -- an entry, and all others of its kind that stand behind it
-abbrev pub run : {A : Type 0} → (List Tok → Bool) → (g : Production A) → 1 ≤ g.least → Production (List A)
+abbrev pub run : {A : Type 0} → (List Tok → Bool) → (g : Production A) → 1 ≤ g.least
+    → Production (List A)
 run begins g eats = made (λ v. v.0 ∷ v.1) (seq g (many begins g eats))
 
 -- ---- subsections

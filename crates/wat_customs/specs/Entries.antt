@@ -2,7 +2,8 @@
 use Rattle.std.specs.Prelude.{ℕ, List, [], ◌∷◌, map, ⊤}
 use Rattle.wat_tokens.specs.Production.{Production}
 use Rattle.wat_tokens.specs.Parts.{made, where_else}
-use Rattle.wat_customs.specs.Dylink.{SubsectionTy, export_info, import_info, begins_export, begins_import, lone_entry}
+use Rattle.wat_customs.specs.Dylink.{SubsectionTy, export_info, import_info, begins_export}
+use Rattle.wat_customs.specs.Dylink.{begins_import, lone_entry}
 use Rattle.wat_customs.specs.DylinkEntries.{export_entry, import_entry}
 
 -- an entry: of an export, of an import, or another
@@ -13,7 +14,8 @@ pub data EntryTy : Type 0 where
 
 -- ( export-info .. ) | ( import-info .. ) | another entry
 unfoldable pub entry : Production EntryTy
-entry = where_else begins_export (made of_export export_entry) (where_else begins_import (made of_import import_entry) (made other lone_entry))
+entry = where_else begins_export (made of_export export_entry)
+    (where_else begins_import (made of_import import_entry) (made other lone_entry))
 
 -- the entries that a subsection holds
 abbrev pub entries_in : SubsectionTy → List EntryTy

@@ -9,7 +9,9 @@ use Rattle.wat_tokens.specs.Parts.{one}
 -- the words of flags, each with its bit
 abbrev pub flag_words : List (List ℕ × ℕ)
 flag_words =
-    (codes "binding-weak", 1) ∷ (codes "binding-local", 2) ∷ (codes "visibility-hidden", 4) ∷ (codes "undefined", 16) ∷ (codes "exported", 32) ∷ (codes "explicit-name", 64) ∷ (codes "no-strip", 128) ∷ (codes "tls", 256) ∷ (codes "absolute", 512) ∷ []
+    (codes "binding-weak", 1) ∷ (codes "binding-local", 2) ∷ (codes "visibility-hidden", 4)
+    ∷ (codes "undefined", 16) ∷ (codes "exported", 32) ∷ (codes "explicit-name", 64)
+    ∷ (codes "no-strip", 128) ∷ (codes "tls", 256) ∷ (codes "absolute", 512) ∷ []
 
 -- the number of 32 bits that the token is, or the bit that its word names
 abbrev pub flag_of : Tok → Option ℕ

@@ -12,7 +12,8 @@ use Rattle.wat_customs.specs.declared.producers.Field.TheVariants.{Language, Sdk
 
 -- the fields, by their words
 abbrev pub field_words : List (List ℕ × Field)
-field_words = (codes "language", Language) ∷ (codes "sdk", Sdk) ∷ (codes "processed-by", ProcessedBy) ∷ []
+field_words =
+    (codes "language", Language) ∷ (codes "sdk", Sdk) ∷ (codes "processed-by", ProcessedBy) ∷ []
 
 -- a name and a version
 abbrev pub Named : Type 0

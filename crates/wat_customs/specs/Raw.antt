@@ -39,4 +39,6 @@ raw_data = many more string (lit≤ tt)
 
 -- @custom name ( place )? bytes*
 unfoldable pub raw_custom : Production RawTy
-raw_custom = annotation (codes "custom") (made (λ v. raw_of v.0 v.1.0 v.1.1) (seq text (seq raw_place raw_data)))
+raw_custom =
+    annotation (codes "custom") (made (λ v. raw_of v.0 v.1.0 v.1.1)
+    (seq text (seq raw_place raw_data)))

@@ -10,7 +10,8 @@ use Rattle.wat_customs.specs.declared.place.CustomPlaceAnchor.TheVariants as anc
 
 -- `after code`
 abbrev pub Places : Type 0
-Places = Spelled custom_place (Keyword (codes "after") ∷ Keyword (codes "code") ∷ []) (After anchor.Code)
+Places = Spelled custom_place (Keyword (codes "after") ∷ Keyword (codes "code") ∷ [])
+    (After anchor.Code)
 
 -- `(`, a word, tokens, `)`
 abbrev entry_text : List Tok → List Tok → List Tok
@@ -27,11 +28,15 @@ Exports =
     (Annotation (codes "dylink.0")
     ∷ (entry_text export_word (String (codes "a") ∷ Keyword (codes "tls") ∷ [])
     ++ (entry_text export_word (String (codes "b") ∷ Integer (codes "3") ∷ [])
-    ++ (entry_text (Keyword (codes "needed") ∷ []) (String (codes "x") ∷ []) ++ entry_text export_word (String (codes "c") ∷ [])))))
-    (linked (export_info ((codes "a", 256) ∷ (codes "b", 3) ∷ []) ∷ needed (codes "x" ∷ []) ∷ export_info ((codes "c", 0) ∷ []) ∷ []))
+    ++ (entry_text (Keyword (codes "needed") ∷ []) (String (codes "x") ∷ [])
+    ++ entry_text export_word (String (codes "c") ∷ [])))))
+    (linked (export_info ((codes "a", 256) ∷ (codes "b", 3) ∷ []) ∷ needed (codes "x" ∷ [])
+    ∷ export_info ((codes "c", 0) ∷ []) ∷ []))
 
 -- `@dylink.0 (mem-info (table 1 2))`: what is left out is 0
 abbrev pub Sizes : Type 0
 Sizes =
-    Spelled custom (Annotation (codes "dylink.0") ∷ in_parens (Keyword (codes "mem-info") ∷ in_parens (Keyword (codes "table") ∷ Integer (codes "1") ∷ Integer (codes "2") ∷ [])))
+    Spelled custom (Annotation (codes "dylink.0")
+    ∷ in_parens (Keyword (codes "mem-info")
+    ∷ in_parens (Keyword (codes "table") ∷ Integer (codes "1") ∷ Integer (codes "2") ∷ [])))
     (linked (mem_info 0 0 1 2 ∷ []))

@@ -1,7 +1,8 @@
 //! Custom sections.
 
 ghost use Rattle.std.specs.Prelude.{◌≡◌, false};
-ghost use Rattle.wat_customs.specs.Custom.{CustomTy, seen_custom, bare_custom, place_of, name_of, begins_annotated, custom};
+ghost use Rattle.wat_customs.specs.Custom.{CustomTy, seen_custom, bare_custom, place_of};
+ghost use Rattle.wat_customs.specs.Custom.{custom_name, begins_annotated, custom};
 
 use crate::dylink::Dylink0;
 use crate::place::CustomPlace;
@@ -35,7 +36,7 @@ impl<'a> Custom<'a> {
 
     /// Its name.
     pub fn name(&self) -> &'a str
-        ensures { result.now ≡ name_of self.now }
+        ensures { result.now ≡ custom_name self.now }
     {
         match self {
             Custom::Raw(section) => section.name,

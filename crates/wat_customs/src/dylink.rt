@@ -4,7 +4,10 @@ ghost use Rattle.std.specs.Prelude.{◌≡◌, ℕ, codes, true, false, List, ma
 ghost use Rattle.wat_tokens.specs.Parses.{no_items};
 ghost use Rattle.wat_tokens.specs.Reads.{Reads, ReadsLight};
 ghost use Rattle.wat_tokens.specs.Tests.{more};
-ghost use Rattle.wat_customs.specs.Dylink.{SubsectionTy, seen_export, seen_import, seen_subsection, seen_dylink, bare_subsection, id_of, sizes, mem_info_entry, names_entry, lone_entry, begins_export, begins_import, run, subsection};
+ghost use Rattle.wat_customs.specs.Dylink.{SubsectionTy, seen_export, seen_import, seen_subsection};
+ghost use Rattle.wat_customs.specs.Dylink.{seen_dylink, bare_subsection, id_of, sizes};
+ghost use Rattle.wat_customs.specs.Dylink.{mem_info_entry, names_entry, lone_entry, begins_export};
+ghost use Rattle.wat_customs.specs.Dylink.{begins_import, run, subsection};
 ghost use Rattle.wat_customs.specs.DylinkEntries.{export_entry, import_entry};
 ghost use Rattle.wat_customs.specs.Laws.DylinkEntries.{export_entry_eats, import_entry_eats};
 ghost use Rattle.wat_customs.specs.Cutting.{dylink};

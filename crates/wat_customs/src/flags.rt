@@ -39,10 +39,7 @@ fn read_flag<'a>(parser: &mut Parser<'a>) -> Result<u32>
     let span = parser.cur_span();
     match bit_of(parser.take_keyword()?) {
         Some(bit) => Ok(bit),
-        None => Err(Error {
-            fault: Fault::Unexpected,
-            span,
-        }),
+        None => Err(Error::at(Fault::Unexpected, span)),
     }
 }
 

@@ -90,10 +90,7 @@ impl<'a> Parse<'a> for CustomPlaceAnchor {
         let span = parser.cur_span();
         match anchor_of(parser.take_keyword()?) {
             Some(anchor) => Ok(anchor),
-            None => Err(Error {
-                fault: Fault::Unexpected,
-                span,
-            }),
+            None => Err(Error::at(Fault::Unexpected, span)),
         }
     }
 }

@@ -3,8 +3,11 @@
 ghost use Rattle.std.specs.Prelude.{◌≡◌, ◌++◌, ℕ, true, false, List, map, IfOk, IfErr};
 ghost use Rattle.wat_tokens.specs.Parses.{no_items};
 ghost use Rattle.wat_tokens.specs.Tests.{look_up};
-ghost use Rattle.wat_customs.specs.Producers.{word_of, same_field, seen_entry, seen_entries, seen_names, seen_producers, entries_of, field_of, fields_of, producers};
-ghost use Rattle.wat_customs.specs.ProducerEntry.{field_words, Named, EntryTy, field_word, producer_entry};
+ghost use Rattle.wat_customs.specs.Producers.{word_of, same_field, seen_entry, seen_entries};
+ghost use Rattle.wat_customs.specs.Producers.{seen_names, seen_producers, entries_of, field_of};
+ghost use Rattle.wat_customs.specs.Producers.{fields_of, producers};
+ghost use Rattle.wat_customs.specs.ProducerEntry.{field_words, Named, EntryTy, field_word};
+ghost use Rattle.wat_customs.specs.ProducerEntry.{producer_entry};
 
 use std::alloc::Global;
 use wat_tokens::repeat::rest_of_group;
@@ -92,10 +95,7 @@ impl<'a> Parse<'a> for Field {
         let span = parser.cur_span();
         match field_named(parser.take_keyword()?) {
             Some(field) => Ok(field),
-            None => Err(Error {
-                fault: Fault::Unexpected,
-                span,
-            }),
+            None => Err(Error::at(Fault::Unexpected, span)),
         }
     }
 }

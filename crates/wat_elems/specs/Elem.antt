@@ -11,7 +11,8 @@ use Rattle.wat_tokens.specs.Parses.{seen_option}
 use Rattle.wat_types.specs.Label.{Label, seen_label, label}
 use Rattle.wat_types.specs.Reference.{begins_ref}
 use Rattle.wat_expr.specs.Expression.{Expr, seen_expression, bare_expression}
-use Rattle.wat_elems.specs.Payload.{PayloadTy, seen_payload, bare_payload, payload, payload_or_indices}
+use Rattle.wat_elems.specs.Payload.{PayloadTy, seen_payload, bare_payload, payload}
+use Rattle.wat_elems.specs.Payload.{payload_or_indices}
 use Rattle.wat_elems.specs.Item.{written_or_folded}
 use Rattle.wat_elems.specs.declared.elem.ElemKind.{ElemKind}
 use Rattle.wat_elems.specs.declared.elem.ElemKind.TheVariants as code
@@ -68,7 +69,9 @@ active_of v = (active v.0 v.1.0, v.1.1)
 
 -- ( table idx ), and then an offset and a payload
 unfoldable pub in_table : Production Segment
-in_table = made active_of (seq (made (λ i. Some i) (group (codes "table") index)) (seq elem_offset payload))
+in_table =
+    made active_of (seq (made (λ i. Some i) (group (codes "table") index))
+    (seq elem_offset payload))
 
 -- u32, where an Integer comes next
 unfoldable pub table_number : Production (Option Idx)

@@ -50,7 +50,8 @@ index_list = many more index (lit≤ tt)
 
 -- the one instruction `ref.func` of an index
 abbrev pub ref_func_of : Idx → Expr
-ref_func_of i = record { instrs = instr_of (word.Indexed op.ref_func) (operands.one_index i) ∷ []; hints = [] }
+ref_func_of i =
+    record { instrs = instr_of (word.Indexed op.ref_func) (operands.one_index i) ∷ []; hints = [] }
 
 abbrev pub is_func : HeapTy → Bool
 is_func (abstract_ false heap_word.Func) = true
@@ -85,7 +86,8 @@ typed_items = made (λ v. exprs v.0 v.1) (seq ref_type item_list)
 
 -- `func` indices, where `func` comes next; else RefType items
 unfoldable pub payload : Production PayloadTy
-payload = where_else (begins_word (codes "func")) (made indices (after_word (codes "func") index_list)) typed_items
+payload = where_else (begins_word (codes "func"))
+    (made indices (after_word (codes "func") index_list)) typed_items
 
 -- `func` indices, where `func` comes next; RefType items, where a type comes next; else indices
 unfoldable pub payload_or_indices : Production PayloadTy

@@ -15,19 +15,22 @@ use Rattle.wat_expr.specs.Alone.{alone}
 use Rattle.wat_expr.specs.Expression.{Expr}
 use Rattle.wat_elems.specs.Elem.{ElemTy, passive, declared, active, elem_of, elem}
 use Rattle.wat_elems.specs.Payload.{indices, exprs, ref_func_of}
-use Rattle.wat_elems.specs.Table.{TableTy, normal, inline, table_of, table}
+use Rattle.wat_elems.specs.Table.{TableFieldTy, normal, inline, table_of, table}
 
 -- `elem declare func 0`
 abbrev pub Declared : Type 0
 Declared =
-    Spelled elem (Keyword (codes "elem") ∷ Keyword (codes "declare") ∷ Keyword (codes "func") ∷ Integer (codes "0") ∷ [])
+    Spelled elem (Keyword (codes "elem") ∷ Keyword (codes "declare") ∷ Keyword (codes "func")
+    ∷ Integer (codes "0") ∷ [])
     (elem_of no_label (declared, indices (number 0 ∷ [])))
 
 -- `table externref (elem 0)`: the index is an expression, since the type isn't `funcref`
 abbrev pub OfExternref : Type 0
 OfExternref =
-    Spelled table (Keyword (codes "table") ∷ Keyword (codes "externref") ∷ in_parens (Keyword (codes "elem") ∷ Integer (codes "0") ∷ []))
-    (table_of no_head (inline (short false heap_word.Extern) false false (exprs (short false heap_word.Extern) (ref_func_of (number 0) ∷ []))))
+    Spelled table (Keyword (codes "table") ∷ Keyword (codes "externref")
+    ∷ in_parens (Keyword (codes "elem") ∷ Integer (codes "0") ∷ []))
+    (table_of no_head (inline (short false heap_word.Extern) false false
+    (exprs (short false heap_word.Extern) (ref_func_of (number 0) ∷ []))))
 
 abbrev pub zero_const : Instr
 zero_const = instr_of word.i32_const (operands.integer (pos 0))
@@ -44,13 +47,19 @@ null_text = Keyword (codes "ref.null") ∷ Keyword (codes "func") ∷ []
 
 -- `table 1 funcref (ref.null func)`
 abbrev pub nulls_text : List Tok
-nulls_text = Keyword (codes "table") ∷ Integer (codes "1") ∷ Keyword (codes "funcref") ∷ in_parens null_text
+nulls_text =
+    Keyword (codes "table") ∷ Integer (codes "1") ∷ Keyword (codes "funcref") ∷ in_parens null_text
 
 -- at least one element, and what `ref.null func` says for each
-abbrev pub nulls : TableTy
+abbrev pub nulls : TableFieldTy
 nulls =
     table_of no_head
-    (normal (record { limits = record { is64 = false; min = 1; max = None }; elem = short false heap_word.Func; shared = false }) (Some (alone null_func)))
+    (normal (record {
+      limits = record { is64 = false; min = 1; max = None };
+      elem = short false
+          heap_word.Func;
+      shared = false;
+    }) (Some (alone null_func)))
 
 -- `table 1 funcref (ref.null func)`
 abbrev pub OfNulls : Type 0
@@ -60,10 +69,16 @@ OfNulls = Spelled table nulls_text nulls
 abbrev pub items_text : List Tok
 items_text =
     Keyword (codes "elem") ∷ Keyword (codes "funcref")
-    ∷ (in_parens (Keyword (codes "item") ∷ Keyword (codes "ref.func") ∷ Integer (codes "0") ∷ []) ++ in_parens null_text)
+    ∷ (in_parens (Keyword (codes "item") ∷ Keyword (codes "ref.func") ∷ Integer (codes "0") ∷ [])
+    ++ in_parens null_text)
 
 abbrev pub two_items : ElemTy
-two_items = elem_of no_label (passive, exprs (short false heap_word.Func) (ref_func_of (number 0) ∷ alone null_func ∷ []))
+two_items =
+    elem_of no_label (
+      passive,
+      exprs (short false heap_word.Func)
+          (ref_func_of (number 0) ∷ alone null_func ∷ []),
+    )
 
 -- `elem funcref (item ref.func 0) (ref.null func)`: an item that is written out, and a folded one,
 -- put nowhere
@@ -74,10 +89,12 @@ OfItems = Spelled elem items_text two_items
 abbrev pub active_text : List Tok
 active_text =
     Keyword (codes "elem") ∷ Integer (codes "0")
-    ∷ (in_parens (Keyword (codes "i32.const") ∷ Integer (codes "0") ∷ []) ++ Integer (codes "1") ∷ Integer (codes "2") ∷ [])
+    ∷ (in_parens (Keyword (codes "i32.const") ∷ Integer (codes "0") ∷ []) ++ Integer (codes "1")
+    ∷ Integer (codes "2") ∷ [])
 
 abbrev pub active_elem : ElemTy
-active_elem = elem_of no_label (active (Some (number 0)) zero_alone, indices (number 1 ∷ number 2 ∷ []))
+active_elem =
+    elem_of no_label (active (Some (number 0)) zero_alone, indices (number 1 ∷ number 2 ∷ []))
 
 -- `elem 0 (i32.const 0) 1 2`: the functions 1 and 2, into table 0 at 0
 abbrev pub Active : Type 0

@@ -7,14 +7,15 @@ use Rattle.wat_tokens.specs.Parts.{seq, made, where_else, opt, flag, after_word}
 use Rattle.wat_tokens.specs.Groups.{group}
 use Rattle.wat_tokens.specs.Parses.{seen_option, bare_option}
 use Rattle.wat_types.specs.Label.{seen_label}
-use Rattle.wat_types.specs.Limits.{is_64, TableTy as TableTypeTy, seen_table as seen_table_type, table_type}
+use Rattle.wat_types.specs.Limits.{is_64, TableTy, seen_table as seen_table_type, table_type}
 use Rattle.wat_types.specs.Reference.{RefTy, seen_ref, ref_type, begins_ref}
 use Rattle.wat_links.specs.Export.{seen_inline_export}
 use Rattle.wat_links.specs.Head.{HeadTy, head_of, bare_head, head}
 use Rattle.wat_links.specs.Import.{seen_inline_import, inline_import}
 use Rattle.wat_expr.specs.Expression.{Expr, seen_expression, bare_expression}
 use Rattle.wat_expr.specs.ExpressionProduction.{expression}
-use Rattle.wat_elems.specs.Payload.{PayloadTy, seen_payload, bare_payload, ListedTy, of_type, listed}
+use Rattle.wat_elems.specs.Payload.{PayloadTy, seen_payload, bare_payload, ListedTy, of_type}
+use Rattle.wat_elems.specs.Payload.{listed}
 use Rattle.wat_elems.specs.declared.table.Table.{Table}
 use Rattle.wat_elems.specs.declared.table.TableKind.{TableKind}
 use Rattle.wat_elems.specs.declared.table.TableKind.TheVariants as code
@@ -25,15 +26,15 @@ use Rattle.wat_elems.specs.declared.table.TableKind.TheVariants as code
 -- or without; or in line: the type of its elements, whether its addresses have 64 bits, whether it
 -- is shared, and what it holds
 pub data TableKindTy : Type 0 where
-  imported : List ℕ × List ℕ → TableTypeTy → TableKindTy
-  normal : TableTypeTy → Option Expr → TableKindTy
+  imported : List ℕ × List ℕ → TableTy → TableKindTy
+  normal : TableTy → Option Expr → TableKindTy
   inline : RefTy → Bool → Bool → PayloadTy → TableKindTy
 
-pub record TableTy : Type 0 where
+pub record TableFieldTy : Type 0 where
   pub head : HeadTy
   pub kind : TableKindTy
 
-abbrev pub table_of : HeadTy → TableKindTy → TableTy
+abbrev pub table_of : HeadTy → TableKindTy → TableFieldTy
 table_of h k = record { head = h; kind = k }
 
 abbrev pub seen_table_kind : TableKind → TableKindTy
@@ -41,8 +42,10 @@ seen_table_kind (code.Import i t) = imported (seen_inline_import i) (seen_table_
 seen_table_kind (code.Normal t e) = normal (seen_table_type t) (seen_option seen_expression e)
 seen_table_kind (code.Inline t is64 shared p) = inline (seen_ref t) is64 shared (seen_payload p)
 
-abbrev pub seen_table : Table → TableTy
-seen_table t = table_of (head_of (seen_label t.id t.name) (seen_inline_export t.exports)) (seen_table_kind t.kind)
+abbrev pub seen_table : Table → TableFieldTy
+seen_table t =
+    table_of (head_of (seen_label t.id t.name) (seen_inline_export t.exports))
+    (seen_table_kind t.kind)
 
 -- no instruction, and no element in line
 abbrev pub bare_table_kind : TableKindTy → Bool
@@ -50,14 +53,15 @@ bare_table_kind (imported i t) = true
 bare_table_kind (normal t e) = bare_option bare_expression e
 bare_table_kind (inline t is64 shared p) = bare_payload p
 
-abbrev pub bare_table : TableTy → Bool
+abbrev pub bare_table : TableFieldTy → Bool
 bare_table t = bare_head t.head && bare_table_kind t.kind
 
 -- ---- the grammar
 
 -- `shared`, `i32` or `i64`
 abbrev pub begins_prefix : List Tok → Bool
-begins_prefix t = begins_word (codes "shared") t || (begins_word (codes "i32") t || begins_word (codes "i64") t)
+begins_prefix t =
+    begins_word (codes "shared") t || (begins_word (codes "i32") t || begins_word (codes "i64") t)
 
 -- a RefType, or one of the three words and then a RefType
 abbrev pub begins_inline : List Tok → Bool
@@ -72,7 +76,9 @@ inline_of v = inline v.1.1.0 v.1.0 v.0 (of_type v.1.1.0 v.1.1.1)
 
 -- `shared`? ( `i32` | `i64` )? RefType ( elem payload )
 unfoldable pub inline_table : Production TableKindTy
-inline_table = made inline_of (seq (flag (codes "shared")) (seq is_64 (seq ref_type (group (codes "elem") listed))))
+inline_table =
+    made inline_of (seq (flag (codes "shared"))
+    (seq is_64 (seq ref_type (group (codes "elem") listed))))
 
 -- TableType, and then an Expression where not empty
 unfoldable pub normal_table : Production TableKindTy
@@ -85,8 +91,9 @@ imported_table = made (λ v. imported v.0 v.1) (seq inline_import table_type)
 -- in line where a RefType comes next, or one of `shared`, `i32`, `i64` and then a RefType; by its
 -- type where one of these words or an Integer comes next; else imported
 unfoldable pub table_kind : Production TableKindTy
-table_kind = where_else begins_inline inline_table (where_else begins_normal normal_table imported_table)
+table_kind =
+    where_else begins_inline inline_table (where_else begins_normal normal_table imported_table)
 
 -- `table` head, and then a kind
-unfoldable pub table : Production TableTy
+unfoldable pub table : Production TableFieldTy
 table = after_word (codes "table") (made (λ v. table_of v.0 v.1) (seq head table_kind))

@@ -6,7 +6,10 @@ ghost use Rattle.wat_tokens.specs.Index.{seen_index};
 ghost use Rattle.wat_tokens.specs.Reads.{ReadsLight, ReadsIf};
 ghost use Rattle.wat_expr.specs.Expression.{seen_expression, bare_expression};
 ghost use Rattle.wat_elems.specs.Payload.{seen_payload};
-ghost use Rattle.wat_elems.specs.Elem.{seen_elem_kind, bare_segment, elem_offset, in_table, table_number, in_some_table, declared_segment, passive_segment, begins_active, active_segment, segment, ElemTy, seen_elem, bare_elem, elem};
+ghost use Rattle.wat_elems.specs.Elem.{seen_elem_kind, bare_segment, elem_offset, in_table};
+ghost use Rattle.wat_elems.specs.Elem.{table_number, in_some_table, declared_segment};
+ghost use Rattle.wat_elems.specs.Elem.{passive_segment, begins_active, active_segment, segment};
+ghost use Rattle.wat_elems.specs.Elem.{ElemTy, seen_elem, bare_elem, elem};
 
 use crate::payload::{ElemPayload, read_payload, read_payload_or_indices, read_written_or_folded};
 use wat_expr::Expression;

@@ -2,7 +2,10 @@
 
 ghost use Rattle.std.specs.Prelude.{◌≡◌, true, false};
 ghost use Rattle.wat_tokens.specs.Reads.{ReadsLight, ReadsIf};
-ghost use Rattle.wat_elems.specs.Table.{seen_table_kind, bare_table_kind, begins_prefix, begins_inline, begins_normal, inline_table, normal_table, imported_table, table_kind, TableTy, seen_table, bare_table, table};
+ghost use Rattle.wat_elems.specs.Table.{seen_table_kind, bare_table_kind, begins_prefix};
+ghost use Rattle.wat_elems.specs.Table.{begins_inline, begins_normal, inline_table, normal_table};
+ghost use Rattle.wat_elems.specs.Table.{imported_table, table_kind, TableFieldTy, seen_table};
+ghost use Rattle.wat_elems.specs.Table.{bare_table, table};
 
 use crate::payload::{ElemPayload, read_listed};
 use wat_expr::Expression;
@@ -157,7 +160,7 @@ fn read_kind<'a>(parser: &mut Parser<'a>) -> Result<TableKind<'a>>
 /// no instruction's word where one is needed, with Operator; what an expression refuses, with its
 /// fault; anything else, with Unexpected: also, at its `(`, what is no import of two names.
 impl<'a> Parse<'a> for Table<'a> {
-    ghost Seen = { TableTy };
+    ghost Seen = { TableFieldTy };
 
     ghost seen = { seen_table };
 

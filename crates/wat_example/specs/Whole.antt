@@ -3,10 +3,11 @@ use Rattle.std.specs.Prelude.{ℕ, List, [], true}
 use Rattle.wat_core.specs.Module.{ModuleTy, module_}
 use Rattle.wat_tokens.specs.Cut.{IsCut}
 use Rattle.wat_tokens.specs.Groups.{paren}
-use Rattle.wat_tokens.specs.Sight.{as_seen}
+use Rattle.wat_tokens.specs.Sight.{as_shown}
 use Rattle.wat_tokens.specs.Token.{Placed, tokens_of}
 
--- The text is cut, and its tokens, seen with the five standard annotations known, are one group
--- that spells the module.
+-- The text is cut, and its tokens, those visible with the five standard annotations known, are
+-- one group that spells the module.
 abbrev pub SpellsModule : List ℕ → ModuleTy → Type 0
-SpellsModule text m = (ts : List Placed) × IsCut text ts × (paren module_).spells m (as_seen true (tokens_of ts)) []
+SpellsModule text m =
+    (ts : List Placed) × IsCut text ts × (paren module_).spells m (as_shown true (tokens_of ts)) []

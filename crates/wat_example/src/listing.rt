@@ -7,7 +7,8 @@ ghost use Rattle.wat_core.specs.Module.{seen_fields, seen_module};
 ghost use Rattle.wat_funcs.specs.Func.{seen_func, seen_func_use};
 ghost use Rattle.wat_links.specs.Export.{seen_export};
 ghost use Rattle.wat_tokens.specs.Index.{seen_index};
-ghost use Rattle.wat_example.specs.Listing.{indexed_line, line, func_lines, export_lines, field_lines, lines};
+ghost use Rattle.wat_example.specs.Listing.{indexed_line, line, func_lines, export_lines};
+ghost use Rattle.wat_example.specs.Listing.{field_lines, lines};
 
 use std::alloc::AllocError;
 use wat_core::{

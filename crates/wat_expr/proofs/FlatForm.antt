@@ -12,9 +12,9 @@ use Rattle.wat_instr.specs.Instruction.{Instr, instruction, else_instr, end_inst
 use Rattle.wat_instr.specs.Operand.{operand}
 use Rattle.wat_instr.specs.Operand as operands
 use Rattle.wat_expr.specs.Expression.{value_of, expression_spells}
-use Rattle.wat_expr.specs.FlatForm.{one_by_one, AreInstrs, own, flat_tokens, flat_groups, flat_folded, flat_value, number, PassesOwnAlone}
+use Rattle.wat_expr.specs.FlatForm.{one_by_one, AreInstrs, own, flat_tokens, flat_groups, flat_folded, flat_value, how_many, PassesOwnAlone}
 use Rattle.wat_expr.specs.Folded.{Groups, NoGroup, Group, groups, is_folded, plain}
-use Rattle.wat_expr.specs.Items.{Items, Nil, Plain, Folded, Block, IfThen, IfElse, Hinted, reads, lists, unfolded, hints, word, hint_name}
+use Rattle.wat_expr.specs.Items.{Items, Nil, Plain, Folded, Block, IfThen, IfElse, Hinted, reads, lists, unfolded, hints, keyword, hint_name}
 
 -- ---- own tokens
 
@@ -48,13 +48,13 @@ flat_value_is is = rw (unfolds is, no_hints is 0) refl
 
 -- ---- the words that are added
 
-else_spelled : instruction.spells else_instr (word (codes "else") ∷ []) []
+else_spelled : instruction.spells else_instr (keyword (codes "else") ∷ []) []
 unfolding instruction operand
-else_spelled = (head.Label label.else_, word (codes "else") ∷ [], [], refl, refl, (operands.label None, (None, (refl, refl), refl, refl), refl, refl))
+else_spelled = (head.Label label.else_, keyword (codes "else") ∷ [], [], refl, refl, (operands.label None, (None, (refl, refl), refl, refl), refl, refl))
 
-end_spelled : instruction.spells end_instr (word (codes "end") ∷ []) []
+end_spelled : instruction.spells end_instr (keyword (codes "end") ∷ []) []
 unfolding instruction operand
-end_spelled = (head.Label label.end, word (codes "end") ∷ [], [], refl, refl, (operands.label None, (None, (refl, refl), refl, refl), refl, refl))
+end_spelled = (head.Label label.end, keyword (codes "end") ∷ [], [], refl, refl, (operands.label None, (None, (refl, refl), refl, refl), refl, refl))
 
 -- ---- the flat form
 
@@ -86,8 +86,8 @@ module _ (stands : Stands) (follow : Follow) where
   single : (i : Instr) (ts m : List Tok) → reads i ts m → IsFlat (i ∷ []) (own ts m)
   single i ts m h = spelled i (own ts m) m (own_front i ts m h).1
 
-  end_flat : IsFlat (end_instr ∷ []) (word (codes "end") ∷ [])
-  end_flat = spelled end_instr (word (codes "end") ∷ []) [] end_spelled
+  end_flat : IsFlat (end_instr ∷ []) (keyword (codes "end") ∷ [])
+  end_flat = spelled end_instr (keyword (codes "end") ∷ []) [] end_spelled
 
   items_flat : (xs : Items) (ts r : List Tok) (l : lists xs ts r) → IsFlat (unfolded xs) (flat_tokens xs ts r l)
   items_flat Nil ts r l = nothing
@@ -126,7 +126,7 @@ module _ (stands : Stands) (follow : Follow) where
   pub headed_again : (i : Instr) (xs : Items) (a b r : List Tok) (h : reads i a b) (l : lists xs b (RParen ∷ r)) → lists (one_by_one (unfolded xs ++ i ∷ [])) (flat_tokens xs b (RParen ∷ r) l ++ own a b) []
   headed_again i xs a b r h l = at_end _ _ (both (items_flat xs b _ l) (single i a b h))
 
-number-append : (test : Tok → Bool) (c d : List Tok) → number test (c ++ d) ≡ number test c + number test d
+number-append : (test : Tok → Bool) (c d : List Tok) → how_many test (c ++ d) ≡ how_many test c + how_many test d
 number-append test [] d = omega arith
 number-append test (x ∷ c) d = omega (arith, number-append test c d)
 
@@ -134,38 +134,38 @@ module _ (test : Tok → Bool) (p : PassesOwnAlone test) where
   abbrev IsNone : Tok → Type 0
   IsNone x = ◌≡◌ {A = ℕ} (if test x then 1 else 0) 0
 
-  frames : IsNone LParen × IsNone RParen × IsNone (word (codes "then")) × IsNone (word (codes "else")) × IsNone (word (codes "end")) × IsNone hint_name
+  frames : IsNone LParen × IsNone RParen × IsNone (keyword (codes "then")) × IsNone (keyword (codes "else")) × IsNone (keyword (codes "end")) × IsNone hint_name
   frames = (rw p.0, rw p.1, rw p.2, rw p.3, rw p.4, rw p.5)
 
-  own_number : (i : Instr) (ts m : List Tok) → reads i ts m → number test ts ≡ number test (own ts m) + number test m
-  own_number i ts m h = ap (number test) (own_front i ts m h).0 ∙ number-append test (own ts m) m
+  own_number : (i : Instr) (ts m : List Tok) → reads i ts m → how_many test ts ≡ how_many test (own ts m) + how_many test m
+  own_number i ts m h = ap (how_many test) (own_front i ts m h).0 ∙ number-append test (own ts m) m
 
-  pub items_number : (xs : Items) (ts r : List Tok) (l : lists xs ts r) → number test ts ≡ number test (flat_tokens xs ts r l) + number test r
-  items_number Nil ts r l = ap (number test) l ∙ omega arith
+  pub items_number : (xs : Items) (ts r : List Tok) (l : lists xs ts r) → how_many test ts ≡ how_many test (flat_tokens xs ts r l) + how_many test r
+  items_number Nil ts r l = ap (how_many test) l ∙ omega arith
   items_number (Plain i xs) ts r (m, h, l) = omega (arith, own_number i ts m h, items_number xs m r l, number-append)
   items_number (Folded i ys xs) ts r (a, b, d, e, s, h, ly, lx) =
-      omega (arith, frames, number-append, ap (number test) e, own_number i a b h, items_number ys b (RParen ∷ d) ly, items_number xs d r lx)
+      omega (arith, frames, number-append, ap (how_many test) e, own_number i a b h, items_number ys b (RParen ∷ d) ly, items_number xs d r lx)
   items_number (Block i ys xs) ts r (a, b, d, e, s, h, ly, lx) =
-      omega (arith, frames, number-append, ap (number test) e, own_number i a b h, items_number ys b (RParen ∷ d) ly, items_number xs d r lx)
+      omega (arith, frames, number-append, ap (how_many test) e, own_number i a b h, items_number ys b (RParen ∷ d) ly, items_number xs d r lx)
   items_number (IfThen i ops th xs) ts r (a, b, d, e, q, s, h, g, lo, lt, lx) =
       let o = items_number ops b _ lo in
       let t = items_number th d _ lt in
-      omega (arith, frames, number-append, ap (number test) q, own_number i a b h, o, t, items_number xs e r lx)
+      omega (arith, frames, number-append, ap (how_many test) q, own_number i a b h, o, t, items_number xs e r lx)
   items_number (IfElse i ops th el xs) ts r (a, b, d, e, f, q, s, h, g, lo, lt, le, lx) =
       let o = items_number ops b _ lo in
       let t = items_number th d _ lt in
       let u = items_number el e _ le in
-      omega (arith, frames, number-append, number-append test (flat_tokens el e (RParen ∷ RParen ∷ f) le) (word (codes "end") ∷ []), ap (number test) q, own_number i a b h, o, t, u, items_number xs f r lx)
+      omega (arith, frames, number-append, number-append test (flat_tokens el e (RParen ∷ RParen ∷ f) le) (keyword (codes "end") ∷ []), ap (how_many test) q, own_number i a b h, o, t, u, items_number xs f r lx)
   items_number (Hinted v xs) ts r (d, e, lt, g, l) =
-      let z : IsNone (String (v ∷ [])) = rw (p.6 v) in omega (arith, frames, z, ap (number test) e, items_number xs d r l)
+      let z : IsNone (String (v ∷ [])) = rw (p.6 v) in omega (arith, frames, z, ap (how_many test) e, items_number xs d r l)
 
-  pub groups_number : (gs : Groups) (ts r : List Tok) (l : groups gs ts r) → number test ts ≡ number test (flat_groups gs ts r l) + number test r
-  groups_number NoGroup ts r l = ap (number test) l ∙ omega arith
+  pub groups_number : (gs : Groups) (ts r : List Tok) (l : groups gs ts r) → how_many test ts ≡ how_many test (flat_groups gs ts r l) + how_many test r
+  groups_number NoGroup ts r l = ap (how_many test) l ∙ omega arith
   groups_number (Group i gs hs) ts r (a, b, d, e, h, l, k) =
-      omega (arith, frames, number-append, ap (number test) e, own_number i a b h, groups_number gs b (RParen ∷ d) l, groups_number hs d r k)
+      omega (arith, frames, number-append, ap (how_many test) e, own_number i a b h, groups_number gs b (RParen ∷ d) l, groups_number hs d r k)
 
-  pub folded_number : (i : Instr) (gs : Groups) (ts r : List Tok) (l : is_folded i gs ts r) → number test ts ≡ number test (flat_folded i gs ts r l) + number test r
-  folded_number i gs ts r (a, b, e, h, l) = omega (arith, frames, number-append, ap (number test) e, own_number i a b h, groups_number gs b (RParen ∷ r) l)
+  pub folded_number : (i : Instr) (gs : Groups) (ts r : List Tok) (l : is_folded i gs ts r) → how_many test ts ≡ how_many test (flat_folded i gs ts r l) + how_many test r
+  folded_number i gs ts r (a, b, e, h, l) = omega (arith, frames, number-append, ap (how_many test) e, own_number i a b h, groups_number gs b (RParen ∷ r) l)
 
 -- instructions alone are their own flat form
 pub already_flat : (xs : Items) (ts r : List Tok) (l : lists xs ts r) → AreInstrs xs → flat_tokens xs ts r l ++ r ≡ ts

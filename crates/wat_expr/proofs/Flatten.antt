@@ -5,7 +5,7 @@ use Rattle.std.specs.Prelude.{max, if◌then◌else◌}
 use Rattle.wat_instr.specs.Instruction.{Instr, else_instr, end_instr}
 use Rattle.wat_expr.specs.Flat.{Flat, push, one_more}
 use Rattle.wat_expr.specs.Items.{Items, Nil, Plain, Folded, Block, IfThen, IfElse, Hinted, unfolded, hints_behind, count, depth, deep}
-use Rattle.wat_expr.specs.Progress.{Counted, add, counted, noted, emit}
+use Rattle.wat_expr.specs.Progress.{TalliedFlat, with_instr, item_more, noted, emit}
 
 -- as many spans as instructions, where they are kept
 abbrev pub Spanned : Bool → Flat → Type 0
@@ -15,15 +15,15 @@ pub spanned : (keeps : Bool) (p : Option ℕ) (i : Instr) (f : Flat) → Spanned
 spanned true p i f s = ap one_more s ∙ ap (λ (n : ℕ). Some n) (omega (arith, length-append f.instrs (i ∷ [])))
 spanned false p i f s = ap one_more s
 
-abbrev run : ℕ → ℕ → Option ℕ → Items → Counted → Counted
+abbrev run : ℕ → ℕ → Option ℕ → Items → TalliedFlat → TalliedFlat
 run k h p xs f = emit k h p xs (noted k h f)
 
 -- as many items, at least as deep, and as many heads at once
-abbrev Numbers : ℕ → ℕ → Items → Counted → Counted → Type 0
+abbrev Numbers : ℕ → ℕ → Items → TalliedFlat → TalliedFlat → Type 0
 Numbers k h xs f g = (g.items ≡ f.items + count xs) × (max f.peak (k + depth xs) ≤ g.peak) × (g.held ≡ max f.held (h + deep xs))
 
 -- from f to g the items were put out
-abbrev Came : ℕ → ℕ → Option ℕ → Items → Counted → Counted → Type 0
+abbrev Came : ℕ → ℕ → Option ℕ → Items → TalliedFlat → TalliedFlat → Type 0
 Came k h p xs f g =
     (g.out.instrs ≡ f.out.instrs ++ unfolded xs) × (g.out.hints ≡ f.out.hints ++ hints_behind p xs (length f.out.instrs)) × ((keeps : Bool) → Spanned keeps f.out → Spanned keeps g.out) × Numbers k h xs f g
 
@@ -36,49 +36,49 @@ held_next f h y c t l d e = omega arith
 max_assoc : (a b c : ℕ) → max (max a b) c ≡ max a (max b c)
 max_assoc a b c = omega arith
 
-came : (k h : ℕ) (p : Option ℕ) (xs : Items) (f : Counted) → Came k h p xs f (run k h p xs f)
+came : (k h : ℕ) (p : Option ℕ) (xs : Items) (f : TalliedFlat) → Came k h p xs f (run k h p xs f)
 came k h p Nil f = (sym (append-nil f.out.instrs), sym (append-nil f.out.hints), (λ b s. s), omega arith)
 came k h p (Plain i xs) f =
-    let x = came k h None xs (add p i (counted (noted k h f))) in
+    let x = came k h None xs (with_instr p i (item_more (noted k h f))) in
     (x.0 ∙ simp append_assoc, x.1 ∙ simp length-append (simp append_assoc), (λ b s. x.2 b (spanned b p i f.out s)), omega (arith, x.3))
 came k h p (Folded i ys xs) f =
-    let e = counted (noted k h f) in
+    let e = item_more (noted k h f) in
     let g = run (suc k) (suc h) None ys e in
     let y = came (suc k) (suc h) None ys e in
-    let x = came k h None xs (add p i g) in
+    let x = came k h None xs (with_instr p i g) in
     (x.0 ∙ rw y.0 (simp append_assoc), x.1 ∙ rw (y.1, y.0) (simp length-append (simp append_assoc)), (λ b s. x.2 b (spanned b p i g.out (y.2 b s))), omega (arith, x.3, y.3))
 came k h p (Block i ys xs) f =
-    let e = add p i (counted (noted k h f)) in
+    let e = with_instr p i (item_more (noted k h f)) in
     let g = run (suc k) h None ys e in
     let y = came (suc k) h None ys e in
-    let x = came k h None xs (add None end_instr g) in
+    let x = came k h None xs (with_instr None end_instr g) in
     (x.0 ∙ rw y.0 (simp append_assoc), x.1 ∙ rw (y.1, y.0) (simp length-append (simp (append_assoc, append-nil))), (λ b s. x.2 b (spanned b None end_instr g.out (y.2 b (spanned b p i f.out s)))), omega (arith, x.3, y.3))
 came k h p (IfThen i ops th xs) f =
-    let e = counted (noted k h f) in
+    let e = item_more (noted k h f) in
     let g = run (suc k) (suc h) None ops e in
-    let j = run (suc (suc k)) h None th (add p i g) in
+    let j = run (suc (suc k)) h None th (with_instr p i g) in
     let o = came (suc k) (suc h) None ops e in
-    let t = came (suc (suc k)) h None th (add p i g) in
-    let x = came k h None xs (add None end_instr (noted (suc k) h j)) in
+    let t = came (suc (suc k)) h None th (with_instr p i g) in
+    let x = came k h None xs (with_instr None end_instr (noted (suc k) h j)) in
     (x.0 ∙ rw (t.0, o.0) (simp append_assoc), x.1 ∙ rw (t.1, t.0, o.1, o.0) (simp length-append (simp (append_assoc, append-nil))), (λ b s. x.2 b (spanned b None end_instr j.out (t.2 b (spanned b p i g.out (o.2 b s))))), omega (arith, x.3, t.3, o.3))
 came k h p (IfElse i ops th el xs) f =
-    let e = counted (noted k h f) in
+    let e = item_more (noted k h f) in
     let g = run (suc k) (suc h) None ops e in
-    let j = run (suc (suc k)) h None th (add p i g) in
-    let v = add None else_instr (noted (suc k) h j) in
+    let j = run (suc (suc k)) h None th (with_instr p i g) in
+    let v = with_instr None else_instr (noted (suc k) h j) in
     let w = run (suc (suc k)) h None el v in
     let o = came (suc k) (suc h) None ops e in
-    let t = came (suc (suc k)) h None th (add p i g) in
+    let t = came (suc (suc k)) h None th (with_instr p i g) in
     let l = came (suc (suc k)) h None el v in
-    let x = came k h None xs (add None end_instr (noted (suc k) h w)) in
+    let x = came k h None xs (with_instr None end_instr (noted (suc k) h w)) in
     let n = held_next f.held h _ (deep el) j.held w.held (held_two f.held h (deep ops) (deep th) g.held j.held o.3.2 t.3.2) l.3.2 in (
       x.0 ∙ rw (l.0, t.0, o.0) (simp append_assoc),
       x.1 ∙ rw (l.1, l.0, t.1, t.0, o.1, o.0) (simp length-append (simp (append_assoc, append-nil))),
       (λ b s. x.2 b (spanned b None end_instr w.out (l.2 b (spanned b None else_instr j.out (t.2 b (spanned b p i g.out (o.2 b s))))))),
       (omega (arith, x.3.0, l.3.0, t.3.0, o.3.0), omega (arith, x.3.1, l.3.1, t.3.1, o.3.1), held_next f.held h _ (deep xs) w.held _ (rw (max_assoc (suc (deep ops)) (deep th) (deep el)) at n) x.3.2),
     )
-came k h p (Hinted v xs) f = let x = came k h (Some v) xs (counted (noted k h f)) in (x.0, x.1, x.2, omega (arith, x.3))
+came k h p (Hinted v xs) f = let x = came k h (Some v) xs (item_more (noted k h f)) in (x.0, x.1, x.2, omega (arith, x.3))
 
-pub flat_out : (xs : Items) (f : Counted) → Came 0 0 None xs f (emit 0 0 None xs f)
+pub flat_out : (xs : Items) (f : TalliedFlat) → Came 0 0 None xs f (emit 0 0 None xs f)
 flat_out xs f = let p : max f.peak 0 ≡ f.peak = omega arith in let q : max f.held 0 ≡ f.held = omega arith in
-    let e : noted 0 0 f ≡ f = rw (p, q) refl in subst (λ (g : Counted). Came 0 0 None xs f (emit 0 0 None xs g)) e (came 0 0 None xs f)
+    let e : noted 0 0 f ≡ f = rw (p, q) refl in subst (λ (g : TalliedFlat). Came 0 0 None xs f (emit 0 0 None xs g)) e (came 0 0 None xs f)

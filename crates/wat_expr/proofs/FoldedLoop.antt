@@ -6,7 +6,7 @@ use Rattle.wat_tokens.specs.Parses.{NotBare, no_items}
 use Rattle.wat_tokens.specs.PartSpells.{one_reads}
 use Rattle.wat_tokens.specs.Production.{Read, some_of}
 use Rattle.wat_tokens.specs.Laws.Production.{by_read, some_is, none_is_not}
-use Rattle.wat_tokens.specs.Tests.{is_lparen}
+use Rattle.wat_tokens.specs.Tests.{as_lparen}
 use Rattle.wat_instr.specs.Instruction.{Instr}
 use Rattle.wat_expr.specs.Expression.{Expr, bare_expression, seen_expression}
 use Rattle.wat_expr.specs.Laws.Facts.{read_of, reads_level, reads_shorter}
@@ -20,7 +20,7 @@ use Rattle.wat_tokens.specs.Parens.{opens, closes}
 use Rattle.wat_tokens.specs.State.{State}
 use Rattle.wat_expr.specs.Flat.{Flat, flat, no_output}
 use Rattle.wat_expr.specs.declared.expression.Expression.{Expression}
-use Rattle.wat_expr.specs.GroupTurn.{spot, Opens, Closes, IsHalted}
+use Rattle.wat_expr.specs.GroupTurn.{group_state, Opens, Closes, IsHalted}
 use Rattle.wat_expr.specs.Levels.{Level, InFolded, heads_in}
 use Rattle.wat_expr.specs.Listed.{IsFolded}
 use Rattle.wat_expr.proofs.Flatten.{Spanned, spanned}
@@ -52,12 +52,12 @@ read_not_bare ts =
 
 -- ---- the first tokens
 
-pub begun : (ts r : List Tok) (x : Unit {0}) → one_reads is_lparen ts ≡ Some (x, r) → ts ≡ LParen ∷ r
+pub begun : (ts r : List Tok) (x : Unit {0}) → one_reads as_lparen ts ≡ Some (x, r) → ts ≡ LParen ∷ r
 begun [] r x e = none_is_not (x, r) e
 begun (LParen ∷ ts) r x e = ap (λ (u : Unit {0} × List Tok). LParen ∷ u.1) (some_is (tt, ts) (x, r) e)
 begun (_ ∷ ts) r x e = none_is_not (x, r) e
 
-pub not_begun : (ts : List Tok) → one_reads is_lparen ts ≡ None → folded_reads ts ≡ None
+pub not_begun : (ts : List Tok) → one_reads as_lparen ts ≡ None → folded_reads ts ≡ None
 not_begun [] e = refl
 not_begun (LParen ∷ ts) e = absurd cc
 not_begun (_ ∷ ts) e = refl
@@ -199,14 +199,14 @@ pub record Stepped (s s' : List Level) (ts us : List Tok) (f f' : Flat) : Type 0
   pub hints : f.hints ≡ [] → f'.hints ≡ []
   pub spans : (keeps : Bool) → Spanned keeps f → Spanned keeps f'
 
-steps : (s s' : List Level) (ts us : List Tok) (f f' : Flat) → (s ≡ [] → ⊥) → Opens (spot s ts f) (spot s' us f') ⊎ Closes (spot s ts f) (spot s' us f') → Stepped s s' ts us f f'
+steps : (s s' : List Level) (ts us : List Tok) (f f' : Flat) → (s ≡ [] → ⊥) → Opens (group_state s ts f) (group_state s' us f') ⊎ Closes (group_state s ts f) (group_state s' us f') → Stepped s s' ts us f f'
 steps s s' ts us f f' some (inl (i, a, e, h, l, o)) =
     rw (e, l, o) (record { same = λ t p n. opened_same i None s a us (sum f.instrs t p n) some h; level = omega (arith, reads_level i a us h); shorter = omega (arith, reads_shorter i a us h); hints = λ e. e; spans = λ k e. e })
 steps s s' ts us f f' some (inr (i, h, l, e, o)) =
     rw (e, l, o) (record { same = λ t p n. closes_in i h s' us (sum f.instrs t p n); level = omega arith; shorter = omega arith; hints = λ e. append-nil f.hints ∙ e; spans = λ k e. spanned k None i f e })
 
 pub going_on : (a b t u v w : State) (s s' : List Level) (f f' : Flat) (k h : ℕ) → t ≡ record b { turns = b.turns + 1 } → k ≡ length s' → v ≡ record u { peak = max u.peak k } → h ≡ heads_in s' → w ≡ record v { held = max v.held h }
-    → (s ≡ [] → ⊥) → Opens (spot s t.left f) (spot s' u.left f') ⊎ Closes (spot s t.left f) (spot s' u.left f') → Going a s f b → Carries b t → Carries t u → Stays t u → Kept t u → Carries v w → Going a s' f' w
+    → (s ≡ [] → ⊥) → Opens (group_state s t.left f) (group_state s' u.left f') ⊎ Closes (group_state s t.left f) (group_state s' u.left f') → Going a s f b → Carries b t → Carries t u → Stays t u → Kept t u → Carries v w → Going a s' f' w
 going_on a b t u v w s s' f f' k h et ek ev eh ew = rw (et, ew, ev, ek, eh) (λ some turned g ct cu su ku cw.
     let x = steps s s' b.left u.left f f' some turned in
     let level : length s' + closes a.left + opens u.left ≡ opens a.left + closes u.left = omega (arith, x.level, g.level) in
@@ -242,11 +242,11 @@ going_begins a o t v w i p s f k h es ef ek ev eh ew = rw (ew, ev, ek, eh, es, e
 -- ---- the exits
 
 pub going_smaller : (b t u v w : State) (s s' : List Level) (f f' : Flat) (k h : ℕ) → t ≡ record b { turns = b.turns + 1 } → v ≡ record u { peak = max u.peak k } → w ≡ record v { held = max v.held h }
-    → (s ≡ [] → ⊥) → Opens (spot s t.left f) (spot s' u.left f') ⊎ Closes (spot s t.left f) (spot s' u.left f') → length w.left < length b.left
+    → (s ≡ [] → ⊥) → Opens (group_state s t.left f) (group_state s' u.left f') ⊎ Closes (group_state s t.left f) (group_state s' u.left f') → length w.left < length b.left
 going_smaller b t u v w s s' f f' k h et ev ew = rw (et, ew, ev) (λ some turned. (steps s s' b.left u.left f f' some turned).shorter)
 
 -- where the turn couldn't be made, nothing is read
-pub going_halts : (a b t : State) (s : List Level) (f : Flat) → t ≡ record b { turns = b.turns + 1 } → Going a s f b → (s ≡ [] → ⊥) → IsHalted (spot s t.left f) → folded_reads a.left ≡ None
+pub going_halts : (a b t : State) (s : List Level) (f : Flat) → t ≡ record b { turns = b.turns + 1 } → Going a s f b → (s ≡ [] → ⊥) → IsHalted (group_state s t.left f) → folded_reads a.left ≡ None
 going_halts a b t s f et = rw et (λ g some x. read_none a.left (λ i gs r k. halts s b.left (sum_of f b) some x.opens x.closes (whole i gs (start a.turns a.peak a.held)) r (g.exact.forth i gs r k)))
 
 -- where no group is open, one was read

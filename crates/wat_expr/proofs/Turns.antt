@@ -3,14 +3,14 @@ use Rattle.std.proofs.Common.{◌≡◌, ◌||◌, ◌==◌, ℕ, Bool, true, fa
 use Rattle.std.proofs.lemmas.Bool.{eqb-true}
 use Rattle.wat_instr.specs.Instruction.{Instr, is_block, is_if, is_br_if, end_instr, else_instr}
 use Rattle.wat_tokens.specs.Laws.Production.{by_test}
-use Rattle.wat_expr.specs.Items.{sort, sort_of, IsBlock, IsIf, IsOther, is_branch, Sort, reads, word, hint_name, Items, Nil, Plain, Folded, Block, IfThen, IfElse, Hinted, Only, BeginsWithBranch}
+use Rattle.wat_expr.specs.Items.{sort, sort_of, IsBlock, IsIf, IsOther, is_branch, Sort, reads, keyword, hint_name, Items, Nil, Plain, Folded, Block, IfThen, IfElse, Hinted, Only, BeginsWithBranch}
 use Rattle.std.specs.Prelude.{codes}
 use Rattle.wat_tokens.specs.Token.{Tok, LParen, RParen, String}
 use Rattle.wat_expr.specs.Facts.{Stops}
 use Rattle.wat_expr.specs.Laws.Facts.{word_front, reads_shorter, reads_level}
 use Rattle.wat_expr.specs.Flat.{Flat, push}
 use Rattle.wat_expr.specs.Levels.{Level, InFolded, InBlock, InIf, AfterThen, AfterElse, InArm, heads_in}
-use Rattle.wat_expr.specs.Progress.{Counted, counted, noted, Fits, suits, After, Open, closing, arm, IsOpen, TakesPlain, after_level, Finishes, Tallies, with_tallies, Stand, standing, risen, Balanced, Turn, Turned, Stuck}
+use Rattle.wat_expr.specs.Progress.{TalliedFlat, item_more, noted, Fits, suits, After, Open, at_closing, arm, IsOpen, TakesPlain, after_level, Finishes, Tallies, with_tallies, LoopState, state_with, risen, Balanced, Turn, TurnAnswers, Stuck}
 use Rattle.wat_expr.proofs.Fronts.{reads_one, stops_at, stops_no_word, stops_no_group, no_paren, same_group, one_sort, no_hint_word}
 use Rattle.wat_tokens.specs.Error.{Error, Memory}
 use Rattle.wat_tokens.specs.Tests.{ends}
@@ -60,11 +60,11 @@ any_items (IfElse i ops th el xs) = (tt, any_items xs)
 any_items (Hinted v xs) = (tt, any_items xs)
 
 -- what finishes from the levels s
-abbrev pub Rest : Counted → List Tok → List Level → Option ℕ → After
+abbrev pub Rest : TalliedFlat → List Tok → List Level → Option ℕ → After
 Rest o r s p = Open (TakesPlain s) (IsOpen s) (after_level o r s) (length s) (heads_in s) p
 
 -- the output changes, and the levels are s
-abbrev pub goes : List Level → Flat → Counted → Counted
+abbrev pub goes : List Level → Flat → TalliedFlat → TalliedFlat
 goes s g f = noted (length s) (heads_in s) (record { out = g; items = f.items; peak = f.peak; held = f.held })
 
 -- the level that a group opens, and the output there
@@ -89,7 +89,7 @@ abbrev pub CanClose : Level → Type 0
 CanClose (InIf i p) = ⊥
 CanClose _ = Unit {0}
 
-ends_behind : (o : Counted) (r : List Tok) (s : List Level) → IsOpen s → (ts : List Tok) (f : Counted) → after_level o r s ts f → Stops ts
+ends_behind : (o : TalliedFlat) (r : List Tok) (s : List Level) → IsOpen s → (ts : List Tok) (f : TalliedFlat) → after_level o r s ts f → Stops ts
 ends_behind o r [] h [] f k = tt
 ends_behind o r [] h (RParen ∷ ts) f k = tt
 ends_behind o r [] h (t ∷ ts) f k = absurd (let e = k.0 in cc)
@@ -117,11 +117,11 @@ no_hint None xs k f = refl
 no_hint (Some v) xs k f = absurd (k f)
 
 -- what stands in front: nothing, an instruction, a group or a hint
-pub next : {C : Type 0} (o : Counted) (r : List Tok) (s : List Level) (p : Option ℕ) (ts : List Tok) (f : Counted)
+pub next : {C : Type 0} (o : TalliedFlat) (r : List Tok) (s : List Level) (p : Option ℕ) (ts : List Tok) (f : TalliedFlat)
     → (p ≡ None → after_level o r s ts f → C)
-    → ((i : Instr) (m : List Tok) → TakesPlain s → reads i ts m → suits p i ≡ true → Rest o r s None m (goes s (push p i f.out) (counted f)) → C)
-    → ((k : Sort) (i : Instr) (a b : List Tok) → IsOpen s → ts ≡ LParen ∷ a → reads i a b → suits p i ≡ true → sort i ≡ k → Rest o r (inside k i p ∷ s) None b (goes (inside k i p ∷ s) (put k p i f.out) (counted f)) → C)
-    → ((v : ℕ) (d : List Tok) → IsOpen s → p ≡ None → v < 2 → ts ≡ LParen ∷ hint_name ∷ String (v ∷ []) ∷ RParen ∷ d → Rest o r s (Some v) d (goes s f.out (counted f)) → C)
+    → ((i : Instr) (m : List Tok) → TakesPlain s → reads i ts m → suits p i ≡ true → Rest o r s None m (goes s (push p i f.out) (item_more f)) → C)
+    → ((k : Sort) (i : Instr) (a b : List Tok) → IsOpen s → ts ≡ LParen ∷ a → reads i a b → suits p i ≡ true → sort i ≡ k → Rest o r (inside k i p ∷ s) None b (goes (inside k i p ∷ s) (put k p i f.out) (item_more f)) → C)
+    → ((v : ℕ) (d : List Tok) → IsOpen s → p ≡ None → v < 2 → ts ≡ LParen ∷ hint_name ∷ String (v ∷ []) ∷ RParen ∷ d → Rest o r s (Some v) d (goes s f.out (item_more f)) → C)
     → Rest o r s p ts f → C
 next o r s p ts f over plain group hint (Nil, u, l, fit, only, z) = over (no_hint p Nil (λ b. b) fit) (rw l z)
 next o r s p ts f over plain group hint (Plain j xs, u, l, fit, only, z) = plain j l.0 only.0 l.1 (suits_by p j (Plain j xs) (λ b. b) fit) (xs, u, l.2, tt, only.1, z)
@@ -134,17 +134,17 @@ next o r s p ts f over plain group hint (IfThen j ops th xs, u, l, fit, only, z)
     (ops, _, l.8, tt, l.7, (l.2, refl, (th, _, l.9, tt, any_items th, (RParen ∷ l.3, refl, inl (l.3, refl, (xs, u, l.10, tt, only.1, z))))))
 next o r s p ts f over plain group hint (IfElse j ops th el xs, u, l, fit, only, z) =
     group IsIf j l.0 l.1 only.0 l.5 l.7 (suits_by p j (IfElse j ops th el xs) (λ b. if_branch j l.6) fit) l.6
-    (ops, _, l.9, tt, l.8, (l.2, refl, (th, _, l.10, tt, any_items th, (LParen ∷ word (codes "else") ∷ l.3, refl, inr (l.3, refl, (el, _, l.11, tt, any_items el, (RParen ∷ l.4, refl, (l.4, refl, (xs, u, l.12, tt, only.1, z)))))))))
+    (ops, _, l.9, tt, l.8, (l.2, refl, (th, _, l.10, tt, any_items th, (LParen ∷ keyword (codes "else") ∷ l.3, refl, inr (l.3, refl, (el, _, l.11, tt, any_items el, (RParen ∷ l.4, refl, (l.4, refl, (xs, u, l.12, tt, only.1, z)))))))))
 next o r s p ts f over plain group hint (Hinted v xs, u, l, fit, only, z) = hint v l.0 only.0 (no_hint p (Hinted v xs) (λ b. b) fit) l.2 l.1 (xs, u, l.4, l.3, only.1, z)
 
 -- where no item can stand, the list ends
-pub ended : (o : Counted) (r : List Tok) (s : List Level) (p : Option ℕ) (ts : List Tok) (f : Counted) → (IsOpen s → Stops ts) → Rest o r s p ts f → (p ≡ None) × after_level o r s ts f
+pub ended : (o : TalliedFlat) (r : List Tok) (s : List Level) (p : Option ℕ) (ts : List Tok) (f : TalliedFlat) → (IsOpen s → Stops ts) → Rest o r s p ts f → (p ≡ None) × after_level o r s ts f
 ended o r s p ts f st =
     next o r s p ts f (λ e k. (e, k)) (λ j m a h t z. absurd (stops_no_word j ts m h (st (plain_is_open s a))))
     (λ k j a b g e h t q z. absurd (stops_no_group j a b h (stops_at _ ts (sym e) (st g)))) (λ v d g e lt q z. absurd (stops_at _ ts (sym q) (st g)))
 
-module _ (o : Counted) (r : List Tok) (s : List Level) where
-  pub group_back : (k : Sort) (p : Option ℕ) (i : Instr) (a b : List Tok) (f : Counted) → IsOpen s → reads i a b → suits p i ≡ true → sort i ≡ k → Rest o r (inside k i p ∷ s) None b (goes (inside k i p ∷ s) (put k p i f.out) (counted f)) → Rest o r s p (LParen ∷ a) f
+module _ (o : TalliedFlat) (r : List Tok) (s : List Level) where
+  pub group_back : (k : Sort) (p : Option ℕ) (i : Instr) (a b : List Tok) (f : TalliedFlat) → IsOpen s → reads i a b → suits p i ≡ true → sort i ≡ k → Rest o r (inside k i p ∷ s) None b (goes (inside k i p ∷ s) (put k p i f.out) (item_more f)) → Rest o r s p (LParen ∷ a) f
   group_back IsOther p i a b f g h t ki (ys, q, l, fit, only, (d, e, (xs, u, l', fit', only', z))) =
       (Folded i ys xs, u, (a, b, d, refl, ki, h, rw e at l, l'), fits_by p i (Folded i ys xs) (branch_folded i ki) t, (g, only'), z)
   group_back IsBlock p i a b f g h t ki (ys, q, l, fit, only, (d, e, (xs, u, l', fit', only', z))) =
@@ -153,72 +153,72 @@ module _ (o : Counted) (r : List Tok) (s : List Level) where
       let e4 : q2 ≡ RParen ∷ RParen ∷ d3 = cc in
       (IfThen i ops th xs, u, (a, b, d, d3, refl, ki, h, only, rw e at l, rw e4 at l2, l'), fits_by p i (IfThen i ops th xs) (λ b. tt) t, (g, only'), z)
   group_back IsIf p i a b f g h t ki (ops, q, l, fit, only, (d, e, (th, q2, l2, fit2, only2, (d2, e2, inr (d3, e3, (el, q4, l4, fit4, only4, (d5, e5, (d6, e6, (xs, u, l', fit', only', z))))))))) =
-      let e7 : q2 ≡ RParen ∷ LParen ∷ word (codes "else") ∷ d3 = cc in
+      let e7 : q2 ≡ RParen ∷ LParen ∷ keyword (codes "else") ∷ d3 = cc in
       let e8 : q4 ≡ RParen ∷ RParen ∷ d6 = cc in
       (IfElse i ops th el xs, u, (a, b, d, d3, d6, refl, ki, h, only, rw e at l, rw e7 at l2, rw e8 at l4, l'), fits_by p i (IfElse i ops th el xs) (λ b. tt) t, (g, only'), z)
 
   -- a level closes
-  shut : (l : Level) (m : List Tok) (f : Counted) → CanClose l → after_level o r (l ∷ s) (RParen ∷ m) f → closing (length s) (heads_in s) (λ t g. Rest o r s None t (record { out = closed l g.out; items = g.items; peak = g.peak; held = g.held })) (RParen ∷ m) f
+  shut : (l : Level) (m : List Tok) (f : TalliedFlat) → CanClose l → after_level o r (l ∷ s) (RParen ∷ m) f → at_closing (length s) (heads_in s) (λ t g. Rest o r s None t (record { out = closed l g.out; items = g.items; peak = g.peak; held = g.held })) (RParen ∷ m) f
   shut (InIf i p) m f c k = absurd c
   shut AfterThen m f c (inl k) = k
   shut AfterThen m f c (inr (d, e, k)) = cc
   shut l m f c k = k
 
-  pub close_forth : (l : Level) (m : List Tok) (f : Counted) → CanClose l → Rest o r (l ∷ s) None (RParen ∷ m) f → Rest o r s None m (goes s (closed l f.out) f)
+  pub close_forth : (l : Level) (m : List Tok) (f : TalliedFlat) → CanClose l → Rest o r (l ∷ s) None (RParen ∷ m) f → Rest o r s None m (goes s (closed l f.out) f)
   close_forth l m f c k =
       let z = shut l m f c (ended o r (l ∷ s) None (RParen ∷ m) f (λ _. tt) k).1 in
       let q : z.0 ≡ m = (let e = z.1 in cc) in rw q at z.2
 
-  pub close_back : (l : Level) (m : List Tok) (f : Counted) → CanClose l → Rest o r s None m (goes s (closed l f.out) f) → Rest o r (l ∷ s) None (RParen ∷ m) f
+  pub close_back : (l : Level) (m : List Tok) (f : TalliedFlat) → CanClose l → Rest o r s None m (goes s (closed l f.out) f) → Rest o r (l ∷ s) None (RParen ∷ m) f
   close_back (InIf i p) m f c k = absurd c
   close_back AfterThen m f c k = (Nil, RParen ∷ m, refl, tt, tt, inl (m, refl, k))
   close_back l m f c k = (Nil, RParen ∷ m, refl, tt, tt, (m, refl, k))
 
   -- an arm, and the level around it, in which no item can stand
-  pub arm_forth : (l : Level) (w : Tok) (m : List Tok) (f : Counted) → (d : List Tok) × (LParen ∷ w ∷ m ≡ LParen ∷ w ∷ d) × arm (length s) (heads_in (l ∷ s)) (after_level o r (l ∷ s)) d f → Rest o r (InArm ∷ l ∷ s) None m f
+  pub arm_forth : (l : Level) (w : Tok) (m : List Tok) (f : TalliedFlat) → (d : List Tok) × (LParen ∷ w ∷ m ≡ LParen ∷ w ∷ d) × arm (length s) (heads_in (l ∷ s)) (after_level o r (l ∷ s)) d f → Rest o r (InArm ∷ l ∷ s) None m f
   arm_forth l w m f (d, e, (xs, u, t, fit, only, (c, e2, k))) = let q : d ≡ m = cc in (xs, u, rw q at t, fit, only, (c, e2, (Nil, c, refl, tt, tt, k)))
 
-  pub arm_back : (l : Level) (m : List Tok) (f : Counted) → (IsOpen (l ∷ s) → ⊥) → Rest o r (InArm ∷ l ∷ s) None m f → arm (length s) (heads_in (l ∷ s)) (after_level o r (l ∷ s)) m f
+  pub arm_back : (l : Level) (m : List Tok) (f : TalliedFlat) → (IsOpen (l ∷ s) → ⊥) → Rest o r (InArm ∷ l ∷ s) None m f → arm (length s) (heads_in (l ∷ s)) (after_level o r (l ∷ s)) m f
   arm_back l m f n (xs, u, t, fit, only, (c, e, k)) = (xs, u, t, fit, only, (c, e, (ended o r (l ∷ s) None c _ (λ g. absurd (n g)) k).1))
 
-abbrev pub at : List Level → Option ℕ → List Tok → Flat → Stand
+abbrev pub at : List Level → Option ℕ → List Tok → Flat → LoopState
 at s p ts f = record { levels = s; pending = p; left = ts; out = f }
 
-turn_is : (s t : Stand) (n : ℕ → ℕ) → ((m : ℕ) → n m ≤ suc m) → ((c : Tallies) (o : Counted) (r : List Tok) → Finishes o r (standing s c) → Finishes o r (standing t (risen (n c.items) t.levels c)))
-    → ((c : Tallies) (o : Counted) (r : List Tok) → Finishes o r (standing t (risen (n c.items) t.levels c)) → Finishes o r (standing s c))
+turn_is : (s t : LoopState) (n : ℕ → ℕ) → ((m : ℕ) → n m ≤ suc m) → ((c : Tallies) (o : TalliedFlat) (r : List Tok) → Finishes o r (state_with s c) → Finishes o r (state_with t (risen (n c.items) t.levels c)))
+    → ((c : Tallies) (o : TalliedFlat) (r : List Tok) → Finishes o r (state_with t (risen (n c.items) t.levels c)) → Finishes o r (state_with s c))
     → length t.left < length s.left → Balanced (length s.levels) s.left (length t.levels) t.left → Turn s t
 turn_is s t n le forth back shorter level = record { same = λ c. (n c.items, le c.items, record { forth = forth c; back = back c }); shorter = shorter; level = level }
 
 -- ---- what each exit owes
 
 -- where memory didn't run out, the turn was made
-moved : {A : Type 0} (res : Result A Error) {C : Type 0} {s t : Stand} → MatchResult res (λ _. C) (λ e. e.fault ≡ Memory) → (C → Turn s t) → Turned res s t
+moved : {A : Type 0} (res : Result A Error) {C : Type 0} {s t : LoopState} → MatchResult res (λ _. C) (λ e. e.fault ≡ Memory) → (C → Turn s t) → TurnAnswers res s t
 moved (Ok x) m k = k m
 moved (Err x) m k = λ n. absurd (n m)
 
-pub turn_close : {A : Type 0} (res : Result A Error) (l : Level) (levels s : List Level) (p : Option ℕ) (m : List Tok) (f g : Flat) → p ≡ None → levels ≡ l ∷ s → CanClose l → MatchResult res (λ _. g ≡ closed l f) (λ e. e.fault ≡ Memory) → Turned res (at levels p (RParen ∷ m) f) (at s p m g)
+pub turn_close : {A : Type 0} (res : Result A Error) (l : Level) (levels s : List Level) (p : Option ℕ) (m : List Tok) (f g : Flat) → p ≡ None → levels ≡ l ∷ s → CanClose l → MatchResult res (λ _. g ≡ closed l f) (λ e. e.fault ≡ Memory) → TurnAnswers res (at levels p (RParen ∷ m) f) (at s p m g)
 turn_close res l levels s p m f g none e a r = moved res r (λ q. rw (e, none, q) (turn_is _ _ (λ n. n) (omega arith) (λ c o r. close_forth o r s l m (with_tallies f c) a) (λ c o r. close_back o r s l m (with_tallies f c) a) (omega arith) (omega arith)))
 
-pub turn_then : {A : Type 0} (res : Result A Error) (levels s new mid : List Level) (p h : Option ℕ) (i : Instr) (m : List Tok) (f g : Flat) → p ≡ None → levels ≡ InIf i h ∷ s → g ≡ push h i f → mid ≡ AfterThen ∷ s → MatchResult res (λ _. new ≡ InArm ∷ mid) (λ e. e.fault ≡ Memory) → Turned res (at levels p (LParen ∷ word (codes "then") ∷ m) f) (at new p m g)
+pub turn_then : {A : Type 0} (res : Result A Error) (levels s new mid : List Level) (p h : Option ℕ) (i : Instr) (m : List Tok) (f g : Flat) → p ≡ None → levels ≡ InIf i h ∷ s → g ≡ push h i f → mid ≡ AfterThen ∷ s → MatchResult res (λ _. new ≡ InArm ∷ mid) (λ e. e.fault ≡ Memory) → TurnAnswers res (at levels p (LParen ∷ keyword (codes "then") ∷ m) f) (at new p m g)
 turn_then res levels s new mid p h i m f g none e q k r =
     moved res r (λ n. rw (e, none, q, n, k) (turn_is _ _ (λ n. n) (omega arith)
     (λ c o r k. arm_forth o r s AfterThen _ m _ (ended o r (InIf i h ∷ s) None _ (with_tallies f c) (λ _. refl) k).1)
     (λ c o r k. (Nil, _, refl, tt, tt, (m, refl, arm_back o r s AfterThen m _ (λ a. a) k))) (omega arith) (omega arith)))
 
-pub turn_else : {A : Type 0} (res : Result A Error) (levels s new : List Level) (p : Option ℕ) (ts m : List Tok) (f g : Flat) → p ≡ None → levels ≡ AfterThen ∷ s → ts ≡ word (codes "else") ∷ m → new ≡ InArm ∷ AfterElse ∷ s → MatchResult res (λ _. g ≡ push None else_instr f) (λ e. e.fault ≡ Memory) → Turned res (at levels p (LParen ∷ ts) f) (at new p m g)
+pub turn_else : {A : Type 0} (res : Result A Error) (levels s new : List Level) (p : Option ℕ) (ts m : List Tok) (f g : Flat) → p ≡ None → levels ≡ AfterThen ∷ s → ts ≡ keyword (codes "else") ∷ m → new ≡ InArm ∷ AfterElse ∷ s → MatchResult res (λ _. g ≡ push None else_instr f) (λ e. e.fault ≡ Memory) → TurnAnswers res (at levels p (LParen ∷ ts) f) (at new p m g)
 turn_else res levels s new p ts m f g none e t n r =
     moved res r (λ q. rw (e, none, t, n, q) (turn_is _ _ (λ n. n) (omega arith)
     (λ c o r k. elim (ended o r (AfterThen ∷ s) None _ (with_tallies f c) (λ a. absurd a) k).1 [ inl x ↦ (let e = x.1 in cc) | inr x ↦ arm_forth o r s AfterElse _ m _ x ])
     (λ c o r k. (Nil, _, refl, tt, tt, inr (m, refl, arm_back o r s AfterElse m _ (λ a. a) k))) (omega arith) (omega arith)))
 
-pub turn_plain : {A : Type 0} (res : Result A Error) (s : List Level) (p after : Option ℕ) (i : Instr) (ts m : List Tok) (f g : Flat) → TakesPlain s → reads i ts m → suits p i ≡ true → after ≡ None → MatchResult res (λ _. g ≡ push p i f) (λ e. e.fault ≡ Memory) → Turned res (at s p ts f) (at s after m g)
+pub turn_plain : {A : Type 0} (res : Result A Error) (s : List Level) (p after : Option ℕ) (i : Instr) (ts m : List Tok) (f g : Flat) → TakesPlain s → reads i ts m → suits p i ≡ true → after ≡ None → MatchResult res (λ _. g ≡ push p i f) (λ e. e.fault ≡ Memory) → TurnAnswers res (at s p ts f) (at s after m g)
 turn_plain res s p after i ts m f g a h t n r =
     moved res r (λ q. rw (n, q) (turn_is _ _ suc (omega arith)
     (λ c o r. next o r s p ts (with_tallies f c) (λ e k. absurd (stops_no_word i ts m h (ends_behind o r s (plain_is_open s a) ts _ k))) (λ j n a rj t z. let one = reads_one j i ts n m rj h in rw (← one.0, ← one.1) z)
     (λ k j a b g e rj t q z. absurd (no_paren i ts a m h e)) (λ v d g e lt q z. absurd (no_paren i ts _ m h q)))
     (λ c o r (xs, u, l, fit, only, z). (Plain i xs, u, (m, h, l), fits_by p i (Plain i xs) (λ b. b) t, (a, only), z)) (reads_shorter i ts m h) (omega (arith, reads_level i ts m h))))
 
-pub turn_group : {A : Type 0} (res : Result A Error) (k : Sort) (s new : List Level) (p after : Option ℕ) (i : Instr) (ts m : List Tok) (f g : Flat) → sort i ≡ k → IsOpen s → reads i ts m → suits p i ≡ true → after ≡ None → g ≡ put k p i f → MatchResult res (λ _. new ≡ inside k i p ∷ s) (λ e. e.fault ≡ Memory) → Turned res (at s p (LParen ∷ ts) f) (at new after m g)
+pub turn_group : {A : Type 0} (res : Result A Error) (k : Sort) (s new : List Level) (p after : Option ℕ) (i : Instr) (ts m : List Tok) (f g : Flat) → sort i ≡ k → IsOpen s → reads i ts m → suits p i ≡ true → after ≡ None → g ≡ put k p i f → MatchResult res (λ _. new ≡ inside k i p ∷ s) (λ e. e.fault ≡ Memory) → TurnAnswers res (at s p (LParen ∷ ts) f) (at new after m g)
 turn_group res k s new p after i ts m f g q a h t n l r =
     moved res r (λ e. rw (n, l, e) (turn_is _ _ suc (omega arith)
     (λ c o r. next o r s p (LParen ∷ ts) (with_tallies f c) (λ e z. absurd (stops_no_group i ts m h (ends_behind o r s a _ _ z))) (λ j n b rj t z. absurd (word_front j LParen ts n rj))
@@ -262,12 +262,12 @@ pub too_many : (levels s : List Level) (p : Option ℕ) (m : List Tok) (f : Flat
 too_many levels s p m f e = rw e (λ c o r k. let q = (ended o r (AfterElse ∷ s) p _ (with_tallies f c) (λ a. absurd a) k).1.1 in cc)
 
 -- behind (then ..) only (else opens
-pub else_wanted : (levels s : List Level) (p : Option ℕ) (m : List Tok) (f : Flat) → levels ≡ AfterThen ∷ s → ((d : List Tok) → m ≡ word (codes "else") ∷ d → ⊥) → Stuck (at levels p (LParen ∷ m) f)
+pub else_wanted : (levels s : List Level) (p : Option ℕ) (m : List Tok) (f : Flat) → levels ≡ AfterThen ∷ s → ((d : List Tok) → m ≡ keyword (codes "else") ∷ d → ⊥) → Stuck (at levels p (LParen ∷ m) f)
 else_wanted levels s p m f e never =
     rw e (λ c o r k. elim (ended o r (AfterThen ∷ s) p _ (with_tallies f c) (λ a. absurd a) k).1 [ inl x ↦ (let q = x.1 in cc) | inr x ↦ never x.0 (let q = x.1 in cc) ])
 
 -- what behind a level begins with
-no_behind : (s : List Level) (o : Counted) (r ts : List Tok) (f : Counted) → ((i : Instr) (h : Option ℕ) (q : List Level) (d : List Tok) → s ≡ InIf i h ∷ q → ts ≡ LParen ∷ word (codes "then") ∷ d → ⊥) → ((IsOpen s → ⊥) → (d : List Tok) → ts ≡ LParen ∷ d → ⊥)
+no_behind : (s : List Level) (o : TalliedFlat) (r ts : List Tok) (f : TalliedFlat) → ((i : Instr) (h : Option ℕ) (q : List Level) (d : List Tok) → s ≡ InIf i h ∷ q → ts ≡ LParen ∷ keyword (codes "then") ∷ d → ⊥) → ((IsOpen s → ⊥) → (d : List Tok) → ts ≡ LParen ∷ d → ⊥)
     → ((s ≡ [] → ⊥) → (d : List Tok) → ts ≡ RParen ∷ d → ⊥) → (s ≡ [] → ends ts ≡ true → ⊥) → after_level o r s ts f → ⊥
 no_behind [] o r ts f no_then no_else no_close no_end k = no_end refl k.0
 no_behind (InIf i h ∷ s) o r ts f no_then no_else no_close no_end k = no_then i h s k.0 refl k.1
@@ -281,7 +281,7 @@ no_plain s p ts f no_group no_close no_end never c o r =
     next o r s p ts _ (λ e. no_behind s o r ts (with_tallies f c) (λ i h q d e. no_group _) (λ n. no_group) no_close no_end) (λ i m a h t z. never a i m h t) (λ k i a b g e h t q z. no_group a e) (λ v d g e lt q z. no_group _ q)
 
 -- what opens is no instruction, no hint and no (then
-pub no_item : (s : List Level) (p : Option ℕ) (u : List Tok) (f : Flat) → IsOpen s → ((d : List Tok) → u ≡ hint_name ∷ d → ⊥) → ((ts : List Tok) → u ≡ word (codes "then") ∷ ts → (i : Instr) (h : Option ℕ) (q : List Level) → s ≡ InIf i h ∷ q → ⊥) → ((i : Instr) (m : List Tok) → reads i u m → suits p i ≡ true → ⊥) → Stuck (at s p (LParen ∷ u) f)
+pub no_item : (s : List Level) (p : Option ℕ) (u : List Tok) (f : Flat) → IsOpen s → ((d : List Tok) → u ≡ hint_name ∷ d → ⊥) → ((ts : List Tok) → u ≡ keyword (codes "then") ∷ ts → (i : Instr) (h : Option ℕ) (q : List Level) → s ≡ InIf i h ∷ q → ⊥) → ((i : Instr) (m : List Tok) → reads i u m → suits p i ≡ true → ⊥) → Stuck (at s p (LParen ∷ u) f)
 no_item s p u f g no_hint no_then never c o r =
     next o r s p _ _ (λ e. no_behind s o r _ (with_tallies f c) (λ i h q d e e2. no_then d (cc) i h q e) (λ n. absurd (n g)) (λ n d e. cc) (λ e e2. cc)) (λ i m a h t z. word_front i LParen u m h)
     (λ k i a b g e h t q z. let e2 : a ≡ u = cc in never i b (rw e2 at h) t) (λ v d g e lt q z. no_hint (String (v ∷ []) ∷ RParen ∷ d) (cc))

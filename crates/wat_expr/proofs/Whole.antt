@@ -20,7 +20,7 @@ use Rattle.wat_expr.specs.Flat.{flat, no_output}
 use Rattle.wat_expr.specs.Items.{Items, Nil, Plain, Folded, Block, IfThen, IfElse, Hinted, lists, unfolded}
 use Rattle.wat_expr.specs.Levels.{heads_in}
 use Rattle.wat_expr.specs.Listed.{IsListed}
-use Rattle.wat_expr.specs.Progress.{Counted, emit, Fits, Place, Finishes, Same, Tallies, with_tallies, standing, Balanced, Turn, Stuck}
+use Rattle.wat_expr.specs.Progress.{TalliedFlat, emit, Fits, TalliedState, Finishes, Same, Tallies, with_tallies, state_with, Balanced, Turn, Stuck}
 use Rattle.wat_expr.specs.Turned.{stand}
 use Rattle.wat_expr.proofs.FoldedLoop.{not_bare_of}
 use Rattle.wat_expr.proofs.Flatten.{flat_out, Spanned}
@@ -35,17 +35,17 @@ abbrev pub tallies : ℕ → State → Tallies
 tallies n b = record { items = n; peak = b.peak; held = b.held }
 
 -- before anything was read
-abbrev pub first : State → Counted
+abbrev pub first : State → TalliedFlat
 first a = with_tallies (no_output a.tracks) (tallies 0 a)
 
-abbrev pub start : State → Place
-start a = standing (at [] None a.left (no_output a.tracks)) (tallies 0 a)
+abbrev pub start : State → TalliedState
+start a = state_with (at [] None a.left (no_output a.tracks)) (tallies 0 a)
 
 -- From the parser a on, the reader r is in front of what the parser b has left.
 pub record Reading (a b : State) (r : Reader) : Type 0 where
   pub items : ℕ
   pub turns : a.turns + items ≤ b.turns
-  pub same : Same (start a) (standing (stand r b.left) (tallies items b))
+  pub same : Same (start a) (state_with (stand r b.left) (tallies items b))
   pub counts : Carries a b
   pub turned : b.turns + a.taken ≤ a.turns + b.taken
   pub height : Balanced 0 a.left (length r.levels) b.left
@@ -113,18 +113,18 @@ spans_are keeps x s = span_cases _ (λ v. length v.items) x.instr_spans keeps (l
 finished : (a b : State) (r : Reader) (n : ℕ) → a.turns + n ≤ b.turns → ends b.left ≡ true → Finishes (with_tallies (flat r.out) (tallies n b)) b.left (start a) → IsListed a b r.out × SpansAre a.tracks r.out
 finished a b r n turns e (xs, rest, l, fit, only, (e2, here, is)) =
     let c = flat_out xs (first a) in
-    let p = ap (λ (c : Counted). c.out.instrs) (sym is) ∙ c.0 in
-    let q = ap (λ (c : Counted). c.out.hints) (sym is) ∙ c.1 in (
+    let p = ap (λ (c : TalliedFlat). c.out.instrs) (sym is) ∙ c.0 in
+    let q = ap (λ (c : TalliedFlat). c.out.hints) (sym is) ∙ c.1 in (
       record {
         items = xs;
         listed = rw here at l;
         ended = e;
         value = λ j. record { instrs = p j; hints = q j };
-        turned = omega (arith, turns, c.3.0, ap (λ (c : Counted). c.items) is);
-        peak = omega (arith, c.3.1, ap (λ (c : Counted). c.peak) is);
-        held = omega (arith, c.3.2, ap (λ (c : Counted). c.held) is);
+        turned = omega (arith, turns, c.3.0, ap (λ (c : TalliedFlat). c.items) is);
+        peak = omega (arith, c.3.1, ap (λ (c : TalliedFlat). c.peak) is);
+        held = omega (arith, c.3.2, ap (λ (c : TalliedFlat). c.held) is);
       },
-      spans_are a.tracks r.out (subst (λ (c : Counted). Spanned a.tracks c.out) is (c.2 a.tracks refl)),
+      spans_are a.tracks r.out (subst (λ (c : TalliedFlat). Spanned a.tracks c.out) is (c.2 a.tracks refl)),
     )
 
 pub listed : (a b : State) (r : Reader) → Reading a b r → r.levels ≡ [] → r.pending ≡ None → ends b.left ≡ true → IsListed a b r.out × SpansAre a.tracks r.out

@@ -1,5 +1,6 @@
 -- An expression as contracts see it, and the tokens that spell it.
-use Rattle.std.specs.Prelude.{◌≡◌, [], ◌∷◌, ◌++◌, ℕ, Bool, true, false, List, length, map, Option, Some, None, Vec}
+use Rattle.std.specs.Prelude.{◌≡◌, [], ◌∷◌, ◌++◌, ℕ, Bool, true, false, List, length, map, Option}
+use Rattle.std.specs.Prelude.{Some, None, Vec}
 use Rattle.std.specs.Option.{option_map}
 use Rattle.std.specs.declared.alloc.Global.{Global}
 use Rattle.wat_tokens.specs.Parses.{no_items}
@@ -19,7 +20,12 @@ abbrev pub seen_hint : BranchHint → ℕ × ℕ
 seen_hint h = (h.instr_index, h.value)
 
 abbrev pub seen_expression : Expression → Expr
-seen_expression e = record { instrs = map seen_instruction e.instrs.items; hints = map seen_hint e.branch_hints.items }
+seen_expression e =
+    record {
+      instrs = map seen_instruction e.instrs.items;
+      hints = map seen_hint
+          e.branch_hints.items;
+    }
 
 abbrev pub bare_expression : Expr → Bool
 bare_expression e = no_items e.instrs
@@ -35,7 +41,11 @@ expression_spells e c r = (xs : Items) × lists xs (c ++ r) r × (ends r ≡ tru
 
 -- as many spans as instructions where they are kept, and else none
 abbrev pub SpansAre : Bool → Expression → Type 0
-SpansAre keeps e = elim e.instr_spans [ Some v ↦ (keeps ≡ true) × (length v.items ≡ length e.instrs.items) | None ↦ keeps ≡ false ]
+SpansAre keeps e =
+    elim e.instr_spans [
+      | Some v ↦ (keeps ≡ true) × (length v.items ≡ length e.instrs.items)
+      | None ↦ keeps ≡ false
+    ]
 
 -- the spans that are kept
 abbrev pub kept_spans : {S : Type 0} → Option (Vec S Global) → Option (List S)

@@ -2,7 +2,8 @@
 use Rattle.wat_tokens.specs.Production.{Production}
 use Rattle.wat_expr.specs.Expression.{Expr, expression_spells}
 use Rattle.wat_expr.specs.Reading.{expression_reads}
-use Rattle.wat_expr.specs.Laws.Reading.{expression_sound, expression_complete, expression_takes, expression_level}
+use Rattle.wat_expr.specs.Laws.Reading.{expression_sound, expression_complete, expression_takes}
+use Rattle.wat_expr.specs.Laws.Reading.{expression_level}
 
 -- ---- the production
 

@@ -1,5 +1,6 @@
 -- What a loop has put out.
-use Rattle.std.specs.Prelude.{ℕ, suc, Bool, List, [], ◌∷◌, ◌++◌, length, map, Option, Some, None, Vec, if◌then◌else◌}
+use Rattle.std.specs.Prelude.{ℕ, suc, Bool, List, [], ◌∷◌, ◌++◌, length, map, Option, Some, None}
+use Rattle.std.specs.Prelude.{Vec, if◌then◌else◌}
 use Rattle.std.specs.declared.alloc.Global.{Global}
 use Rattle.wat_instr.specs.Instruction.{Instr, seen_instruction}
 use Rattle.wat_expr.specs.declared.expression.Expression.{Expression}
@@ -34,4 +35,9 @@ one_more None = None
 
 -- an instruction at the end, with the hint that stands directly before its item
 abbrev pub push : Option ℕ → Instr → Flat → Flat
-push p i f = record { instrs = f.instrs ++ i ∷ []; hints = f.hints ++ mark p (length f.instrs); spans = one_more f.spans }
+push p i f =
+    record {
+      instrs = f.instrs ++ i ∷ [];
+      hints = f.hints ++ mark p (length f.instrs);
+      spans = one_more f.spans;
+    }

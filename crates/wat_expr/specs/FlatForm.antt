@@ -1,9 +1,11 @@
 -- The flat form of what is listed: its instructions' own tokens, without groups and hints.
-use Rattle.std.specs.Prelude.{◌≡◌, ℕ, ◌+◌, ◌-◌, Bool, false, if◌then◌else◌, List, [], ◌∷◌, ◌++◌, length, take, codes}
+use Rattle.std.specs.Prelude.{◌≡◌, ℕ, ◌+◌, ◌-◌, Bool, false, if◌then◌else◌, List, [], ◌∷◌, ◌++◌}
+use Rattle.std.specs.Prelude.{length, take, codes}
 use Rattle.wat_tokens.specs.Token.{Tok, LParen, RParen, String}
 use Rattle.wat_instr.specs.Instruction.{Instr}
 use Rattle.wat_expr.specs.Expression.{Expr}
-use Rattle.wat_expr.specs.Items.{Items, Nil, Plain, Folded, Block, IfThen, IfElse, Hinted, Only, lists, word, hint_name}
+use Rattle.wat_expr.specs.Items.{Items, Nil, Plain, Folded, Block, IfThen, IfElse, Hinted, Only}
+use Rattle.wat_expr.specs.Items.{lists, keyword, hint_name}
 use Rattle.wat_expr.specs.Folded.{Groups, NoGroup, Group, groups, is_folded}
 
 -- items of instructions alone
@@ -25,23 +27,31 @@ own ts m = take (length ts - length m) ts
 abbrev pub flat_tokens : (xs : Items) (ts r : List Tok) → lists xs ts r → List Tok
 flat_tokens Nil ts r l = []
 flat_tokens (Plain i xs) ts r (m, h, l) = own ts m ++ flat_tokens xs m r l
-flat_tokens (Folded i ys xs) ts r (a, b, d, e, s, h, ly, lx) = (flat_tokens ys b (RParen ∷ d) ly ++ own a b) ++ flat_tokens xs d r lx
+flat_tokens (Folded i ys xs) ts r (a, b, d, e, s, h, ly, lx) =
+    (flat_tokens ys b (RParen ∷ d) ly ++ own a b) ++ flat_tokens xs d r lx
 flat_tokens (Block i ys xs) ts r (a, b, d, e, s, h, ly, lx) =
-    (own a b ++ (flat_tokens ys b (RParen ∷ d) ly ++ word (codes "end") ∷ [])) ++ flat_tokens xs d r lx
+    (own a b ++ (flat_tokens ys b (RParen ∷ d) ly ++ keyword (codes "end") ∷ []))
+    ++ flat_tokens xs d r lx
 flat_tokens (IfThen i ops th xs) ts r (a, b, d, e, q, s, h, g, lo, lt, lx) =
-    (flat_tokens ops b (LParen ∷ word (codes "then") ∷ d) lo ++ (own a b ++ (flat_tokens th d (RParen ∷ RParen ∷ e) lt ++ word (codes "end") ∷ []))) ++ flat_tokens xs e r lx
+    (flat_tokens ops b (LParen ∷ keyword (codes "then") ∷ d) lo
+    ++ (own a b ++ (flat_tokens th d (RParen ∷ RParen ∷ e) lt ++ keyword (codes "end") ∷ [])))
+    ++ flat_tokens xs e r lx
 flat_tokens (IfElse i ops th el xs) ts r (a, b, d, e, f, q, s, h, g, lo, lt, le, lx) =
-    (flat_tokens ops b (LParen ∷ word (codes "then") ∷ d) lo
-    ++ (own a b ++ (flat_tokens th d (RParen ∷ LParen ∷ word (codes "else") ∷ e) lt ++ (word (codes "else") ∷ (flat_tokens el e (RParen ∷ RParen ∷ f) le ++ word (codes "end") ∷ []))))) ++ flat_tokens xs f r lx
+    (flat_tokens ops b (LParen ∷ keyword (codes "then") ∷ d) lo
+    ++ (own a b ++ (flat_tokens th d (RParen ∷ LParen ∷ keyword (codes "else") ∷ e) lt
+    ++ (keyword (codes "else") ∷ (flat_tokens el e (RParen ∷ RParen ∷ f) le ++ keyword (codes "end")
+    ∷ []))))) ++ flat_tokens xs f r lx
 flat_tokens (Hinted v xs) ts r (d, e, lt, g, l) = flat_tokens xs d r l
 
 -- the same of groups, as `plain` lists their instructions
 abbrev pub flat_groups : (gs : Groups) (ts r : List Tok) → groups gs ts r → List Tok
 flat_groups NoGroup ts r l = []
-flat_groups (Group i gs hs) ts r (a, b, d, e, h, l, k) = (flat_groups gs b (RParen ∷ d) l ++ own a b) ++ flat_groups hs d r k
+flat_groups (Group i gs hs) ts r (a, b, d, e, h, l, k) =
+    (flat_groups gs b (RParen ∷ d) l ++ own a b) ++ flat_groups hs d r k
 
 -- the same of a folded instruction
-abbrev pub flat_folded : (i : Instr) (gs : Groups) (ts r : List Tok) → is_folded i gs ts r → List Tok
+abbrev pub flat_folded : (i : Instr) (gs : Groups) (ts r : List Tok) → is_folded i gs ts r
+    → List Tok
 flat_folded i gs ts r (a, b, e, h, l) = flat_groups gs b (RParen ∷ r) l ++ own a b
 
 -- instructions without a hint
@@ -49,13 +59,14 @@ abbrev pub flat_value : List Instr → Expr
 flat_value is = record { instrs = is; hints = [] }
 
 -- how many of the tokens pass the test
-abbrev pub number : (Tok → Bool) → List Tok → ℕ
-number test [] = 0
-number test (x ∷ ts) = (if test x then 1 else 0) + number test ts
+abbrev pub how_many : (Tok → Bool) → List Tok → ℕ
+how_many test [] = 0
+how_many test (x ∷ ts) = (if test x then 1 else 0) + how_many test ts
 
 -- the test passes none of the tokens that groups and hints are written with, nor the words that are
 -- added
 abbrev pub PassesOwnAlone : (Tok → Bool) → Type 0
 PassesOwnAlone test =
-    (test LParen ≡ false) × (test RParen ≡ false) × (test (word (codes "then")) ≡ false) × (test (word (codes "else")) ≡ false) × (test (word (codes "end")) ≡ false)
+    (test LParen ≡ false) × (test RParen ≡ false) × (test (keyword (codes "then")) ≡ false)
+    × (test (keyword (codes "else")) ≡ false) × (test (keyword (codes "end")) ≡ false)
     × (test hint_name ≡ false) × ((v : ℕ) → test (String (v ∷ [])) ≡ false)

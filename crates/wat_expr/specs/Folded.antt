@@ -44,11 +44,15 @@ folded_value i gs = record { instrs = plain gs ++ i ∷ []; hints = [] }
 
 unfoldable pub groups_at : ℕ → List Tok → Read Groups
 groups_at zero t = None
-groups_at (suc n) (LParen ∷ t) = bind (instruction.reads t) (λ i b. bind (groups_at n b) (λ gs u. bind (shut u) (λ _ d. bind (groups_at n d) (λ hs r. some_of (Group i gs hs, r)))))
+groups_at (suc n) (LParen ∷ t) =
+    bind (instruction.reads t) (λ i b. bind (groups_at n b)
+    (λ gs u. bind (shut u) (λ _ d. bind (groups_at n d) (λ hs r. some_of (Group i gs hs, r)))))
 groups_at (suc n) t = Some (NoGroup, t)
 
 abbrev pub folded_reads : List Tok → Read Expr
-folded_reads (LParen ∷ t) = bind (instruction.reads t) (λ i b. bind (groups_at (suc (length b)) b) (λ gs u. bind (shut u) (λ _ r. some_of (folded_value i gs, r))))
+folded_reads (LParen ∷ t) =
+    bind (instruction.reads t) (λ i b. bind (groups_at (suc (length b)) b)
+    (λ gs u. bind (shut u) (λ _ r. some_of (folded_value i gs, r))))
 folded_reads _ = None
 
 -- ---- the production
@@ -56,4 +60,5 @@ folded_reads _ = None
 -- in front of the rest r the tokens c list one group, and the expression is its instructions, each
 -- behind those of its groups, without a hint
 abbrev pub folded_spells : Expr → List Tok → List Tok → Type 0
-folded_spells e c r = (i : Instr) × (gs : Groups) × is_folded i gs (c ++ r) r × (e ≡ folded_value i gs)
+folded_spells e c r =
+    (i : Instr) × (gs : Groups) × is_folded i gs (c ++ r) r × (e ≡ folded_value i gs)

@@ -1,8 +1,10 @@
 -- Expressions: items, the tokens that list them, and what they unfold to.
-use Rattle.std.specs.Prelude.{◌≡◌, ℕ, suc, ◌+◌, ◌<◌, max, Bool, true, false, ◌||◌, List, [], ◌∷◌, ◌++◌, length, Option, Some, None, codes}
+use Rattle.std.specs.Prelude.{◌≡◌, ℕ, suc, ◌+◌, ◌<◌, max, Bool, true, false, ◌||◌, List, [], ◌∷◌}
+use Rattle.std.specs.Prelude.{◌++◌, length, Option, Some, None, codes}
 use Rattle.wat_tokens.specs.Production.{Front}
 use Rattle.wat_tokens.specs.Token.{Tok, LParen, RParen, Keyword, Annotation, String}
-use Rattle.wat_instr.specs.Instruction.{Instr, instruction, is_block, is_if, is_br_if, else_instr, end_instr}
+use Rattle.wat_instr.specs.Instruction.{Instr, instruction, is_block, is_if, is_br_if, else_instr}
+use Rattle.wat_instr.specs.Instruction.{end_instr}
 
 -- what stands behind an instruction in its group
 pub data Sort : Type 0 where
@@ -63,8 +65,8 @@ BeginsWithBranch (IfElse i ops th el xs) = Unit {0}
 BeginsWithBranch (Hinted v xs) = ⊥
 
 -- the tokens of a word and of a hint's annotation
-abbrev pub word : List ℕ → Tok
-word w = Keyword w
+abbrev pub keyword : List ℕ → Tok
+keyword w = Keyword w
 
 abbrev pub hint_name : Tok
 hint_name = Annotation (codes "metadata.code.branch_hint")
@@ -77,19 +79,27 @@ lists Nil ts r = ts ≡ r
 lists (Plain i xs) ts r = (m : List Tok) × reads i ts m × lists xs m r
 -- ( i items )
 lists (Folded i ys xs) ts r =
-    (a b d : List Tok) × (ts ≡ LParen ∷ a) × (sort i ≡ IsOther) × reads i a b × lists ys b (RParen ∷ d) × lists xs d r
+    (a b d : List Tok) × (ts ≡ LParen ∷ a) × (sort i ≡ IsOther) × reads i a b
+    × lists ys b (RParen ∷ d) × lists xs d r
 -- ( i items ), of a block
 lists (Block i ys xs) ts r =
-    (a b d : List Tok) × (ts ≡ LParen ∷ a) × (sort i ≡ IsBlock) × reads i a b × lists ys b (RParen ∷ d) × lists xs d r
+    (a b d : List Tok) × (ts ≡ LParen ∷ a) × (sort i ≡ IsBlock) × reads i a b
+    × lists ys b (RParen ∷ d) × lists xs d r
 -- ( i groups ( then items ) ), of an `if`, behind whose word a block type may stand
 lists (IfThen i ops th xs) ts r =
-    (a b d e : List Tok) × (ts ≡ LParen ∷ a) × (sort i ≡ IsIf) × reads i a b × AreGroups ops × lists ops b (LParen ∷ word (codes "then") ∷ d) × lists th d (RParen ∷ RParen ∷ e) × lists xs e r
+    (a b d e : List Tok) × (ts ≡ LParen ∷ a) × (sort i ≡ IsIf) × reads i a b × AreGroups ops
+    × lists ops b (LParen ∷ keyword (codes "then") ∷ d) × lists th d (RParen ∷ RParen ∷ e)
+    × lists xs e r
 -- ( i groups ( then items ) ( else items ) )
 lists (IfElse i ops th el xs) ts r =
-    (a b d e f : List Tok) × (ts ≡ LParen ∷ a) × (sort i ≡ IsIf) × reads i a b × AreGroups ops × lists ops b (LParen ∷ word (codes "then") ∷ d) × lists th d (RParen ∷ LParen ∷ word (codes "else") ∷ e) × lists el e (RParen ∷ RParen ∷ f) × lists xs f r
+    (a b d e f : List Tok) × (ts ≡ LParen ∷ a) × (sort i ≡ IsIf) × reads i a b × AreGroups ops
+    × lists ops b (LParen ∷ keyword (codes "then") ∷ d)
+    × lists th d (RParen ∷ LParen ∷ keyword (codes "else") ∷ e)
+    × lists el e (RParen ∷ RParen ∷ f) × lists xs f r
 -- ( @metadata.code.branch_hint "v" ), v the byte 0 or 1, and an item whose head is `br_if` or `if`
 lists (Hinted v xs) ts r =
-    (d : List Tok) × (ts ≡ LParen ∷ hint_name ∷ String (v ∷ []) ∷ RParen ∷ d) × (v < 2) × BeginsWithBranch xs × lists xs d r
+    (d : List Tok) × (ts ≡ LParen ∷ hint_name ∷ String (v ∷ []) ∷ RParen ∷ d) × (v < 2)
+    × BeginsWithBranch xs × lists xs d r
 
 -- The instructions in the order of a flat list: a folded one behind its operands, a block's and an
 -- `if`'s in front of what it holds, with `else` and `end` added.
@@ -98,9 +108,11 @@ unfolded Nil = []
 unfolded (Plain i xs) = i ∷ unfolded xs
 unfolded (Folded i ys xs) = (unfolded ys ++ i ∷ []) ++ unfolded xs
 unfolded (Block i ys xs) = (i ∷ (unfolded ys ++ end_instr ∷ [])) ++ unfolded xs
-unfolded (IfThen i ops th xs) = (unfolded ops ++ (i ∷ (unfolded th ++ end_instr ∷ []))) ++ unfolded xs
+unfolded (IfThen i ops th xs) =
+    (unfolded ops ++ (i ∷ (unfolded th ++ end_instr ∷ []))) ++ unfolded xs
 unfolded (IfElse i ops th el xs) =
-    (unfolded ops ++ (i ∷ (unfolded th ++ (else_instr ∷ (unfolded el ++ end_instr ∷ []))))) ++ unfolded xs
+    (unfolded ops ++ (i ∷ (unfolded th ++ (else_instr ∷ (unfolded el ++ end_instr ∷ [])))))
+    ++ unfolded xs
 unfolded (Hinted v xs) = unfolded xs
 
 -- the pair of an instruction's index and the hint directly before its item, where one stands there
@@ -117,14 +129,18 @@ hints_behind p (Folded i ys xs) b =
     let head = b + length (unfolded ys) in
     (hints_behind None ys b ++ mark p head) ++ hints_behind None xs (head + 1)
 hints_behind p (Block i ys xs) b =
-    (mark p b ++ hints_behind None ys (b + 1)) ++ hints_behind None xs (b + 1 + length (unfolded ys) + 1)
+    (mark p b ++ hints_behind None ys (b + 1))
+    ++ hints_behind None xs (b + 1 + length (unfolded ys) + 1)
 hints_behind p (IfThen i ops th xs) b =
     let head = b + length (unfolded ops) in
-    (hints_behind None ops b ++ (mark p head ++ hints_behind None th (head + 1))) ++ hints_behind None xs (head + 1 + length (unfolded th) + 1)
+    (hints_behind None ops b ++ (mark p head ++ hints_behind None th (head + 1)))
+    ++ hints_behind None xs (head + 1 + length (unfolded th) + 1)
 hints_behind p (IfElse i ops th el xs) b =
     let head = b + length (unfolded ops) in
     let other = head + 1 + length (unfolded th) + 1 in
-    (hints_behind None ops b ++ (mark p head ++ (hints_behind None th (head + 1) ++ hints_behind None el other))) ++ hints_behind None xs (other + length (unfolded el) + 1)
+    (hints_behind None ops b ++ (mark p head
+    ++ (hints_behind None th (head + 1) ++ hints_behind None el other)))
+    ++ hints_behind None xs (other + length (unfolded el) + 1)
 hints_behind p (Hinted v xs) b = hints_behind (Some v) xs b
 
 -- Each hint of the items, with the index of the instruction of the item that it stands before; the
@@ -151,7 +167,8 @@ count_hints (Plain i xs) = count_hints xs
 count_hints (Folded i ys xs) = count_hints ys + count_hints xs
 count_hints (Block i ys xs) = count_hints ys + count_hints xs
 count_hints (IfThen i ops th xs) = count_hints ops + count_hints th + count_hints xs
-count_hints (IfElse i ops th el xs) = count_hints ops + count_hints th + count_hints el + count_hints xs
+count_hints (IfElse i ops th el xs) =
+    count_hints ops + count_hints th + count_hints el + count_hints xs
 count_hints (Hinted v xs) = suc (count_hints xs)
 
 -- how deep groups stand in groups: 0 for instructions alone and hints

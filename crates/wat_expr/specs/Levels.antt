@@ -61,7 +61,8 @@ levels (kind.Arm ∷ ks) hs = InArm ∷ levels ks hs
 -- the innermost level is of the kind; None where nothing is open
 abbrev pub TopIs : Option Kind → List Level → Type 0
 TopIs None s = s ≡ []
-TopIs (Some kind.Folded) s = (i : Instr) × (h : Option ℕ) × (q : List Level) × (s ≡ InFolded i h ∷ q)
+TopIs (Some kind.Folded) s =
+    (i : Instr) × (h : Option ℕ) × (q : List Level) × (s ≡ InFolded i h ∷ q)
 TopIs (Some kind.If) s = (i : Instr) × (h : Option ℕ) × (q : List Level) × (s ≡ InIf i h ∷ q)
 TopIs (Some kind.Block) s = (q : List Level) × (s ≡ InBlock ∷ q)
 TopIs (Some kind.AfterThen) s = (q : List Level) × (s ≡ AfterThen ∷ q)

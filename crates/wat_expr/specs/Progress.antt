@@ -1,46 +1,59 @@
 -- What the loop has still to do from a state: the meaning of its open levels.
-use Rattle.std.specs.Prelude.{◌≡◌, ◌≢◌, ◌⊎◌, ℕ, suc, ◌≤◌, ◌+◌, ◌<◌, max, Bool, true, List, [], ◌∷◌, length, Option, Some, None, Result, Ok, Err, codes}
+use Rattle.std.specs.Prelude.{◌≡◌, ◌≢◌, ◌⊎◌, ℕ, suc, ◌≤◌, ◌+◌, ◌<◌, max, Bool, true, List, [], ◌∷◌}
+use Rattle.std.specs.Prelude.{length, Option, Some, None, Result, Ok, Err, codes}
 use Rattle.wat_tokens.specs.Token.{Tok, LParen, RParen}
 use Rattle.wat_tokens.specs.Error.{Error, Memory}
 use Rattle.wat_tokens.specs.Parens.{opens, closes}
 use Rattle.wat_tokens.specs.Tests.{ends}
 use Rattle.wat_instr.specs.Instruction.{Instr, else_instr, end_instr}
 use Rattle.wat_expr.specs.Flat.{Flat, push}
-use Rattle.wat_expr.specs.Items.{word, Items, Nil, Plain, Folded, Block, IfThen, IfElse, Hinted, Only, is_branch, BeginsWithBranch, lists}
-use Rattle.wat_expr.specs.Levels.{Level, InFolded, InBlock, InIf, AfterThen, AfterElse, InArm, heads_in}
+use Rattle.wat_expr.specs.Items.{keyword, Items, Nil, Plain, Folded, Block, IfThen, IfElse, Hinted}
+use Rattle.wat_expr.specs.Items.{Only, is_branch, BeginsWithBranch, lists}
+use Rattle.wat_expr.specs.Levels.{Level, InFolded, InBlock, InIf, AfterThen, AfterElse, InArm}
+use Rattle.wat_expr.specs.Levels.{heads_in}
 
 -- the output, how many items there were, and the greatest numbers of levels and of heads so far
-pub record Counted : Type 0 where
+pub record TalliedFlat : Type 0 where
   pub out : Flat
   pub items : ℕ
   pub peak : ℕ
   pub held : ℕ
 
-abbrev pub add : Option ℕ → Instr → Counted → Counted
-add p i f = record { out = push p i f.out; items = f.items; peak = f.peak; held = f.held }
+abbrev pub with_instr : Option ℕ → Instr → TalliedFlat → TalliedFlat
+with_instr p i f = record { out = push p i f.out; items = f.items; peak = f.peak; held = f.held }
 
 -- one more item
-abbrev pub counted : Counted → Counted
-counted f = record { out = f.out; items = suc f.items; peak = f.peak; held = f.held }
+abbrev pub item_more : TalliedFlat → TalliedFlat
+item_more f = record { out = f.out; items = suc f.items; peak = f.peak; held = f.held }
 
 -- at the end of a turn: k levels are open, and they hold h heads
-abbrev pub noted : ℕ → ℕ → Counted → Counted
+abbrev pub noted : ℕ → ℕ → TalliedFlat → TalliedFlat
 noted k h f = record { out = f.out; items = f.items; peak = max f.peak k; held = max f.held h }
 
 -- What the items come to, turn by turn, in k levels that hold h heads, where p stands directly
 -- before the first item.
-abbrev pub emit : ℕ → ℕ → Option ℕ → Items → Counted → Counted
+abbrev pub emit : ℕ → ℕ → Option ℕ → Items → TalliedFlat → TalliedFlat
 emit k h p Nil f = f
-emit k h p (Plain i xs) f = emit k h None xs (noted k h (add p i (counted f)))
+emit k h p (Plain i xs) f = emit k h None xs (noted k h (with_instr p i (item_more f)))
 emit k h p (Folded i ys xs) f =
-    emit k h None xs (noted k h (add p i (emit (suc k) (suc h) None ys (noted (suc k) (suc h) (counted f)))))
+    emit k h None xs (noted k h (with_instr p i
+    (emit (suc k) (suc h) None ys (noted (suc k) (suc h) (item_more f)))))
 emit k h p (Block i ys xs) f =
-    emit k h None xs (noted k h (add None end_instr (emit (suc k) h None ys (noted (suc k) h (add p i (counted f))))))
+    emit k h None xs (noted k h (with_instr None end_instr
+    (emit (suc k) h None ys (noted (suc k) h (with_instr p i (item_more f))))))
 emit k h p (IfThen i ops th xs) f =
-    emit k h None xs (noted k h (add None end_instr (noted (suc k) h (emit (suc (suc k)) h None th (noted (suc (suc k)) h (add p i (emit (suc k) (suc h) None ops (noted (suc k) (suc h) (counted f)))))))))
+    emit k h None xs (noted k h (with_instr None end_instr
+    (noted (suc k) h (emit (suc (suc k)) h None th
+    (noted (suc (suc k)) h (with_instr p i
+    (emit (suc k) (suc h) None ops (noted (suc k) (suc h) (item_more f)))))))))
 emit k h p (IfElse i ops th el xs) f =
-    emit k h None xs (noted k h (add None end_instr (noted (suc k) h (emit (suc (suc k)) h None el (noted (suc (suc k)) h (add None else_instr (noted (suc k) h (emit (suc (suc k)) h None th (noted (suc (suc k)) h (add p i (emit (suc k) (suc h) None ops (noted (suc k) (suc h) (counted f)))))))))))))
-emit k h p (Hinted v xs) f = emit k h (Some v) xs (noted k h (counted f))
+    emit k h None xs (noted k h (with_instr None end_instr
+    (noted (suc k) h (emit (suc (suc k)) h None el
+    (noted (suc (suc k)) h (with_instr None else_instr
+    (noted (suc k) h (emit (suc (suc k)) h None th
+    (noted (suc (suc k)) h (with_instr p i
+    (emit (suc k) (suc h) None ops (noted (suc k) (suc h) (item_more f)))))))))))))
+emit k h p (Hinted v xs) f = emit k h (Some v) xs (noted k h (item_more f))
 
 -- what stands behind a pending hint
 abbrev pub Fits : Option ℕ → Items → Type 0
@@ -54,19 +67,20 @@ suits (Some v) i = is_branch i
 
 -- what follows a list: its tokens, and the output so far
 abbrev pub After : Type 1
-After = List Tok → Counted → Type 0
+After = List Tok → TalliedFlat → Type 0
 
 -- Items, then what follows them.
-abbrev pub Open : Type 0 → Type 0 → After → ℕ → ℕ → Option ℕ → List Tok → Counted → Type 0
-Open P G K k h p ts f = (xs : Items) × (r : List Tok) × lists xs ts r × Fits p xs × Only P G xs × K r (emit k h p xs f)
+abbrev pub Open : Type 0 → Type 0 → After → ℕ → ℕ → Option ℕ → List Tok → TalliedFlat → Type 0
+Open P G K k h p ts f =
+    (xs : Items) × (r : List Tok) × lists xs ts r × Fits p xs × Only P G xs × K r (emit k h p xs f)
 
 -- what a closing parenthesis leads to, in k levels that hold h heads
-abbrev pub closing : ℕ → ℕ → After → After
-closing k h N r f = (m : List Tok) × (r ≡ RParen ∷ m) × N m (noted k h f)
+abbrev pub at_closing : ℕ → ℕ → After → After
+at_closing k h N r f = (m : List Tok) × (r ≡ RParen ∷ m) × N m (noted k h f)
 
 -- at the closing parenthesis an instruction is added
 abbrev pub close_with : ℕ → ℕ → After → Instr → Option ℕ → After
-close_with k h N i p = closing k h (λ m f. N m (add p i f))
+close_with k h N i p = at_closing k h (λ m f. N m (with_instr p i f))
 
 -- behind (else ..): the `if` is closed
 abbrev pub after_else : ℕ → ℕ → After → After
@@ -74,20 +88,22 @@ after_else k h N = close_with k h N end_instr None
 
 -- the items of an arm, and what follows it
 abbrev pub arm : ℕ → ℕ → After → After
-arm k h N = Open (Unit {0}) (Unit {0}) (closing (suc k) h N) (suc (suc k)) h None
+arm k h N = Open (Unit {0}) (Unit {0}) (at_closing (suc k) h N) (suc (suc k)) h None
 
 -- behind (then ..): the `if` is closed, or (else comes
 abbrev pub after_then : ℕ → ℕ → After → After
 after_then k h N ts f =
-    after_else k h N ts f ⊎ ((m : List Tok) × (ts ≡ LParen ∷ word (codes "else") ∷ m) × arm k h (after_else k h N) m (noted (suc (suc k)) h (add None else_instr f)))
+    after_else k h N ts f ⊎ ((m : List Tok) × (ts ≡ LParen ∷ keyword (codes "else") ∷ m)
+    × arm k h (after_else k h N) m (noted (suc (suc k)) h (with_instr None else_instr f)))
 
 -- behind an `if`'s operands: (then comes
 abbrev pub then_arm : ℕ → ℕ → After → Instr → Option ℕ → After
 then_arm k h N i p ts f =
-    (m : List Tok) × (ts ≡ LParen ∷ word (codes "then") ∷ m) × arm k h (after_then k h N) m (noted (suc (suc k)) h (add p i f))
+    (m : List Tok) × (ts ≡ LParen ∷ keyword (codes "then") ∷ m)
+    × arm k h (after_then k h N) m (noted (suc (suc k)) h (with_instr p i f))
 
 -- at the end nothing follows but r, and the output is o
-abbrev pub all_done : Counted → List Tok → After
+abbrev pub all_done : TalliedFlat → List Tok → After
 all_done o r ts f = (ends ts ≡ true) × (ts ≡ r) × (f ≡ o)
 
 -- the levels in which an item can stand, and those in which a Plain item can
@@ -103,34 +119,48 @@ TakesPlain (AfterElse ∷ s) = ⊥
 TakesPlain _ = Unit {0}
 
 -- what follows the items of the innermost level, up to the end, where r is left and the output is o
-abbrev pub after_level : Counted → List Tok → List Level → After
+abbrev pub after_level : TalliedFlat → List Tok → List Level → After
 after_level o r [] = all_done o r
-after_level o r (InFolded i p ∷ s) = close_with (length s) (heads_in s) (Open (TakesPlain s) (IsOpen s) (after_level o r s) (length s) (heads_in s) None) i p
-after_level o r (InBlock ∷ s) = close_with (length s) (heads_in s) (Open (TakesPlain s) (IsOpen s) (after_level o r s) (length s) (heads_in s) None) end_instr None
-after_level o r (InIf i p ∷ s) = then_arm (length s) (heads_in s) (Open (TakesPlain s) (IsOpen s) (after_level o r s) (length s) (heads_in s) None) i p
-after_level o r (AfterThen ∷ s) = after_then (length s) (heads_in s) (Open (TakesPlain s) (IsOpen s) (after_level o r s) (length s) (heads_in s) None)
-after_level o r (AfterElse ∷ s) = after_else (length s) (heads_in s) (Open (TakesPlain s) (IsOpen s) (after_level o r s) (length s) (heads_in s) None)
-after_level o r (InArm ∷ s) = closing (length s) (heads_in s) (Open (TakesPlain s) (IsOpen s) (after_level o r s) (length s) (heads_in s) None)
+after_level o r (InFolded i p ∷ s) =
+    close_with (length s) (heads_in s)
+    (Open (TakesPlain s) (IsOpen s) (after_level o r s) (length s) (heads_in s) None) i p
+after_level o r (InBlock ∷ s) =
+    close_with (length s) (heads_in s)
+    (Open (TakesPlain s) (IsOpen s) (after_level o r s) (length s) (heads_in s) None) end_instr None
+after_level o r (InIf i p ∷ s) =
+    then_arm (length s) (heads_in s)
+    (Open (TakesPlain s) (IsOpen s) (after_level o r s) (length s) (heads_in s) None) i p
+after_level o r (AfterThen ∷ s) =
+    after_then (length s) (heads_in s)
+    (Open (TakesPlain s) (IsOpen s) (after_level o r s) (length s) (heads_in s) None)
+after_level o r (AfterElse ∷ s) =
+    after_else (length s) (heads_in s)
+    (Open (TakesPlain s) (IsOpen s) (after_level o r s) (length s) (heads_in s) None)
+after_level o r (InArm ∷ s) =
+    at_closing (length s) (heads_in s)
+    (Open (TakesPlain s) (IsOpen s) (after_level o r s) (length s) (heads_in s) None)
 
 -- the loop's state, the innermost level first
-pub record Place : Type 0 where
+pub record TalliedState : Type 0 where
   pub levels : List Level
   pub pending : Option ℕ
   pub left : List Tok
-  pub flat : Counted
+  pub flat : TalliedFlat
 
 -- From the place the tokens that are left finish with the output o before the rest r.
-abbrev pub Finishes : Counted → List Tok → Place → Type 0
-Finishes o r s = Open (TakesPlain s.levels) (IsOpen s.levels) (after_level o r s.levels) (length s.levels) (heads_in s.levels) s.pending s.left s.flat
+abbrev pub Finishes : TalliedFlat → List Tok → TalliedState → Type 0
+Finishes o r s =
+    Open (TakesPlain s.levels) (IsOpen s.levels) (after_level o r s.levels) (length s.levels)
+    (heads_in s.levels) s.pending s.left s.flat
 
 -- both places finish alike
-pub record Same (s t : Place) : Type 0 where
-  pub forth : (o : Counted) (r : List Tok) → Finishes o r s → Finishes o r t
-  pub back : (o : Counted) (r : List Tok) → Finishes o r t → Finishes o r s
+pub record Same (s t : TalliedState) : Type 0 where
+  pub forth : (o : TalliedFlat) (r : List Tok) → Finishes o r s → Finishes o r t
+  pub back : (o : TalliedFlat) (r : List Tok) → Finishes o r t → Finishes o r s
 
 -- the place finishes in no way
-abbrev pub IsStuck : Place → Type 0
-IsStuck s = (o : Counted) (r : List Tok) → Finishes o r s → ⊥
+abbrev pub IsStuck : TalliedState → Type 0
+IsStuck s = (o : TalliedFlat) (r : List Tok) → Finishes o r s → ⊥
 
 -- ---- a turn, whatever was counted before
 
@@ -139,18 +169,19 @@ pub record Tallies : Type 0 where
   pub peak : ℕ
   pub held : ℕ
 
-abbrev pub with_tallies : Flat → Tallies → Counted
+abbrev pub with_tallies : Flat → Tallies → TalliedFlat
 with_tallies f c = record { out = f; items = c.items; peak = c.peak; held = c.held }
 
 -- a place without what was counted
-pub record Stand : Type 0 where
+pub record LoopState : Type 0 where
   pub levels : List Level
   pub pending : Option ℕ
   pub left : List Tok
   pub out : Flat
 
-abbrev pub standing : Stand → Tallies → Place
-standing s c = record { levels = s.levels; pending = s.pending; left = s.left; flat = with_tallies s.out c }
+abbrev pub state_with : LoopState → Tallies → TalliedState
+state_with s c =
+    record { levels = s.levels; pending = s.pending; left = s.left; flat = with_tallies s.out c }
 
 -- what is counted after a turn to the levels s, with n items
 abbrev pub risen : ℕ → List Level → Tallies → Tallies
@@ -162,16 +193,17 @@ Balanced k ts l us = l + closes ts + opens us ≡ k + opens ts + closes us
 
 -- As much is left to do as before, with at most one item more; some token was taken, and the levels
 -- follow the parentheses.
-pub record Turn (s t : Stand) : Type 0 where
-  pub same : (c : Tallies) → (n : ℕ) × (n ≤ suc c.items) × Same (standing s c) (standing t (risen n t.levels c))
+pub record Turn (s t : LoopState) : Type 0 where
+  pub same : (c : Tallies) → (n : ℕ) × (n ≤ suc c.items)
+      × Same (state_with s c) (state_with t (risen n t.levels c))
   pub shorter : length t.left < length s.left
   pub level : Balanced (length s.levels) s.left (length t.levels) t.left
 
 -- it finishes in no way
-abbrev pub Stuck : Stand → Type 0
-Stuck s = (c : Tallies) → IsStuck (standing s c)
+abbrev pub Stuck : LoopState → Type 0
+Stuck s = (c : Tallies) → IsStuck (state_with s c)
 
 -- On Ok a turn was made. Where it is refused, but for memory, nothing could be read.
-abbrev pub Turned : {A : Type 0} → Result A Error → Stand → Stand → Type 0
-Turned (Ok x) s t = Turn s t
-Turned (Err e) s t = e.fault ≢ Memory → Stuck s
+abbrev pub TurnAnswers : {A : Type 0} → Result A Error → LoopState → LoopState → Type 0
+TurnAnswers (Ok x) s t = Turn s t
+TurnAnswers (Err e) s t = e.fault ≢ Memory → Stuck s

@@ -1,11 +1,13 @@
 -- How an expression is read: a reader of its items, and that it and `lists` are one.
-use Rattle.std.specs.Prelude.{ℕ, zero, suc, nat_lt, Bool, true, false, if◌then◌else◌, List, [], ◌∷◌, length, Some, None, codes}
+use Rattle.std.specs.Prelude.{ℕ, zero, suc, nat_lt, Bool, true, false, if◌then◌else◌, List, [], ◌∷◌}
+use Rattle.std.specs.Prelude.{length, Some, None, codes}
 use Rattle.std.specs.Str.{bytes_eq}
 use Rattle.wat_tokens.specs.Token.{Tok, LParen, RParen, Keyword, Annotation, String}
 use Rattle.wat_tokens.specs.Production.{Read, bind, some_of}
 use Rattle.wat_tokens.specs.Tests.{ends}
 use Rattle.wat_instr.specs.Instruction.{Instr, instruction, is_br_if}
-use Rattle.wat_expr.specs.Items.{Sort, sort, IsBlock, IsIf, IsOther, Items, Nil, Plain, Folded, Block, IfThen, IfElse, Hinted, is_branch}
+use Rattle.wat_expr.specs.Items.{Sort, sort, IsBlock, IsIf, IsOther, Items, Nil, Plain, Folded}
+use Rattle.wat_expr.specs.Items.{Block, IfThen, IfElse, Hinted, is_branch}
 use Rattle.wat_expr.specs.Expression.{Expr, value_of}
 
 -- ---- the reader, where rec reads the lists of items further on
@@ -48,11 +50,16 @@ module _ (rec : List Tok → Read Items) where
   -- what follows the `)` of `(then ..)`
   abbrev pub arms_by : Instr → Items → Items → List Tok → Read Items
   arms_by i ops th (RParen ∷ e) = more_by (IfThen i ops th) e
-  arms_by i ops th t = bind (opened (codes "else") t) (λ _ e. bind (rec e) (λ el u. bind (shut u) (λ _ v. bind (shut v) (λ _ d. more_by (IfElse i ops th el) d))))
+  arms_by i ops th t =
+      bind (opened (codes "else") t)
+      (λ _ e. bind (rec e) (λ el u. bind (shut u)
+      (λ _ v. bind (shut v) (λ _ d. more_by (IfElse i ops th el) d))))
 
   -- what follows the instruction of an `if`
   abbrev pub if_by : Instr → List Tok → Read Items
-  if_by i t = bind (rec t) (λ ops u. if are_groups ops then bind (opened (codes "then") u) (λ _ d. bind (rec d) (λ th v. bind (shut v) (λ _ w. arms_by i ops th w))) else None)
+  if_by i t =
+      bind (rec t) (λ ops u. if are_groups ops then bind (opened (codes "then") u)
+      (λ _ d. bind (rec d) (λ th v. bind (shut v) (λ _ w. arms_by i ops th w))) else None)
 
   -- what follows the instruction of a group
   abbrev pub sort_by : Sort → Instr → List Tok → Read Items
@@ -62,13 +69,18 @@ module _ (rec : List Tok → Read Items) where
 
   -- what follows the annotation of a hint
   abbrev pub hint_by : List Tok → Read Items
-  hint_by (String (v ∷ []) ∷ RParen ∷ d) = if nat_lt v 2 then bind (rec d) (λ xs r. if begins_branch xs then Some (Hinted v xs, r) else None) else None
+  hint_by (String (v ∷ []) ∷ RParen ∷ d) =
+      if nat_lt v 2 then bind (rec d)
+      (λ xs r. if begins_branch xs then Some (Hinted v xs, r) else None) else None
   hint_by _ = None
 
   -- what follows a `(`
   abbrev pub paren_by : List Tok → Read Items
-  paren_by (Keyword w ∷ t) = if bytes_eq w (codes "then") then Some (Nil, LParen ∷ Keyword w ∷ t) else bind (instruction.reads (Keyword w ∷ t)) (λ i b. sort_by (sort i) i b)
-  paren_by (Annotation n ∷ t) = if bytes_eq n (codes "metadata.code.branch_hint") then hint_by t else None
+  paren_by (Keyword w ∷ t) =
+      if bytes_eq w (codes "then") then Some (Nil, LParen ∷ Keyword w ∷ t) else bind
+      (instruction.reads (Keyword w ∷ t)) (λ i b. sort_by (sort i) i b)
+  paren_by (Annotation n ∷ t) =
+      if bytes_eq n (codes "metadata.code.branch_hint") then hint_by t else None
   paren_by _ = None
 
   -- a list of items

@@ -1,5 +1,6 @@
 -- What takes one token, or an instruction.
-use Rattle.std.specs.Prelude.{◌≡◌, ◌≢◌, Bool, true, Option, Result, Ok, Err, List, ◌∷◌, MatchBool, ℕ}
+use Rattle.std.specs.Prelude.{◌≡◌, ◌≢◌, Bool, true, Option, Result, Ok, Err, List, ◌∷◌, MatchBool}
+use Rattle.std.specs.Prelude.{ℕ}
 use Rattle.wat_tokens.specs.Token.{Tok, String}
 use Rattle.wat_tokens.specs.Error.{Error, Memory}
 use Rattle.wat_instr.specs.Instruction.{Instruction}
@@ -20,7 +21,8 @@ ReadsInstr (Err e) ts r = e.fault ≢ Memory → (i : Instr) (m : List Tok) → 
 -- stands in front
 abbrev pub ReadsSuited : Option ℕ → Result Instruction Error → List Tok → List Tok → Type 0
 ReadsSuited p (Ok i) ts r = reads (seen_instruction i) ts r × (suits p (seen_instruction i) ≡ true)
-ReadsSuited p (Err e) ts r = e.fault ≢ Memory → (i : Instr) (m : List Tok) → reads i ts m → suits p i ≡ true → ⊥
+ReadsSuited p (Err e) ts r =
+    e.fault ≢ Memory → (i : Instr) (m : List Tok) → reads i ts m → suits p i ≡ true → ⊥
 
 -- a string was taken, seen by its content, or none stands in front
 abbrev pub TakesString : {X : Type 0} → (X → List ℕ) → Result X Error → List Tok → List Tok → Type 0

@@ -3,10 +3,10 @@ use Rattle.std.specs.Prelude.{◌≡◌, ◌<◌, List, [], ◌∷◌, Option, S
 use Rattle.wat_tokens.specs.Token.{Tok}
 use Rattle.wat_expr.specs.declared.reader.Reader.{Reader}
 use Rattle.wat_expr.specs.Flat.{flat}
-use Rattle.wat_expr.specs.Progress.{Stand}
+use Rattle.wat_expr.specs.Progress.{LoopState}
 
 -- in front of the tokens
-abbrev pub stand : Reader → List Tok → Stand
+abbrev pub stand : Reader → List Tok → LoopState
 stand r ts = record { levels = r.levels; pending = r.pending; left = ts; out = flat r.out }
 
 -- the byte that a hint's string is, 0 or 1

@@ -1,7 +1,9 @@
 //! Expressions.
 
-ghost use Rattle.std.specs.Prelude.{◌≡◌, [], ◌∷◌, ◌++◌, List, Option, map, None, true, false, IsTrue, IfOk, IfErr, MatchResult};
-ghost use Rattle.wat_expr.specs.Expression.{Expr, seen_hint, seen_expression, bare_expression, value_of, SpansAre, kept_spans, and_span};
+ghost use Rattle.std.specs.Prelude.{◌≡◌, [], ◌∷◌, ◌++◌, List, Option, map, None, true, false};
+ghost use Rattle.std.specs.Prelude.{IsTrue, IfOk, IfErr, MatchResult};
+ghost use Rattle.wat_expr.specs.Expression.{Expr, seen_hint, seen_expression, bare_expression};
+ghost use Rattle.wat_expr.specs.Expression.{value_of, SpansAre, kept_spans, and_span};
 ghost use Rattle.wat_expr.specs.Flat.{number_of, flat, no_output, one_more, push};
 ghost use Rattle.wat_expr.specs.Items.{Items, lists, mark};
 ghost use Rattle.wat_expr.specs.Listed.{IsListed};
@@ -220,10 +222,7 @@ impl<'a> Parse<'a> for Expression<'a> {
             parser.note_held(reader.levels.held());
         }
         match reader.pending {
-            Some(_) => Err(Error {
-                fault: Fault::HintPlace,
-                span: parser.cur_span(),
-            }),
+            Some(_) => Err(Error::at(Fault::HintPlace, parser.cur_span())),
             None => Ok(reader.out),
         }
     }

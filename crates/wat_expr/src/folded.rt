@@ -5,7 +5,7 @@ ghost use Rattle.wat_expr.specs.Expression.{Expr, seen_expression, bare_expressi
 ghost use Rattle.wat_expr.specs.Flat.{flat};
 ghost use Rattle.wat_expr.specs.Folded.{Groups, folded_value, is_folded};
 ghost use Rattle.wat_expr.specs.FoldedProduction.{folded_instruction};
-ghost use Rattle.wat_expr.specs.GroupTurn.{GroupTurn, spot};
+ghost use Rattle.wat_expr.specs.GroupTurn.{GroupTurn, group_state};
 ghost use Rattle.wat_expr.specs.Listed.{IsFolded};
 ghost use Rattle.wat_instr.specs.Instruction.{Instr};
 ghost use Rattle.wat_tokens.specs.Counts.{Counted, Kept};
@@ -26,8 +26,8 @@ fn turn<'a>(
     out: &mut Expression<'a>,
     parser: &mut Parser<'a>,
 ) -> Result<()>
-    ensures turned { GroupTurn result (spot levels.old parser.old.left (flat out.old))
-        (spot levels.new parser.new.left (flat out.new)) }
+    ensures turned { GroupTurn result (group_state levels.old parser.old.left (flat out.old))
+        (group_state levels.new parser.new.left (flat out.new)) }
     ensures steady { Steady parser.old parser.new }
 {
     if take_open(parser) {

@@ -2,7 +2,8 @@
 
 ghost use Rattle.std.specs.Prelude.{◌≡◌, ◌≤◌, ◌+◌, ◌∷◌, ◌++◌, Bool, List, [], length, true};
 ghost use Rattle.wat_expr.specs.Expression.{Expr};
-ghost use Rattle.wat_expr.specs.FlatForm.{one_by_one, AreInstrs, own, flat_tokens, flat_folded, flat_value, number, PassesOwnAlone};
+ghost use Rattle.wat_expr.specs.FlatForm.{one_by_one, AreInstrs, own, flat_tokens, flat_folded};
+ghost use Rattle.wat_expr.specs.FlatForm.{flat_value, how_many, PassesOwnAlone};
 ghost use Rattle.wat_expr.specs.Folded.{Groups, is_folded, plain};
 ghost use Rattle.wat_expr.specs.FoldedProduction.{folded_instruction};
 ghost use Rattle.wat_expr.specs.Items.{Items, reads, lists, unfolded, hints, count_hints};
@@ -86,11 +87,11 @@ pub fn flat_form()
     // The flat form has as many of each token as what it is made from, but for the tokens of groups
     // and hints and the words that are added.
     ensures as_many { (xs : Items) (ts r : List Tok) (l : lists xs ts r) (test : Tok → Bool)
-        → PassesOwnAlone test → number test ts ≡ number test
-        (flat_tokens xs ts r l) + number test r }
+        → PassesOwnAlone test → how_many test ts ≡ how_many test
+        (flat_tokens xs ts r l) + how_many test r }
     ensures as_many_folded { (i : Instr) (gs : Groups) (ts r : List Tok) (l : is_folded i gs ts r)
-        (test : Tok → Bool) → PassesOwnAlone test → number test ts ≡ number test
-        (flat_folded i gs ts r l) + number test r }
+        (test : Tok → Bool) → PassesOwnAlone test → how_many test ts ≡ how_many test
+        (flat_folded i gs ts r l) + how_many test r }
     // Instructions alone are their own flat form.
     ensures already { (xs : Items) (ts r : List Tok) (l : lists xs ts r) → AreInstrs xs
         → flat_tokens xs ts r l ++ r ≡ ts }

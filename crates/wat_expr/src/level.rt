@@ -1,6 +1,7 @@
 //! What is open in an expression.
 
-ghost use Rattle.std.specs.Prelude.{◌≡◌, ◌∷◌, ◌++◌, [], List, MatchBool, MatchOption, MatchResult, length};
+ghost use Rattle.std.specs.Prelude.{◌≡◌, ◌∷◌, ◌++◌, [], List, MatchBool, MatchOption, MatchResult};
+ghost use Rattle.std.specs.Prelude.{length};
 ghost use Rattle.wat_expr.specs.Levels.{seen_level, heads_in, levels, waiting, TopIs};
 ghost use Rattle.wat_expr.specs.Progress.{TakesPlain};
 

@@ -2,9 +2,9 @@
 
 ghost use Rattle.std.specs.Prelude.{◌≡◌, ◌∷◌, [], List, ℕ, Option, None, true, codes, MatchBool};
 ghost use Rattle.wat_expr.specs.Flat.{flat, no_output};
-ghost use Rattle.wat_expr.specs.Items.{word, hint_name};
+ghost use Rattle.wat_expr.specs.Items.{keyword, hint_name};
 ghost use Rattle.wat_expr.specs.Levels.{Level as Open, InIf, AfterThen};
-ghost use Rattle.wat_expr.specs.Progress.{IsOpen, Turned, suits};
+ghost use Rattle.wat_expr.specs.Progress.{IsOpen, TurnAnswers, suits};
 ghost use Rattle.wat_expr.specs.Taken.{ReadsSuited};
 ghost use Rattle.wat_expr.specs.Turned.{stand, IsHintByte};
 ghost use Rattle.wat_instr.specs.Instruction.{Instr, seen_instruction};
@@ -67,20 +67,14 @@ fn take_suited<'a>(
         return Ok(instr);
     }
     let_go(instr);
-    Err(Error {
-        fault: Fault::HintTarget,
-        span,
-    })
+    Err(Error::at(Fault::HintTarget, span))
 }
 
 /// The refusal where no instruction can stand alone: Operator at the end of the text, and else
 /// Unexpected.
 fn misplaced(parser: &Parser<'_>) -> Error {
     if parser.at_end() {
-        return Error {
-            fault: Fault::Operator,
-            span: parser.cur_span(),
-        };
+        return Error::at(Fault::Operator, parser.cur_span());
     }
     parser.unexpected()
 }
@@ -111,7 +105,7 @@ impl<'a> Reader<'a> {
     /// One turn: it decides by the token in front.
     pub fn turn(&mut self, parser: &mut Parser<'a>) -> Result<()>
         requires { self.old.levels ≡ [] → ends parser.old.left ≡ true → ⊥ }
-        ensures turned { Turned result (stand self.old parser.old.left)
+        ensures turned { TurnAnswers result (stand self.old parser.old.left)
             (stand self.new parser.new.left) }
         ensures steady { Steady parser.old parser.new }
     {
@@ -130,7 +124,7 @@ impl<'a> Reader<'a> {
         requires no_close { (self.old.levels ≡ [] → ⊥) → (ts : List Tok)
             → parser.old.left ≡ RParen ∷ ts → ⊥ }
         requires no_end { self.old.levels ≡ [] → ends parser.old.left ≡ true → ⊥ }
-        ensures turned { Turned result (stand self.old parser.old.left)
+        ensures turned { TurnAnswers result (stand self.old parser.old.left)
             (stand self.new parser.new.left) }
         ensures steady { Steady parser.old parser.new }
     {
@@ -149,13 +143,10 @@ impl<'a> Reader<'a> {
     /// A turn at a closing parenthesis, which was taken; `span` is where it stands.
     fn close(&mut self, span: Span) -> Result<()>
         requires { self.old.levels ≡ [] → ⊥ }
-        ensures { (m : List Tok) → Turned result (stand self.old (RParen ∷ m)) (stand self.new m) }
+        ensures { (m : List Tok) → TurnAnswers result (stand self.old (RParen ∷ m)) (stand self.new m) }
     {
         if let Some(_) = self.pending {
-            return Err(Error {
-                fault: Fault::HintPlace,
-                span,
-            });
+            return Err(Error::at(Fault::HintPlace, span));
         }
         match self.levels.pop() {
             Some(Level::Folded(head)) => self.out.push(head.hint, head.instr, head.span),
@@ -165,21 +156,15 @@ impl<'a> Reader<'a> {
             Some(Level::Arm) => Ok(()),
             Some(Level::If(head)) => {
                 let_go(head);
-                Err(Error {
-                    fault: Fault::IfWithoutThen,
-                    span,
-                })
+                Err(Error::at(Fault::IfWithoutThen, span))
             }
-            None => Err(Error {
-                fault: Fault::Unexpected,
-                span,
-            }),
+            None => Err(Error::at(Fault::Unexpected, span)),
         }
     }
 
     /// A turn at an opening parenthesis, which was taken.
     fn open(&mut self, parser: &mut Parser<'a>) -> Result<()>
-        ensures turned { Turned result (stand self.old (LParen ∷ parser.old.left))
+        ensures turned { TurnAnswers result (stand self.old (LParen ∷ parser.old.left))
             (stand self.new parser.new.left) }
         ensures steady { Steady parser.old parser.new }
     {
@@ -191,10 +176,7 @@ impl<'a> Reader<'a> {
                 self.open_item(parser)
             }
             Some(Kind::AfterThen) => self.open_else(parser),
-            Some(Kind::AfterElse) => Err(Error {
-                fault: Fault::IfTooMany,
-                span: parser.cur_span(),
-            }),
+            Some(Kind::AfterElse) => Err(Error::at(Fault::IfTooMany, parser.cur_span())),
             _ => self.open_item(parser),
         }
     }
@@ -203,14 +185,11 @@ impl<'a> Reader<'a> {
     fn open_then(&mut self, span: Span) -> Result<()>
         requires { (i : Instr) × (h : Option ℕ) × (s : List Open)
             × (self.old.levels ≡ InIf i h ∷ s) }
-        ensures { (m : List Tok) → Turned result (stand self.old (LParen ∷ word (codes "then") ∷ m))
+        ensures { (m : List Tok) → TurnAnswers result (stand self.old (LParen ∷ keyword (codes "then") ∷ m))
             (stand self.new m) }
     {
         if let Some(_) = self.pending {
-            return Err(Error {
-                fault: Fault::HintPlace,
-                span,
-            });
+            return Err(Error::at(Fault::HintPlace, span));
         }
         match self.levels.pop() {
             Some(Level::If(head)) => {
@@ -220,10 +199,7 @@ impl<'a> Reader<'a> {
             }
             other => {
                 let_go(other);
-                Err(Error {
-                    fault: Fault::Unexpected,
-                    span,
-                })
+                Err(Error::at(Fault::Unexpected, span))
             }
         }
     }
@@ -231,7 +207,7 @@ impl<'a> Reader<'a> {
     /// A turn at `(` behind `( then .. )`.
     fn open_else(&mut self, parser: &mut Parser<'a>) -> Result<()>
         requires { (s : List Open) × (self.old.levels ≡ AfterThen ∷ s) }
-        ensures turned { Turned result (stand self.old (LParen ∷ parser.old.left))
+        ensures turned { TurnAnswers result (stand self.old (LParen ∷ parser.old.left))
             (stand self.new parser.new.left) }
         ensures steady { Steady parser.old parser.new }
     {
@@ -242,10 +218,7 @@ impl<'a> Reader<'a> {
         // No hint waits here: none is read behind `( then .. )`, and one inside it is refused at
         // its `)`. The contract doesn't say so, and a hint that waited would have no place.
         if let Some(_) = self.pending {
-            return Err(Error {
-                fault: Fault::HintPlace,
-                span,
-            });
+            return Err(Error::at(Fault::HintPlace, span));
         }
         let_go(self.levels.pop());
         self.levels.push(Level::AfterElse)?;
@@ -257,9 +230,9 @@ impl<'a> Reader<'a> {
     /// A turn at a group or a hint.
     fn open_item(&mut self, parser: &mut Parser<'a>) -> Result<()>
         requires place { IsOpen self.old.levels }
-        requires no_then { (ts : List Tok) → parser.old.left ≡ word (codes "then") ∷ ts
+        requires no_then { (ts : List Tok) → parser.old.left ≡ keyword (codes "then") ∷ ts
             → (i : Instr) (h : Option ℕ) (s : List Open) → self.old.levels ≡ InIf i h ∷ s → ⊥ }
-        ensures turned { Turned result (stand self.old (LParen ∷ parser.old.left))
+        ensures turned { TurnAnswers result (stand self.old (LParen ∷ parser.old.left))
             (stand self.new parser.new.left) }
         ensures steady { Steady parser.old parser.new }
     {
@@ -288,23 +261,17 @@ impl<'a> Reader<'a> {
     /// A turn at a hint, whose `(` and annotation were taken.
     fn hint(&mut self, parser: &mut Parser<'a>) -> Result<()>
         requires { IsOpen self.old.levels }
-        ensures turned { Turned result (stand self.old (LParen ∷ hint_name ∷ parser.old.left))
+        ensures turned { TurnAnswers result (stand self.old (LParen ∷ hint_name ∷ parser.old.left))
             (stand self.new parser.new.left) }
         ensures steady { Steady parser.old parser.new }
     {
         let span = parser.cur_span();
         let bytes = take_string(parser)?;
         let Some(value) = hint_byte(bytes) else {
-            return Err(Error {
-                fault: Fault::HintValue,
-                span,
-            });
+            return Err(Error::at(Fault::HintValue, span));
         };
         if let Some(_) = self.pending {
-            return Err(Error {
-                fault: Fault::HintTwice,
-                span,
-            });
+            return Err(Error::at(Fault::HintTwice, span));
         }
         if !take_close(parser) {
             return Err(parser.unexpected());

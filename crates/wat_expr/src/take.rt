@@ -1,7 +1,7 @@
 //! What takes one token, or an instruction.
 
 ghost use Rattle.std.specs.Prelude.{◌≡◌, codes};
-ghost use Rattle.wat_expr.specs.Items.{hint_name, word};
+ghost use Rattle.wat_expr.specs.Items.{hint_name, keyword};
 ghost use Rattle.wat_expr.specs.Taken.{Takes, TakesString, ReadsInstr};
 ghost use Rattle.wat_tokens.specs.Steady.{Steady};
 ghost use Rattle.wat_tokens.specs.Token.{LParen, RParen};
@@ -27,7 +27,7 @@ pub fn take_close(parser: &mut Parser<'_>) -> bool
 
 /// Takes the keyword where it stands in front, and answers whether it did.
 pub fn take_word(parser: &mut Parser<'_>, text: &str) -> bool
-    ensures exact { Takes (word text.now) result parser.old.left parser.new.left }
+    ensures exact { Takes (keyword text.now) result parser.old.left parser.new.left }
     ensures steady { Steady parser.old parser.new }
 {
     parser.keyword(text).is_ok()

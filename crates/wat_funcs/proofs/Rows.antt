@@ -19,14 +19,14 @@ use Rattle.wat_links.specs.Head.{no_head, head}
 use Rattle.wat_links.specs.Import.{inline_import}
 use Rattle.wat_expr.specs.Alone.{alone, nop}
 use Rattle.wat_expr.specs.Laws.Alone.{nop_read}
-use Rattle.wat_funcs.specs.Func.{inline, func_of, func_inline, func_defined, func, FuncTy}
+use Rattle.wat_funcs.specs.Func.{inline, func_of, func_inline, func_defined, func, FuncFieldTy}
 use Rattle.wat_funcs.specs.Global.{global_defined, global}
 use Rattle.wat_funcs.specs.Local.{local_of, labelled_local, plain_locals, listed_locals, local_parser}
 use Rattle.wat_funcs.specs.Locals.{locals}
 use Rattle.wat_funcs.specs.Rows.{locals_and_body, Locals, ImportedGlobal, PlainTag}
 use Rattle.wat_funcs.specs.Tag.{tag}
 
-abbrev with_locals : FuncTy
+abbrev with_locals : FuncFieldTy
 with_locals =
     func_of no_head (use_of None None, inline (local_of no_label i32 ∷ local_of no_label i64 ∷ local_of (label_of (Some (codes "x")) None) f32 ∷ []) (alone nop))
 

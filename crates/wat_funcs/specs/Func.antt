@@ -7,7 +7,7 @@ use Rattle.wat_tokens.specs.Groups.{group}
 use Rattle.wat_tokens.specs.Parses.{no_items}
 use Rattle.wat_types.specs.Label.{seen_label}
 use Rattle.wat_types.specs.Function.{seen_function, bare_function}
-use Rattle.wat_types.specs.Group.{FuncTy as FuncTypeTy}
+use Rattle.wat_types.specs.Group.{FuncTy}
 use Rattle.wat_types.specs.Use.{UseTy, seen_use, bare_use}
 use Rattle.wat_types.specs.declared.function.FunctionType.{FunctionType}
 use Rattle.wat_types.specs.declared.type_use.TypeUse.{TypeUse}
@@ -32,18 +32,18 @@ pub data FuncKindTy : Type 0 where
 
 -- a use of a function type
 abbrev pub FuncUse : Type 0
-FuncUse = UseTy FuncTypeTy
+FuncUse = UseTy FuncTy
 
 -- a type, and how a function of it is defined
 abbrev pub Defined : Type 0
 Defined = FuncUse × FuncKindTy
 
-pub record FuncTy : Type 0 where
+pub record FuncFieldTy : Type 0 where
   pub head : HeadTy
   pub ty : FuncUse
   pub kind : FuncKindTy
 
-abbrev pub func_of : HeadTy → Defined → FuncTy
+abbrev pub func_of : HeadTy → Defined → FuncFieldTy
 func_of h d = record { head = h; ty = d.0; kind = d.1 }
 
 abbrev pub seen_func_use : TypeUse FunctionType → FuncUse
@@ -56,8 +56,10 @@ seen_func_kind (code.Inline ls e) = inline (seen_locals ls.items) (seen_expressi
 abbrev pub seen_defined : TypeUse FunctionType × FuncKind → Defined
 seen_defined d = (seen_func_use d.0, seen_func_kind d.1)
 
-abbrev pub seen_func : Func → FuncTy
-seen_func f = func_of (head_of (seen_label f.id f.name) (seen_inline_export f.exports)) (seen_func_use f.ty, seen_func_kind f.kind)
+abbrev pub seen_func : Func → FuncFieldTy
+seen_func f =
+    func_of (head_of (seen_label f.id f.name) (seen_inline_export f.exports))
+    (seen_func_use f.ty, seen_func_kind f.kind)
 
 -- no parameter and no result in line
 abbrev pub bare_func_use : FuncUse → Bool
@@ -71,7 +73,7 @@ bare_func_kind (inline ls e) = no_items ls && bare_expression e
 abbrev pub bare_defined : Defined → Bool
 bare_defined d = bare_func_use d.0 && bare_func_kind d.1
 
-abbrev pub bare_func : FuncTy → Bool
+abbrev pub bare_func : FuncFieldTy → Bool
 bare_func f = bare_head f.head && bare_defined (f.ty, f.kind)
 
 -- ---- the grammar
@@ -79,7 +81,8 @@ bare_func f = bare_head f.head && bare_defined (f.ty, f.kind)
 -- where the second token is `exact`, ( exact TypeUse ); else TypeUse
 unfoldable pub exact_use : Production (FuncUse × Bool)
 exact_use =
-    where_else (second (begins_word (codes "exact"))) (made (λ u. (u, true)) (group (codes "exact") func_use))
+    where_else (second (begins_word (codes "exact")))
+    (made (λ u. (u, true)) (group (codes "exact") func_use))
     (made (λ u. (u, false)) func_use)
 
 -- InlineImport, and a type use, exact or not
@@ -95,5 +98,5 @@ unfoldable pub func_defined : Production Defined
 func_defined = where_else begins_inline_import func_import func_inline
 
 -- `func` head, and then a type and how the function is defined
-unfoldable pub func : Production FuncTy
+unfoldable pub func : Production FuncFieldTy
 func = after_word (codes "func") (made (λ v. func_of v.0 v.1) (seq head func_defined))

@@ -3,7 +3,7 @@ use Rattle.std.specs.Prelude.{ℕ, Bool, true, ◌&&◌, List, codes}
 use Rattle.wat_tokens.specs.Production.{Production}
 use Rattle.wat_tokens.specs.Parts.{seq, made, where_else, after_word}
 use Rattle.wat_types.specs.Label.{seen_label}
-use Rattle.wat_types.specs.Storage.{GlobalTy as GlobalTypeTy, seen_global as seen_global_type, global_type}
+use Rattle.wat_types.specs.Storage.{GlobalTy, seen_global as seen_global_type, global_type}
 use Rattle.wat_types.specs.declared.storage.GlobalType.{GlobalType}
 use Rattle.wat_links.specs.Export.{seen_inline_export}
 use Rattle.wat_links.specs.Head.{HeadTy, head_of, bare_head, head}
@@ -23,14 +23,14 @@ pub data GlobalKindTy : Type 0 where
 
 -- a type, and how a global of it is defined
 abbrev pub Defined : Type 0
-Defined = GlobalTypeTy × GlobalKindTy
+Defined = GlobalTy × GlobalKindTy
 
-pub record GlobalTy : Type 0 where
+pub record GlobalFieldTy : Type 0 where
   pub head : HeadTy
-  pub ty : GlobalTypeTy
+  pub ty : GlobalTy
   pub kind : GlobalKindTy
 
-abbrev pub global_of : HeadTy → Defined → GlobalTy
+abbrev pub global_of : HeadTy → Defined → GlobalFieldTy
 global_of h d = record { head = h; ty = d.0; kind = d.1 }
 
 abbrev pub seen_global_kind : GlobalKind → GlobalKindTy
@@ -40,8 +40,10 @@ seen_global_kind (code.Inline e) = inline (seen_expression e)
 abbrev pub seen_defined : GlobalType × GlobalKind → Defined
 seen_defined d = (seen_global_type d.0, seen_global_kind d.1)
 
-abbrev pub seen_global : Global → GlobalTy
-seen_global g = global_of (head_of (seen_label g.id g.name) (seen_inline_export g.exports)) (seen_global_type g.ty, seen_global_kind g.kind)
+abbrev pub seen_global : Global → GlobalFieldTy
+seen_global g =
+    global_of (head_of (seen_label g.id g.name) (seen_inline_export g.exports))
+    (seen_global_type g.ty, seen_global_kind g.kind)
 
 -- no instruction
 abbrev pub bare_global_kind : GlobalKindTy → Bool
@@ -51,7 +53,7 @@ bare_global_kind (inline e) = bare_expression e
 abbrev pub bare_defined : Defined → Bool
 bare_defined d = bare_global_kind d.1
 
-abbrev pub bare_global : GlobalTy → Bool
+abbrev pub bare_global : GlobalFieldTy → Bool
 bare_global g = bare_head g.head && bare_global_kind g.kind
 
 -- ---- the grammar
@@ -59,9 +61,10 @@ bare_global g = bare_head g.head && bare_global_kind g.kind
 -- where an import in line begins, InlineImport GlobalType; else GlobalType Expression
 unfoldable pub global_defined : Production Defined
 global_defined =
-    where_else begins_inline_import (made (λ v. (v.1, imported v.0)) (seq inline_import global_type))
+    where_else begins_inline_import
+    (made (λ v. (v.1, imported v.0)) (seq inline_import global_type))
     (made (λ v. (v.0, inline v.1)) (seq global_type expression))
 
 -- `global` head, and then a type and how the global is defined
-unfoldable pub global : Production GlobalTy
+unfoldable pub global : Production GlobalFieldTy
 global = after_word (codes "global") (made (λ v. global_of v.0 v.1) (seq head global_defined))

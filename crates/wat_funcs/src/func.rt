@@ -2,7 +2,9 @@
 
 ghost use Rattle.std.specs.Prelude.{◌≡◌, false};
 ghost use Rattle.wat_tokens.specs.Reads.{Reads, ReadsIf};
-ghost use Rattle.wat_funcs.specs.Func.{FuncTy, seen_func_use, bare_func_use, exact_use, seen_defined, bare_defined, func_import, func_inline, func_defined, seen_func, bare_func, func};
+ghost use Rattle.wat_funcs.specs.Func.{FuncFieldTy, seen_func_use, bare_func_use, exact_use};
+ghost use Rattle.wat_funcs.specs.Func.{seen_defined, bare_defined, func_import, func_inline};
+ghost use Rattle.wat_funcs.specs.Func.{func_defined, seen_func, bare_func, func};
 
 use crate::local::Local;
 use wat_expr::Expression;
@@ -105,7 +107,7 @@ fn read_defined<'a>(parser: &mut Parser<'a>) -> Result<Defined<'a>>
 /// stands in the place of a `(` in front of `exact` or `local`. Behind the locals the faults are
 /// those of an expression: a group that is none of the above is refused with Operator, at its word.
 impl<'a> Parse<'a> for Func<'a> {
-    ghost Seen = { FuncTy };
+    ghost Seen = { FuncFieldTy };
 
     ghost seen = { seen_func };
 

@@ -2,7 +2,8 @@
 
 ghost use Rattle.std.specs.Prelude.{◌≡◌, false};
 ghost use Rattle.wat_tokens.specs.Reads.{ReadsIf};
-ghost use Rattle.wat_funcs.specs.Global.{GlobalTy, seen_defined, bare_defined, global_defined, seen_global, bare_global, global};
+ghost use Rattle.wat_funcs.specs.Global.{GlobalFieldTy, seen_defined, bare_defined, global_defined};
+ghost use Rattle.wat_funcs.specs.Global.{seen_global, bare_global, global};
 
 use wat_expr::Expression;
 use wat_links::{Head, InlineExport, InlineImport};
@@ -58,7 +59,7 @@ fn read_defined<'a>(parser: &mut Parser<'a>) -> Result<(GlobalType<'a>, GlobalKi
 /// the faults are those of an expression: an import in line that stands there is refused with
 /// Operator, at the word `import`.
 impl<'a> Parse<'a> for Global<'a> {
-    ghost Seen = { GlobalTy };
+    ghost Seen = { GlobalFieldTy };
 
     ghost seen = { seen_global };
 

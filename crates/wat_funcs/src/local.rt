@@ -5,7 +5,9 @@ ghost use Rattle.wat_tokens.specs.Many.{after_front};
 ghost use Rattle.wat_tokens.specs.Parses.{no_items};
 ghost use Rattle.wat_tokens.specs.Reads.{Reads};
 ghost use Rattle.wat_tokens.specs.Tests.{more};
-ghost use Rattle.wat_funcs.specs.Local.{LocalTy, seen_local, seen_locals, seen_local_parser, plain_local, labelled_local, listed_locals, local_parser, local_group, local_follows};
+ghost use Rattle.wat_funcs.specs.Local.{LocalTy, seen_local, seen_locals, seen_local_parser};
+ghost use Rattle.wat_funcs.specs.Local.{plain_local, labelled_local, listed_locals, local_parser};
+ghost use Rattle.wat_funcs.specs.Local.{local_group, local_follows};
 ghost use Rattle.wat_funcs.specs.Locals.{locals};
 
 use wat_tokens::repeat::{Group, Part, all_groups, parts};

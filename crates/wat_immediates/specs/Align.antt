@@ -1,5 +1,6 @@
 -- What an alignment spells.
-use Rattle.std.specs.Prelude.{ℕ, ◌==◌, if◌then◌else◌, List, [], ◌∷◌, codes, Option, None, Some, refl}
+use Rattle.std.specs.Prelude.{ℕ, ◌==◌, if◌then◌else◌, List, [], ◌∷◌, codes, Option, None, Some}
+use Rattle.std.specs.Prelude.{refl}
 use Rattle.std.specs.Int.{is_power_of_two}
 use Rattle.wat_tokens.specs.Number.{unsigned_value}
 use Rattle.wat_tokens.specs.Token.{Tok, Keyword}
@@ -15,14 +16,14 @@ past_front [] text = Some text
 past_front (b ∷ bs) [] = None
 past_front (b ∷ bs) (c ∷ text) = if b == c then past_front bs text else None
 
-abbrev pub value_of : Option (List ℕ) → Option ℕ
-value_of (Some text) = unsigned_value 64 text
-value_of None = None
+abbrev pub number_in : Option (List ℕ) → Option ℕ
+number_in (Some text) = unsigned_value 64 text
+number_in None = None
 
 -- a keyword that begins so and goes on with an integer: what this reads as without a sign, in 64
 -- bits
 abbrev pub number_behind : List ℕ → Tok → Option ℕ
-number_behind front (Keyword w) = value_of (past_front front w)
+number_behind front (Keyword w) = number_in (past_front front w)
 number_behind front _ = None
 
 -- a word `front`n

@@ -30,7 +30,8 @@ indices = seq index (many begins_index index (lit≤ tt))
 
 -- of one or more indices the last is the default, and the others are the labels
 abbrev pub BrTableSpells : BrTableTy → List Tok → List Tok → Type 0
-BrTableSpells b c r = (i : Idx) × (is : List Idx) × indices.spells (i, is) c r × (i ∷ is ≡ b.labels ++ b.default ∷ [])
+BrTableSpells b c r =
+    (i : Idx) × (is : List Idx) × indices.spells (i, is) c r × (i ∷ is ≡ b.labels ++ b.default ∷ [])
 
 -- ---- proofs: how the list is split
 

@@ -1,12 +1,14 @@
 -- Lanes of vectors, and accesses to one lane.
-use Rattle.std.specs.Prelude.{ℕ, Bool, false, not, ◌||◌, List, ◌∷◌, codes, Option, None, is_none, if◌then◌else◌, refl}
+use Rattle.std.specs.Prelude.{ℕ, Bool, false, not, ◌||◌, List, ◌∷◌, codes, Option, None, is_none}
+use Rattle.std.specs.Prelude.{if◌then◌else◌, refl}
 use Rattle.wat_tokens.specs.Number.{sign_of, unsigned_value}
 use Rattle.wat_tokens.specs.Token.{Tok, Integer}
 use Rattle.wat_tokens.specs.Tests.{begins_integer}
 use Rattle.wat_tokens.specs.Production.{Production}
 use Rattle.wat_tokens.specs.Parts.{one, seq, made, where_else}
 use Rattle.wat_tokens.specs.Index.{number}
-use Rattle.wat_immediates.specs.Memory.{MemArgTy, memory, mem_arg_of, mem_arg, seen_mem_arg, begins_with}
+use Rattle.wat_immediates.specs.Memory.{MemArgTy, memory, mem_arg_of, mem_arg, seen_mem_arg}
+use Rattle.wat_immediates.specs.Memory.{begins_with}
 use Rattle.wat_immediates.specs.declared.lanes.LaneArg.{LaneArg}
 use Rattle.wat_immediates.specs.declared.lanes.LaneOf.{LaneOf}
 use Rattle.wat_immediates.specs.declared.memory.MemArg.{MemArg}
@@ -54,4 +56,5 @@ is_alone _ = false
 
 -- where is_alone: a LaneArg alone, memory 0, offset 0, align a; else MemArg, LaneArg
 unfoldable pub lane_access : ℕ → Production LaneAccessTy
-lane_access a = where_else is_alone (made (lane_alone a) lane_arg) (made access_of (seq (mem_arg a) lane_arg))
+lane_access a =
+    where_else is_alone (made (lane_alone a) lane_arg) (made access_of (seq (mem_arg a) lane_arg))

@@ -1,6 +1,7 @@
 -- What an access to a memory or an array is given: its target, an offset, an alignment and an
 -- ordering.
-use Rattle.std.specs.Prelude.{ℕ, Bool, false, if◌then◌else◌, List, ◌∷◌, codes, Option, None, is_some, option_map, unwrap_or}
+use Rattle.std.specs.Prelude.{ℕ, Bool, false, if◌then◌else◌, List, ◌∷◌, codes, Option, None}
+use Rattle.std.specs.Prelude.{is_some, option_map, unwrap_or}
 use Rattle.wat_tokens.specs.Token.{Tok, Keyword}
 use Rattle.wat_tokens.specs.Tests.{begins_word, second}
 use Rattle.wat_tokens.specs.Production.{Production}
@@ -47,7 +48,8 @@ begins_with front _ = false
 
 -- `offset=`n?, default 0
 unfoldable pub offset_or_0 : Production ℕ
-offset_or_0 = made (λ o. unwrap_or o 0) (opt (begins_with (codes "offset=")) (field (codes "offset=")))
+offset_or_0 =
+    made (λ o. unwrap_or o 0) (opt (begins_with (codes "offset=")) (field (codes "offset=")))
 
 unfoldable pub align : Production ℕ
 align = restated align_tested AlignSpells align_to align_from
@@ -66,7 +68,14 @@ pub record MemArgTy : Type 0 where
   pub ordering : Option MemArgOrdering
 
 abbrev pub seen_mem_arg : MemArg → MemArgTy
-seen_mem_arg m = record { align = m.align; offset = m.offset; target = seen_target m.target; ordering = m.ordering }
+seen_mem_arg m =
+    record {
+      align = m.align;
+      offset = m.offset;
+      target = seen_target m.target;
+      ordering =
+          m.ordering;
+    }
 
 abbrev pub mem_arg_of : TargetTy × (ℕ × ℕ) → MemArgTy
 mem_arg_of v = record { target = v.0; offset = v.1.0; align = v.1.1; ordering = None }

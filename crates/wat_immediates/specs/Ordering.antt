@@ -10,7 +10,9 @@ use Rattle.wat_immediates.specs.declared.ordering.Ordering.TheVariants.{AcqRel, 
 
 -- seqcst | acqrel
 unfoldable pub ordering : Production Ordering
-ordering = where_else (begins_word (codes "seqcst")) (made (λ _. SeqCst) (word (codes "seqcst"))) (made (λ _. AcqRel) (word (codes "acqrel")))
+ordering =
+    where_else (begins_word (codes "seqcst")) (made (λ _. SeqCst) (word (codes "seqcst")))
+    (made (λ _. AcqRel) (word (codes "acqrel")))
 
 abbrev pub begins_ordering : List Tok → Bool
 begins_ordering t = begins_word (codes "seqcst") t || begins_word (codes "acqrel") t

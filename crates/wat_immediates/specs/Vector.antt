@@ -1,5 +1,6 @@
 -- Constants of 128 bits, and lanes that are shuffled.
-use Rattle.std.specs.Prelude.{ℕ, ◌%◌, ◌^◌, Bool, true, ◌&&◌, List, [], ◌∷◌, ◌++◌, codes, map, flat_map, ⊤}
+use Rattle.std.specs.Prelude.{ℕ, ◌%◌, ◌^◌, Bool, true, ◌&&◌, List, [], ◌∷◌, ◌++◌, codes, map}
+use Rattle.std.specs.Prelude.{flat_map, ⊤}
 use Rattle.std.specs.Int.{Width, w8, w16, w32, w64, cast_unsigned, to_le_bytes}
 use Rattle.wat_tokens.specs.Tests.{begins_word}
 use Rattle.wat_tokens.specs.Production.{Production}
@@ -10,7 +11,8 @@ use Rattle.wat_tokens.specs.declared.floats.F32.{F32}
 use Rattle.wat_tokens.specs.declared.floats.F64.{F64}
 use Rattle.wat_immediates.specs.declared.vector.I8x16Shuffle.{I8x16Shuffle}
 use Rattle.wat_immediates.specs.declared.vector.V128Const.{V128Const}
-use Rattle.wat_immediates.specs.declared.vector.V128Const.TheVariants.{I8x16, I16x8, I32x4, I64x2, F32x4, F64x2}
+use Rattle.wat_immediates.specs.declared.vector.V128Const.TheVariants.{I8x16, I16x8, I32x4, I64x2}
+use Rattle.wat_immediates.specs.declared.vector.V128Const.TheVariants.{F32x4, F64x2}
 
 -- ---- a number of values
 
@@ -56,13 +58,16 @@ abbrev pub f64x2_of : List ℕ → V128Const
 f64x2_of lanes = F64x2 (map f64_of lanes)
 
 -- a shape's word, and its lanes
-abbrev pub shaped : {A : Type 0} → List ℕ → (List A → V128Const) → Production (List A) → Production V128Const
+abbrev pub shaped : {A : Type 0} → List ℕ → (List A → V128Const) → Production (List A)
+    → Production V128Const
 shaped w f g = made (λ v. f v.1) (seq (word w) g)
 
 -- `f32x4` with 4 numbers or `f64x2` with 2: no tokens are read as one, so these two have no
 -- spelling
 unfoldable pub float_const : Production V128Const
-float_const = where_else (begins_word (codes "f32x4")) (shaped (codes "f32x4") f32x4_of (four none)) (shaped (codes "f64x2") f64x2_of (two none))
+float_const =
+    where_else (begins_word (codes "f32x4")) (shaped (codes "f32x4") f32x4_of (four none))
+    (shaped (codes "f64x2") f64x2_of (two none))
 
 -- `i32x4` with 4 i32, `i64x2` with 2 i64, or of floating-point numbers
 unfoldable pub wide_const : Production V128Const

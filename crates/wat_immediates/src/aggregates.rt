@@ -2,7 +2,11 @@
 
 ghost use Rattle.std.specs.Prelude.{ℕ, true};
 ghost use Rattle.wat_tokens.specs.Index.{Idx, index};
-ghost use Rattle.wat_immediates.specs.Aggregates.{seen_struct_access, seen_cont_bind, seen_switch, seen_array_fill, seen_array_copy, seen_array_init, seen_array_new_fixed, seen_array_new_data, seen_array_new_elem, array_of_length};
+ghost use Rattle.wat_immediates.specs.Aggregates.{seen_struct_access, seen_cont_bind, seen_switch};
+ghost use Rattle.wat_immediates.specs.Aggregates.{seen_array_fill, seen_array_copy};
+ghost use Rattle.wat_immediates.specs.Aggregates.{seen_array_init, seen_array_new_fixed};
+ghost use Rattle.wat_immediates.specs.Aggregates.{seen_array_new_data, seen_array_new_elem};
+ghost use Rattle.wat_immediates.specs.Aggregates.{array_of_length};
 ghost use Rattle.wat_immediates.specs.Tables.{index_pair};
 
 use wat_tokens::{Index, Parse, Parser, Result};

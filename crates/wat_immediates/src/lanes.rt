@@ -1,9 +1,10 @@
 //! Lanes of vectors, and accesses to one lane.
 
 ghost use Rattle.std.specs.Prelude.{◌≡◌, true};
-ghost use Rattle.wat_tokens.specs.Lookup.{front};
+ghost use Rattle.wat_tokens.specs.Lookup.{in_front};
 ghost use Rattle.wat_tokens.specs.Reads.{ReadsLight};
-ghost use Rattle.wat_immediates.specs.Lanes.{lane_arg, goes_on, is_alone, seen_lane_access, lane_access};
+ghost use Rattle.wat_immediates.specs.Lanes.{lane_arg, goes_on, is_alone, seen_lane_access};
+ghost use Rattle.wat_immediates.specs.Lanes.{lane_access};
 
 use crate::memory::{MemArg, MemArgTarget, begins_with};
 use crate::tables::zero;
@@ -48,31 +49,25 @@ impl<'a> Parse<'a> for LaneArg {
         let span = parser.cur_span();
         let integer = parser.take_integer()?;
         if integer.sign().is_some() {
-            return Err(Error {
-                fault: Fault::Unexpected,
-                span,
-            });
+            return Err(Error::at(Fault::Unexpected, span));
         }
         match integer.unsigned(8) {
             Some(lane) => Ok(LaneArg { lane: lane as u8 }),
-            None => Err(Error {
-                fault: Fault::Range,
-                span,
-            }),
+            None => Err(Error::at(Fault::Range, span)),
         }
     }
 }
 
 /// Whether an integer stands there, or a keyword that begins with `offset=` or `align=`.
 fn goes_on(cursor: Cursor<'_>) -> bool
-    ensures { result ≡ goes_on (front cursor.entry) }
+    ensures { result ≡ goes_on (in_front cursor.entry) }
 {
     cursor.integer().is_some() || begins_with(cursor, "offset=") || begins_with(cursor, "align=")
 }
 
 /// Whether an integer stands there that is a lane, and not a memory.
 fn is_alone(cursor: Cursor<'_>) -> bool
-    ensures { result ≡ is_alone (front cursor.entry) }
+    ensures { result ≡ is_alone (in_front cursor.entry) }
 {
     match cursor.integer() {
         Some((_, rest)) => !goes_on(rest),

@@ -3,7 +3,8 @@
 ghost use Rattle.wat_tokens.specs.Once.{HasOneReading};
 ghost use Rattle.wat_immediates.specs.Lanes.{lane_access};
 ghost use Rattle.wat_immediates.specs.Memory.{mem_arg, atomic_mem_arg};
-ghost use Rattle.wat_immediates.specs.Rows.{Accesses, AtomicAccesses, LaneAccesses, TableInits, TableCopies, Vector, OrderedTable};
+ghost use Rattle.wat_immediates.specs.Rows.{Accesses, AtomicAccesses, LaneAccesses, TableInits};
+ghost use Rattle.wat_immediates.specs.Rows.{TableCopies, Vector, OrderedTable};
 ghost use Rattle.std.specs.Prelude.{ℕ, Bool};
 
 /// No two fronts of one token list spell a memory access, unless they are one front and one access:

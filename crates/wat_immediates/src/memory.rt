@@ -2,10 +2,11 @@
 //! ordering.
 
 ghost use Rattle.std.specs.Prelude.{◌≡◌, ◌≢◌, None, Some, option_map, MatchResult};
-ghost use Rattle.wat_tokens.specs.Lookup.{front};
+ghost use Rattle.wat_tokens.specs.Lookup.{in_front};
 ghost use Rattle.wat_tokens.specs.Number.{unsigned_value};
 ghost use Rattle.wat_tokens.specs.Reads.{ReadsLight};
-ghost use Rattle.wat_immediates.specs.Memory.{seen_target, target, begins_with, offset_or_0, align, align_or, seen_mem_arg, mem_arg, atomic_mem_arg};
+ghost use Rattle.wat_immediates.specs.Memory.{seen_target, target, begins_with, offset_or_0, align};
+ghost use Rattle.wat_immediates.specs.Memory.{align_or, seen_mem_arg, mem_arg, atomic_mem_arg};
 ghost use Rattle.wat_immediates.specs.Align.{past_front, field};
 
 use crate::ordering::Ordering;
@@ -55,7 +56,7 @@ fn behind<'a>(text: &'a str, front: &str) -> Option<&'a str>
 
 /// Whether a keyword that begins so stands there.
 pub fn begins_with(cursor: Cursor<'_>, start: &str) -> bool
-    ensures { result ≡ begins_with start.now (front cursor.entry) }
+    ensures { result ≡ begins_with start.now (in_front cursor.entry) }
 {
     match cursor.keyword() {
         Some((word, _)) => behind(word, start).is_some(),
@@ -72,15 +73,9 @@ fn number(text: &str, span: Span) -> Result<u64>
     match Integer::of(text) {
         Some(integer) => match integer.unsigned(64) {
             Some(number) => Ok(number),
-            None => Err(Error {
-                fault: Fault::Range,
-                span,
-            }),
+            None => Err(Error::at(Fault::Range, span)),
         },
-        None => Err(Error {
-            fault: Fault::Unexpected,
-            span,
-        }),
+        None => Err(Error::at(Fault::Unexpected, span)),
     }
 }
 
@@ -94,10 +89,7 @@ fn take_field(parser: &mut Parser<'_>, front: &str) -> Result<u64>
     let word = parser.take_keyword()?;
     match behind(word, front) {
         Some(text) => number(text, span),
-        None => Err(Error {
-            fault: Fault::Unexpected,
-            span,
-        }),
+        None => Err(Error::at(Fault::Unexpected, span)),
     }
 }
 
@@ -124,10 +116,7 @@ fn take_align(parser: &mut Parser<'_>) -> Result<u64>
     if align.is_power_of_two() {
         Ok(align)
     } else {
-        Err(Error {
-            fault: Fault::Alignment,
-            span,
-        })
+        Err(Error::at(Fault::Alignment, span))
     }
 }
 

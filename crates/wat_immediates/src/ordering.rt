@@ -1,7 +1,7 @@
 //! Orderings of atomic accesses.
 
 ghost use Rattle.std.specs.Prelude.{◌≡◌, true};
-ghost use Rattle.wat_tokens.specs.Lookup.{front};
+ghost use Rattle.wat_tokens.specs.Lookup.{in_front};
 ghost use Rattle.wat_tokens.specs.Tests.{begins_word};
 ghost use Rattle.wat_immediates.specs.Ordering.{ordering, begins_ordering, seen_ordered, ordered};
 
@@ -52,7 +52,7 @@ impl<'a> Parse<'a> for Ordering {
 
 /// Whether the keyword stands there.
 fn stands(cursor: Cursor<'_>, word: &str) -> bool
-    ensures { result ≡ begins_word word.now (front cursor.entry) }
+    ensures { result ≡ begins_word word.now (in_front cursor.entry) }
 {
     match cursor.keyword() {
         Some((text, _)) => text == word,

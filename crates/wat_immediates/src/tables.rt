@@ -3,7 +3,9 @@
 ghost use Rattle.std.specs.Prelude.{◌≡◌, true};
 ghost use Rattle.wat_tokens.specs.Index.{Idx, number, seen_index};
 ghost use Rattle.wat_tokens.specs.Reads.{ReadsLight};
-ghost use Rattle.wat_immediates.specs.Tables.{index_or_0, seen_table_arg, seen_memory_arg, init, seen_table_init, seen_memory_init, copy, seen_table_copy, seen_memory_copy};
+ghost use Rattle.wat_immediates.specs.Tables.{index_or_0, seen_table_arg, seen_memory_arg, init};
+ghost use Rattle.wat_immediates.specs.Tables.{seen_table_init, seen_memory_init, copy};
+ghost use Rattle.wat_immediates.specs.Tables.{seen_table_copy, seen_memory_copy};
 
 use wat_tokens::{Index, Parse, Parser, Result};
 

@@ -3,7 +3,9 @@
 ghost use Rattle.std.specs.Prelude.{◌≡◌, ◌%◌, [], ◌∷◌, ◌++◌, true, map, flat_map};
 ghost use Rattle.wat_tokens.specs.Reads.{ReadsIf, ReadsLight};
 ghost use Rattle.std.specs.Int.{w16, w32, w64, to_le_bytes};
-ghost use Rattle.wat_immediates.specs.Vector.{two, four, eight, sixteen, all_bare, float_const, wide_const, v128_const, bytes_of, lane_bits, SameShape, shuffle};
+ghost use Rattle.wat_immediates.specs.Vector.{two, four, eight, sixteen, all_bare, float_const};
+ghost use Rattle.wat_immediates.specs.Vector.{wide_const, v128_const, bytes_of, lane_bits};
+ghost use Rattle.wat_immediates.specs.Vector.{SameShape, shuffle};
 ghost use Rattle.wat_immediates.specs.declared.vector.V128Const.{V128Const};
 
 use wat_tokens::{F32, F64, Parse, Parser, Result};

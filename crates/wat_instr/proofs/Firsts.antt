@@ -3,7 +3,7 @@ use Rattle.std.proofs.Common.{◌≡◌, ℕ, ◌⊎◌, Bool, true, false, List
 use Rattle.std.proofs.lemmas.List.{append-nil}
 use Rattle.std.specs.Cmp.Lexicographic.{bytes_decides}
 use Rattle.wat_tokens.specs.Token.{Tok, LParen, Keyword}
-use Rattle.wat_tokens.specs.Tests.{begins_word, begins_id, is_id, word_in, word_only}
+use Rattle.wat_tokens.specs.Tests.{begins_word, begins_id, as_id, word_in, word_only}
 use Rattle.wat_tokens.specs.Production.{Production}
 use Rattle.wat_tokens.specs.Laws.Production.{by_test}
 use Rattle.wat_tokens.specs.Parts.{seq}
@@ -125,7 +125,7 @@ label_fresh : BeginsFresh label
 unfolding label name_annotation
 label_fresh v c r s =
     let q = s.1 in
-    in_both q.2 (maybe begins_id identifier (λ v c r s. one is_id (refl, refl, refl) s) s.0.0 q.0 (q.1 ++ r) q.3)
+    in_both q.2 (maybe begins_id identifier (λ v c r s. one as_id (refl, refl, refl) s) s.0.0 q.0 (q.1 ++ r) q.3)
     (maybe begins_name name_annotation (λ v c r s. group s.1) s.0.1 q.1 r q.4)
 
 group_fresh : BeginsFresh (func_group true)
@@ -285,7 +285,7 @@ throw_fresh v c r s = index_first (seq index resume_table) s.0 c r s.1
 operand_fresh : (h : Head) → BeginsFresh (operand h)
 unfolding operand
 operand_fresh (head.Block op) v c r s = block_fresh s.0 c r s.1
-operand_fresh (head.Label op) v c r s = maybe begins_id identifier (λ v c r s. one is_id (refl, refl, refl) s) s.0 c r s.1
+operand_fresh (head.Label op) v c r s = maybe begins_id identifier (λ v c r s. one as_id (refl, refl, refl) s) s.0 c r s.1
 operand_fresh (head.Scalar op) v c r s = empty s.0
 operand_fresh (head.Indexed op) v c r s = index_fresh s.0 c r s.1
 operand_fresh (head.CallIndirect op) v c r s = call_fresh s.0 c r s.1

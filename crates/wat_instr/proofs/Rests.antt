@@ -1,7 +1,7 @@
 -- Two rests that an instruction's tests don't tell apart: one front, and then anything in the one, and in the other what may follow.
 use Rattle.std.proofs.Common.{◌≡◌, ℕ, ◌+◌, ◌≤◌, true, false, is_some, List, [], ◌∷◌, ◌++◌, length, codes, refl, bytes_eq, ap, sym, ◌∙◌, append_assoc, arith, length-append, Bool}
 use Rattle.wat_tokens.specs.Token.{Tok, RParen}
-use Rattle.wat_tokens.specs.Parens.{opens, closes, Level}
+use Rattle.wat_tokens.specs.Parens.{opens, closes, AreLevel}
 use Rattle.wat_tokens.specs.Laws.Parens.{opens-append, closes-append}
 use Rattle.wat_tokens.specs.Tests.{begins_word, begins_group, begins_annotation, begins_id, begins_integer}
 use Rattle.wat_tokens.specs.Index.{begins_index}
@@ -73,7 +73,7 @@ alike_fewer m n le a = record {
 }
 
 -- behind k tokens more
-pub alike_behind : (c t u : List Tok) (k n : ℕ) → k ≤ length c → Level c → Alike n t u → Alike (k + n) (c ++ t) (c ++ u)
+pub alike_behind : (c t u : List Tok) (k n : ℕ) → k ≤ length c → AreLevel c → Alike n t u → Alike (k + n) (c ++ t) (c ++ u)
 alike_behind c t u k n le level a = record {
   front = c ++ a.front;
   old = a.old;

@@ -10,18 +10,18 @@ use Rattle.wat_mnemonics.specs.declared.indexed.BlockOp.TheVariants as block
 use Rattle.wat_mnemonics.specs.declared.indexed.IndexedOp.TheVariants as indexed
 use Rattle.wat_mnemonics.specs.Laws.Places.{one_row}
 use Rattle.wat_instr.specs.Instruction.{is_block, is_if, is_br_if}
-use Rattle.wat_instr.specs.Rows.{opens, opens_if, branches_if}
+use Rattle.wat_instr.specs.Rows.{opens_block, opens_if, branches_if}
 
 same_row : (x y : Head) → (head_row x == head_row y) ≡ true → x ≡ y
 same_row x y e = one_row x y (eqb-true (head_row x) (head_row y) e)
 
-opens_no_more : (h : Head) → (head_row h == head_row (head.Block block.block)) ≡ false → (head_row h == head_row (head.Block block.loop_)) ≡ false → (head_row h == head_row head.try_table) ≡ false → opens h ≡ false
+opens_no_more : (h : Head) → (head_row h == head_row (head.Block block.block)) ≡ false → (head_row h == head_row (head.Block block.loop_)) ≡ false → (head_row h == head_row head.try_table) ≡ false → opens_block h ≡ false
 opens_no_more (head.Block block.block) a b c = absurd cc
 opens_no_more (head.Block block.loop_) a b c = absurd cc
 opens_no_more head.try_table a b c = absurd cc
 opens_no_more _ a b c = refl
 
-pub block_rows : (h : Head) → is_block (head_row h) ≡ opens h
+pub block_rows : (h : Head) → is_block (head_row h) ≡ opens_block h
 block_rows h =
     by_test (head_row h == head_row (head.Block block.block))
     (λ a. rw (same_row h (head.Block block.block) a) refl)

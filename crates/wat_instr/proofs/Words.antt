@@ -7,7 +7,7 @@ use Rattle.wat_immediates.specs.Align.{past_front}
 use Rattle.wat_mnemonics.specs.Heads.{head_word}
 use Rattle.wat_mnemonics.specs.Order.{first}
 use Rattle.wat_mnemonics.specs.Places.{place}
-use Rattle.wat_mnemonics.specs.Laws.Places.{there, below, table_length}
+use Rattle.wat_mnemonics.specs.Laws.Places.{there, place_below, table_length}
 use Rattle.wat_mnemonics.specs.Table.{all_heads}
 use Rattle.wat_mnemonics.specs.declared.head.Head.{Head}
 use Rattle.wat_instr.specs.Follows.{BeginsMnemonic, NoTypeSecond, MayFollow}
@@ -45,7 +45,7 @@ asked_at (x ∷ xs) (suc k) e l = asked_at xs k ((or_parts (asked (head_word x))
 
 pub mnemonic_is_plain : (x : Head) → IsPlain (head_word x)
 mnemonic_is_plain x =
-    let e = asked_at all_heads (place x) none_asked (let l = table_length in let b = below x in omega arith) in
+    let e = asked_at all_heads (place x) none_asked (let l = table_length in let b = place_below x in omega arith) in
     not_asked (head_word x) (subst (λ (y : Head). asked (head_word y) ≡ false) (there x) e)
 
 -- each test fails on such a word

@@ -8,7 +8,9 @@ use Rattle.wat_mnemonics.specs.declared.head.Head.{Head}
 -- the second token is none of the words `type`, `param` and `result`
 abbrev pub NoTypeSecond : List Tok → Type 0
 NoTypeSecond s =
-    (second (begins_word (codes "type")) s ≡ false) × (second (begins_word (codes "param")) s ≡ false) × (second (begins_word (codes "result")) s ≡ false)
+    (second (begins_word (codes "type")) s ≡ false)
+    × (second (begins_word (codes "param")) s ≡ false)
+    × (second (begins_word (codes "result")) s ≡ false)
 
 -- a mnemonic stands in front
 abbrev pub BeginsMnemonic : List Tok → Type 0

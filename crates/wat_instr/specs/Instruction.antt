@@ -5,15 +5,21 @@ use Rattle.wat_tokens.specs.Parses.{seen_option}
 use Rattle.wat_tokens.specs.Production.{Production}
 use Rattle.wat_tokens.specs.Parts.{made}
 use Rattle.wat_types.specs.Heap.{seen_heap}
-use Rattle.wat_immediates.specs.Aggregates.{seen_struct_access, seen_cont_bind, seen_switch, seen_array_fill, seen_array_copy, seen_array_init, seen_array_new_fixed, seen_array_new_data, seen_array_new_elem}
+use Rattle.wat_immediates.specs.Aggregates.{seen_struct_access, seen_cont_bind, seen_switch}
+use Rattle.wat_immediates.specs.Aggregates.{seen_array_fill, seen_array_copy, seen_array_init}
+use Rattle.wat_immediates.specs.Aggregates.{seen_array_new_fixed, seen_array_new_data}
+use Rattle.wat_immediates.specs.Aggregates.{seen_array_new_elem}
 use Rattle.wat_immediates.specs.Branch.{seen_br_table}
 use Rattle.wat_immediates.specs.Lanes.{seen_lane_access}
 use Rattle.wat_immediates.specs.Memory.{seen_mem_arg}
 use Rattle.wat_immediates.specs.Ordering.{seen_ordered}
-use Rattle.wat_immediates.specs.Tables.{seen_table_arg, seen_memory_arg, seen_table_init, seen_memory_init, seen_table_copy, seen_memory_copy}
+use Rattle.wat_immediates.specs.Tables.{seen_table_arg, seen_memory_arg, seen_table_init}
+use Rattle.wat_immediates.specs.Tables.{seen_memory_init, seen_table_copy, seen_memory_copy}
 use Rattle.wat_operands.specs.Block.{seen_block}
 use Rattle.wat_operands.specs.Call.{seen_call}
-use Rattle.wat_operands.specs.Casts.{seen_test, seen_cast, seen_cast_desc_eq, seen_branch, seen_branch_fail, seen_branch_desc_eq, seen_branch_desc_eq_fail}
+use Rattle.wat_operands.specs.Casts.{seen_test, seen_cast, seen_cast_desc_eq, seen_branch}
+use Rattle.wat_operands.specs.Casts.{seen_branch_fail, seen_branch_desc_eq}
+use Rattle.wat_operands.specs.Casts.{seen_branch_desc_eq_fail}
 use Rattle.wat_operands.specs.Catches.{seen_try}
 use Rattle.wat_operands.specs.Handlers.{seen_resume, seen_resume_throw, seen_resume_throw_ref}
 use Rattle.wat_operands.specs.Select.{seen_select}
@@ -66,12 +72,26 @@ use Rattle.wat_operands.specs.declared.casts.BrOnCastDescEqFail.{BrOnCastDescEqF
 
 -- the instruction of a text
 abbrev pub Instruction : Type 0
-Instruction = InstructionOf BlockType Id Index CallIndirect TableArg MemArg MemoryArg StructAccess ArrayInit BrTableIndices SelectTypes MemoryInit MemoryCopy TableInit TableCopy HeapType ArrayNewFixed ArrayNewData ArrayNewElem ArrayFill ArrayCopy RefTest RefCast BrOnCast BrOnCastFail TryTable ContBind Resume ResumeThrow ResumeThrowRef Switch RefCastDescEq BrOnCastDescEq BrOnCastDescEqFail
+Instruction =
+    InstructionOf BlockType Id Index CallIndirect TableArg MemArg MemoryArg StructAccess ArrayInit
+    BrTableIndices SelectTypes MemoryInit MemoryCopy TableInit TableCopy HeapType ArrayNewFixed
+    ArrayNewData ArrayNewElem ArrayFill ArrayCopy RefTest RefCast BrOnCast BrOnCastFail TryTable
+    ContBind Resume ResumeThrow ResumeThrowRef Switch RefCastDescEq BrOnCastDescEq
+    BrOnCastDescEqFail
 
 -- ---- what contracts see
 
 -- the instruction without its operand
-abbrev pub head_in : {BlockType Id Index CallIndirect TableArg MemArg MemoryArg StructAccess ArrayInit BrTableIndices SelectTypes MemoryInit MemoryCopy TableInit TableCopy HeapType ArrayNewFixed ArrayNewData ArrayNewElem ArrayFill ArrayCopy RefTest RefCast BrOnCast BrOnCastFail TryTable ContBind Resume ResumeThrow ResumeThrowRef Switch RefCastDescEq BrOnCastDescEq BrOnCastDescEqFail : Type 0} → InstructionOf BlockType Id Index CallIndirect TableArg MemArg MemoryArg StructAccess ArrayInit BrTableIndices SelectTypes MemoryInit MemoryCopy TableInit TableCopy HeapType ArrayNewFixed ArrayNewData ArrayNewElem ArrayFill ArrayCopy RefTest RefCast BrOnCast BrOnCastFail TryTable ContBind Resume ResumeThrow ResumeThrowRef Switch RefCastDescEq BrOnCastDescEq BrOnCastDescEqFail → Head
+abbrev pub head_in : {BlockType Id Index CallIndirect TableArg MemArg MemoryArg StructAccess
+    ArrayInit BrTableIndices SelectTypes MemoryInit MemoryCopy TableInit TableCopy HeapType
+    ArrayNewFixed ArrayNewData ArrayNewElem ArrayFill ArrayCopy RefTest RefCast BrOnCast
+    BrOnCastFail TryTable ContBind Resume ResumeThrow ResumeThrowRef Switch RefCastDescEq
+    BrOnCastDescEq BrOnCastDescEqFail : Type 0}
+    → InstructionOf BlockType Id Index CallIndirect TableArg MemArg MemoryArg StructAccess ArrayInit
+    BrTableIndices SelectTypes MemoryInit MemoryCopy TableInit TableCopy HeapType ArrayNewFixed
+    ArrayNewData ArrayNewElem ArrayFill ArrayCopy RefTest RefCast BrOnCast BrOnCastFail TryTable
+    ContBind Resume ResumeThrow ResumeThrowRef Switch RefCastDescEq BrOnCastDescEq
+    BrOnCastDescEqFail → Head
 head_in (code.Block op x) = head.Block op
 head_in (code.Label op x) = head.Label op
 head_in (code.Scalar op) = head.Scalar op
@@ -205,7 +225,9 @@ instruction = followed mnemonic behind_word
 
 -- `block`, `loop` and `try_table`
 abbrev pub is_block : ℕ → Bool
-is_block n = (n == head_row (head.Block block.block) || n == head_row (head.Block block.loop_)) || n == head_row head.try_table
+is_block n =
+    (n == head_row (head.Block block.block) || n == head_row (head.Block block.loop_))
+    || n == head_row head.try_table
 
 -- `if`
 abbrev pub is_if : ℕ → Bool

@@ -26,9 +26,11 @@ use Rattle.wat_operands.specs.Block.{BlockTy, block_type}
 use Rattle.wat_operands.specs.Call.{CallTy, call_indirect}
 use Rattle.wat_operands.specs.Casts.{BranchTy, cast_branch}
 use Rattle.wat_operands.specs.Catches.{TryTy, try_table}
-use Rattle.wat_operands.specs.Handlers.{ResumeTy, bare_resume, resume, ThrowTy, bare_throw, resume_throw}
+use Rattle.wat_operands.specs.Handlers.{ResumeTy, bare_resume, resume, ThrowTy, bare_throw}
+use Rattle.wat_operands.specs.Handlers.{resume_throw}
 use Rattle.wat_operands.specs.Select.{bare_select, select_types}
-use Rattle.wat_mnemonics.specs.Access.{access_align, atomic_access_align, rmw_access_align, lane_access_align}
+use Rattle.wat_mnemonics.specs.Access.{access_align, atomic_access_align, rmw_access_align}
+use Rattle.wat_mnemonics.specs.Access.{lane_access_align}
 use Rattle.wat_mnemonics.specs.declared.head.Head.{Head}
 use Rattle.wat_mnemonics.specs.declared.head.Head.TheVariants as head
 use Rattle.wat_tokens.specs.Followed.{blank}

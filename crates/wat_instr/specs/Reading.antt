@@ -4,7 +4,8 @@ use Rattle.wat_tokens.specs.Error.{Error}
 use Rattle.wat_tokens.specs.State.{State}
 use Rattle.wat_tokens.specs.Reads.{Reads}
 use Rattle.wat_mnemonics.specs.declared.head.Head.{Head}
-use Rattle.wat_instr.specs.Instruction.{Instruction, seen_instruction, bare_instruction, behind_word}
+use Rattle.wat_instr.specs.Instruction.{Instruction, seen_instruction, bare_instruction}
+use Rattle.wat_instr.specs.Instruction.{behind_word}
 
 -- it answers the instruction whose word was taken, with the operand that stands in front
 unfoldable pub ReadsOperand : Head → Result Instruction Error → State → State → Type 0

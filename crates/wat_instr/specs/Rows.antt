@@ -6,11 +6,11 @@ use Rattle.wat_mnemonics.specs.declared.indexed.BlockOp.TheVariants as block
 use Rattle.wat_mnemonics.specs.declared.indexed.IndexedOp.TheVariants as indexed
 
 -- `block`, `loop` and `try_table`
-abbrev pub opens : Head → Bool
-opens (head.Block block.block) = true
-opens (head.Block block.loop_) = true
-opens head.try_table = true
-opens _ = false
+abbrev pub opens_block : Head → Bool
+opens_block (head.Block block.block) = true
+opens_block (head.Block block.loop_) = true
+opens_block head.try_table = true
+opens_block _ = false
 
 -- `if`
 abbrev pub opens_if : Head → Bool

@@ -11,18 +11,22 @@ use Rattle.wat_instr.specs.declared.instruction.InstructionOf.TheVariants as cod
 -- is that one
 abbrev pub SameInstruction : Instruction → Instruction → Type 0
 SameInstruction (code.Block op x) (code.Block op' y) = (op' ≡ op) × SameBlock x.value y.value
-SameInstruction (code.CallIndirect op x) (code.CallIndirect op' y) = (op' ≡ op) × SameCall x.value y.value
-SameInstruction (code.br_table x) (code.br_table y) = (y.labels.items ≡ x.labels.items) × (y.default ≡ x.default)
+SameInstruction (code.CallIndirect op x) (code.CallIndirect op' y) =
+    (op' ≡ op) × SameCall x.value y.value
+SameInstruction (code.br_table x) (code.br_table y) =
+    (y.labels.items ≡ x.labels.items) × (y.default ≡ x.default)
 SameInstruction (code.select x) (code.select y) = SameTypes x.tys y.tys
 SameInstruction (code.br_on_cast x) (code.br_on_cast y) = y.value ≡ x.value
 SameInstruction (code.br_on_cast_fail x) (code.br_on_cast_fail y) = y.value ≡ x.value
 SameInstruction (code.br_on_cast_desc_eq x) (code.br_on_cast_desc_eq y) = y.value ≡ x.value
-SameInstruction (code.br_on_cast_desc_eq_fail x) (code.br_on_cast_desc_eq_fail y) = y.value ≡ x.value
+SameInstruction (code.br_on_cast_desc_eq_fail x) (code.br_on_cast_desc_eq_fail y) =
+    y.value ≡ x.value
 SameInstruction (code.try_table x) (code.try_table y) = SameTry x y
 SameInstruction (code.resume x) (code.resume y) =
     (y.type_index ≡ x.type_index) × (y.table.handlers.items ≡ x.table.handlers.items)
 SameInstruction (code.resume_throw x) (code.resume_throw y) =
-    (y.type_index ≡ x.type_index) × (y.tag_index ≡ x.tag_index) × (y.table.handlers.items ≡ x.table.handlers.items)
+    (y.type_index ≡ x.type_index) × (y.tag_index ≡ x.tag_index)
+    × (y.table.handlers.items ≡ x.table.handlers.items)
 SameInstruction (code.resume_throw_ref x) (code.resume_throw_ref y) =
     (y.type_index ≡ x.type_index) × (y.table.handlers.items ≡ x.table.handlers.items)
 SameInstruction i j = j ≡ i

@@ -4,7 +4,7 @@ ghost use Rattle.std.specs.Prelude.{◌≡◌};
 ghost use Rattle.wat_mnemonics.specs.Heads.{head_word, head_opcode};
 ghost use Rattle.wat_mnemonics.specs.Opcodes.{bytes, Appends};
 ghost use Rattle.wat_instr.specs.Instruction.{head_in, seen_instruction, is_block, is_if, is_br_if};
-ghost use Rattle.wat_instr.specs.Rows.{opens, opens_if, branches_if};
+ghost use Rattle.wat_instr.specs.Rows.{opens_block, opens_if, branches_if};
 
 use crate::instruction::{Instruction, InstructionOf};
 use std::fmt;
@@ -188,7 +188,7 @@ impl Instruction<'_> {
 
 /// Whether it is the head of `block`, `loop` or `try_table`.
 fn opens_block(head: Head) -> bool
-    ensures { result ≡ opens head }
+    ensures { result ≡ opens_block head }
 {
     match head {
         Head::Block(op) => match op {

@@ -7,7 +7,8 @@ ghost use Rattle.wat_tokens.specs.Parses.{Gives};
 ghost use Rattle.wat_tokens.specs.Token.{Tok, Keyword};
 ghost use Rattle.wat_mnemonics.specs.Probes.{AtMostTen};
 ghost use Rattle.wat_mnemonics.specs.Mnemonic.{mnemonic};
-ghost use Rattle.wat_instr.specs.Instruction.{Instr, seen_instruction, bare_instruction, instruction};
+ghost use Rattle.wat_instr.specs.Instruction.{Instr, seen_instruction, bare_instruction};
+ghost use Rattle.wat_instr.specs.Instruction.{instruction};
 ghost use Rattle.wat_instr.specs.Reading.{ReadsOperand};
 
 use crate::families::*;

@@ -9,7 +9,7 @@ use Rattle.wat_lexer.specs.Bytes.{is_idchar, between}
 use Rattle.wat_lexer.specs.Number.{is_integer, read}
 use Rattle.wat_lexer.specs.Token.{Tok, Keyword, Id, Annotation, Integer, String, Reserved}
 use Rattle.wat_lexer.specs.Cut.{Idchars, Classed, IsString}
-use Rattle.wat_lexer.specs.Scan.{string_at, all_idchars, whole, string_of, text_name, name_of, or_reserved, class, Raw}
+use Rattle.wat_lexer.specs.Scan.{string_at, all_idchars, whole, string_of, text_name, name_behind, or_reserved, class, Raw}
 use Rattle.wat_lexer.proofs.Strings.{if_cases, some_same, string_sound, string_complete}
 
 pub idchars_sound : (x : List ℕ) → all_idchars x ≡ true → Idchars x
@@ -50,8 +50,8 @@ text_name_is y (Some (b ∷ t)) n e h =
     (λ u h. subst (NameBody y) (some_same h) (omega arith, inr (string_of_sound y (b ∷ t) e, IsUtf8-from_is_utf8 (b ∷ t) u)))
     (λ _ h. cc) h
 
-name_sound : (y n : List ℕ) → name_of y ≡ Some n → NameBody y n
-unfolding name_of
+name_sound : (y n : List ℕ) → name_behind y ≡ Some n → NameBody y n
+unfolding name_behind
 name_sound [] n h = cc
 name_sound (b ∷ t) n h =
     if_cases (λ o. o ≡ Some n → NameBody (b ∷ t) n) (all_idchars (b ∷ t)) (Some (b ∷ t)) _
@@ -62,8 +62,8 @@ text_name_of : (n : List ℕ) → 0 < length n → IsUtf8 n → text_name (Some 
 text_name_of [] l u = absurd (omega arith)
 text_name_of (b ∷ t) l u = rw (is_utf8-from_IsUtf8 (b ∷ t) u)
 
-name_complete : (y n : List ℕ) → NameBody y n → name_of y ≡ Some n
-unfolding name_of all_idchars
+name_complete : (y n : List ℕ) → NameBody y n → name_behind y ≡ Some n
+unfolding name_behind all_idchars
 name_complete [] n (l, inl (e, h)) = absurd (omega (arith, ap length e))
 name_complete (b ∷ t) n (l, inl (e, h)) = rw (idchars_complete (b ∷ t) (rw (← e) at h), e)
 name_complete [] n (l, inr (s, u)) = cc
@@ -121,11 +121,11 @@ string_right : (behind : Bool) (x : List ℕ) (o : Option (List ℕ)) → string
 string_right behind x None h = refl
 string_right behind x (Some c) h = string_of_sound x c h
 
-id_right : (behind : Bool) (b : ℕ) (t : List ℕ) (o : Option (List ℕ)) → b ≡ 36 → name_of t ≡ o → KnownRight behind (b ∷ t) (or_reserved Id (b ∷ t) o)
+id_right : (behind : Bool) (b : ℕ) (t : List ℕ) (o : Option (List ℕ)) → b ≡ 36 → name_behind t ≡ o → KnownRight behind (b ∷ t) (or_reserved Id (b ∷ t) o)
 id_right behind b t None e h = refl
 id_right behind b t (Some n) e h = let (some, body) = name_sound t n h in (t, ap (λ c. c ∷ t) e, some, body)
 
-annotation_right : (behind : Bool) (b : ℕ) (t : List ℕ) (o : Option (List ℕ)) → (behind ≡ true) × ((b == 64) ≡ true) → name_of t ≡ o → KnownRight behind (b ∷ t) (or_reserved Annotation (b ∷ t) o)
+annotation_right : (behind : Bool) (b : ℕ) (t : List ℕ) (o : Option (List ℕ)) → (behind ≡ true) × ((b == 64) ≡ true) → name_behind t ≡ o → KnownRight behind (b ∷ t) (or_reserved Annotation (b ∷ t) o)
 annotation_right behind b t None e h = refl
 annotation_right behind b t (Some n) (w, e) h = let (some, body) = name_sound t n h in (w, (t, ap (λ c. c ∷ t) (eqb-true b 64 e), some, body))
 
@@ -135,8 +135,8 @@ class_right behind [] = refl
 class_right behind (b ∷ t) =
     let P : Tok → Type 0 = KnownRight behind (b ∷ t) in
     if_cases P (b == 34) _ _ (λ e. string_right behind (b ∷ t) (string_of (b ∷ t)) refl)
-    (λ _. if_cases P (b == 36) _ _ (λ e. id_right behind b t (name_of t) (eqb-true b 36 e) refl)
-    (λ _. if_cases P (behind && (b == 64)) _ _ (λ e. annotation_right behind b t (name_of t) (and_parts behind (b == 64) e) refl)
+    (λ _. if_cases P (b == 36) _ _ (λ e. id_right behind b t (name_behind t) (eqb-true b 36 e) refl)
+    (λ _. if_cases P (behind && (b == 64)) _ _ (λ e. annotation_right behind b t (name_behind t) (and_parts behind (b == 64) e) refl)
     (λ _. if_cases P (all_idchars (b ∷ t) && between 97 122 b) _ _
     (λ e. let (all, low) = and_parts (all_idchars (b ∷ t)) (between 97 122 b) e in (refl, idchars_sound (b ∷ t) all, b, t, refl, low))
     (λ _. if_cases P (all_idchars (b ∷ t) && is_integer (b ∷ t)) _ _

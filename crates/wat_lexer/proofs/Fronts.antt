@@ -10,14 +10,14 @@ use Rattle.wat_lexer.specs.Token.{Tok, LParen, RParen, Keyword, Id, Annotation, 
 use Rattle.wat_lexer.specs.Cut.{Classed, Token, Inside, Str, Blank, space, line, block, Cuts, done, blank, token, Run, none, idchar, string, Begins, begins, in_no_run, Broken, wrong_char, open_comment, wrong_string, Fails, at_once, behind_blank, behind_token}
 use Rattle.wat_lexer.specs.declared.fault.Fault.{Fault}
 use Rattle.wat_lexer.specs.declared.fault.Fault.TheVariants.{LexChar}
-use Rattle.wat_lexer.specs.Scan.{Front, Nothing, BlankTo, TokenTo, Wrong, front, run_front, comment_front, tail, behind_comment, behind_line, behind_run, class, string_at, RunEnd, Ends, Stuck, Between, Raw}
+use Rattle.wat_lexer.specs.Scan.{Beginning, Nothing, BlankTo, TokenTo, Wrong, front, run_front, comment_front, tail, behind_comment, behind_line, behind_run, class, string_at, RunEnd, Ends, Stuck, Between, Raw}
 use Rattle.wat_lexer.proofs.Strings.{if_cases, string_sound, string_complete}
 use Rattle.wat_lexer.proofs.Pieces.{comment_sound, comment_complete, line_sound, line_complete, RunUpTo, run_sound, run_complete, run_stuck, ends_here, excluded}
 use Rattle.wat_lexer.proofs.Classes.{class_complete, class_right, class_reserved, class_none, KnownRight, no_integer}
 
 -- SOUND
 
-abbrev pub FrontIs : Bool → List ℕ → Front → Type 0
+abbrev pub FrontIs : Bool → List ℕ → Beginning → Type 0
 FrontIs behind s Nothing = s ≡ []
 FrontIs behind s (BlankTo rest) = (x : List ℕ) × (s ≡ x ++ rest) × Blank x rest
 FrontIs behind s (TokenTo t rest) = (x : List ℕ) × (s ≡ x ++ rest) × Token behind x rest t
@@ -66,7 +66,7 @@ pub front_right : (behind : Bool) (s : List ℕ) → FrontIs behind s (front beh
 unfolding front
 front_right behind [] = refl
 front_right behind (b ∷ t) =
-    let P : Front → Type 0 = FrontIs behind (b ∷ t) in
+    let P : Beginning → Type 0 = FrontIs behind (b ∷ t) in
     if_cases P (is_space b) (BlankTo t) _ (λ e. (b ∷ [], refl, space b t e))
     (λ no_space. if_cases P (b == 40) (if begins 59 t then comment_front (b ∷ t) (behind_comment 0 (tail t)) else TokenTo LParen t) _
     (λ e. let is_paren = eqb-true b 40 e in
@@ -153,7 +153,7 @@ broken_front behind s f at (wrong_string x rest r h) = rw (front_run behind x (3
 -- CUTS
 
 -- what a cut is, by what stands in front
-abbrev pub CutBy : ℕ → List ℕ → Front → List Placed → Type 0
+abbrev pub CutBy : ℕ → List ℕ → Beginning → List Placed → Type 0
 CutBy n s Nothing ts = ts ≡ []
 CutBy n s (BlankTo rest) ts = Cuts n false rest ts
 CutBy n s (TokenTo t rest) ts = (us : List Placed) × (ts ≡ record { token = t; offset = n - length s } ∷ us) × Cuts n (is_open t) rest us
@@ -168,7 +168,7 @@ cut_front (done m w) = rw (front_nothing w)
 cut_front (blank m w text x rest us e h c) = rw (blank_front w text x rest e h) c
 cut_front (token m w text x rest t us e h c) = rw (token_front w text x rest t e h) (us, refl, c)
 
-from_front : (n : ℕ) (behind : Bool) (s : List ℕ) (f : Front) (ts : List Placed) → FrontIs behind s f → CutBy n s f ts → Cuts n behind s ts
+from_front : (n : ℕ) (behind : Bool) (s : List ℕ) (f : Beginning) (ts : List Placed) → FrontIs behind s f → CutBy n s f ts → Cuts n behind s ts
 from_front n behind s Nothing ts r h = rw (r, h) (done n behind)
 from_front n behind s (BlankTo rest) ts (x, e, b) h = blank n behind s x rest ts e b h
 from_front n behind s (TokenTo t rest) ts (x, e, k) (us, m, h) = rw m (token n behind s x rest t us e k h)
@@ -186,7 +186,7 @@ one_cut (token m w text x rest t vs e b c) k =
 -- FIRST FAULTS
 
 -- where a text fails, by what stands in front
-abbrev pub FailsBy : Front → Fault → List ℕ → Type 0
+abbrev pub FailsBy : Beginning → Fault → List ℕ → Type 0
 FailsBy Nothing f at = ⊥
 FailsBy (BlankTo rest) f at = Fails false rest f at
 FailsBy (TokenTo t rest) f at = Fails (is_open t) rest f at
@@ -197,7 +197,7 @@ fails_front (at_once w text g q h) = rw (broken_front w text g q h) (refl, refl)
 fails_front (behind_blank w text x rest g q e h k) = rw (blank_front w text x rest e h) k
 fails_front (behind_token w text x rest t g q e h k) = rw (token_front w text x rest t e h) k
 
-from_failing : (behind : Bool) (s : List ℕ) (o : Front) (f : Fault) (at : List ℕ) → FrontIs behind s o → FailsBy o f at → Fails behind s f at
+from_failing : (behind : Bool) (s : List ℕ) (o : Beginning) (f : Fault) (at : List ℕ) → FrontIs behind s o → FailsBy o f at → Fails behind s f at
 from_failing behind s Nothing f at r h = absurd h
 from_failing behind s (BlankTo rest) f at (x, e, b) h = behind_blank behind s x rest f at e b h
 from_failing behind s (TokenTo t rest) f at (x, e, k) h = behind_token behind s x rest t f at e k h

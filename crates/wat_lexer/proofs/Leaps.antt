@@ -4,7 +4,7 @@ use Rattle.std.specs.Prelude.{Option}
 use Rattle.std.proofs.lemmas.Bool.{cases_Bool}
 use Rattle.std.proofs.lemmas.List.{drop-map, length-map}
 use Rattle.wat_lexer.specs.Token.{Tok}
-use Rattle.wat_lexer.specs.Sight.{hides, shuts, deeper, visible, as_seen, hidden_at, hidden}
+use Rattle.wat_lexer.specs.Sight.{hides, shuts, deeper, visible, as_shown, hidden_at, hidden}
 use Rattle.wat_lexer.specs.View.{lexeme_tok, toks, AreLeaps, Shown}
 use Rattle.wat_lexer.specs.declared.token.Lexeme.{Lexeme}
 
@@ -14,7 +14,7 @@ leaps_drop n ls p known i = rw (drop-drop i n ls) (p known (n + i))
 pub leaps_later : (ls : List Lexeme) (a b : ℕ) → a ≤ b → AreLeaps (drop a ls) → AreLeaps (drop b ls)
 leaps_later ls a b le p = let n : a + (b - a) ≡ b = omega arith in rw (drop-drop (b - a) a ls, n) at (leaps_drop (b - a) (drop a ls) p)
 
--- behind what is hidden the rest is seen, and nothing more is hidden there
+-- behind what is hidden the rest is visible, and nothing more is hidden there
 pub record Passed (known : Bool) (place : Option ℕ) (t : List Tok) : Type 0 where
   pub rest : visible known place t ≡ visible known None (drop (hidden_at known place t) t)
   pub stands : hides known (drop (hidden_at known place t) t) ≡ false
@@ -43,15 +43,15 @@ pub hidden_within : (known : Bool) (ls : List Lexeme) → hidden known (toks ls)
 unfolding hidden
 hidden_within known ls = omega (arith, (passed known None (toks ls)).within, length-map ls lexeme_tok)
 
--- what is seen begins with the first of the list, where that isn't hidden
-shown_here : (known : Bool) (ls : List Lexeme) → hides known (toks ls) ≡ false → Shown known ls (as_seen known (toks ls))
-unfolding as_seen visible
+-- what is visible begins with the first of the list, where that isn't hidden
+shown_here : (known : Bool) (ls : List Lexeme) → hides known (toks ls) ≡ false → Shown known ls (as_shown known (toks ls))
+unfolding as_shown visible
 shown_here known [] h = refl
 shown_here known (x ∷ ls) h = rw h
 
 -- and it begins with the first behind what is hidden
-pub shown_at : (known : Bool) (ls : List Lexeme) (n : ℕ) → n ≡ hidden known (toks ls) → Shown known (drop n ls) (as_seen known (toks ls))
-unfolding as_seen hidden
+pub shown_at : (known : Bool) (ls : List Lexeme) (n : ℕ) → n ≡ hidden known (toks ls) → Shown known (drop n ls) (as_shown known (toks ls))
+unfolding as_shown hidden
 shown_at known ls n e =
     let p = passed known None (toks ls) in
     let same : toks (drop n ls) ≡ drop (hidden_at known None (toks ls)) (toks ls) = rw (← drop-map lexeme_tok n ls, e) in

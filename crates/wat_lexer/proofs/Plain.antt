@@ -7,7 +7,7 @@ use Rattle.std.proofs.lemmas.Bool.Decides.{nat_tests}
 use Rattle.wat_lexer.specs.Bytes.{is_idchar, between}
 use Rattle.wat_lexer.specs.Number.{is_integer, read, begins_hex}
 use Rattle.wat_lexer.specs.Token.{Keyword, Id, Annotation, Integer, Reserved}
-use Rattle.wat_lexer.specs.Scan.{all_idchars, name_of, or_reserved, class}
+use Rattle.wat_lexer.specs.Scan.{all_idchars, name_behind, or_reserved, class}
 use Rattle.wat_lexer.proofs.Pieces.{excluded}
 use Rattle.wat_lexer.proofs.Steps.{at_front, at_front_two, idchar_ascii}
 use Rattle.wat_lexer.proofs.Values.{read_step, read_over}
@@ -17,8 +17,8 @@ slice_front from end s h k =
     let size : end - from ≡ suc (end - (from + 1)) = omega arith in
     rw (at_front from s (omega arith), size)
 
-name_plain : (x : List ℕ) → 0 < length x → all_idchars x ≡ true → name_of x ≡ Some x
-unfolding name_of
+name_plain : (x : List ℕ) → 0 < length x → all_idchars x ≡ true → name_behind x ≡ Some x
+unfolding name_behind
 name_plain [] h e = absurd (omega arith)
 name_plain (b ∷ x) h e = rw e
 
@@ -28,8 +28,8 @@ all_tail b t h = and_parts (is_idchar b) (all_idchars t) h
 
 -- the class of the run, by its first byte
 pub plain_here : (behind : Bool) (from end : ℕ) (s : List ℕ) → from < end → end ≤ length s → all_idchars (slice_range s from end) ≡ true → class behind (slice_range s from end) ≡
-    (if get_or s from 0 == 36 then or_reserved Id (slice_range s from end) (name_of (slice_range s (from + 1) end))
-    else (if behind && (get_or s from 0 == 64) then or_reserved Annotation (slice_range s from end) (name_of (slice_range s (from + 1) end))
+    (if get_or s from 0 == 36 then or_reserved Id (slice_range s from end) (name_behind (slice_range s (from + 1) end))
+    else (if behind && (get_or s from 0 == 64) then or_reserved Annotation (slice_range s from end) (name_behind (slice_range s (from + 1) end))
     else (if between 97 122 (get_or s from 0) then Keyword (slice_range s from end)
     else (if is_integer (slice_range s from end) then Integer (slice_range s from end)
     else Reserved (slice_range s from end)))))
@@ -40,13 +40,13 @@ plain_here behind from end s order within all =
     rw (cons, excluded (get_or s from 0) 34 (all_tail (get_or s from 0) (slice_range s (from + 1) end) all).0 refl, all)
 
 -- the name behind the first byte
-pub plain_name : (from end : ℕ) (s : List ℕ) → from + 1 < end → end ≤ length s → all_idchars (slice_range s from end) ≡ true → name_of (slice_range s (from + 1) end) ≡ Some (slice_range s (from + 1) end)
+pub plain_name : (from end : ℕ) (s : List ℕ) → from + 1 < end → end ≤ length s → all_idchars (slice_range s from end) ≡ true → name_behind (slice_range s (from + 1) end) ≡ Some (slice_range s (from + 1) end)
 plain_name from end s order within all =
     name_plain (slice_range s (from + 1) end) (omega (arith, length-take (end - (from + 1)) (drop (from + 1) s), length-drop (from + 1) s))
     (all_tail (get_or s from 0) (slice_range s (from + 1) end) (rw (slice_front from end s (omega arith) within) at all)).1
 
-pub plain_bare : (from end : ℕ) (s : List ℕ) → from < end → end ≤ from + 1 → name_of (slice_range s (from + 1) end) ≡ None
-unfolding name_of
+pub plain_bare : (from end : ℕ) (s : List ℕ) → from < end → end ≤ from + 1 → name_behind (slice_range s (from + 1) end) ≡ None
+unfolding name_behind
 plain_bare from end s h k = let none : end - (from + 1) ≡ 0 = omega arith in rw none
 
 all_at : (x : List ℕ) (i : ℕ) → all_idchars x ≡ true → i < length x → is_idchar (get_or x i 0) ≡ true

@@ -9,7 +9,7 @@ use Rattle.std.proofs.Math.Seq.{take-append-add}
 use Rattle.wat_lexer.specs.Bytes.{is_idchar}
 use Rattle.wat_lexer.specs.Cut.{begins}
 use Rattle.wat_lexer.specs.Token.{Tok, Id, Annotation, String, Reserved}
-use Rattle.wat_lexer.specs.Scan.{all_idchars, name_of, or_reserved, class, string_at, string_of, text_name, whole, rest_at, Raw}
+use Rattle.wat_lexer.specs.Scan.{all_idchars, name_behind, or_reserved, class, string_at, string_of, text_name, whole, rest_at, Raw}
 use Rattle.wat_lexer.proofs.Pieces.{excluded}
 use Rattle.wat_lexer.proofs.Plain.{slice_front, all_tail}
 use Rattle.wat_lexer.proofs.Steps.{slice_none}
@@ -39,8 +39,8 @@ quoted zero (b ∷ t) h = rw (eqb-true b 34 h)
 quoted (suc q) [] h = cc
 quoted (suc q) (b ∷ t) h = tail_quoted b t (quoted q t h)
 
-name_string : (t : List ℕ) → all_idchars t ≡ false → name_of t ≡ text_name (string_of t)
-unfolding name_of string_of
+name_string : (t : List ℕ) → all_idchars t ≡ false → name_behind t ≡ text_name (string_of t)
+unfolding name_behind string_of
 name_string [] h = refl
 name_string (b ∷ t) h = rw h
 

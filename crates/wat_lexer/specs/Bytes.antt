@@ -15,4 +15,6 @@ is_line_end b = (b == 10) || (b == 13)
 -- letters, digits and !#$%&'*+-./:<=>?@\^_`|~
 abbrev pub is_idchar : ℕ → Bool
 is_idchar b =
-    (b == 33) || (between 35 39 b || (between 42 43 b || (between 45 58 b || (between 60 90 b || ((b == 92) || (between 94 122 b || ((b == 124) || (b == 126))))))))
+    (b == 33) || (between 35 39 b || (between 42 43 b
+    || (between 45 58 b || (between 60 90 b
+    || ((b == 92) || (between 94 122 b || ((b == 124) || (b == 126))))))))

@@ -1,14 +1,18 @@
 -- How a text is cut into tokens.
-use Rattle.std.specs.Prelude.{◌≡◌, ℕ, ◌+◌, ◌-◌, ◌*◌, ◌<◌, Bool, true, false, List, [], ◌∷◌, ◌++◌, length, Option, Some, None, ◌⊎◌, ◌==◌, ◌&&◌, not, nat_lt, nat_le, if◌then◌else◌, encode_utf8, slice_get, drop}
+use Rattle.std.specs.Prelude.{◌≡◌, ℕ, ◌+◌, ◌-◌, ◌*◌, ◌<◌, Bool, true, false, List, [], ◌∷◌, ◌++◌}
+use Rattle.std.specs.Prelude.{length, Option, Some, None, ◌⊎◌, ◌==◌, ◌&&◌, not, nat_lt, nat_le}
+use Rattle.std.specs.Prelude.{if◌then◌else◌, encode_utf8, slice_get, drop}
 use Rattle.std.specs.List.{AllByRecursion}
 use Rattle.std.specs.Char.{digit_value, IsScalar}
 use Rattle.std.specs.Str.{IsUtf8}
 use Rattle.wat_lexer.specs.Bytes.{is_space, is_line_end, is_idchar, between}
 use Rattle.wat_lexer.specs.Number.{number, is_integer}
 use Rattle.wat_lexer.specs.Sight.{behind_group}
-use Rattle.wat_lexer.specs.Token.{Tok, LParen, RParen, Keyword, Id, Annotation, Integer, String, Reserved, Placed, tokens_of, is_open}
+use Rattle.wat_lexer.specs.Token.{Tok, LParen, RParen, Keyword, Id, Annotation, Integer, String}
+use Rattle.wat_lexer.specs.Token.{Reserved, Placed, tokens_of, is_open}
 use Rattle.wat_lexer.specs.declared.fault.Fault.{Fault}
-use Rattle.wat_lexer.specs.declared.fault.Fault.TheVariants.{LexChar, LexString, LexComment, LexAnnotation}
+use Rattle.wat_lexer.specs.declared.fault.Fault.TheVariants.{LexChar, LexString, LexComment}
+use Rattle.wat_lexer.specs.declared.fault.Fault.TheVariants.{LexAnnotation}
 
 -- STRINGS
 
@@ -20,7 +24,8 @@ is_raw b = nat_le 32 b && (not (b == 127) && (not (b == 34) && not (b == 92)))
 abbrev pub short_escape : ℕ → Option ℕ
 short_escape c =
     if c == 116 then Some 9 else (if c == 110 then Some 10 else (if c == 114 then Some 13
-    else (if c == 34 then Some 34 else (if c == 39 then Some 39 else (if c == 92 then Some 92 else None)))))
+    else (if c == 34 then Some 34 else (if c == 39 then Some 39
+    else (if c == 92 then Some 92 else None)))))
 
 abbrev pub is_hex : ℕ → Bool
 is_hex c = nat_lt (digit_value c) 16
@@ -29,8 +34,10 @@ is_hex c = nat_lt (digit_value c) 16
 pub data Element : List ℕ → List ℕ → Type 0 where
   raw_byte : (b : ℕ) → is_raw b ≡ true → Element (b ∷ []) (b ∷ [])
   short_form : (c v : ℕ) → short_escape c ≡ Some v → Element (92 ∷ c ∷ []) (v ∷ [])
-  hex_byte : (h l : ℕ) → is_hex h ≡ true → is_hex l ≡ true → Element (92 ∷ h ∷ l ∷ []) ((digit_value h * 16 + digit_value l) ∷ [])
-  code_point : (x : List ℕ) (n : ℕ) → number 16 x ≡ Some n → IsScalar n → Element (92 ∷ 117 ∷ 123 ∷ (x ++ 125 ∷ [])) (encode_utf8 n)
+  hex_byte : (h l : ℕ) → is_hex h ≡ true → is_hex l ≡ true
+      → Element (92 ∷ h ∷ l ∷ []) ((digit_value h * 16 + digit_value l) ∷ [])
+  code_point : (x : List ℕ) (n : ℕ) → number 16 x ≡ Some n → IsScalar n
+      → Element (92 ∷ 117 ∷ 123 ∷ (x ++ 125 ∷ [])) (encode_utf8 n)
 
 -- what stands behind the opening quote, closing quote included, and the string's content
 pub data Str : List ℕ → List ℕ → Type 0 where
@@ -52,7 +59,8 @@ pub data Inside : ℕ → List ℕ → Type 0 where
   last : Inside 0 (59 ∷ 41 ∷ [])
   closed : (depth : ℕ) (x : List ℕ) → Inside depth x → Inside (depth + 1) (59 ∷ 41 ∷ x)
   opened : (depth : ℕ) (x : List ℕ) → Inside (depth + 1) x → Inside depth (40 ∷ 59 ∷ x)
-  other : (depth b c : ℕ) (x : List ℕ) → (b == 40) && (c == 59) ≡ false → (b == 59) && (c == 41) ≡ false → Inside depth (c ∷ x) → Inside depth (b ∷ c ∷ x)
+  other : (depth b c : ℕ) (x : List ℕ) → (b == 40) && (c == 59) ≡ false
+      → (b == 59) && (c == 41) ≡ false → Inside depth (c ∷ x) → Inside depth (b ∷ c ∷ x)
 
 -- the next byte, if there is one, passes the test
 abbrev pub Begins : (ℕ → Bool) → List ℕ → Type 0
@@ -62,7 +70,8 @@ Begins test (b ∷ _) = test b ≡ true
 -- a blank, and that it can stand before the rest
 pub data Blank : List ℕ → List ℕ → Type 0 where
   space : (b : ℕ) (rest : List ℕ) → is_space b ≡ true → Blank (b ∷ []) rest
-  line : (x rest : List ℕ) → AllByRecursion (λ b. is_line_end b ≡ false) x → Begins is_line_end rest → Blank (59 ∷ 59 ∷ x) rest
+  line : (x rest : List ℕ) → AllByRecursion (λ b. is_line_end b ≡ false) x → Begins is_line_end rest
+      → Blank (59 ∷ 59 ∷ x) rest
   block : (x rest : List ℕ) → Inside 0 x → Blank (40 ∷ 59 ∷ x) rest
 
 -- TOKENS
@@ -81,11 +90,14 @@ Idchars x = AllByRecursion (λ b. is_idchar b ≡ true) x
 
 -- `$` or `@` with idchars or with a string that is UTF-8; the name isn't empty
 abbrev pub Name : ℕ → List ℕ → List ℕ → Type 0
-Name mark x n = (y : List ℕ) × (x ≡ mark ∷ y) × (0 < length n) × (((y ≡ n) × Idchars n) ⊎ (IsString y n × IsUtf8 n))
+Name mark x n =
+    (y : List ℕ) × (x ≡ mark ∷ y) × (0 < length n)
+    × (((y ≡ n) × Idchars n) ⊎ (IsString y n × IsUtf8 n))
 
 -- The class and the content of a run. The flag says that a `(` stands directly before it.
 abbrev pub Classed : Bool → List ℕ → Tok → Type 0
-Classed behind x (Keyword k) = (x ≡ k) × Idchars x × (b : ℕ) × (y : List ℕ) × (x ≡ b ∷ y) × (between 97 122 b ≡ true)
+Classed behind x (Keyword k) =
+    (x ≡ k) × Idchars x × (b : ℕ) × (y : List ℕ) × (x ≡ b ∷ y) × (between 97 122 b ≡ true)
 Classed behind x (Id n) = Name 36 x n
 Classed behind x (Annotation n) = (behind ≡ true) × Name 64 x n
 Classed behind x (Integer k) = (x ≡ k) × Idchars x × (is_integer x ≡ true)
@@ -98,7 +110,8 @@ Classed behind x (Reserved k) = ⊥
 abbrev pub Token : Bool → List ℕ → List ℕ → Tok → Type 0
 Token behind x rest LParen = (x ≡ 40 ∷ []) × Begins (λ b. not (b == 59)) rest
 Token behind x rest RParen = x ≡ 41 ∷ []
-Token behind x rest (Reserved k) = (x ≡ k) × (0 < length x) × Run x × Begins in_no_run rest × ((t : Tok) → Classed behind x t → ⊥)
+Token behind x rest (Reserved k) =
+    (x ≡ k) × (0 < length x) × Run x × Begins in_no_run rest × ((t : Tok) → Classed behind x t → ⊥)
 Token behind x rest t = Run x × Begins in_no_run rest × Classed behind x t
 
 -- TEXTS
@@ -107,14 +120,19 @@ Token behind x rest t = Run x × Begins in_no_run rest × Classed behind x t
 -- this is an end; the flag says that a `(` stands directly before it
 pub data Cuts : ℕ → Bool → List ℕ → List Placed → Type 0 where
   done : (n : ℕ) (behind : Bool) → Cuts n behind [] []
-  blank : (n : ℕ) (behind : Bool) (text x rest : List ℕ) (ts : List Placed) → text ≡ x ++ rest → Blank x rest → Cuts n false rest ts → Cuts n behind text ts
-  token : (n : ℕ) (behind : Bool) (text x rest : List ℕ) (t : Tok) (ts : List Placed) → text ≡ x ++ rest → Token behind x rest t → Cuts n (is_open t) rest ts → Cuts n behind text (record { token = t; offset = n - length text } ∷ ts)
+  blank : (n : ℕ) (behind : Bool) (text x rest : List ℕ) (ts : List Placed) → text ≡ x ++ rest
+      → Blank x rest → Cuts n false rest ts → Cuts n behind text ts
+  token : (n : ℕ) (behind : Bool) (text x rest : List ℕ) (t : Tok) (ts : List Placed)
+      → text ≡ x ++ rest → Token behind x rest t → Cuts n (is_open t) rest ts
+      → Cuts n behind text (record { token = t; offset = n - length text } ∷ ts)
 
 -- GROUPS
 
 -- at the place stands a group that begins with an annotation and isn't closed
 abbrev pub Unclosed : List Tok → ℕ → Type 0
-Unclosed ts i = (n : List ℕ) × (rest : List Tok) × (drop i ts ≡ LParen ∷ (Annotation n ∷ rest)) × (behind_group 0 rest ≡ None)
+Unclosed ts i =
+    (n : List ℕ) × (rest : List Tok) × (drop i ts ≡ LParen ∷ (Annotation n ∷ rest))
+    × (behind_group 0 rest ≡ None)
 
 -- each group that begins with an annotation is closed
 abbrev pub Closed : List Tok → Type 0
@@ -130,22 +148,34 @@ IsCut text ts = Cuts (length text) false text ts × Closed (tokens_of ts)
 -- character that begins none, the `(` of a comment that isn't closed, or the quote of a string in a
 -- run that is none.
 pub data Broken : List ℕ → Fault → List ℕ → Type 0 where
-  wrong_char : (b : ℕ) (rest : List ℕ) → is_space b ≡ false → in_no_run b ≡ true → (b == 40) ≡ false → (b == 41) ≡ false → (b == 59) && begins 59 rest ≡ false → Broken (b ∷ rest) LexChar (b ∷ rest)
-  open_comment : (rest : List ℕ) → ((x more : List ℕ) → rest ≡ x ++ more → Inside 0 x → ⊥) → Broken (40 ∷ 59 ∷ rest) LexComment (40 ∷ 59 ∷ rest)
-  wrong_string : (x rest : List ℕ) → Run x → ((y c more : List ℕ) → rest ≡ y ++ more → Str y c → ⊥) → Broken (x ++ 34 ∷ rest) LexString (34 ∷ rest)
+  wrong_char : (b : ℕ) (rest : List ℕ) → is_space b ≡ false → in_no_run b ≡ true → (b == 40) ≡ false
+      → (b == 41) ≡ false → (b == 59) && begins 59 rest ≡ false
+      → Broken (b ∷ rest) LexChar (b ∷ rest)
+  open_comment : (rest : List ℕ) → ((x more : List ℕ) → rest ≡ x ++ more → Inside 0 x → ⊥)
+      → Broken (40 ∷ 59 ∷ rest) LexComment (40 ∷ 59 ∷ rest)
+  wrong_string : (x rest : List ℕ) → Run x → ((y c more : List ℕ) → rest ≡ y ++ more → Str y c → ⊥)
+      → Broken (x ++ 34 ∷ rest) LexString (34 ∷ rest)
 
 -- behind blanks and tokens, a place where none stands in front
 pub data Fails : Bool → List ℕ → Fault → List ℕ → Type 0 where
-  at_once : (behind : Bool) (text : List ℕ) (f : Fault) (at : List ℕ) → Broken text f at → Fails behind text f at
-  behind_blank : (behind : Bool) (text x rest : List ℕ) (f : Fault) (at : List ℕ) → text ≡ x ++ rest → Blank x rest → Fails false rest f at → Fails behind text f at
-  behind_token : (behind : Bool) (text x rest : List ℕ) (t : Tok) (f : Fault) (at : List ℕ) → text ≡ x ++ rest → Token behind x rest t → Fails (is_open t) rest f at → Fails behind text f at
+  at_once : (behind : Bool) (text : List ℕ) (f : Fault) (at : List ℕ) → Broken text f at
+      → Fails behind text f at
+  behind_blank : (behind : Bool) (text x rest : List ℕ) (f : Fault) (at : List ℕ) → text ≡ x ++ rest
+      → Blank x rest → Fails false rest f at → Fails behind text f at
+  behind_token : (behind : Bool) (text x rest : List ℕ) (t : Tok) (f : Fault) (at : List ℕ)
+      → text ≡ x ++ rest → Token behind x rest t → Fails (is_open t) rest f at
+      → Fails behind text f at
 
 -- the number is the offset of the first group that begins with an annotation and isn't closed
 abbrev pub FirstUnclosed : List Placed → ℕ → Type 0
-FirstUnclosed ts offset = (i : ℕ) × (t : Placed) × (slice_get ts i ≡ Some t) × (offset ≡ t.offset) × Unclosed (tokens_of ts) i × ((j : ℕ) → j < i → Unclosed (tokens_of ts) j → ⊥)
+FirstUnclosed ts offset =
+    (i : ℕ) × (t : Placed) × (slice_get ts i ≡ Some t) × (offset ≡ t.offset)
+    × Unclosed (tokens_of ts) i × ((j : ℕ) → j < i → Unclosed (tokens_of ts) j → ⊥)
 
 -- The text's first fault from the left, and its offset; a group that isn't closed comes after all
 -- others.
 pub data FirstFault : List ℕ → Fault → ℕ → Type 0 where
-  cutting : (text : List ℕ) (f : Fault) (at : List ℕ) → Fails false text f at → FirstFault text f (length text - length at)
-  closing : (text : List ℕ) (ts : List Placed) (offset : ℕ) → Cuts (length text) false text ts → FirstUnclosed ts offset → FirstFault text LexAnnotation offset
+  cutting : (text : List ℕ) (f : Fault) (at : List ℕ) → Fails false text f at
+      → FirstFault text f (length text - length at)
+  closing : (text : List ℕ) (ts : List Placed) (offset : ℕ) → Cuts (length text) false text ts
+      → FirstUnclosed ts offset → FirstFault text LexAnnotation offset

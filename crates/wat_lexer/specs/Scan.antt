@@ -1,5 +1,7 @@
 -- Where a piece at the front of a text ends.
-use Rattle.std.specs.Prelude.{◌≡◌, ◌≤◌, drop, Result, Ok, Err, ℕ, ◌+◌, ◌-◌, ◌*◌, Bool, true, false, List, [], ◌∷◌, ◌++◌, take, length, Option, Some, None, option_map, ◌==◌, ◌&&◌, nat_lt, if◌then◌else◌, encode_utf8}
+use Rattle.std.specs.Prelude.{◌≡◌, ◌≤◌, drop, Result, Ok, Err, ℕ, ◌+◌, ◌-◌, ◌*◌, Bool, true, false}
+use Rattle.std.specs.Prelude.{List, [], ◌∷◌, ◌++◌, take, length, Option, Some, None, option_map}
+use Rattle.std.specs.Prelude.{◌==◌, ◌&&◌, nat_lt, if◌then◌else◌, encode_utf8}
 use Rattle.std.specs.Char.{digit_value}
 use lib.Utf8.{scalar}
 use Rattle.wat_lexer.specs.Bytes.{is_idchar, between}
@@ -7,7 +9,8 @@ use Rattle.std.specs.Str.{is_utf8}
 use Rattle.wat_lexer.specs.Bytes.{is_space, is_line_end}
 use Rattle.wat_lexer.specs.Number.{is_integer}
 use Rattle.wat_lexer.specs.Cut.{is_raw, is_hex, short_escape, begins}
-use Rattle.wat_lexer.specs.Token.{Tok, LParen, RParen, Keyword, Id, Annotation, Integer, String, Reserved}
+use Rattle.wat_lexer.specs.Token.{Tok, LParen, RParen, Keyword, Id, Annotation, Integer, String}
+use Rattle.wat_lexer.specs.Token.{Reserved}
 use Rattle.wat_lexer.specs.declared.fault.Fault.{Fault}
 use Rattle.wat_lexer.specs.declared.fault.Fault.TheVariants.{LexChar, LexString, LexComment}
 use Rattle.wat_lexer.specs.declared.string.Escaped.{Escaped}
@@ -19,7 +22,8 @@ behind_comment depth [] = None
 behind_comment depth (a ∷ []) = None
 behind_comment depth (a ∷ b ∷ t) =
     if (a == 40) && (b == 59) then behind_comment (depth + 1) t
-    else (if (a == 59) && (b == 41) then (if depth == 0 then Some t else behind_comment (depth - 1) t)
+    else (if (a == 59) && (b == 41)
+    then (if depth == 0 then Some t else behind_comment (depth - 1) t)
     else behind_comment depth (b ∷ t))
 
 -- Where a place lies within a string: between two elements, behind a backslash, behind a backslash
@@ -46,12 +50,16 @@ emitted (Some v) = Emit v
 
 -- what a byte of a string does
 unfoldable pub step : Mode → ℕ → Step
-step Raw b = if b == 34 then Close else (if b == 92 then Into Escape else (if is_raw b then Emit b else Bad))
-step Escape b = if is_hex b then Into (Byte (digit_value b)) else (if b == 117 then Into Brace else emitted (short_escape b))
+step Raw b =
+    if b == 34 then Close else (if b == 92 then Into Escape else (if is_raw b then Emit b else Bad))
+step Escape b =
+    if is_hex b then Into (Byte (digit_value b))
+    else (if b == 117 then Into Brace else emitted (short_escape b))
 step (Byte h) b = if is_hex b then Emit (h * 16 + digit_value b) else Bad
 step Brace b = if b == 123 then Into (Digits 0 false) else Bad
 step (Digits n behind) b =
-    if is_hex b then (if nat_lt (n * 16 + digit_value b) 1114112 then Into (Digits (n * 16 + digit_value b) true) else Bad)
+    if is_hex b then (if nat_lt (n * 16 + digit_value b) 1114112 then Into
+    (Digits (n * 16 + digit_value b) true) else Bad)
     else (if behind && (b == 95) then Into (Digits n false)
     else (if behind && ((b == 125) && scalar n) then Encode n else Bad))
 
@@ -90,7 +98,9 @@ run_step (Encode n) q go = go (Within Raw q)
 
 unfoldable pub behind_run : RunPlace → List ℕ → RunEnd
 behind_run Between [] = Ends []
-behind_run Between (b ∷ t) = if b == 34 then behind_run (Within Raw (b ∷ t)) t else (if is_idchar b then behind_run Between t else Ends (b ∷ t))
+behind_run Between (b ∷ t) =
+    if b == 34 then behind_run (Within Raw (b ∷ t)) t
+    else (if is_idchar b then behind_run Between t else Ends (b ∷ t))
 behind_run (Within mode q) [] = Stuck q
 behind_run (Within mode q) (b ∷ t) = run_step (step mode b) q (λ next. behind_run next t)
 
@@ -124,9 +134,9 @@ text_name None = None
 text_name (Some []) = None
 text_name (Some (b ∷ t)) = if is_utf8 (b ∷ t) then Some (b ∷ t) else None
 
-unfoldable pub name_of : List ℕ → Option (List ℕ)
-name_of [] = None
-name_of (b ∷ t) = if all_idchars (b ∷ t) then Some (b ∷ t) else text_name (string_of (b ∷ t))
+unfoldable pub name_behind : List ℕ → Option (List ℕ)
+name_behind [] = None
+name_behind (b ∷ t) = if all_idchars (b ∷ t) then Some (b ∷ t) else text_name (string_of (b ∷ t))
 
 abbrev pub or_reserved : (List ℕ → Tok) → List ℕ → Option (List ℕ) → Tok
 or_reserved make x None = Reserved x
@@ -137,38 +147,42 @@ unfoldable pub class : Bool → List ℕ → Tok
 class behind [] = Reserved []
 class behind (b ∷ t) =
     if b == 34 then or_reserved String (b ∷ t) (string_of (b ∷ t))
-    else (if b == 36 then or_reserved Id (b ∷ t) (name_of t)
-    else (if behind && (b == 64) then or_reserved Annotation (b ∷ t) (name_of t)
+    else (if b == 36 then or_reserved Id (b ∷ t) (name_behind t)
+    else (if behind && (b == 64) then or_reserved Annotation (b ∷ t) (name_behind t)
     else (if all_idchars (b ∷ t) && between 97 122 b then Keyword (b ∷ t)
     else (if all_idchars (b ∷ t) && is_integer (b ∷ t) then Integer (b ∷ t)
     else Reserved (b ∷ t)))))
 
 -- what stands in front of a text; where nothing can, the fault and the text from its place on
-pub data Front : Type 0 where
-  Nothing : Front
-  BlankTo : List ℕ → Front
-  TokenTo : Tok → List ℕ → Front
-  Wrong : Fault → List ℕ → Front
+pub data Beginning : Type 0 where
+  Nothing : Beginning
+  BlankTo : List ℕ → Beginning
+  TokenTo : Tok → List ℕ → Beginning
+  Wrong : Fault → List ℕ → Beginning
 
 abbrev pub tail : List ℕ → List ℕ
 tail [] = []
 tail (_ ∷ t) = t
 
-abbrev pub comment_front : List ℕ → Option (List ℕ) → Front
+abbrev pub comment_front : List ℕ → Option (List ℕ) → Beginning
 comment_front s None = Wrong LexComment s
 comment_front s (Some rest) = BlankTo rest
 
-abbrev pub run_front : Bool → List ℕ → RunEnd → Front
+abbrev pub run_front : Bool → List ℕ → RunEnd → Beginning
 run_front behind s (Stuck q) = Wrong LexString q
-run_front behind s (Ends rest) = if length rest == length s then Wrong LexChar s else TokenTo (class behind (take (length s - length rest) s)) rest
+run_front behind s (Ends rest) =
+    if length rest == length s then Wrong LexChar s else TokenTo
+    (class behind (take (length s - length rest) s)) rest
 
-unfoldable pub front : Bool → List ℕ → Front
+unfoldable pub front : Bool → List ℕ → Beginning
 front behind [] = Nothing
 front behind (b ∷ t) =
     if is_space b then BlankTo t
-    else (if b == 40 then (if begins 59 t then comment_front (b ∷ t) (behind_comment 0 (tail t)) else TokenTo LParen t)
+    else (if b == 40 then (if begins 59 t then comment_front (b ∷ t) (behind_comment 0 (tail t))
+    else TokenTo LParen t)
     else (if b == 41 then TokenTo RParen t
-    else (if b == 59 then (if begins 59 t then BlankTo (behind_line (tail t)) else Wrong LexChar (b ∷ t))
+    else (if b == 59 then (if begins 59 t then BlankTo (behind_line (tail t)) else Wrong LexChar
+    (b ∷ t))
     else run_front behind (b ∷ t) (behind_run Between (b ∷ t)))))
 
 -- what follows a string, from behind its opening quote on

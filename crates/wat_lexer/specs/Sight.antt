@@ -1,6 +1,7 @@
 -- Groups in parentheses, and what lookups and parsers see of the tokens: groups of annotations that
 -- aren't known are left out.
-use Rattle.std.specs.Prelude.{ℕ, zero, suc, ◌+◌, ◌-◌, Bool, true, false, not, ◌&&◌, ◌||◌, if◌then◌else◌, List, [], ◌∷◌, Option, Some, None, codes}
+use Rattle.std.specs.Prelude.{ℕ, zero, suc, ◌+◌, ◌-◌, Bool, true, false, not, ◌&&◌, ◌||◌}
+use Rattle.std.specs.Prelude.{if◌then◌else◌, List, [], ◌∷◌, Option, Some, None, codes}
 use Rattle.std.specs.Str.{bytes_eq}
 use Rattle.wat_lexer.specs.Token.{Tok, LParen, RParen, Annotation}
 
@@ -22,7 +23,10 @@ behind_group depth (x ∷ r) = if shuts x depth then Some r else behind_group (d
 
 -- one of the five standard names
 abbrev pub is_standard : List ℕ → Bool
-is_standard n = bytes_eq n (codes "custom") || (bytes_eq n (codes "producers") || (bytes_eq n (codes "name") || (bytes_eq n (codes "dylink.0") || bytes_eq n (codes "metadata.code.branch_hint"))))
+is_standard n =
+    bytes_eq n (codes "custom") || (bytes_eq n (codes "producers")
+    || (bytes_eq n (codes "name") || (bytes_eq n (codes "dylink.0")
+    || bytes_eq n (codes "metadata.code.branch_hint"))))
 
 -- a group that begins with an annotation stands in front
 abbrev pub annotated : List Tok → Bool
@@ -41,19 +45,23 @@ hides known t = annotated t && not (known && is_standard (annotation_name t))
 -- `depth` more lie open.
 unfoldable pub visible : Bool → Option ℕ → List Tok → List Tok
 visible known place [] = []
-visible known None (x ∷ r) = if hides known (x ∷ r) then visible known (Some 0) r else x ∷ visible known None r
-visible known (Some depth) (x ∷ r) = if shuts x depth then visible known None r else visible known (Some (deeper x depth)) r
+visible known None (x ∷ r) =
+    if hides known (x ∷ r) then visible known (Some 0) r else x ∷ visible known None r
+visible known (Some depth) (x ∷ r) =
+    if shuts x depth then visible known None r else visible known (Some (deeper x depth)) r
 
--- the tokens as they are seen
-unfoldable pub as_seen : Bool → List Tok → List Tok
-as_seen known t = visible known None t
+-- the tokens that are visible
+unfoldable pub as_shown : Bool → List Tok → List Tok
+as_shown known t = visible known None t
 
--- how many tokens stand before the first that is seen, with the same places
+-- how many tokens stand before the first that is visible, with the same places
 unfoldable pub hidden_at : Bool → Option ℕ → List Tok → ℕ
 hidden_at known place [] = 0
 hidden_at known None (x ∷ r) = if hides known (x ∷ r) then suc (hidden_at known (Some 0) r) else 0
-hidden_at known (Some depth) (x ∷ r) = if shuts x depth then suc (hidden_at known None r) else suc (hidden_at known (Some (deeper x depth)) r)
+hidden_at known (Some depth) (x ∷ r) =
+    if shuts x depth then suc (hidden_at known None r) else suc
+    (hidden_at known (Some (deeper x depth)) r)
 
--- how many tokens stand before the first that is seen
+-- how many tokens stand before the first that is visible
 unfoldable pub hidden : Bool → List Tok → ℕ
 hidden known t = hidden_at known None t

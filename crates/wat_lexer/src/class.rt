@@ -1,7 +1,9 @@
 //! The class of a run.
 
-ghost use Rattle.std.specs.Prelude.{◌≡◌, ◌+◌, ◌-◌, ◌≤◌, ◌<◌, ◌++◌, true, option_map, IfOk, OnOk, IsTrue, Some, length, drop, take, slice_range, slice_index};
-ghost use Rattle.wat_lexer.specs.Scan.{all_idchars, string_at, rest_at, spelled, string_of, class, text_name, Raw};
+ghost use Rattle.std.specs.Prelude.{◌≡◌, ◌+◌, ◌-◌, ◌≤◌, ◌<◌, ◌++◌, true, option_map, IfOk, OnOk};
+ghost use Rattle.std.specs.Prelude.{IsTrue, Some, length, drop, take, slice_range, slice_index};
+ghost use Rattle.wat_lexer.specs.Scan.{all_idchars, string_at, rest_at, spelled, string_of, class};
+ghost use Rattle.wat_lexer.specs.Scan.{text_name, Raw};
 ghost use Rattle.wat_lexer.specs.View.{view};
 
 use crate::number::Integer;

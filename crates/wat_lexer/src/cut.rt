@@ -1,6 +1,7 @@
 //! Cuts a text into tokens.
 
-ghost use Rattle.std.specs.Prelude.{◌≡◌, ◌≢◌, ◌||◌, ◌+◌, ◌-◌, ◌≤◌, ◌<◌, IfOk, IfErr, ℕ, List, Bool, true, false, length, drop, slice_range, slice_index};
+ghost use Rattle.std.specs.Prelude.{◌≡◌, ◌≢◌, ◌||◌, ◌+◌, ◌-◌, ◌≤◌, ◌<◌, IfOk, IfErr, ℕ, List, Bool};
+ghost use Rattle.std.specs.Prelude.{true, false, length, drop, slice_range, slice_index};
 ghost use Rattle.wat_lexer.specs.Cut.{Cuts, Fails, FirstFault, IsCut};
 ghost use Rattle.wat_lexer.specs.Place.{offset_of};
 ghost use Rattle.wat_lexer.specs.Scan.{front, run_front, behind_run, all_idchars, Between};

@@ -110,29 +110,33 @@ pub struct Error {
     pub span: Span,
 }
 
-impl From<AllocError> for Error {
-    ghost use Rattle.wat_lexer.specs.Faults.{memory};
+impl Error {
+    /// The fault at a place.
+    pub fn at(fault: Fault, span: Span) -> Error
+        ensures fault { result.fault ≡ fault }
+        ensures span { result.span ≡ span }
+    {
+        Error { fault, span }
+    }
+}
 
-    ghost from_gives = { λ _ e. e ≡ memory };
+impl From<AllocError> for Error {
+    ghost use Rattle.wat_lexer.specs.Faults.{no_memory};
+
+    ghost from_gives = { λ _ e. e ≡ no_memory };
 
     fn from(_e: AllocError) -> Error {
-        Error {
-            fault: Fault::Memory,
-            span: Span::from_offset(0),
-        }
+        Error::at(Fault::Memory, Span::from_offset(0))
     }
 }
 
 impl<T: Drop> From<AllocFailed<T>> for Error {
-    ghost use Rattle.wat_lexer.specs.Faults.{memory};
+    ghost use Rattle.wat_lexer.specs.Faults.{no_memory};
 
-    ghost from_gives = { λ _ e. e ≡ memory };
+    ghost from_gives = { λ _ e. e ≡ no_memory };
 
     fn from(_e: AllocFailed<T>) -> Error {
-        Error {
-            fault: Fault::Memory,
-            span: Span::from_offset(0),
-        }
+        Error::at(Fault::Memory, Span::from_offset(0))
     }
 }
 
@@ -141,8 +145,5 @@ pub fn fault_at(fault: Fault, offset: usize) -> Error
     ensures fault { result.fault ≡ fault }
     ensures place { offset_of result.span ≡ offset }
 {
-    Error {
-        fault,
-        span: Span::from_offset(offset),
-    }
+    Error::at(fault, Span::from_offset(offset))
 }

@@ -1,6 +1,7 @@
 //! Where the groups of annotations end.
 
-ghost use Rattle.std.specs.Prelude.{◌≡◌, ◌≢◌, ◌+◌, ◌-◌, ◌≤◌, ◌<◌, Bool, true, false, IfOk, IfErr, MatchOption, length, drop};
+ghost use Rattle.std.specs.Prelude.{◌≡◌, ◌≢◌, ◌+◌, ◌-◌, ◌≤◌, ◌<◌, Bool, true, false, IfOk, IfErr};
+ghost use Rattle.std.specs.Prelude.{MatchOption, length, drop};
 ghost use Rattle.wat_lexer.specs.Cut.{Closed, FirstUnclosed};
 ghost use Rattle.wat_lexer.specs.Sight.{hides, hidden};
 ghost use Rattle.wat_lexer.specs.Token.{tokens_of};

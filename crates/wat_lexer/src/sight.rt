@@ -1,7 +1,7 @@
-//! Which tokens are seen: groups of annotations that aren't known are left out.
+//! Which tokens are visible: groups of annotations that aren't known are left out.
 
 ghost use Rattle.std.specs.Prelude.{◌≡◌, ◌≤◌, ◌∷◌, [], length, drop};
-ghost use Rattle.wat_lexer.specs.Sight.{is_standard, hides, hidden, as_seen};
+ghost use Rattle.wat_lexer.specs.Sight.{is_standard, hides, hidden, as_shown};
 ghost use Rattle.wat_lexer.specs.View.{view, toks, leap, AreLeaps, Shown};
 
 use crate::token::{Lexeme, Token};
@@ -61,7 +61,7 @@ pub fn from<'p, 'a>(tokens: &'p [Lexeme<'a>], at: usize) -> &'p [Lexeme<'a>]
     &tokens[at..]
 }
 
-/// How many tokens stand before the first that is seen. It takes the same time however many are
+/// How many tokens stand before the first that is visible. It takes the same time however many are
 /// hidden.
 #[tactic(auto, using(crate::proofs::Leaps::hidden_none))]
 pub fn hidden(tokens: &[Lexeme], known: bool) -> usize
@@ -69,7 +69,7 @@ pub fn hidden(tokens: &[Lexeme], known: bool) -> usize
     ensures value { result ≡ hidden known (toks tokens.now) }
     ensures within { result ≤ length tokens.now }
     ensures leaps { AreLeaps (drop result tokens.now) }
-    ensures first { Shown known (drop result tokens.now) (as_seen known (toks tokens.now)) }
+    ensures first { Shown known (drop result tokens.now) (as_shown known (toks tokens.now)) }
 {
     if hides(tokens, known) {
         leap(tokens, known)
@@ -78,11 +78,11 @@ pub fn hidden(tokens: &[Lexeme], known: bool) -> usize
     }
 }
 
-/// The tokens from the first that is seen on.
+/// The tokens from the first that is visible on.
 pub fn shown<'p, 'a>(tokens: &'p [Lexeme<'a>], known: bool) -> &'p [Lexeme<'a>]
     requires { AreLeaps tokens.now }
     ensures leaps { AreLeaps result.now }
-    ensures first { Shown known result.now (as_seen known (toks tokens.now)) }
+    ensures first { Shown known result.now (as_shown known (toks tokens.now)) }
 {
     from(tokens, hidden(tokens, known))
 }

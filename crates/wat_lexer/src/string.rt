@@ -1,9 +1,12 @@
 //! The strings of the text.
 
-ghost use Rattle.std.specs.Prelude.{◌≡◌, ◌+◌, ◌-◌, ◌≤◌, ◌<◌, option_map, IfSome, IsTrue, MatchOption, None, Some, false, length, drop, encode_utf8, slice_range, slice_index};
+ghost use Rattle.std.specs.Prelude.{◌≡◌, ◌+◌, ◌-◌, ◌≤◌, ◌<◌, option_map, IfSome, IsTrue};
+ghost use Rattle.std.specs.Prelude.{MatchOption, None, Some, false, length, drop, encode_utf8};
+ghost use Rattle.std.specs.Prelude.{slice_range, slice_index};
 ghost use Rattle.std.specs.Char.{digit_value};
 ghost use Rattle.wat_lexer.specs.Cut.{is_raw, short_escape};
-ghost use Rattle.wat_lexer.specs.Scan.{string_at, rest_at, with_front, spelled, closing, Raw, Escape, Digits};
+ghost use Rattle.wat_lexer.specs.Scan.{string_at, rest_at, with_front, spelled, closing, Raw};
+ghost use Rattle.wat_lexer.specs.Scan.{Escape, Digits};
 
 /// What an escape stands for.
 #[derive(Clone, Copy, Drop)]

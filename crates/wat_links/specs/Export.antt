@@ -22,7 +22,9 @@ use Rattle.wat_links.specs.Laws.Export.{inline_name_eats}
 -- ---- kinds
 
 abbrev pub kind_words : List (List ℕ × ExportKind)
-kind_words = (codes "func", code.Func) ∷ (codes "table", code.Table) ∷ (codes "memory", code.Memory) ∷ (codes "global", code.Global) ∷ (codes "tag", code.Tag) ∷ []
+kind_words =
+    (codes "func", code.Func) ∷ (codes "table", code.Table) ∷ (codes "memory", code.Memory)
+    ∷ (codes "global", code.Global) ∷ (codes "tag", code.Tag) ∷ []
 
 -- `func` | `table` | `memory` | `global` | `tag`
 unfoldable pub export_kind : Production ExportKind
@@ -48,7 +50,8 @@ seen_export e = export_of e.name.now e.kind (seen_index e.item)
 
 -- `export` name ( ExportKind idx )
 unfoldable pub export_ : Production ExportTy
-export_ = after_word (codes "export") (made (λ v. export_of v.0 v.1.0 v.1.1) (seq text (paren (seq export_kind index))))
+export_ = after_word (codes "export")
+    (made (λ v. export_of v.0 v.1.0 v.1.1) (seq text (paren (seq export_kind index))))
 
 -- ---- types of exports
 

@@ -1,5 +1,6 @@
 -- Imports.
-use Rattle.std.specs.Prelude.{◌≡◌, ℕ, Bool, false, ◌&&◌, ◌||◌, List, [], ◌∷◌, codes, map, is_none, replicate, length, ⊤}
+use Rattle.std.specs.Prelude.{◌≡◌, ℕ, Bool, false, ◌&&◌, ◌||◌, List, [], ◌∷◌, codes, map, is_none}
+use Rattle.std.specs.Prelude.{replicate, length, ⊤}
 use Rattle.std.specs.Borrow.{Bor}
 use Rattle.std.specs.Str.{bytes_eq}
 use Rattle.wat_tokens.specs.Token.{Tok, LParen, RParen, Keyword, String}
@@ -139,7 +140,8 @@ abbrev pub SameTyped : ImportGroup1ItemOf Name ItemSig → ImportGroup1ItemOf Na
 SameTyped x y = (x.span ≡ y.span) × (x.name ≡ y.name) × SameSig x.sig y.sig
 
 -- the same items, one by one
-abbrev pub SameAll : List (ImportGroup1ItemOf Name ItemSig) → List (ImportGroup1ItemOf Name ItemSig) → Type 0
+abbrev pub SameAll : List (ImportGroup1ItemOf Name ItemSig) → List (ImportGroup1ItemOf Name ItemSig)
+    → Type 0
 SameAll [] [] = ⊤
 SameAll (x ∷ xs) (y ∷ ys) = SameTyped x y × SameAll xs ys
 SameAll _ _ = ⊥
@@ -161,5 +163,6 @@ inline_import = group (codes "import") (seq text text)
 
 -- `(`, `import`, a string, a string, `)`
 abbrev pub begins_inline_import : List Tok → Bool
-begins_inline_import (LParen ∷ Keyword k ∷ String s ∷ String s2 ∷ RParen ∷ r) = bytes_eq k (codes "import")
+begins_inline_import (LParen ∷ Keyword k ∷ String s ∷ String s2 ∷ RParen ∷ r) =
+    bytes_eq k (codes "import")
 begins_inline_import _ = false

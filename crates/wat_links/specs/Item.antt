@@ -65,7 +65,9 @@ func_use = type_use begins_func function_type
 
 -- where the second token is `exact`, ( exact TypeUse ); else TypeUse
 unfoldable pub func_kind : Production KindTy
-func_kind = where_else (second (begins_word (codes "exact"))) (made exact_func (group (codes "exact") func_use)) (made func func_use)
+func_kind =
+    where_else (second (begins_word (codes "exact")))
+    (made exact_func (group (codes "exact") func_use)) (made func func_use)
 
 -- the word, id? name?, and then k
 abbrev pub labelled : List ℕ → Production KindTy → Production SigTy
@@ -73,7 +75,9 @@ labelled w k = made (λ v. sig_of v.0 v.1) (after_word w (seq label k))
 
 -- `global id? name?` GlobalType | `tag id? name?` TagType
 unfoldable pub global_or_tag : Production SigTy
-global_or_tag = where_else (begins_word (codes "global")) (labelled (codes "global") (made global global_type)) (labelled (codes "tag") (made tag tag_type))
+global_or_tag =
+    where_else (begins_word (codes "global")) (labelled (codes "global") (made global global_type))
+    (labelled (codes "tag") (made tag tag_type))
 
 -- `func id? name?`, and a function by func_kind | `table id? name?` TableType | `memory id? name?`
 -- MemoryType | global or tag

@@ -4,7 +4,8 @@ use Rattle.wat_tokens.specs.Token.{Tok}
 use Rattle.wat_tokens.specs.Tests.{ends}
 use Rattle.wat_tokens.specs.Parts.{seq}
 use Rattle.wat_tokens.specs.Strings.{text}
-use Rattle.wat_links.specs.Import.{ItemsTy, single, group1, group2, item_follows, typed_list, named_list, shared_sig}
+use Rattle.wat_links.specs.Import.{ItemsTy, single, group1, group2, item_follows, typed_list}
+use Rattle.wat_links.specs.Import.{named_list, shared_sig}
 use Rattle.wat_links.specs.ImportItem.{sig_group}
 
 -- a single item is a name and ( ItemSig ). Items with signatures are none, where nothing is left,

@@ -29,7 +29,8 @@ sig_at i (Group1 m xs) = typed_sig_at i xs.items
 sig_at i (Group2 m s xs) = only_first i s
 
 -- the items with w as the signature of x, which stands at i
-abbrev pub with_item_sig : {N S Z : Type 0} → Vec (ImportGroup1ItemOf N S) Z → ℕ → S → Option (ImportGroup1ItemOf N S) → Vec (ImportGroup1ItemOf N S) Z
+abbrev pub with_item_sig : {N S Z : Type 0} → Vec (ImportGroup1ItemOf N S) Z → ℕ → S
+    → Option (ImportGroup1ItemOf N S) → Vec (ImportGroup1ItemOf N S) Z
 with_item_sig v i w None = v
 with_item_sig v i w (Some x) = with_item v i (record x { sig = w })
 
@@ -41,11 +42,18 @@ with_sig i (Group2 m s xs) w = Group2 m w xs
 
 -- r, if there is one, is lent of s: what is written to it becomes the signature of the item number
 -- i, and nothing else changes
-abbrev pub LendsTyped : (N S : RattleType) → ℕ → MutBor (Vec (ImportGroup1ItemOf N.Denot S.Denot) global.Denot) → Option (MutBor S.Denot) → Fml
-LendsTyped N S i s r = LendsIf (vec-row (item.the_row N S) global ghosts) S s r (λ w. with_item_sig s.now i w (slice_get s.now.items i)) s.now
+abbrev pub LendsTyped : (N S : RattleType) → ℕ
+    → MutBor (Vec (ImportGroup1ItemOf N.Denot S.Denot) global.Denot) → Option (MutBor S.Denot) → Fml
+LendsTyped N S i s r =
+    LendsIf (vec-row (item.the_row N S) global ghosts) S s r
+    (λ w. with_item_sig s.now i w (slice_get s.now.items i)) s.now
 
-abbrev pub LendsItems : (N S : RattleType) → ℕ → MutBor (ImportItemsOf N.Denot S.Denot) → Option (MutBor S.Denot) → Fml
+abbrev pub LendsItems : (N S : RattleType) → ℕ → MutBor (ImportItemsOf N.Denot S.Denot)
+    → Option (MutBor S.Denot) → Fml
 LendsItems N S i s r = LendsIf (items.the_row N S) S s r (with_sig i s.now) s.now
 
-abbrev pub LendsImports : (N S : RattleType) → ℕ → MutBor (ImportsOf N.Denot S.Denot) → Option (MutBor S.Denot) → Fml
-LendsImports N S i s r = LendsIf (imports.the_row N S) S s r (λ w. record s.now { items = with_sig i s.now.items w }) s.now
+abbrev pub LendsImports : (N S : RattleType) → ℕ → MutBor (ImportsOf N.Denot S.Denot)
+    → Option (MutBor S.Denot) → Fml
+LendsImports N S i s r =
+    LendsIf (imports.the_row N S) S s r (λ w. record s.now { items = with_sig i s.now.items w })
+    s.now

@@ -21,9 +21,13 @@ any_func = sig_of no_label (func (use_of None None))
 -- "a") (item "b") (func)` has two items that share one
 abbrev pub Imports : Type 0
 Imports =
-    Spelled imports (Keyword (codes "import") ∷ String (codes "m") ∷ []) (imports_of (codes "m") (group1 []))
-    × Spelled imports (Keyword (codes "import") ∷ String (codes "m") ∷ bare_func) (imports_of (codes "m") (group2 any_func []))
-    × Spelled imports (Keyword (codes "import") ∷ String (codes "m") ∷ (in_parens (Keyword (codes "item") ∷ String (codes "a") ∷ []) ++ (in_parens (Keyword (codes "item") ∷ String (codes "b") ∷ []) ++ bare_func)))
+    Spelled imports (Keyword (codes "import") ∷ String (codes "m") ∷ [])
+    (imports_of (codes "m") (group1 []))
+    × Spelled imports (Keyword (codes "import") ∷ String (codes "m") ∷ bare_func)
+    (imports_of (codes "m") (group2 any_func []))
+    × Spelled imports (Keyword (codes "import") ∷ String (codes "m")
+    ∷ (in_parens (Keyword (codes "item") ∷ String (codes "a") ∷ [])
+    ++ (in_parens (Keyword (codes "item") ∷ String (codes "b") ∷ []) ++ bare_func)))
     (imports_of (codes "m") (group2 any_func (codes "a" ∷ codes "b" ∷ [])))
 
 abbrev no_name : List Tok
@@ -32,5 +36,6 @@ no_name = in_parens (Keyword (codes "export") ∷ Integer (codes "1") ∷ [])
 -- `(export "a") (export "b") (export 1)`: two names, and the third group is left
 abbrev pub InlineNames : Type 0
 InlineNames =
-    Front inline_export.spells (in_parens (Keyword (codes "export") ∷ String (codes "a") ∷ []) ++ (in_parens (Keyword (codes "export") ∷ String (codes "b") ∷ []) ++ no_name))
+    Front inline_export.spells (in_parens (Keyword (codes "export") ∷ String (codes "a") ∷ [])
+    ++ (in_parens (Keyword (codes "export") ∷ String (codes "b") ∷ []) ++ no_name))
     (codes "a" ∷ codes "b" ∷ [], no_name)

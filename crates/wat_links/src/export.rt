@@ -2,11 +2,14 @@
 
 ghost use Rattle.std.specs.Prelude.{◌≡◌, ℕ, [], true, false, List};
 ghost use Rattle.wat_tokens.specs.Copies.{Copies};
-ghost use Rattle.wat_tokens.specs.Lookup.{front};
+ghost use Rattle.wat_tokens.specs.Lookup.{in_front};
 ghost use Rattle.wat_tokens.specs.Parses.{no_items};
 ghost use Rattle.wat_tokens.specs.Tests.{look_up};
 ghost use Rattle.wat_links.specs.Item.{SameSig};
-ghost use Rattle.wat_links.specs.Export.{kind_words, export_kind, begins_kind, ExportTy, seen_export, export_, ExportTypeTy, seen_export_type, bare_export_type, export_type, seen_inline_export, begins_inline_export, inline_export};
+ghost use Rattle.wat_links.specs.Export.{kind_words, export_kind, begins_kind, ExportTy};
+ghost use Rattle.wat_links.specs.Export.{seen_export, export_, ExportTypeTy, seen_export_type};
+ghost use Rattle.wat_links.specs.Export.{bare_export_type, export_type, seen_inline_export};
+ghost use Rattle.wat_links.specs.Export.{begins_inline_export, inline_export};
 ghost use Rattle.wat_links.specs.InlineName.{inline_name};
 
 use crate::item::ItemSig;
@@ -94,10 +97,7 @@ impl<'a> Parse<'a> for ExportKind {
         let span = parser.cur_span();
         match kind_of(parser.take_keyword()?) {
             Some(kind) => Ok(kind),
-            None => Err(Error {
-                fault: Fault::Unexpected,
-                span,
-            }),
+            None => Err(Error::at(Fault::Unexpected, span)),
         }
     }
 }
@@ -298,7 +298,7 @@ impl<'p> Peek for InlineExport<'p> {
     ghost begins = { begins_inline_export };
 
     fn peek(cursor: Cursor<'_>) -> bool
-        ensures { result ≡ begins_inline_export (front cursor.entry) }
+        ensures { result ≡ begins_inline_export (in_front cursor.entry) }
     {
         let Some(inside) = cursor.lparen() else {
             return false;

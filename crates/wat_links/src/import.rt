@@ -1,17 +1,23 @@
 //! Imports.
 
-ghost use Rattle.std.specs.Prelude.{◌≡◌, ◌&&◌, ℕ, true, false, List, map, length, replicate, slice_get, ◌<◌, IfOk, IfErr};
+ghost use Rattle.std.specs.Prelude.{◌≡◌, ◌&&◌, ℕ, true, false, List, map, length, replicate};
+ghost use Rattle.std.specs.Prelude.{slice_get, ◌<◌, IfOk, IfErr};
 ghost use Rattle.std.specs.Borrow.{sem};
 ghost use Rattle.std.specs.Option.{option_map};
 ghost use Rattle.wat_tokens.specs.Copies.{Copies};
 ghost use Rattle.wat_tokens.specs.Counts.{Counted, Quiet, Kept};
-ghost use Rattle.wat_tokens.specs.Lookup.{front};
+ghost use Rattle.wat_tokens.specs.Lookup.{in_front};
 ghost use Rattle.wat_tokens.specs.Parses.{Gives, no_items};
 ghost use Rattle.wat_tokens.specs.Reads.{Reads};
 ghost use Rattle.wat_tokens.specs.Tests.{begins_lparen};
 ghost use Rattle.wat_links.specs.Item.{SigTy, seen_sig, bare_sig, SameSig};
 ghost use Rattle.wat_links.specs.Forms.{import_items, imports};
-ghost use Rattle.wat_links.specs.Import.{ItemsTy, ImportsTy, module_of, seen_typed, seen_named, seen_items, seen_imports, bare_items, bare_imports, item_follows, shared_sig, single_item, typed_items, named_items, opens_typed, typed, item_sigs, item_count, own_sigs, SameTyped, SameAll, SameItems, seen_inline_import, inline_import, begins_inline_import};
+ghost use Rattle.wat_links.specs.Import.{ItemsTy, ImportsTy, module_of, seen_typed, seen_named};
+ghost use Rattle.wat_links.specs.Import.{seen_items, seen_imports, bare_items, bare_imports};
+ghost use Rattle.wat_links.specs.Import.{item_follows, shared_sig, single_item, typed_items};
+ghost use Rattle.wat_links.specs.Import.{named_items, opens_typed, typed, item_sigs, item_count};
+ghost use Rattle.wat_links.specs.Import.{own_sigs, SameTyped, SameAll, SameItems};
+ghost use Rattle.wat_links.specs.Import.{seen_inline_import, inline_import, begins_inline_import};
 ghost use Rattle.wat_links.specs.ImportItem.{sig_group, typed_item, named_item};
 ghost use Rattle.wat_links.specs.Lend.{typed_sig_at, sig_at, LendsTyped, LendsItems, LendsImports};
 
@@ -345,10 +351,7 @@ impl<'a> Part<'a, ImportGroup1Item<'a>> for TypedItem {
 fn mixed(span: Span) -> Error
     ensures { result.fault ≡ Fault.ImportMixed }
 {
-    Error {
-        fault: Fault::ImportMixed,
-        span,
-    }
+    Error::at(Fault::ImportMixed, span)
 }
 
 /// `( item name )`, where the second token is `item`.
@@ -397,10 +400,7 @@ fn read_shared_sig<'a>(parser: &mut Parser<'a>) -> Result<ItemSig<'a>>
     let sig = ItemSig::parse(parser)?;
     if let Some(id) = sig.id {
         if parser.is_empty() {
-            return Err(Error {
-                fault: Fault::ImportId,
-                span: id.span(),
-            });
+            return Err(Error::at(Fault::ImportId, id.span()));
         }
         return Err(parser.unexpected());
     }
@@ -417,7 +417,7 @@ fn lparen_next(parser: &Parser<'_>) -> bool
 
 /// Whether `(`, `item` and a string stand there, and then not what closes the group.
 fn opens_typed(cursor: Cursor<'_>) -> bool
-    ensures { result ≡ opens_typed (front cursor.entry) }
+    ensures { result ≡ opens_typed (in_front cursor.entry) }
 {
     let Some(inside) = cursor.lparen() else {
         return false;
@@ -555,7 +555,7 @@ impl<'p> Peek for InlineImport<'p> {
     ghost begins = { begins_inline_import };
 
     fn peek(cursor: Cursor<'_>) -> bool
-        ensures { result ≡ begins_inline_import (front cursor.entry) }
+        ensures { result ≡ begins_inline_import (in_front cursor.entry) }
     {
         let Some(inside) = cursor.lparen() else {
             return false;

@@ -4,7 +4,8 @@ ghost use Rattle.std.specs.Prelude.{◌≡◌, false};
 ghost use Rattle.wat_tokens.specs.Copies.{Copies};
 ghost use Rattle.wat_tokens.specs.Reads.{Reads, ReadsLight};
 ghost use Rattle.wat_types.specs.Label.{seen_label, label};
-ghost use Rattle.wat_links.specs.Item.{seen_kind, bare_kind, SigTy, seen_sig, bare_sig, func_kind, global_or_tag, item_sig, SameKind, SameSig};
+ghost use Rattle.wat_links.specs.Item.{seen_kind, bare_kind, SigTy, seen_sig, bare_sig, func_kind};
+ghost use Rattle.wat_links.specs.Item.{global_or_tag, item_sig, SameKind, SameSig};
 
 use wat_tokens::{Fault, Id, NameAnnotation, Parse, Parser, Result, Span};
 use wat_types::{FunctionType, GlobalType, MemoryType, TableType, TagType, TypeUse};

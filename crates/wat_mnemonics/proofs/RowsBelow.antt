@@ -41,7 +41,7 @@ use Rattle.wat_mnemonics.specs.declared.indexed.LaneOp.TheVariants as lane
 use Rattle.wat_mnemonics.specs.declared.vector.VectorOp.{VectorOp}
 use Rattle.wat_mnemonics.specs.declared.vector.VectorOp.TheVariants as vector
 use Rattle.wat_mnemonics.specs.Places.{place}
-use Rattle.wat_mnemonics.specs.Laws.Places.{there, below, entry_at}
+use Rattle.wat_mnemonics.specs.Laws.Places.{there, place_below, entry_at}
 
 block_row_below : (x : BlockOp) → head_row (h.Block x) < 623
 block_row_below x = elim x as (λ y. head_row (h.Block y) < 623) [ block.block ↦ lit< tt | _ ↦ lit< tt ]
@@ -120,4 +120,4 @@ row_below _ = lit< tt
 
 -- the place where the word of an instruction stands
 pub found_at : (x : Head) → (k : ℕ) × (k < 623) × (get_or words k [] ≡ head_word x)
-found_at x = (place x, below x, entry_at (place x) (below x) ∙ ap head_word (there x))
+found_at x = (place x, place_below x, entry_at (place x) (place_below x) ∙ ap head_word (there x))

@@ -4,7 +4,7 @@ use Rattle.std.proofs.Common.{ap, sym, ◌∙◌}
 use Rattle.std.specs.Str.{bytes_eq}
 use Rattle.std.specs.Cmp.Lexicographic.{bytes_decides}
 use Rattle.wat_tokens.specs.Token.{Tok, Keyword}
-use Rattle.wat_tokens.specs.Tests.{is_keyword}
+use Rattle.wat_tokens.specs.Tests.{as_keyword}
 use Rattle.wat_tokens.specs.Production.{some_of}
 use Rattle.wat_tokens.specs.Laws.Production.{by_test, some_is}
 use Rattle.wat_tokens.specs.PartSpells.{one_reads}
@@ -27,21 +27,21 @@ head_of_none w f = first_none w all_heads f
 
 -- ---- by what the word in front is
 
-pub reads_word : (t : List Tok) (w : List ℕ) (r : List Tok) (x : Head) → one_reads is_keyword t ≡ Some (w, r) → head_word x ≡ w → mnemonic_reads t ≡ Some (x, r)
+pub reads_word : (t : List Tok) (w : List ℕ) (r : List Tok) (x : Head) → one_reads as_keyword t ≡ Some (w, r) → head_word x ≡ w → mnemonic_reads t ≡ Some (x, r)
 reads_word [] w r x e h = absurd cc
 reads_word (Keyword k ∷ t) w r x e h =
     let p = some_is (k, t) (w, r) e in
     rw (head_of_word x k (h ∙ sym (ap (λ (u : List ℕ × List Tok). u.0) p))) (ap (λ (u : List ℕ × List Tok). some_of (x, u.1)) p)
 reads_word (_ ∷ t) w r x e h = absurd cc
 
-pub reads_other_word : (t : List Tok) (w : List ℕ) (r : List Tok) → one_reads is_keyword t ≡ Some (w, r) → ((x : Head) → head_word x ≡ w → ⊥) → mnemonic_reads t ≡ None
+pub reads_other_word : (t : List Tok) (w : List ℕ) (r : List Tok) → one_reads as_keyword t ≡ Some (w, r) → ((x : Head) → head_word x ≡ w → ⊥) → mnemonic_reads t ≡ None
 reads_other_word [] w r e f = refl
 reads_other_word (Keyword k ∷ t) w r e f =
     let p = some_is (k, t) (w, r) e in
     rw (head_of_none k (λ x h. f x (h ∙ ap (λ (u : List ℕ × List Tok). u.0) p))) refl
 reads_other_word (_ ∷ t) w r e f = refl
 
-pub reads_no_word : (t : List Tok) → one_reads is_keyword t ≡ None → mnemonic_reads t ≡ None
+pub reads_no_word : (t : List Tok) → one_reads as_keyword t ≡ None → mnemonic_reads t ≡ None
 reads_no_word [] e = refl
 reads_no_word (Keyword k ∷ t) e = absurd cc
 reads_no_word (_ ∷ t) e = refl

@@ -2,7 +2,8 @@
 use Rattle.wat_tokens.specs.Production.{Production}
 use Rattle.wat_mnemonics.specs.declared.head.Head.{Head}
 use Rattle.wat_mnemonics.specs.Word.{mnemonic_spells, mnemonic_reads}
-use Rattle.wat_mnemonics.specs.Laws.Word.{mnemonic_sound, mnemonic_complete, mnemonic_takes, mnemonic_level}
+use Rattle.wat_mnemonics.specs.Laws.Word.{mnemonic_sound, mnemonic_complete, mnemonic_takes}
+use Rattle.wat_mnemonics.specs.Laws.Word.{mnemonic_level}
 
 -- ---- the production
 

@@ -1,6 +1,7 @@
 //! The search for a word.
 
-ghost use Rattle.std.specs.Prelude.{◌≡◌, ◌≢◌, ◌<◌, ◌≤◌, ◌+◌, ◌∷◌, ℕ, List, IfSome, IfNone, IfErr, slice_index_or};
+ghost use Rattle.std.specs.Prelude.{◌≡◌, ◌≢◌, ◌<◌, ◌≤◌, ◌+◌, ◌∷◌, ℕ, List, IfSome, IfNone, IfErr};
+ghost use Rattle.std.specs.Prelude.{slice_index_or};
 ghost use Rattle.wat_tokens.specs.Token.{Tok, Keyword};
 ghost use Rattle.wat_mnemonics.specs.Heads.{head_word};
 ghost use Rattle.wat_mnemonics.specs.Order.{first};
@@ -63,15 +64,9 @@ impl Head {
         match parser.take_keyword() {
             Ok(word) => match find(parser, word) {
                 Some(head) => Ok(head),
-                None => Err(Error {
-                    fault: Fault::Operator,
-                    span,
-                }),
+                None => Err(Error::at(Fault::Operator, span)),
             },
-            Err(_) => Err(Error {
-                fault: Fault::Operator,
-                span,
-            }),
+            Err(_) => Err(Error::at(Fault::Operator, span)),
         }
     }
 }

@@ -1,7 +1,8 @@
 //! Instructions with an ordering.
 
 ghost use Rattle.std.specs.Prelude.{◌≡◌};
-ghost use Rattle.wat_mnemonics.specs.Ordered.{ordered_index_word, ordered_table_word, ordered_struct_word};
+ghost use Rattle.wat_mnemonics.specs.Ordered.{ordered_index_word, ordered_table_word};
+ghost use Rattle.wat_mnemonics.specs.Ordered.{ordered_struct_word};
 
 /// An instruction whose operand is an ordering and an index (Text Format, Instructions).
 #[derive(Clone, Copy, Debug, PartialEq, Eq)]

@@ -43,7 +43,8 @@ abbrev pub seen_branch_desc_eq : BrOnCastDescEq → BranchTy
 seen_branch_desc_eq b = branch_of (seen_index b.label) (seen_ref b.from_type) (seen_ref b.to_type)
 
 abbrev pub seen_branch_desc_eq_fail : BrOnCastDescEqFail → BranchTy
-seen_branch_desc_eq_fail b = branch_of (seen_index b.label) (seen_ref b.from_type) (seen_ref b.to_type)
+seen_branch_desc_eq_fail b =
+    branch_of (seen_index b.label) (seen_ref b.from_type) (seen_ref b.to_type)
 
 -- idx RefType RefType: label, from, to
 unfoldable pub cast_branch : Production BranchTy

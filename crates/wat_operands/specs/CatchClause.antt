@@ -6,7 +6,8 @@ use Rattle.wat_tokens.specs.Parts.{seq, made, where_else, word, after_word}
 use Rattle.wat_tokens.specs.Groups.{paren}
 use Rattle.wat_tokens.specs.Index.{Idx, index}
 use Rattle.wat_operands.specs.declared.catches.CatchKind.{CatchKind}
-use Rattle.wat_operands.specs.declared.catches.CatchKind.TheVariants.{Catch, CatchRef, CatchAll, CatchAllRef}
+use Rattle.wat_operands.specs.declared.catches.CatchKind.TheVariants.{Catch, CatchRef, CatchAll}
+use Rattle.wat_operands.specs.declared.catches.CatchKind.TheVariants.{CatchAllRef}
 
 -- ---- what contracts see
 
@@ -24,7 +25,8 @@ catch_of k l = record { kind = k; label = l }
 unfoldable pub catch_kind : Production (CatchKind Idx)
 catch_kind =
     where_else (begins_word (codes "catch")) (made Catch (after_word (codes "catch") index))
-    (where_else (begins_word (codes "catch_ref")) (made CatchRef (after_word (codes "catch_ref") index))
+    (where_else (begins_word (codes "catch_ref"))
+    (made CatchRef (after_word (codes "catch_ref") index))
     (where_else (begins_word (codes "catch_all")) (made (λ _. CatchAll) (word (codes "catch_all")))
     (made (λ _. CatchAllRef) (word (codes "catch_all_ref")))))
 

@@ -10,7 +10,8 @@ use Rattle.wat_tokens.specs.Index.{seen_index}
 use Rattle.wat_operands.specs.Block.{BlockTy, seen_block, block_type, SameBlock}
 use Rattle.wat_operands.specs.contracts.catches.CatchKind as kinds
 use Rattle.wat_operands.specs.declared.catches.CatchKind.{CatchKind}
-use Rattle.wat_operands.specs.declared.catches.CatchKind.TheVariants.{Catch, CatchRef, CatchAll, CatchAllRef}
+use Rattle.wat_operands.specs.declared.catches.CatchKind.TheVariants.{Catch, CatchRef, CatchAll}
+use Rattle.wat_operands.specs.declared.catches.CatchKind.TheVariants.{CatchAllRef}
 use Rattle.wat_operands.specs.declared.catches.TryTable.{TryTable}
 use Rattle.wat_operands.specs.declared.catches.TryTableCatch.{TryTableCatch}
 use Rattle.wat_operands.specs.CatchClause.{CatchTy, catch_of, catch_clause}
@@ -62,11 +63,14 @@ seen_try t = try_of (seen_block t.block.value) (map seen_catch t.catches.items)
 
 -- a group that begins with one of the four words
 abbrev pub begins_catch : List Tok → Bool
-begins_catch t = (begins_group (codes "catch") t || begins_group (codes "catch_ref") t) || (begins_group (codes "catch_all") t || begins_group (codes "catch_all_ref") t)
+begins_catch t =
+    (begins_group (codes "catch") t || begins_group (codes "catch_ref") t)
+    || (begins_group (codes "catch_all") t || begins_group (codes "catch_all_ref") t)
 
 -- BlockType, and then a clause wherever a group begins with one of the four words
 unfoldable pub try_table : Production TryTy
-try_table = made (λ v. try_of v.0 v.1) (seq block_type (many begins_catch catch_clause catch_clause_eats))
+try_table =
+    made (λ v. try_of v.0 v.1) (seq block_type (many begins_catch catch_clause catch_clause_eats))
 
 -- ---- the same value
 

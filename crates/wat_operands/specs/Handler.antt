@@ -15,7 +15,8 @@ pub data HandleTy : Type 0 where
 
 -- `switch`, which is no label, or the index of a label
 unfoldable pub aim : Production (Option Idx)
-aim = where_else (begins_word (codes "switch")) (made (λ _. None) (word (codes "switch"))) (made Some index)
+aim = where_else (begins_word (codes "switch")) (made (λ _. None) (word (codes "switch")))
+    (made Some index)
 
 abbrev pub handler_to : Idx → Option Idx → HandleTy
 handler_to tag (Some label) = on_label tag label

@@ -69,7 +69,8 @@ abbrev pub throw_of : Idx → Idx → List HandleTy → ThrowTy
 throw_of i j t = record { type_index = i; tag_index = j; table = t }
 
 abbrev pub seen_resume_throw : ResumeThrow → ThrowTy
-seen_resume_throw r = throw_of (seen_index r.type_index) (seen_index r.tag_index) (seen_table r.table)
+seen_resume_throw r =
+    throw_of (seen_index r.type_index) (seen_index r.tag_index) (seen_table r.table)
 
 -- no handler
 abbrev pub bare_throw : ThrowTy → Bool

@@ -16,13 +16,18 @@ use Rattle.wat_operands.specs.declared.catches.CatchKind.TheVariants.{Catch, Cat
 -- `(catch 0 1) (catch_all_ref 2)`: the tag 0 with the label 1, and everything with the label 2
 abbrev pub Catches : Type 0
 Catches =
-    Spelled try_table (in_parens (Keyword (codes "catch") ∷ Integer (codes "0") ∷ Integer (codes "1") ∷ []) ++ in_parens (Keyword (codes "catch_all_ref") ∷ Integer (codes "2") ∷ []))
-    (try_of (record { label = no_label; ty = use_of None None }) (catch_of (Catch (number 0)) (number 1) ∷ catch_of CatchAllRef (number 2) ∷ []))
+    Spelled try_table (in_parens (Keyword (codes "catch") ∷ Integer (codes "0")
+    ∷ Integer (codes "1") ∷ []) ++ in_parens
+    (Keyword (codes "catch_all_ref") ∷ Integer (codes "2") ∷ []))
+    (try_of (record { label = no_label; ty = use_of None None })
+    (catch_of (Catch (number 0)) (number 1) ∷ catch_of CatchAllRef (number 2) ∷ []))
 
 -- `(on 0 switch) (on 1 2)`
 abbrev pub Handlers : Type 0
 Handlers =
-    Spelled resume_table (in_parens (Keyword (codes "on") ∷ Integer (codes "0") ∷ Keyword (codes "switch") ∷ []) ++ in_parens (Keyword (codes "on") ∷ Integer (codes "1") ∷ Integer (codes "2") ∷ []))
+    Spelled resume_table (in_parens
+    (Keyword (codes "on") ∷ Integer (codes "0") ∷ Keyword (codes "switch") ∷ [])
+    ++ in_parens (Keyword (codes "on") ∷ Integer (codes "1") ∷ Integer (codes "2") ∷ []))
     (on_switch (number 0) ∷ on_label (number 1) (number 2) ∷ [])
 
 -- no tokens, `(result)`, and `(result i32) (result i64)`
@@ -30,4 +35,5 @@ abbrev pub Selects : Type 0
 Selects =
     Spelled select_types [] None
     × Spelled select_types (in_parens (Keyword (codes "result") ∷ [])) (Some [])
-    × Spelled select_types (in_parens (Keyword (codes "result") ∷ Keyword (codes "i32") ∷ []) ++ in_parens (Keyword (codes "result") ∷ Keyword (codes "i64") ∷ [])) (Some (i32 ∷ i64 ∷ []))
+    × Spelled select_types (in_parens (Keyword (codes "result") ∷ Keyword (codes "i32") ∷ [])
+    ++ in_parens (Keyword (codes "result") ∷ Keyword (codes "i64") ∷ [])) (Some (i32 ∷ i64 ∷ []))

@@ -3,7 +3,8 @@
 ghost use Rattle.std.specs.Prelude.{◌≡◌, false};
 ghost use Rattle.wat_tokens.specs.Copies.{Copies};
 ghost use Rattle.wat_tokens.specs.Reads.{Reads};
-ghost use Rattle.wat_operands.specs.Block.{seen_signature, bare_signature, signature, BlockTy, seen_block, bare_block, block_type, SameBlock};
+ghost use Rattle.wat_operands.specs.Block.{seen_signature, bare_signature, signature, BlockTy};
+ghost use Rattle.wat_operands.specs.Block.{seen_block, bare_block, block_type, SameBlock};
 
 use wat_tokens::{Fault, Id, NameAnnotation, Parse, Parser, Result};
 use wat_types::{FunctionType, FunctionTypeNoNames, TypeUse};

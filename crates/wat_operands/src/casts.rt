@@ -2,7 +2,9 @@
 //! Instructions, "Reference Instructions" and "Control Instructions").
 
 ghost use Rattle.std.specs.Prelude.{true};
-ghost use Rattle.wat_operands.specs.Casts.{seen_test, seen_cast, seen_cast_desc_eq, BranchTy, seen_branch, seen_branch_fail, seen_branch_desc_eq, seen_branch_desc_eq_fail, cast_branch};
+ghost use Rattle.wat_operands.specs.Casts.{seen_test, seen_cast, seen_cast_desc_eq, BranchTy};
+ghost use Rattle.wat_operands.specs.Casts.{seen_branch, seen_branch_fail, seen_branch_desc_eq};
+ghost use Rattle.wat_operands.specs.Casts.{seen_branch_desc_eq_fail, cast_branch};
 ghost use Rattle.wat_types.specs.Reference.{RefTy, ref_type};
 
 use wat_tokens::{Index, Parse, Parser, Result};

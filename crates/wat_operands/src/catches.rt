@@ -3,11 +3,12 @@
 ghost use Rattle.std.specs.Borrow.{sem};
 ghost use Rattle.std.specs.Option.{option_map};
 ghost use Rattle.std.specs.Prelude.{◌≡◌, true, false};
-ghost use Rattle.wat_operands.specs.Catches.{tag_of, LendsTag, seen_kind, seen_catch, begins_catch, TryTy, seen_try, try_table, SameTry};
+ghost use Rattle.wat_operands.specs.Catches.{tag_of, LendsTag, seen_kind, seen_catch, begins_catch};
+ghost use Rattle.wat_operands.specs.Catches.{TryTy, seen_try, try_table, SameTry};
 ghost use Rattle.wat_operands.specs.CatchClause.{CatchTy, catch_kind, catch_clause};
 ghost use Rattle.wat_tokens.specs.Copies.{Copies};
 ghost use Rattle.wat_tokens.specs.Index.{seen_index};
-ghost use Rattle.wat_tokens.specs.Lookup.{front};
+ghost use Rattle.wat_tokens.specs.Lookup.{in_front};
 ghost use Rattle.wat_tokens.specs.Reads.{ReadsLight};
 
 use crate::block::BlockType;
@@ -115,7 +116,7 @@ impl<'p> Peek for TryTableCatch<'p> {
     ghost begins = { begins_catch };
 
     fn peek(cursor: Cursor<'_>) -> bool
-        ensures { result ≡ begins_catch (front cursor.entry) }
+        ensures { result ≡ begins_catch (in_front cursor.entry) }
     {
         (cursor.group_is("catch") || cursor.group_is("catch_ref"))
             || (cursor.group_is("catch_all") || cursor.group_is("catch_all_ref"))

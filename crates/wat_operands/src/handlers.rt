@@ -1,10 +1,13 @@
 //! Tables of handlers, and the operands that have one.
 
 ghost use Rattle.std.specs.Prelude.{◌≡◌, true, false, List};
-ghost use Rattle.wat_operands.specs.Handlers.{seen_handle, begins_handler, seen_table, resume_table, ResumeTy, seen_resume, seen_resume_throw_ref, bare_resume, resume, ThrowTy, seen_resume_throw, bare_throw, resume_throw};
+ghost use Rattle.wat_operands.specs.Handlers.{seen_handle, begins_handler, seen_table};
+ghost use Rattle.wat_operands.specs.Handlers.{resume_table, ResumeTy, seen_resume};
+ghost use Rattle.wat_operands.specs.Handlers.{seen_resume_throw_ref, bare_resume, resume, ThrowTy};
+ghost use Rattle.wat_operands.specs.Handlers.{seen_resume_throw, bare_throw, resume_throw};
 ghost use Rattle.wat_operands.specs.Handler.{HandleTy, handler};
 ghost use Rattle.wat_tokens.specs.Copies.{Copies};
-ghost use Rattle.wat_tokens.specs.Lookup.{front};
+ghost use Rattle.wat_tokens.specs.Lookup.{in_front};
 ghost use Rattle.wat_tokens.specs.Parses.{no_items};
 
 use wat_tokens::repeat::while_begun;
@@ -96,7 +99,7 @@ impl<'p> Peek for Handle<'p> {
     ghost begins = { begins_handler };
 
     fn peek(cursor: Cursor<'_>) -> bool
-        ensures { result ≡ begins_handler (front cursor.entry) }
+        ensures { result ≡ begins_handler (in_front cursor.entry) }
     {
         cursor.group_is("on")
     }

@@ -2,7 +2,8 @@
 
 ghost use Rattle.std.specs.Prelude.{◌≡◌, false, List, Option};
 ghost use Rattle.wat_tokens.specs.Copies.{Copies};
-ghost use Rattle.wat_operands.specs.Select.{seen_select, bare_select, result_follows, select_types, SameTypes};
+ghost use Rattle.wat_operands.specs.Select.{seen_select, bare_select, result_follows, select_types};
+ghost use Rattle.wat_operands.specs.Select.{SameTypes};
 ghost use Rattle.wat_operands.specs.ResultGroup.{result_group};
 ghost use Rattle.wat_types.specs.Value.{ValTy, seen_val};
 

@@ -78,4 +78,6 @@ data_kind = made (λ k. unwrap_or k passive) (opt (λ t. not (begins_passive t))
 
 -- `data id? name?`, a kind, and DataVal*, to the end
 unfoldable pub data_segment : Production DataTy
-data_segment = after_word (codes "data") (made (λ v. data_of v.0 v.1.0 v.1.1) (seq label (seq data_kind data_vals)))
+data_segment =
+    after_word (codes "data") (made (λ v. data_of v.0 v.1.0 v.1.1)
+    (seq label (seq data_kind data_vals)))

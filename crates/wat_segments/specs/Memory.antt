@@ -40,7 +40,9 @@ seen_memory_kind (code.Normal t) = normal t
 seen_memory_kind (code.Inline b d p) = inline b p (seen_vals d.items)
 
 abbrev pub seen_memory : Memory → MemoryTy
-seen_memory m = memory_of (head_of (seen_label m.id m.name) (seen_inline_export m.exports)) (seen_memory_kind m.kind)
+seen_memory m =
+    memory_of (head_of (seen_label m.id m.name) (seen_inline_export m.exports))
+    (seen_memory_kind m.kind)
 
 -- no data in line
 abbrev pub bare_memory_kind : MemoryKindTy → Bool
@@ -56,11 +58,15 @@ bare_memory m = bare_head m.head && bare_memory_kind m.kind
 
 -- ( i32 | i64 )? pagesize? ( data DataVal* )
 unfoldable pub inline_memory : Production MemoryKindTy
-inline_memory = made (λ v. inline v.0 v.1.0 v.1.1) (seq is_64 (seq pagesize_or_none (group (codes "data") data_vals)))
+inline_memory =
+    made (λ v. inline v.0 v.1.0 v.1.1)
+    (seq is_64 (seq pagesize_or_none (group (codes "data") data_vals)))
 
 -- `(`, or `i32` or `i64` and then `(`
 abbrev pub begins_inline : List Tok → Bool
-begins_inline t = begins_lparen t || ((begins_word (codes "i32") t || begins_word (codes "i64") t) && second begins_lparen t)
+begins_inline t =
+    begins_lparen t || ((begins_word (codes "i32") t || begins_word (codes "i64") t)
+    && second begins_lparen t)
 
 -- where an import in line begins, InlineImport MemoryType; where data in line begins, that; else
 -- MemoryType

@@ -36,30 +36,37 @@ all_behind w g eats = after_word w (joined more g eats)
 unfoldable pub other_numbers : Production (List ℕ)
 other_numbers =
     where_else (begins_word (codes "f32")) (all_behind (codes "f32") (float_as_bytes w32) (lit≤ tt))
-    (where_else (begins_word (codes "f64")) (all_behind (codes "f64") (float_as_bytes w64) (lit≤ tt))
+    (where_else (begins_word (codes "f64"))
+    (all_behind (codes "f64") (float_as_bytes w64) (lit≤ tt))
     (all_behind (codes "v128") vector_as_bytes vector_eats))
 
 -- `i32` i32* | `i64` i64* | other numbers
 unfoldable pub wide_numbers : Production (List ℕ)
 wide_numbers =
-    where_else (begins_word (codes "i32")) (all_behind (codes "i32") (integer_as_bytes w32 32) (lit≤ tt))
-    (where_else (begins_word (codes "i64")) (all_behind (codes "i64") (integer_as_bytes w64 64) (lit≤ tt))
+    where_else (begins_word (codes "i32"))
+    (all_behind (codes "i32") (integer_as_bytes w32 32) (lit≤ tt))
+    (where_else (begins_word (codes "i64"))
+    (all_behind (codes "i64") (integer_as_bytes w64 64) (lit≤ tt))
     other_numbers)
 
 -- `i8` i8* | `i16` i16* | wide numbers
 unfoldable pub number_list : Production (List ℕ)
 number_list =
-    where_else (begins_word (codes "i8")) (all_behind (codes "i8") (integer_as_bytes w8 8) (lit≤ tt))
-    (where_else (begins_word (codes "i16")) (all_behind (codes "i16") (integer_as_bytes w16 16) (lit≤ tt))
+    where_else (begins_word (codes "i8"))
+    (all_behind (codes "i8") (integer_as_bytes w8 8) (lit≤ tt))
+    (where_else (begins_word (codes "i16"))
+    (all_behind (codes "i16") (integer_as_bytes w16 16) (lit≤ tt))
     wide_numbers)
 
 -- ---- what begins a group of numbers
 
 abbrev pub begins_integers : List Tok → Bool
 begins_integers t =
-    begins_group (codes "i8") t || begins_group (codes "i16") t || begins_group (codes "i32") t || begins_group (codes "i64") t
+    begins_group (codes "i8") t || begins_group (codes "i16") t || begins_group (codes "i32") t
+    || begins_group (codes "i64") t
 
 -- `(`, and the word of a kind
 abbrev pub begins_numbers : List Tok → Bool
 begins_numbers t =
-    begins_integers t || begins_group (codes "f32") t || begins_group (codes "f64") t || begins_group (codes "v128") t
+    begins_integers t || begins_group (codes "f32") t || begins_group (codes "f64") t
+    || begins_group (codes "v128") t

@@ -17,4 +17,5 @@ head_last = made (λ v. head_behind v.0 v.1) (seq instruction expression)
 
 -- `offset` Expression, where `offset` comes next; else the sugar, an instruction and items
 unfoldable pub offset_inside : Production Expr
-offset_inside = where_else (begins_word (codes "offset")) (after_word (codes "offset") expression) head_last
+offset_inside =
+    where_else (begins_word (codes "offset")) (after_word (codes "offset") expression) head_last

@@ -3,7 +3,9 @@
 ghost use Rattle.std.specs.Prelude.{◌≡◌, false};
 ghost use Rattle.wat_tokens.specs.Index.{seen_index};
 ghost use Rattle.wat_tokens.specs.Reads.{ReadsIf, ReadsLight};
-ghost use Rattle.wat_segments.specs.Data.{seen_data_kind, bare_data_kind, begins_passive, data_memory, data_active, data_kind, DataTy, seen_data, bare_data, data_segment};
+ghost use Rattle.wat_segments.specs.Data.{seen_data_kind, bare_data_kind, begins_passive};
+ghost use Rattle.wat_segments.specs.Data.{data_memory, data_active, data_kind, DataTy, seen_data};
+ghost use Rattle.wat_segments.specs.Data.{bare_data, data_segment};
 
 use crate::data_val::{DataVal, read_vals};
 use crate::numbers::numbers_next;

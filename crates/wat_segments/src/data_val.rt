@@ -4,7 +4,8 @@ ghost use Rattle.std.specs.Prelude.{◌≡◌, ◌+◌, ◌++◌, length, false,
 ghost use Rattle.wat_tokens.specs.Tests.{begins_lparen};
 ghost use Rattle.wat_tokens.specs.Parses.{no_items};
 ghost use Rattle.wat_tokens.specs.Reads.{Reads};
-ghost use Rattle.wat_segments.specs.DataVal.{DataValTy, bytes_in, seen_val, seen_vals, bare_val, data_val};
+ghost use Rattle.wat_segments.specs.DataVal.{DataValTy, bytes_in, seen_val, seen_vals, bare_val};
+ghost use Rattle.wat_segments.specs.DataVal.{data_val};
 ghost use Rattle.wat_segments.specs.DataVals.{data_vals};
 
 use crate::numbers::{append, read_numbers};

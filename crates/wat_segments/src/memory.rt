@@ -2,7 +2,9 @@
 
 ghost use Rattle.std.specs.Prelude.{◌≡◌, false};
 ghost use Rattle.wat_tokens.specs.Reads.{Reads};
-ghost use Rattle.wat_segments.specs.Memory.{MemoryTy, seen_memory_kind, bare_memory_kind, inline_memory, memory_kind, begins_inline, seen_memory, bare_memory, memory};
+ghost use Rattle.wat_segments.specs.Memory.{MemoryTy, seen_memory_kind, bare_memory_kind};
+ghost use Rattle.wat_segments.specs.Memory.{inline_memory, memory_kind, begins_inline, seen_memory};
+ghost use Rattle.wat_segments.specs.Memory.{bare_memory, memory};
 
 use crate::data_val::{DataVal, read_vals};
 use wat_links::{Head, InlineExport, InlineImport};

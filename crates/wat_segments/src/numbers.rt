@@ -5,7 +5,9 @@ ghost use Rattle.std.specs.Int.{w8, w16, w32, w64};
 ghost use Rattle.wat_tokens.specs.Parses.{no_items};
 ghost use Rattle.wat_tokens.specs.Reads.{Reads};
 ghost use Rattle.wat_tokens.specs.Tests.{more};
-ghost use Rattle.wat_segments.specs.Numbers.{integer_as_bytes, float_as_bytes, other_numbers, wide_numbers, number_list, begins_integers, begins_numbers};
+ghost use Rattle.wat_segments.specs.Numbers.{integer_as_bytes, float_as_bytes, other_numbers};
+ghost use Rattle.wat_segments.specs.Numbers.{wide_numbers, number_list, begins_integers};
+ghost use Rattle.wat_segments.specs.Numbers.{begins_numbers};
 ghost use Rattle.wat_segments.specs.VectorBytes.{vector_as_bytes};
 
 use wat_immediates::V128Const;

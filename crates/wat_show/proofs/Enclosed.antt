@@ -1,4 +1,4 @@
--- A module in its group: what is seen around it where no annotation is known, and where the five names are.
+-- A module in its group: what is visible around it where no annotation is known, and where the five names are.
 use Rattle.std.proofs.Common.{◌≡◌, ◌≢◌, ℕ, ◌+◌, Bool, true, false, List, [], ◌∷◌, ◌++◌, length, drop, Some, None, refl, sym, ap, ◌∙◌, arith, subst, inl, inr}
 use Rattle.std.specs.Prelude.{Option, Result, Ok, Err, IfOk, suc, ◌&&◌, not}
 use Rattle.std.proofs.lemmas.Bool.{cases_Bool}
@@ -8,13 +8,13 @@ use Rattle.wat_tokens.specs.Cut.{IsCut}
 use Rattle.wat_tokens.specs.PartSpells.{one_reads}
 use Rattle.wat_tokens.specs.Production.{Front}
 use Rattle.wat_tokens.specs.Laws.Production.{some_is}
-use Rattle.wat_tokens.specs.Sight.{hides, annotated, annotation_name, is_standard, shuts, deeper, visible, as_seen, hidden_at, hidden}
+use Rattle.wat_tokens.specs.Sight.{hides, annotated, annotation_name, is_standard, shuts, deeper, visible, as_shown, hidden_at, hidden}
 use Rattle.wat_tokens.specs.State.{State, IsFresh, behind, lit}
 use Rattle.wat_tokens.specs.Laws.State.{behind_then}
-use Rattle.wat_tokens.specs.Tests.{is_lparen, ends}
+use Rattle.wat_tokens.specs.Tests.{as_lparen, ends}
 use Rattle.wat_tokens.specs.Token.{Tok, Placed, LParen, RParen, tokens_of}
 
--- ---- what is seen behind a token
+-- ---- what is visible behind a token
 
 past : (n : ℕ) (x : Tok) (r : List Tok) → drop (suc n + 1) (x ∷ r) ≡ drop (n + 1) r
 past n x r = ap (λ (k : ℕ). drop k (x ∷ r)) {x = suc n + 1} {y = suc (n + 1)} (omega arith)
@@ -35,12 +35,12 @@ seen_behind_at known (Some d) (y ∷ r) x l e = elim (cases_Bool (shuts y d)) [
       rw h (ap (visible known None) (past (hidden_at known (Some (deeper y d)) r) y r) ∙ seen_behind_at known (Some (deeper y d)) r x l f))
 ]
 
--- behind the first token that is seen stands what is seen behind it
-pub seen_behind : (known : Bool) (t : List Tok) (x : Tok) (l : List Tok) → as_seen known t ≡ x ∷ l → as_seen known (behind known 1 t) ≡ l
-unfolding as_seen hidden behind
+-- behind the first visible token stands what is visible behind it
+pub seen_behind : (known : Bool) (t : List Tok) (x : Tok) (l : List Tok) → as_shown known t ≡ x ∷ l → as_shown known (behind known 1 t) ≡ l
+unfolding as_shown hidden behind
 seen_behind known t x l e = seen_behind_at known None t x l e
 
--- ---- a `)` that is seen with the five names is seen without, and at the same place
+-- ---- a `)` that is visible with the five names is visible without, and at the same place
 
 first_so : (a b : Bool) → (a && b) ≡ true → a ≡ true
 first_so true b e = refl
@@ -77,7 +77,7 @@ close_at (Some d) (y ∷ r) l e = elim (cases_Bool (shuts y d)) [
       record { at = rw h (ap (λ (n : ℕ). suc n) p.at); more = p.more; seen = rw h p.seen })
 ]
 
--- where no token is seen with the five names, none is seen without
+-- where no token is visible with the five names, none is visible without
 none_at : (place : Option ℕ) (t : List Tok) → visible true place t ≡ [] → visible false place t ≡ []
 unfolding visible
 none_at None [] e = refl
@@ -91,17 +91,17 @@ none_at (Some d) (y ∷ r) e = elim (cases_Bool (shuts y d)) [
   | inr h ↦ (let f : visible true (Some (deeper y d)) r ≡ [] = rw h at e in rw h (none_at (Some (deeper y d)) r f))
 ]
 
-pub none_seen : (t : List Tok) → as_seen true t ≡ [] → as_seen false t ≡ []
-unfolding as_seen
+pub none_seen : (t : List Tok) → as_shown true t ≡ [] → as_shown false t ≡ []
+unfolding as_shown
 none_seen t e = none_at None t e
 
 pub record ClosesAlike (t : List Tok) : Type 0 where
   pub more : List Tok
-  pub seen : as_seen false t ≡ RParen ∷ more
+  pub seen : as_shown false t ≡ RParen ∷ more
   pub behind : behind false 1 t ≡ behind true 1 t
 
-pub closes_alike : (t l : List Tok) → as_seen true t ≡ RParen ∷ l → ClosesAlike t
-unfolding as_seen hidden behind
+pub closes_alike : (t l : List Tok) → as_shown true t ≡ RParen ∷ l → ClosesAlike t
+unfolding as_shown hidden behind
 closes_alike t l e = let p = close_at None t l e in record { more = p.more; seen = p.seen; behind = ap (λ (n : ℕ). drop (n + 1) t) p.at }
 
 -- ---- the end of the group
@@ -111,25 +111,25 @@ ends_cases [] e some = absurd (some refl)
 ends_cases (RParen ∷ l) e some = (l, refl)
 ends_cases (_ ∷ l) e some = absurd cc
 
--- Behind a module its `)` alone is seen where no annotation is known: it is seen with the five names, and behind it nothing is seen.
-pub last_seen : (t : List Tok) → ends (as_seen true t) ≡ true → as_seen false t ≡ RParen ∷ [] → (more : List Tok) × (as_seen true t ≡ RParen ∷ more) × (as_seen false (behind true 1 t) ≡ [])
+-- Behind a module its `)` alone is visible where no annotation is known: it is visible with the five names, and behind it nothing is visible.
+pub last_seen : (t : List Tok) → ends (as_shown true t) ≡ true → as_shown false t ≡ RParen ∷ [] → (more : List Tok) × (as_shown true t ≡ RParen ∷ more) × (as_shown false (behind true 1 t) ≡ [])
 last_seen t e alone =
-    let some : as_seen true t ≢ [] = λ none. (let f = none_seen t none in cc) in
-    let (more, is) = ends_cases (as_seen true t) e some in
+    let some : as_shown true t ≢ [] = λ none. (let f = none_seen t none in cc) in
+    let (more, is) = ends_cases (as_shown true t) e some in
     let p = closes_alike t more is in
-    (more, is, ap (λ (s : List Tok). as_seen false s) (sym p.behind) ∙ seen_behind false t RParen [] alone)
+    (more, is, ap (λ (s : List Tok). as_shown false s) (sym p.behind) ∙ seen_behind false t RParen [] alone)
 
 -- and the other way
-pub alone_seen : (t more : List Tok) → as_seen true t ≡ RParen ∷ more → as_seen false (behind true 1 t) ≡ [] → as_seen false t ≡ RParen ∷ []
+pub alone_seen : (t more : List Tok) → as_shown true t ≡ RParen ∷ more → as_shown false (behind true 1 t) ≡ [] → as_shown false t ≡ RParen ∷ []
 alone_seen t more is none =
     let p = closes_alike t more is in
     let q = seen_behind false t RParen p.more p.seen in
-    let rest : p.more ≡ [] = sym q ∙ ap (λ (s : List Tok). as_seen false s) p.behind ∙ none in
+    let rest : p.more ≡ [] = sym q ∙ ap (λ (s : List Tok). as_shown false s) p.behind ∙ none in
     p.seen ∙ ap (λ (l : List Tok). RParen ∷ l) rest
 
 -- ---- the whole group
 
-opens_is : (l r : List Tok) (u : Unit {0}) → one_reads is_lparen l ≡ Some (u, r) → l ≡ LParen ∷ r
+opens_is : (l r : List Tok) (u : Unit {0}) → one_reads as_lparen l ≡ Some (u, r) → l ≡ LParen ∷ r
 opens_is [] r u e = absurd cc
 opens_is (LParen ∷ l) r u e = ap (λ (x : Unit {0} × List Tok). LParen ∷ x.1) (some_is (tt, l) (u, r) e)
 opens_is (_ ∷ l) r u e = absurd cc
@@ -139,11 +139,11 @@ pub record Opened (text : List ℕ) (q : State) : Type 0 where
   pub all : List Placed
   pub cut : IsCut text all
   pub left : List Tok
-  pub opens : as_seen false (tokens_of all) ≡ LParen ∷ left
+  pub opens : as_shown false (tokens_of all) ≡ LParen ∷ left
   pub rest : q.rest ≡ behind false 1 (tokens_of all)
   pub off : q.known ≡ false
 
-pub opened : (text : List ℕ) (p q : State) (u : Unit {0}) → IsFresh text p → one_reads is_lparen p.left ≡ Some (u, q.left) → q.rest ≡ drop (hidden p.known p.rest + 1) p.rest → q.known ≡ p.known → Opened text q
+pub opened : (text : List ℕ) (p q : State) (u : Unit {0}) → IsFresh text p → one_reads as_lparen p.left ≡ Some (u, q.left) → q.rest ≡ drop (hidden p.known p.rest + 1) p.rest → q.known ≡ p.known → Opened text q
 unfolding behind
 opened text p q u (ts, cut, is) reads stands known = record {
   all = ts;
@@ -160,14 +160,14 @@ OneCut = (text : List ℕ) (ts us : List Placed) → IsCut text ts → IsCut tex
 
 -- q stands behind `(`, and e behind what was taken then
 module _ (text : List ℕ) (q e : State) (o : Opened text q) where
-  off_too : e.known ≡ q.known → e.left ≡ as_seen e.known e.rest → e.left ≡ as_seen false e.rest
-  off_too known seen = seen ∙ ap (λ (k : Bool). as_seen k e.rest) (known ∙ o.off)
+  off_too : e.known ≡ q.known → e.left ≡ as_shown e.known e.rest → e.left ≡ as_shown false e.rest
+  off_too known seen = seen ∙ ap (λ (k : Bool). as_shown k e.rest) (known ∙ o.off)
 
   -- behind the `)` that follows c
   next : (c : List Tok) → e.rest ≡ behind true (length c) q.rest → behind true 1 e.rest ≡ behind true (length c + 1) (behind false 1 (tokens_of o.all))
   next c s = ap (λ (r : List Tok). behind true 1 r) (s ∙ ap (λ (r : List Tok). behind true (length c) r) o.rest) ∙ behind_then true (length c) 1 (behind false 1 (tokens_of o.all))
 
-  pub module_found : (m : ModuleTy) → Front module_.spells (lit q).left (m, (lit e).left) → ends (lit e).left ≡ true → ((c : List Tok) → (lit q).left ≡ c ++ (lit e).left → e.rest ≡ behind true (length c) q.rest) → e.known ≡ q.known → e.left ≡ as_seen e.known e.rest → e.left ≡ RParen ∷ [] → SpelledModule text m
+  pub module_found : (m : ModuleTy) → Front module_.spells (lit q).left (m, (lit e).left) → ends (lit e).left ≡ true → ((c : List Tok) → (lit q).left ≡ c ++ (lit e).left → e.rest ≡ behind true (length c) q.rest) → e.known ≡ q.known → e.left ≡ as_shown e.known e.rest → e.left ≡ RParen ∷ [] → SpelledModule text m
   module_found m (c, cut, spells) end follows known seen alone =
       let (more, is, none) = last_seen e.rest end (sym (off_too known seen) ∙ alone) in (
         o.all,
@@ -177,9 +177,9 @@ module _ (text : List ℕ) (q e : State) (o : Opened text q) where
           opens = o.opens;
           tokens = c;
           more = more;
-          inside = ap (λ (r : List Tok). as_seen true r) (sym o.rest) ∙ cut ∙ ap (λ (l : List Tok). c ++ l) is;
+          inside = ap (λ (r : List Tok). as_shown true r) (sym o.rest) ∙ cut ∙ ap (λ (l : List Tok). c ++ l) is;
           spelled = subst (λ (l : List Tok). module_.spells m c l) is spells;
-          last = ap (λ (r : List Tok). as_seen false r) (sym (next c (follows c cut))) ∙ none;
+          last = ap (λ (r : List Tok). as_shown false r) (sym (next c (follows c cut))) ∙ none;
         },
       )
 
@@ -187,7 +187,7 @@ module _ (text : List ℕ) (q e : State) (o : Opened text q) where
   this_cut v one (ts, cut, s) = subst (λ (us : List Placed). IsModule (tokens_of us) v) (one text ts o.all cut o.cut) s
 
   inside_is : (v : ModuleTy) (s : IsModule (tokens_of o.all) v) → (lit q).left ≡ s.tokens ++ RParen ∷ s.more
-  inside_is v s = ap (λ (r : List Tok). as_seen true r) o.rest ∙ s.inside
+  inside_is v s = ap (λ (r : List Tok). as_shown true r) o.rest ∙ s.inside
 
   -- where the text spells a module, its tokens aren't refused
   pub module_stands : (v : ModuleTy) → OneCut → SpelledModule text v → ((w : ModuleTy) (c r : List Tok) → (lit q).left ≡ c ++ r → module_.spells w c r → ⊥) → ⊥
@@ -195,13 +195,13 @@ module _ (text : List ℕ) (q e : State) (o : Opened text q) where
       let s = this_cut v one spelled in
       refused v s.tokens (RParen ∷ s.more) (inside_is v s) s.spelled
 
-  -- and behind them `)` alone is seen
-  pub module_closes : (v : ModuleTy) → OneCut → SpelledModule text v → ((c r : List Tok) → (lit q).left ≡ c ++ r → module_.spells v c r → (lit e).left ≡ r) → ((c : List Tok) → (lit q).left ≡ c ++ (lit e).left → e.rest ≡ behind true (length c) q.rest) → e.known ≡ q.known → e.left ≡ as_seen e.known e.rest → e.left ≡ RParen ∷ []
+  -- and behind them `)` alone is visible
+  pub module_closes : (v : ModuleTy) → OneCut → SpelledModule text v → ((c r : List Tok) → (lit q).left ≡ c ++ r → module_.spells v c r → (lit e).left ≡ r) → ((c : List Tok) → (lit q).left ≡ c ++ (lit e).left → e.rest ≡ behind true (length c) q.rest) → e.known ≡ q.known → e.left ≡ as_shown e.known e.rest → e.left ≡ RParen ∷ []
   module_closes v one spelled accepts follows known seen =
       let s = this_cut v one spelled in
       let is : (lit e).left ≡ RParen ∷ s.more = accepts s.tokens (RParen ∷ s.more) (inside_is v s) s.spelled in
       let cut : (lit q).left ≡ s.tokens ++ (lit e).left = inside_is v s ∙ ap (λ (l : List Tok). s.tokens ++ l) (sym is) in
-      off_too known seen ∙ alone_seen e.rest s.more is (ap (λ (r : List Tok). as_seen false r) (next s.tokens (follows s.tokens cut)) ∙ s.last)
+      off_too known seen ∙ alone_seen e.rest s.more is (ap (λ (r : List Tok). as_shown false r) (next s.tokens (follows s.tokens cut)) ∙ s.last)
 
 -- a value that is passed on has what the call shows of it
 pub passed_on : {X E : Type 0} (r : Result X E) (x : X) (P : X → Type 0) (Q : Type 0) → IfOk r (λ v. v ≡ x) → IfOk r (λ _. Q) → (Q → P x) → IfOk r P

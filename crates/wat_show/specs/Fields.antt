@@ -1,6 +1,8 @@
 -- How the fields of a module are listed.
-use Rattle.std.specs.Prelude.{ℕ, List, [], ◌++◌, Option, Some, None, length, map, flat_map, sum_by, codes, decimal}
-use Rattle.wat_core.specs.Field.{FieldTy, a_type, a_rec, an_import, a_func, a_table, a_memory, a_global, an_export, a_start, an_elem, a_data, a_tag, a_custom}
+use Rattle.std.specs.Prelude.{ℕ, List, [], ◌++◌, Option, Some, None, length, map, flat_map, sum_by}
+use Rattle.std.specs.Prelude.{codes, decimal}
+use Rattle.wat_core.specs.Field.{ModuleFieldTy, a_type, a_rec, an_import, a_func, a_table, a_memory}
+use Rattle.wat_core.specs.Field.{a_global, an_export, a_start, an_elem, a_data, a_tag, a_custom}
 use Rattle.wat_customs.specs.Custom.{CustomTy, raw, produced, linked}
 use Rattle.wat_elems.specs.Elem.{ElemKindTy, Segment}
 use Rattle.wat_elems.specs.Elem as elems
@@ -92,7 +94,8 @@ optional_lines None = []
 abbrev pub table_text : TableKindTy → List ℕ
 table_text (tables.imported i t) = codes "table import\n"
 table_text (tables.normal t e) = codes "table normal\n" ++ optional_lines e
-table_text (tables.inline t is64 shared p) = codes "table inline " ++ (payload_line p ++ payload_lines p)
+table_text (tables.inline t is64 shared p) =
+    codes "table inline " ++ (payload_line p ++ payload_lines p)
 
 -- the word of where it is put
 abbrev pub elem_word : ElemKindTy → List ℕ
@@ -125,7 +128,8 @@ memory_text (memories.inline is64 page vs) = counted (codes "memory inline ") (v
 -- `passive`, or `active` and below that the offset; and how many bytes
 abbrev pub data_text : DataKindTy → List DataValTy → List ℕ
 data_text segments.passive vs = counted (codes "data passive ") (vals_count vs)
-data_text (segments.active i offset) vs = counted (codes "data active ") (vals_count vs) ++ below offset
+data_text (segments.active i offset) vs =
+    counted (codes "data active ") (vals_count vs) ++ below offset
 
 -- ---- custom sections
 
@@ -142,7 +146,7 @@ abbrev pub start_text : Idx → List ℕ
 start_text i = codes "start " ++ (index_text i ++ codes "\n")
 
 -- its line, and below that the lines of its expressions
-unfoldable pub field_text : FieldTy → List ℕ
+unfoldable pub field_text : ModuleFieldTy → List ℕ
 field_text (a_type t) = codes "type\n"
 field_text (a_rec ts) = counted (codes "rec ") (length ts)
 field_text (an_import i) = import_text i.items

@@ -1,5 +1,6 @@
 -- How values are listed.
-use Rattle.std.specs.Prelude.{ℕ, true, false, List, ◌++◌, map, flat_map, codes, decimal, if◌then◌else◌}
+use Rattle.std.specs.Prelude.{ℕ, true, false, List, ◌++◌, map, flat_map, codes, decimal}
+use Rattle.std.specs.Prelude.{if◌then◌else◌}
 use Rattle.wat_tokens.specs.Index.{Idx, number, name}
 use Rattle.wat_types.specs.Heap.{HeapTy, concrete, exact, abstract_}
 use Rattle.wat_types.specs.Reference.{RefTy}
@@ -63,4 +64,6 @@ param_types ps = map (λ p. p.ty) ps
 
 -- `params` and `results`, each with its types on a line
 abbrev pub function_text : FuncTy → List ℕ
-function_text f = codes "params" ++ (types_text (param_types f.params) ++ (codes "\n" ++ (codes "results" ++ (types_text f.results ++ codes "\n"))))
+function_text f =
+    codes "params" ++ (types_text (param_types f.params)
+    ++ (codes "\n" ++ (codes "results" ++ (types_text f.results ++ codes "\n"))))

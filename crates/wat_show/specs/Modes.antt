@@ -7,7 +7,7 @@ use Rattle.wat_show.specs.Expressions.{expression_text}
 use Rattle.wat_show.specs.Listing.{function_text}
 use Rattle.wat_show.specs.Modules.{module_text}
 use Rattle.wat_show.specs.Shown.{ShowsText, ShowsBytes}
-use Rattle.wat_show.specs.Whole.{Spelled, SpelledModule}
+use Rattle.wat_show.specs.Whole.{TextSpells, SpelledModule}
 use Rattle.wat_show.specs.declared.mode.Mode.{Mode}
 use Rattle.wat_show.specs.declared.mode.Mode.TheVariants.{FuncType, Expr, Folded, «Module»}
 use Rattle.wat_types.specs.Function.{function_type}
@@ -23,11 +23,13 @@ mode_of word =
 
 -- The output and the status are right for the text.
 abbrev pub ShownText : Mode → List ℕ → List ℕ → ℕ → Type 0
-ShownText FuncType text out status = ShowsText (Spelled function_type) function_text text out status
-ShownText Expr text out status = ShowsText (Spelled expression) expression_text text out status
-ShownText Folded text out status = ShowsText (Spelled folded_instruction) expression_text text out status
+ShownText FuncType text out status =
+    ShowsText (TextSpells function_type) function_text text out status
+ShownText Expr text out status = ShowsText (TextSpells expression) expression_text text out status
+ShownText Folded text out status =
+    ShowsText (TextSpells folded_instruction) expression_text text out status
 ShownText «Module» text out status = ShowsText SpelledModule module_text text out status
 
 -- The output and the status are right for the bytes.
-abbrev pub Shown : Mode → List ℕ → List ℕ → ℕ → Type 0
-Shown mode bytes out status = ShowsBytes (ShownText mode) bytes out status
+abbrev pub ModeShows : Mode → List ℕ → List ℕ → ℕ → Type 0
+ModeShows mode bytes out status = ShowsBytes (ShownText mode) bytes out status

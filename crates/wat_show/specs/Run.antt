@@ -12,11 +12,14 @@ use Rattle.wat_show.specs.declared.watched.Watched.{Watched}
 -- and what is shown of its bytes was written cut_short: a write failed after a beginning of that
 -- unwritten: at another error nothing was written read_on: of the reader some bytes were read read,
 -- write: the error tells which call failed
-pub record Runs {R W : Type 0} (remaining : R → Option (List ℕ)) (contents : W → Option (List ℕ)) (shows : List ℕ → List ℕ → ℕ → Type 0) (result : Result ℕ RunError) (r r' : Watched R) (w w' : Watched W) : Type 0 where
+pub record Runs {R W : Type 0} (remaining : R → Option (List ℕ)) (contents : W → Option (List ℕ))
+    (shows : List ℕ → List ℕ → ℕ → Type 0) (result : Result ℕ RunError) (r r' : Watched R)
+    (w w' : Watched W) : Type 0 where
   pub shown : IfOk result (λ status. (bytes : List ℕ) × (out : List ℕ) × shows bytes out status
       × ReadsAll (remaining r.inner) (remaining r'.inner) bytes
       × Appends (contents w.inner) (contents w'.inner) out)
-  pub cut_short : IsErrOf result Write → (bytes : List ℕ) × (out : List ℕ) × (status : ℕ) × shows bytes out status
+  pub cut_short : IsErrOf result Write
+      → (bytes : List ℕ) × (out : List ℕ) × (status : ℕ) × shows bytes out status
       × ReadsAll (remaining r.inner) (remaining r'.inner) bytes
       × AppendsBeginning (contents w.inner) (contents w'.inner) out
   pub unwritten : IsErrOf result Read ⊎ IsErrOf result Memory → w' ≡ w

@@ -13,7 +13,8 @@ ReadsOn old new = (bytes : List ℕ) × Consumes old new bytes
 
 -- the writer took a beginning of `out`
 abbrev pub AppendsBeginning : Option (List ℕ) → Option (List ℕ) → List ℕ → Type 0
-AppendsBeginning old new out = (front : List ℕ) × (rest : List ℕ) × (out ≡ front ++ rest) × Appends old new front
+AppendsBeginning old new out =
+    (front : List ℕ) × (rest : List ℕ) × (out ≡ front ++ rest) × Appends old new front
 
 -- the write answered an error, or took nothing of a piece that isn't empty
 abbrev pub IsFailedWrite : {E : Type 0} → Result ℕ E → List ℕ → Type 0

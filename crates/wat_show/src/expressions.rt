@@ -3,7 +3,8 @@ ghost use Rattle.std.specs.Prelude.{◌≡◌, ◌++◌, ◌∷◌, [], List, �
 ghost use Rattle.std.proofs.Common.{get_or};
 ghost use Rattle.wat_expr.specs.Expression.{seen_hint, seen_expression};
 ghost use Rattle.wat_instr.specs.Instruction.{seen_instruction};
-ghost use Rattle.wat_show.specs.Expressions.{AreMarks, line, lines, lines_of, hint_text, expression_text, below};
+ghost use Rattle.wat_show.specs.Expressions.{AreMarks, line, lines, lines_of, hint_text};
+ghost use Rattle.wat_show.specs.Expressions.{expression_text, below};
 
 use crate::instructions::add_instruction;
 use crate::text::{add, add_number};

@@ -14,7 +14,10 @@ ghost use Rattle.wat_segments.specs.Data.{seen_data_kind};
 ghost use Rattle.wat_segments.specs.DataVal.{seen_vals};
 ghost use Rattle.wat_segments.specs.Memory.{seen_memory_kind};
 ghost use Rattle.wat_tokens.specs.Index.{seen_index};
-ghost use Rattle.wat_show.specs.Fields.{import_text, export_text, func_text, global_text, tag_text, payload_line, payload_lines, table_text, elem_word, elem_offset, elem_text, start_text, memory_text, data_text, custom_text, field_text};
+ghost use Rattle.wat_show.specs.Fields.{import_text, export_text, func_text, global_text, tag_text};
+ghost use Rattle.wat_show.specs.Fields.{payload_line, payload_lines, table_text, elem_word};
+ghost use Rattle.wat_show.specs.Fields.{elem_offset, elem_text, start_text, memory_text, data_text};
+ghost use Rattle.wat_show.specs.Fields.{custom_text, field_text};
 
 use crate::entries::add_entries;
 use crate::expressions::add_below;

@@ -5,7 +5,8 @@ ghost use Rattle.wat_types.specs.Heap.{seen_heap, abstract_};
 ghost use Rattle.wat_types.specs.Reference.{seen_ref};
 ghost use Rattle.wat_types.specs.Value.{seen_val};
 ghost use Rattle.wat_types.specs.Function.{seen_function, seen_params};
-ghost use Rattle.wat_show.specs.Listing.{index_text, abstract_text, within, heap_text, ref_text, val_text, types_text, param_types, function_text};
+ghost use Rattle.wat_show.specs.Listing.{index_text, abstract_text, within, heap_text, ref_text};
+ghost use Rattle.wat_show.specs.Listing.{val_text, types_text, param_types, function_text};
 
 use crate::text::{add, add_number};
 use std::alloc::AllocError;

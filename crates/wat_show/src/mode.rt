@@ -1,7 +1,7 @@
 //! The modes of the program, and its run.
 
 ghost use Rattle.std.specs.Prelude.{◌≡◌, IsFalse, IfOk};
-ghost use Rattle.wat_show.specs.Modes.{mode_of, Shown, ShownText};
+ghost use Rattle.wat_show.specs.Modes.{mode_of, ModeShows, ShownText};
 ghost use Rattle.wat_show.specs.Run.{Runs};
 
 use crate::error::RunError;
@@ -59,16 +59,13 @@ fn show_in(mode: Mode, alloc: Global, text: &str) -> Result<(Vec<u8>, u8), Alloc
 }
 
 impl Shows for Mode {
-    ghost shown = { Shown };
+    ghost shown = { ModeShows };
 
     fn show(&self, alloc: Global, bytes: &[u8]) -> Result<(Vec<u8>, u8), AllocError> {
         let text = match str::from_utf8(bytes) {
             Ok(text) => text,
             Err(_) => {
-                let error = Error {
-                    fault: Fault::Utf8,
-                    span: Span::from_offset(0),
-                };
+                let error = Error::at(Fault::Utf8, Span::from_offset(0));
                 return refused(alloc, error);
             }
         };
@@ -86,7 +83,7 @@ pub fn run<R: Read, W: Write>(
 ) -> Result<u8, RunError>
     requires reader_works { IsFalse reader.old.failed }
     requires writer_works { IsFalse writer.old.failed }
-    ensures { Runs R.remaining W.contents (Shown mode) result reader.old reader.new writer.old
+    ensures { Runs R.remaining W.contents (ModeShows mode) result reader.old reader.new writer.old
         writer.new }
 {
     run_shows(alloc, &mode, reader, writer)

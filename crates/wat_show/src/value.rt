@@ -9,7 +9,7 @@ ghost use Rattle.wat_show.specs.Expressions.{expression_text};
 ghost use Rattle.wat_show.specs.Listing.{function_text};
 ghost use Rattle.wat_show.specs.Modules.{module_text};
 ghost use Rattle.wat_show.specs.Shown.{ShowsText};
-ghost use Rattle.wat_show.specs.Whole.{Spelled, SpelledModule};
+ghost use Rattle.wat_show.specs.Whole.{TextSpells, SpelledModule};
 ghost use Rattle.wat_tokens.specs.Error.{Memory};
 ghost use Rattle.wat_types.specs.Function.{seen_function, function_type};
 ghost use Rattle.wat_types.specs.Group.{FuncTy};
@@ -54,7 +54,7 @@ impl<'a> Listed<'a> for FunctionType<'a> {
 
     ghost seen = { seen_function };
 
-    ghost spelled = { Spelled function_type };
+    ghost spelled = { TextSpells function_type };
 
     ghost listing = { function_text };
 
@@ -72,7 +72,7 @@ impl<'a> Listed<'a> for Expression<'a> {
 
     ghost seen = { seen_expression };
 
-    ghost spelled = { Spelled expression };
+    ghost spelled = { TextSpells expression };
 
     ghost listing = { expression_text };
 
@@ -90,7 +90,7 @@ impl<'a> Listed<'a> for FoldedInstruction<'a> {
 
     ghost seen = { λ folded. seen_expression folded.0 };
 
-    ghost spelled = { Spelled folded_instruction };
+    ghost spelled = { TextSpells folded_instruction };
 
     ghost listing = { expression_text };
 

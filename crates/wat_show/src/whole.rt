@@ -2,7 +2,7 @@
 
 ghost use Rattle.std.specs.Prelude.{◌≡◌, ◌≢◌, [], ◌∷◌, IfOk, IfErr};
 ghost use Rattle.wat_core.specs.Module.{ModuleTy, seen_module};
-ghost use Rattle.wat_show.specs.Whole.{Spelled, SpelledModule};
+ghost use Rattle.wat_show.specs.Whole.{TextSpells, SpelledModule};
 ghost use Rattle.wat_tokens.specs.Error.{Memory};
 ghost use Rattle.wat_tokens.specs.Token.{RParen};
 
@@ -17,8 +17,8 @@ pub fn read_whole<'a, T: Parse<'a> + Drop>(
     text: &'a str,
     arena: &'a Bump,
 ) -> Result<T, Error>
-    ensures found { IfOk result (λ v. Spelled T.grammar text.now (T.seen v)) }
-    ensures none { IfErr result (λ e. e.fault ≢ Memory → (v : T.Seen) → Spelled T.grammar text.now v
+    ensures found { IfOk result (λ v. TextSpells T.grammar text.now (T.seen v)) }
+    ensures none { IfErr result (λ e. e.fault ≢ Memory → (v : T.Seen) → TextSpells T.grammar text.now v
         → ⊥) }
 {
     one_cut();

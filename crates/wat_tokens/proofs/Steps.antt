@@ -2,7 +2,7 @@
 use Rattle.std.proofs.Common.{refl, ◌≡◌, ◌≢◌, ℕ, ◌+◌, ◌<◌, ◌≤◌, Bool, List, [], ◌∷◌, length, get_or, drop, sym, ap, ◌∙◌, arith, subst, length-drop, drop-drop}
 use Rattle.std.proofs.lemmas.List.{drop_more, drop-map}
 use Rattle.wat_lexer.specs.Token.{Tok, tokens_of}
-use Rattle.wat_lexer.specs.Sight.{as_seen}
+use Rattle.wat_lexer.specs.Sight.{as_shown}
 use Rattle.wat_lexer.specs.View.{lexeme_tok, toks, placed, Shown}
 use Rattle.wat_lexer.specs.declared.token.Lexeme.{Lexeme}
 
@@ -10,15 +10,15 @@ some_shown : (known : Bool) (ls : List Lexeme) (left : List Tok) → Shown known
 some_shown known [] left s some = absurd (some s)
 some_shown known (x ∷ ls) left s some = omega arith
 
--- a token stands behind what is hidden, where one is seen
+-- a token stands behind what is hidden, where one is visible
 pub stands_before : (known : Bool) (ls : List Lexeme) (i n : ℕ) (left : List Tok) → Shown known (drop n (drop i ls)) left → left ≢ [] → i + n < length ls
 stands_before known ls i n left s some = omega (arith, some_shown known (drop n (drop i ls)) left s some, length-drop n (drop i ls), length-drop i ls)
 
--- and behind it stands what is seen behind it
-pub steps_to : (known : Bool) (ls : List Lexeme) (i n : ℕ) (d : Lexeme) (left : List Tok) → Shown known (drop n (drop i ls)) left → i + n < length ls → as_seen known (toks (drop (i + n + 1) ls)) ≡ drop 1 left
+-- and behind it stands what is visible behind it
+pub steps_to : (known : Bool) (ls : List Lexeme) (i n : ℕ) (d : Lexeme) (left : List Tok) → Shown known (drop n (drop i ls)) left → i + n < length ls → as_shown known (toks (drop (i + n + 1) ls)) ≡ drop 1 left
 steps_to known ls i n d left s lt =
     let c : drop n (drop i ls) ≡ get_or ls (i + n) d ∷ drop (i + n + 1) ls = drop-drop n i ls ∙ drop_more ls (i + n) d lt in
-    let e : left ≡ lexeme_tok (get_or ls (i + n) d) ∷ as_seen known (toks (drop (i + n + 1) ls)) = subst (λ (l : List Lexeme). Shown known l left) c s in
+    let e : left ≡ lexeme_tok (get_or ls (i + n) d) ∷ as_shown known (toks (drop (i + n + 1) ls)) = subst (λ (l : List Lexeme). Shown known l left) c s in
     ap (drop 1) (sym e)
 
 -- the tokens behind the one in front are those behind its place

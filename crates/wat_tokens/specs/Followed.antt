@@ -1,7 +1,10 @@
 -- A part that decides what follows it, and no tokens at all.
 use Rattle.wat_tokens.specs.Production.{Production}
-use Rattle.wat_tokens.specs.FollowedSpells.{followed_spells, followed_reads, blank_spells, blank_reads}
-use Rattle.wat_tokens.specs.Laws.Followed.{followed_sound, followed_complete, followed_takes, followed_level, blank_sound, blank_complete, blank_takes, blank_level}
+use Rattle.wat_tokens.specs.FollowedSpells.{followed_spells, followed_reads, blank_spells}
+use Rattle.wat_tokens.specs.FollowedSpells.{blank_reads}
+use Rattle.wat_tokens.specs.Laws.Followed.{followed_sound, followed_complete, followed_takes}
+use Rattle.wat_tokens.specs.Laws.Followed.{followed_level, blank_sound, blank_complete, blank_takes}
+use Rattle.wat_tokens.specs.Laws.Followed.{blank_level}
 
 -- ---- what is in front, and then what it is followed by
 

@@ -7,7 +7,9 @@ use Rattle.wat_tokens.specs.Production.{Read, bind, Production}
 
 module _ {A B : Type 0} (g : Production A) (h : A → Production B) where
   abbrev pub followed_spells : B → List Tok → List Tok → Type 0
-  followed_spells v c r = (a : A) × (d : List Tok) × (e : List Tok) × (c ≡ d ++ e) × g.spells a d (e ++ r) × (h a).spells v e r
+  followed_spells v c r =
+      (a : A) × (d : List Tok) × (e : List Tok) × (c ≡ d ++ e) × g.spells a d (e ++ r)
+      × (h a).spells v e r
 
   abbrev pub followed_reads : List Tok → Read B
   followed_reads t = bind (g.reads t) (λ a t'. (h a).reads t')

@@ -1,7 +1,7 @@
 -- What groups spell and read.
 use Rattle.std.specs.Prelude.{◌≡◌, true, if◌then◌else◌, List, [], ◌∷◌, ◌++◌, Some, None}
 use Rattle.wat_lexer.specs.Token.{Tok, LParen, RParen}
-use Rattle.wat_tokens.specs.Tests.{is_lparen, is_rparen, ends}
+use Rattle.wat_tokens.specs.Tests.{as_lparen, as_rparen, ends}
 use Rattle.wat_tokens.specs.Production.{Read, bind, Production}
 use Rattle.wat_tokens.specs.PartSpells.{one_reads}
 
@@ -9,13 +9,14 @@ use Rattle.wat_tokens.specs.PartSpells.{one_reads}
 
 module _ {A : Type 0} (g : Production A) where
   abbrev pub paren_spells : A → List Tok → List Tok → Type 0
-  paren_spells v c r = (d : List Tok) × (c ≡ LParen ∷ (d ++ RParen ∷ [])) × g.spells v d (RParen ∷ r)
+  paren_spells v c r =
+      (d : List Tok) × (c ≡ LParen ∷ (d ++ RParen ∷ [])) × g.spells v d (RParen ∷ r)
 
   abbrev pub shut : A → List Tok → Read A
-  shut v t = bind (one_reads is_rparen t) (λ _ r. Some (v, r))
+  shut v t = bind (one_reads as_rparen t) (λ _ r. Some (v, r))
 
   abbrev pub paren_reads : List Tok → Read A
-  paren_reads t = bind (one_reads is_lparen t) (λ _ t'. bind (g.reads t') shut)
+  paren_reads t = bind (one_reads as_lparen t) (λ _ t'. bind (g.reads t') shut)
 
 -- ---- a part that reaches to the end of its group
 
@@ -35,4 +36,4 @@ abbrev pub turn_spells : Unit {0} → List Tok → List Tok → Type 0
 turn_spells v c r = c ≡ RParen ∷ LParen ∷ []
 
 abbrev pub turn_reads : List Tok → Read (Unit {0})
-turn_reads t = bind (one_reads is_rparen t) (λ _ t'. one_reads is_lparen t')
+turn_reads t = bind (one_reads as_rparen t) (λ _ t'. one_reads as_lparen t')

@@ -3,8 +3,11 @@ use Rattle.std.specs.Prelude.{ℕ, ◌+◌, List, refl}
 use Rattle.wat_tokens.specs.Tests.{annotation_only}
 use Rattle.wat_tokens.specs.Production.{Production}
 use Rattle.wat_tokens.specs.Parts.{one, seq, made, word}
-use Rattle.wat_tokens.specs.GroupSpells.{paren_spells, paren_reads, end_spells, end_reads, turn_spells, turn_reads}
-use Rattle.wat_tokens.specs.Laws.Groups.{paren_sound, paren_complete, paren_takes, paren_level, end_sound, end_complete, end_takes, end_level, turn_sound, turn_complete, turn_takes, turn_level}
+use Rattle.wat_tokens.specs.GroupSpells.{paren_spells, paren_reads, end_spells, end_reads}
+use Rattle.wat_tokens.specs.GroupSpells.{turn_spells, turn_reads}
+use Rattle.wat_tokens.specs.Laws.Groups.{paren_sound, paren_complete, paren_takes, paren_level}
+use Rattle.wat_tokens.specs.Laws.Groups.{end_sound, end_complete, end_takes, end_level, turn_sound}
+use Rattle.wat_tokens.specs.Laws.Groups.{turn_complete, turn_takes, turn_level}
 
 -- ---- ( .. )
 

@@ -1,12 +1,13 @@
 -- Identifiers and indices.
-use Rattle.std.specs.Prelude.{ℕ, List, ◌∷◌, Bool, true, false, ◌==◌, ◌++◌, Option, None, Some, option_map, refl}
+use Rattle.std.specs.Prelude.{ℕ, List, ◌∷◌, Bool, true, false, ◌==◌, ◌++◌, Option, None, Some}
+use Rattle.std.specs.Prelude.{option_map, refl}
 use Rattle.std.specs.Hash as fed
 use Rattle.std.specs.Hash.{HashWrites}
 use Rattle.std.specs.Str.{bytes_eq}
 use Rattle.wat_lexer.specs.Number.{unsigned_value}
 use Rattle.wat_lexer.specs.Token.{Tok, Id, Integer}
 use Rattle.wat_lexer.specs.declared.span.Span.{Span}
-use Rattle.wat_tokens.specs.Tests.{is_id}
+use Rattle.wat_tokens.specs.Tests.{as_id}
 use Rattle.wat_tokens.specs.Production.{Production}
 use Rattle.wat_tokens.specs.Parts.{one}
 use Rattle.wat_tokens.specs.declared.index.Id as code_id
@@ -25,7 +26,7 @@ span_of i = i.span
 
 -- id
 abbrev pub identifier : Production (List ℕ)
-identifier = one is_id (refl, refl)
+identifier = one as_id (refl, refl)
 
 -- ---- indices
 

@@ -2,13 +2,13 @@
 use Rattle.std.specs.Prelude.{ℕ, ℤ, List, Option, None, refl}
 use Rattle.wat_lexer.specs.Number.{unsigned_value, signed_value}
 use Rattle.wat_lexer.specs.Token.{Tok, Integer}
-use Rattle.wat_tokens.specs.Tests.{is_integer}
+use Rattle.wat_tokens.specs.Tests.{as_integer}
 use Rattle.wat_tokens.specs.Production.{Production}
 use Rattle.wat_tokens.specs.Parts.{one}
 
 -- an integer of any value, as its text
 abbrev pub integer : Production (List ℕ)
-integer = one is_integer (refl, refl)
+integer = one as_integer (refl, refl)
 
 -- the number of so many bits that the token reads as without a sign
 abbrev pub unsigned_of : ℕ → Tok → Option ℕ

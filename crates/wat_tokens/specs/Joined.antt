@@ -11,7 +11,8 @@ abbrev pub all_of : {A : Type 0} → List (List A) → List A
 all_of gs = flat_map (λ g. g) gs
 
 -- groups as long as one has to follow, as the list of all their parts
-abbrev pub joined : {A : Type 0} → (follows : List Tok → Bool) (g : Production (List A)) → 1 ≤ g.least → Production (List A)
+abbrev pub joined : {A : Type 0} → (follows : List Tok → Bool) (g : Production (List A))
+    → 1 ≤ g.least → Production (List A)
 joined follows g eats = made (λ gs. all_of gs) (many follows g eats)
 
 -- the parts of one more group, put behind those that are there

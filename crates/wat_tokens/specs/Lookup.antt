@@ -1,15 +1,15 @@
 -- What lookups answer.
 use Rattle.std.specs.Prelude.{◌≡◌, ◌∷◌, [], List, drop, Option, Some, None}
 use Rattle.wat_lexer.specs.Token.{Tok}
-use Rattle.wat_lexer.specs.Sight.{as_seen}
+use Rattle.wat_lexer.specs.Sight.{as_shown}
 use Rattle.wat_lexer.specs.View.{view, toks}
 use Rattle.wat_lexer.specs.declared.token.Token.{Token}
 use Rattle.wat_tokens.specs.PartSpells.{one_reads}
 use Rattle.wat_tokens.specs.declared.cursor.Cursor.{Cursor}
 
 -- the tokens that a lookup sees
-abbrev pub front : Cursor → List Tok
-front c = as_seen c.known (toks c.rest.now)
+abbrev pub in_front : Cursor → List Tok
+in_front c = as_shown c.known (toks c.rest.now)
 
 -- the token in front, where there is one
 abbrev pub FirstIs : Option Token → List Tok → Type 0
@@ -18,15 +18,16 @@ FirstIs None t = t ≡ []
 
 -- the token in front and the place behind it, where there is one
 abbrev pub NextIs : Option (Token × Cursor) → List Tok → Type 0
-NextIs (Some x) t = t ≡ view x.0 ∷ front x.1
+NextIs (Some x) t = t ≡ view x.0 ∷ in_front x.1
 NextIs None t = t ≡ []
 
 -- a lookup answers the tokens after the one in front, where that one is such a token
 abbrev pub GivesRest : (Tok → Option (Unit {0})) → List Tok → Option Cursor → Type 0
-GivesRest is t (Some c) = one_reads is t ≡ Some (tt, front c)
+GivesRest is t (Some c) = one_reads is t ≡ Some (tt, in_front c)
 GivesRest is t None = one_reads is t ≡ None
 
 -- the same, with what stands in the token, seen by content
-abbrev pub GivesContent : {X A : Type 0} → (X → A) → (Tok → Option A) → List Tok → Option (X × Cursor) → Type 0
-GivesContent content is t (Some x) = one_reads is t ≡ Some (content x.0, front x.1)
+abbrev pub GivesContent : {X A : Type 0} → (X → A) → (Tok → Option A) → List Tok
+    → Option (X × Cursor) → Type 0
+GivesContent content is t (Some x) = one_reads is t ≡ Some (content x.0, in_front x.1)
 GivesContent content is t None = one_reads is t ≡ None

@@ -7,7 +7,8 @@ use Rattle.wat_tokens.specs.Laws.Many.{many_sound, many_complete, many_takes, ma
 
 -- ---- any number of parts: one more wherever the tokens in front begin one
 
-abbrev pub many : {A : Type 0} → (List Tok → Bool) → (g : Production A) → 1 ≤ g.least → Production (List A)
+abbrev pub many : {A : Type 0} → (List Tok → Bool) → (g : Production A) → 1 ≤ g.least
+    → Production (List A)
 many begins g eats = record {
   spells = many_spells begins g;
   reads = many_reads begins g;

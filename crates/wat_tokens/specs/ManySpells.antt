@@ -1,5 +1,6 @@
 -- What lists of parts spell and read.
-use Rattle.std.specs.Prelude.{◌≡◌, ℕ, zero, suc, Bool, true, false, if◌then◌else◌, List, [], ◌∷◌, ◌++◌, length, Some, None}
+use Rattle.std.specs.Prelude.{◌≡◌, ℕ, zero, suc, Bool, true, false, if◌then◌else◌, List, [], ◌∷◌}
+use Rattle.std.specs.Prelude.{◌++◌, length, Some, None}
 use Rattle.wat_lexer.specs.Token.{Tok}
 use Rattle.wat_tokens.specs.Production.{Read, bind, Production}
 
@@ -8,12 +9,16 @@ use Rattle.wat_tokens.specs.Production.{Read, bind, Production}
 module _ {A : Type 0} (begins : List Tok → Bool) (g : Production A) where
   abbrev pub many_spells : List A → List Tok → List Tok → Type 0
   many_spells [] c r = (c ≡ []) × (begins r ≡ false)
-  many_spells (v ∷ vs) c r = (d : List Tok) × (e : List Tok) × (c ≡ d ++ e) × (begins (c ++ r) ≡ true) × g.spells v d (e ++ r) × many_spells vs e r
+  many_spells (v ∷ vs) c r =
+      (d : List Tok) × (e : List Tok) × (c ≡ d ++ e) × (begins (c ++ r) ≡ true)
+      × g.spells v d (e ++ r) × many_spells vs e r
 
   -- at most n parts
   unfoldable pub many_at : ℕ → List Tok → Read (List A)
   many_at zero t = if begins t then None else Some ([], t)
-  many_at (suc n) t = if begins t then bind (g.reads t) (λ v t'. bind (many_at n t') (λ vs r. Some (v ∷ vs, r))) else Some ([], t)
+  many_at (suc n) t =
+      if begins t then bind (g.reads t) (λ v t'. bind (many_at n t') (λ vs r. Some (v ∷ vs, r)))
+      else Some ([], t)
 
   unfoldable pub many_reads : List Tok → Read (List A)
   many_reads t = many_at (length t) t

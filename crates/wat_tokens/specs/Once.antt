@@ -5,4 +5,6 @@ use Rattle.wat_tokens.specs.Production.{Production}
 
 -- no two fronts of one token list spell values, unless they are one front and one value
 abbrev pub HasOneReading : {A : Type 0} → Production A → Type 0
-HasOneReading {A} g = (v w : A) (c d r s : List Tok) → c ++ r ≡ d ++ s → g.spells v c r → g.spells w d s → (v ≡ w) × (r ≡ s) × (c ≡ d)
+HasOneReading {A} g =
+    (v w : A) (c d r s : List Tok) → c ++ r ≡ d ++ s → g.spells v c r → g.spells w d s
+    → (v ≡ w) × (r ≡ s) × (c ≡ d)

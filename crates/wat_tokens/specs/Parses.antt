@@ -1,5 +1,6 @@
 -- What a parse answers.
-use Rattle.std.specs.Prelude.{◌≡◌, ◌≢◌, Result, Ok, Err, Option, Some, None, List, [], ◌∷◌, Bool, true, false}
+use Rattle.std.specs.Prelude.{◌≡◌, ◌≢◌, Result, Ok, Err, Option, Some, None, List, [], ◌∷◌, Bool}
+use Rattle.std.specs.Prelude.{true, false}
 use Rattle.wat_lexer.specs.Token.{Tok}
 use Rattle.wat_tokens.specs.Production.{Read}
 use Rattle.wat_tokens.specs.Error.{Error, Memory}
@@ -12,9 +13,11 @@ NotBare bare None = Unit {0}
 -- The value that was answered, seen by view, is what stands in front; a fault other than Memory
 -- means that none does. Memory comes only of a type that can hold memory, and where no bare value
 -- stands in front.
-abbrev pub Gives : {X A : Type 0} → Bool → (A → Bool) → (X → A) → Result X Error → Read A → List Tok → Type 0
+abbrev pub Gives : {X A : Type 0} → Bool → (A → Bool) → (X → A) → Result X Error → Read A → List Tok
+    → Type 0
 Gives light bare view (Ok x) read left = read ≡ Some (view x, left)
-Gives light bare view (Err e) read left = (e.fault ≢ Memory → read ≡ None) × (e.fault ≡ Memory → (light ≡ false) × NotBare bare read)
+Gives light bare view (Err e) read left =
+    (e.fault ≢ Memory → read ≡ None) × (e.fault ≡ Memory → (light ≡ false) × NotBare bare read)
 
 -- The same of a call that takes no memory.
 abbrev pub Exactly : {X A : Type 0} → (X → A) → Result X Error → Read A → List Tok → Type 0
@@ -22,7 +25,8 @@ Exactly view (Ok x) read left = read ≡ Some (view x, left)
 Exactly view (Err e) read left = (read ≡ None) × (e.fault ≢ Memory)
 
 -- What is answered is the value v, with r left, unless memory ran out. It doesn't where v is bare.
-abbrev pub Accepts : {X A : Type 0} → (X → A) → (A → Bool) → Result X Error → A → List Tok → List Tok → Type 0
+abbrev pub Accepts : {X A : Type 0} → (X → A) → (A → Bool) → Result X Error → A → List Tok
+    → List Tok → Type 0
 Accepts view bare (Ok x) v left r = (view x ≡ v) × (left ≡ r)
 Accepts view bare (Err e) v left r = (e.fault ≡ Memory) × (bare v ≡ false)
 

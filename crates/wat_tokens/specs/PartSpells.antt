@@ -1,5 +1,6 @@
 -- What the parts of productions spell and read.
-use Rattle.std.specs.Prelude.{◌≡◌, Bool, true, false, if◌then◌else◌, List, [], ◌∷◌, ◌++◌, Option, Some, None, ◌⊎◌}
+use Rattle.std.specs.Prelude.{◌≡◌, Bool, true, false, if◌then◌else◌, List, [], ◌∷◌, ◌++◌, Option}
+use Rattle.std.specs.Prelude.{Some, None, ◌⊎◌}
 use Rattle.wat_lexer.specs.Token.{Tok}
 use Rattle.wat_tokens.specs.Production.{Read, bind, Production}
 
@@ -21,7 +22,8 @@ module _ {A : Type 0} (value_of : Tok → Option A) where
 
 module _ {A B : Type 0} (g : Production A) (h : Production B) where
   abbrev pub seq_spells : A × B → List Tok → List Tok → Type 0
-  seq_spells v c r = (d : List Tok) × (e : List Tok) × (c ≡ d ++ e) × g.spells v.0 d (e ++ r) × h.spells v.1 e r
+  seq_spells v c r =
+      (d : List Tok) × (e : List Tok) × (c ≡ d ++ e) × g.spells v.0 d (e ++ r) × h.spells v.1 e r
 
   abbrev pub seq_reads : List Tok → Read (A × B)
   seq_reads t = bind (g.reads t) (λ a t'. bind (h.reads t') (λ b r. Some ((a, b), r)))
@@ -30,7 +32,8 @@ module _ {A B : Type 0} (g : Production A) (h : Production B) where
 
 module _ {A : Type 0} (test : List Tok → Bool) (g h : Production A) where
   abbrev pub where_spells : A → List Tok → List Tok → Type 0
-  where_spells v c r = ((test (c ++ r) ≡ true) × g.spells v c r) ⊎ ((test (c ++ r) ≡ false) × h.spells v c r)
+  where_spells v c r =
+      ((test (c ++ r) ≡ true) × g.spells v c r) ⊎ ((test (c ++ r) ≡ false) × h.spells v c r)
 
   abbrev pub where_reads : List Tok → Read A
   where_reads t = if test t then g.reads t else h.reads t

@@ -5,8 +5,13 @@ use Rattle.wat_lexer.specs.Token.{Tok}
 use Rattle.wat_tokens.specs.Tests.{word_only, begins_word, annotation_only}
 use Rattle.wat_tokens.specs.Parens.{NoParens}
 use Rattle.wat_tokens.specs.Production.{Production}
-use Rattle.wat_tokens.specs.PartSpells.{one_spells, one_reads, seq_spells, seq_reads, where_spells, where_reads, of_spells, of_reads, opt_spells, opt_reads}
-use Rattle.wat_tokens.specs.Laws.Parts.{one_sound, one_complete, one_takes, one_level, seq_sound, seq_complete, seq_takes, seq_level, where_sound, where_complete, where_takes, where_level, of_sound, of_complete, of_takes, of_level, opt_sound, opt_complete, opt_takes, opt_level}
+use Rattle.wat_tokens.specs.PartSpells.{one_spells, one_reads, seq_spells, seq_reads, where_spells}
+use Rattle.wat_tokens.specs.PartSpells.{where_reads, of_spells, of_reads, opt_spells, opt_reads}
+use Rattle.wat_tokens.specs.Laws.Parts.{one_sound, one_complete, one_takes, one_level, seq_sound}
+use Rattle.wat_tokens.specs.Laws.Parts.{seq_complete, seq_takes, seq_level, where_sound}
+use Rattle.wat_tokens.specs.Laws.Parts.{where_complete, where_takes, where_level, of_sound}
+use Rattle.wat_tokens.specs.Laws.Parts.{of_complete, of_takes, of_level, opt_sound, opt_complete}
+use Rattle.wat_tokens.specs.Laws.Parts.{opt_takes, opt_level}
 
 -- ---- one token, which gives a value
 
@@ -37,7 +42,8 @@ seq g h = record {
 
 -- ---- the one where a test of the tokens in front holds, else the other
 
-abbrev pub where_else : {A : Type 0} → (List Tok → Bool) → Production A → Production A → Production A
+abbrev pub where_else : {A : Type 0} → (List Tok → Bool) → Production A → Production A
+    → Production A
 where_else test g h = record {
   spells = where_spells test g h;
   reads = where_reads test g h;

@@ -1,7 +1,7 @@
 -- Productions: what tokens spell a value, and how it is read.
 use Rattle.std.specs.Prelude.{◌≡◌, ℕ, ◌≤◌, List, ◌++◌, length, Option, Some, None}
 use Rattle.wat_lexer.specs.Token.{Tok}
-use Rattle.wat_tokens.specs.Parens.{Level}
+use Rattle.wat_tokens.specs.Parens.{AreLevel}
 
 -- a value and the tokens after it
 abbrev pub Read : Type 0 → Type 0
@@ -13,7 +13,8 @@ bind (Some x) f = f x.0 x.1
 bind None f = None
 
 -- t is the tokens of a value, and then what is left
-abbrev pub Front : {A : Type 0} → (A → List Tok → List Tok → Type 0) → List Tok → A × List Tok → Type 0
+abbrev pub Front : {A : Type 0} → (A → List Tok → List Tok → Type 0) → List Tok → A × List Tok
+    → Type 0
 Front spells t x = (c : List Tok) × (t ≡ c ++ x.1) × spells x.0 c x.1
 
 -- spells v c r: in front of the rest r the tokens c spell v. reads t: the value that stands in
@@ -26,7 +27,7 @@ pub record Production (A : Type 0) : Type 1 where
   pub sound : (t : List Tok) (x : A × List Tok) → reads t ≡ Some x → Front spells t x
   pub complete : (v : A) (c r : List Tok) → spells v c r → reads (c ++ r) ≡ Some (v, r)
   pub takes : (v : A) (c r : List Tok) → spells v c r → least ≤ length c
-  pub level : (v : A) (c r : List Tok) → spells v c r → Level c
+  pub level : (v : A) (c r : List Tok) → spells v c r → AreLevel c
 
 abbrev pub some_of : {A : Type 0} → A × List Tok → Read A
 some_of x = Some x

@@ -10,15 +10,17 @@ use Rattle.wat_tokens.specs.State.{State}
 -- From a to b a call answered r. exact: what it answers is what stands in front, and it is refused
 -- where nothing does, or where memory ran out counts: what was taken, and no more turns than tokens
 -- quiet: what wasn't counted names: which names are on, and whether spans are kept, stays
-pub record Call {X : Type 0} (answers silence : Type 0) (r : Result X Error) (a b : State) : Type 0 where
-  pub exact : answers
-  pub counts : Counted r a b
-  pub quiet : silence
-  pub names : Kept a b
+pub record Call {X : Type 0} (answers silence : Type 0) (r : Result X Error) (a b : State) : Type 0
+  where
+    pub exact : answers
+    pub counts : Counted r a b
+    pub quiet : silence
+    pub names : Kept a b
 
 -- it answers what `read` finds in front, as view sees it, and takes no memory where that is bare;
 -- it counts tokens alone
-abbrev pub Reads : {X A : Type 0} → (A → Bool) → (X → A) → Result X Error → Read A → State → State → Type 0
+abbrev pub Reads : {X A : Type 0} → (A → Bool) → (X → A) → Result X Error → Read A → State → State
+    → Type 0
 Reads bare view r read a b = Call (Gives false bare view r read b.left) (Quiet a b) r a b
 
 -- the same of a call that takes no memory
@@ -26,8 +28,10 @@ abbrev pub ReadsLight : {X A : Type 0} → (X → A) → Result X Error → Read
 ReadsLight view r read a b = Call (Exactly view r read b.left) (Quiet a b) r a b
 
 -- the same of a call that counts tokens alone where `still`, and takes memory unless `light`
-abbrev pub ReadsIf : {X A : Type 0} → Bool → Bool → (A → Bool) → (X → A) → Result X Error → Read A → State → State → Type 0
-ReadsIf still light bare view r read a b = Call (Gives light bare view r read b.left) (IsTrue still → Quiet a b) r a b
+abbrev pub ReadsIf : {X A : Type 0} → Bool → Bool → (A → Bool) → (X → A) → Result X Error → Read A
+    → State → State → Type 0
+ReadsIf still light bare view r read a b =
+    Call (Gives light bare view r read b.left) (IsTrue still → Quiet a b) r a b
 
 -- ---- a call that takes one token
 

@@ -4,7 +4,9 @@ use Rattle.wat_lexer.specs.Token.{Tok}
 use Rattle.wat_tokens.specs.Production.{Production}
 
 -- g, where Spells says the same as its relation
-abbrev pub restated : {A : Type 0} → (g : Production A) (Spells : A → List Tok → List Tok → Type 0) → ((v : A) (c r : List Tok) → g.spells v c r → Spells v c r) → ((v : A) (c r : List Tok) → Spells v c r → g.spells v c r) → Production A
+abbrev pub restated : {A : Type 0} → (g : Production A) (Spells : A → List Tok → List Tok → Type 0)
+    → ((v : A) (c r : List Tok) → g.spells v c r → Spells v c r)
+    → ((v : A) (c r : List Tok) → Spells v c r → g.spells v c r) → Production A
 restated g Spells to from = record {
   spells = Spells;
   reads = g.reads;

@@ -1,10 +1,10 @@
 -- A parser as contracts see it.
 use Rattle.std.specs.Prelude.{◌≡◌, List, ℕ, zero, suc, ◌+◌, drop, Bool, true, false}
 use Rattle.wat_lexer.specs.Cut.{IsCut}
-use Rattle.wat_lexer.specs.Sight.{as_seen, hidden}
+use Rattle.wat_lexer.specs.Sight.{as_shown, hidden}
 use Rattle.wat_lexer.specs.Token.{Tok, Placed, tokens_of}
 
--- rest: all tokens from the place on; left: those of them that are seen; known: whether the five
+-- rest: all tokens from the place on; left: those of them that are visible; known: whether the five
 -- standard names are on; tracks: whether spans of instructions are kept; the rest are counts: of
 -- tokens that were taken, turns of loops, comparisons of a word with a table's, and the greatest
 -- heights of a stack's levels and of the heads that it holds
@@ -21,17 +21,27 @@ pub record State : Type 0 where
 
 -- a parser at the first of the tokens: no name is on, no span is kept, and nothing was counted
 abbrev pub begun : List Tok → State
-begun t = record { rest = t; left = as_seen false t; known = false; tracks = false; taken = 0; turns = 0; probes = 0; peak = 0; held = 0 }
+begun t = record {
+  rest = t;
+  left = as_shown false t;
+  known = false;
+  tracks = false;
+  taken = 0;
+  turns = 0;
+  probes = 0;
+  peak = 0;
+  held = 0;
+}
 
 -- a parser at the first token of the text's cut
 abbrev pub IsFresh : List ℕ → State → Type 0
 IsFresh text p = (ts : List Placed) × IsCut text ts × (p ≡ begun (tokens_of ts))
 
--- directly behind the first n of the tokens that are seen
+-- directly behind the first n of the tokens that are visible
 unfoldable pub behind : Bool → ℕ → List Tok → List Tok
 behind known zero t = t
 behind known (suc n) t = behind known n (drop (hidden known t + 1) t)
 
 -- the parser with the five names on
 abbrev pub lit : State → State
-lit s = record s { known = true; left = as_seen true s.rest }
+lit s = record s { known = true; left = as_shown true s.rest }

@@ -2,13 +2,13 @@
 use Rattle.std.specs.Prelude.{ℕ, List, Option, None, Some, if◌then◌else◌, refl}
 use Rattle.std.specs.Str.{is_utf8}
 use Rattle.wat_lexer.specs.Token.{Tok, String}
-use Rattle.wat_tokens.specs.Tests.{is_string}
+use Rattle.wat_tokens.specs.Tests.{as_string}
 use Rattle.wat_tokens.specs.Production.{Production}
 use Rattle.wat_tokens.specs.Parts.{one}
 
 -- string, as its content
 abbrev pub string : Production (List ℕ)
-string = one is_string (refl, refl)
+string = one as_string (refl, refl)
 
 -- the content of a string that is UTF-8
 abbrev pub text_in : Tok → Option (List ℕ)

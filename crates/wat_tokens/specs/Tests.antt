@@ -1,44 +1,45 @@
 -- What one token is, and what stands in front.
-use Rattle.std.specs.Prelude.{ℕ, Bool, true, false, not, if◌then◌else◌, List, [], ◌∷◌, Option, Some, None}
+use Rattle.std.specs.Prelude.{ℕ, Bool, true, false, not, if◌then◌else◌, List, [], ◌∷◌, Option, Some}
+use Rattle.std.specs.Prelude.{None}
 use Rattle.std.specs.Str.{bytes_eq}
 use Rattle.wat_lexer.specs.Token.{Tok, LParen, RParen, Keyword, Id, Annotation, Integer, String}
 
 -- ---- what one token is
 
-abbrev pub is_any : Tok → Option (Unit {0})
-is_any x = Some tt
+abbrev pub as_any : Tok → Option (Unit {0})
+as_any x = Some tt
 
-abbrev pub is_lparen : Tok → Option (Unit {0})
-is_lparen LParen = Some tt
-is_lparen _ = None
+abbrev pub as_lparen : Tok → Option (Unit {0})
+as_lparen LParen = Some tt
+as_lparen _ = None
 
-abbrev pub is_rparen : Tok → Option (Unit {0})
-is_rparen RParen = Some tt
-is_rparen _ = None
+abbrev pub as_rparen : Tok → Option (Unit {0})
+as_rparen RParen = Some tt
+as_rparen _ = None
 
-abbrev pub is_keyword : Tok → Option (List ℕ)
-is_keyword (Keyword w) = Some w
-is_keyword _ = None
+abbrev pub as_keyword : Tok → Option (List ℕ)
+as_keyword (Keyword w) = Some w
+as_keyword _ = None
 
 -- the name, without its `$`
-abbrev pub is_id : Tok → Option (List ℕ)
-is_id (Id n) = Some n
-is_id _ = None
+abbrev pub as_id : Tok → Option (List ℕ)
+as_id (Id n) = Some n
+as_id _ = None
 
 -- the name, without its `@`
-abbrev pub is_annotation : Tok → Option (List ℕ)
-is_annotation (Annotation n) = Some n
-is_annotation _ = None
+abbrev pub as_annotation : Tok → Option (List ℕ)
+as_annotation (Annotation n) = Some n
+as_annotation _ = None
 
 -- the text, with its sign and its base
-abbrev pub is_integer : Tok → Option (List ℕ)
-is_integer (Integer text) = Some text
-is_integer _ = None
+abbrev pub as_integer : Tok → Option (List ℕ)
+as_integer (Integer text) = Some text
+as_integer _ = None
 
 -- the content
-abbrev pub is_string : Tok → Option (List ℕ)
-is_string (String s) = Some s
-is_string _ = None
+abbrev pub as_string : Tok → Option (List ℕ)
+as_string (String s) = Some s
+as_string _ = None
 
 -- the one word
 abbrev pub word_only : List ℕ → Tok → Option (Unit {0})

@@ -8,7 +8,7 @@ use wat_lexer::sight::{from, shown};
 use wat_lexer::token::{Lexeme, Token};
 
 /// A place in the tokens, to look at what stands there. A lookup takes nothing: where a token of
-/// its kind is the next that is seen, it answers the place behind that token, and what stands in
+/// its kind is the next that is visible, it answers the place behind that token, and what stands in
 /// it.
 ///
 /// Groups of annotations that aren't known to the parser (Text Format, "Annotations") are passed
@@ -22,22 +22,23 @@ pub struct Cursor<'p> {
 
 impl<'p> Cursor<'p> {
     ghost use Rattle.wat_lexer.specs.Integer.{text_of};
-    ghost use Rattle.wat_lexer.specs.Sight.{as_seen};
+    ghost use Rattle.wat_lexer.specs.Sight.{as_shown};
     ghost use Rattle.wat_lexer.specs.View.{toks};
-    ghost use Rattle.wat_tokens.specs.Lookup.{front, NextIs, GivesRest, GivesContent};
-    ghost use Rattle.wat_tokens.specs.Tests.{is_any, is_lparen, is_rparen, is_keyword, is_id, is_annotation, is_integer, is_string, begins_group};
+    ghost use Rattle.wat_tokens.specs.Lookup.{in_front, NextIs, GivesRest, GivesContent};
+    ghost use Rattle.wat_tokens.specs.Tests.{as_any, as_lparen, as_rparen, as_keyword, as_id};
+    ghost use Rattle.wat_tokens.specs.Tests.{as_annotation, as_integer, as_string, begins_group};
 
     /// The place in front of the tokens; `known` says whether the five standard annotations are.
     pub(crate) fn new(rest: &'p [Lexeme<'p>], known: bool) -> Cursor<'p>
         requires { AreLeaps rest.now }
-        ensures { front result ≡ as_seen known (toks rest.entry.now) }
+        ensures { in_front result ≡ as_shown known (toks rest.entry.now) }
     {
         Cursor { rest, known }
     }
 
     /// The token in front, and the place behind it.
     fn next(self) -> Option<(Token<'p>, Cursor<'p>)>
-        ensures { NextIs result (front self.entry) }
+        ensures { NextIs result (in_front self.entry) }
     {
         let tokens = shown(self.rest, self.known);
         match tokens {
@@ -48,7 +49,7 @@ impl<'p> Cursor<'p> {
 
     /// Behind a `(`.
     pub fn lparen(self) -> Option<Cursor<'p>>
-        ensures { GivesRest is_lparen (front self.entry) result }
+        ensures { GivesRest as_lparen (in_front self.entry) result }
     {
         let (token, rest) = self.next()?;
         match token {
@@ -59,7 +60,7 @@ impl<'p> Cursor<'p> {
 
     /// Behind a `)`.
     pub fn rparen(self) -> Option<Cursor<'p>>
-        ensures { GivesRest is_rparen (front self.entry) result }
+        ensures { GivesRest as_rparen (in_front self.entry) result }
     {
         let (token, rest) = self.next()?;
         match token {
@@ -70,7 +71,7 @@ impl<'p> Cursor<'p> {
 
     /// Behind one token, whatever it is.
     pub fn any(self) -> Option<Cursor<'p>>
-        ensures { GivesRest is_any (front self.entry) result }
+        ensures { GivesRest as_any (in_front self.entry) result }
     {
         let (_, rest) = self.next()?;
         Some(rest)
@@ -78,7 +79,7 @@ impl<'p> Cursor<'p> {
 
     /// Behind a keyword, with the word.
     pub fn keyword(self) -> Option<(&'p str, Cursor<'p>)>
-        ensures { GivesContent (λ w. w.now) is_keyword (front self.entry) result }
+        ensures { GivesContent (λ w. w.now) as_keyword (in_front self.entry) result }
     {
         let (token, rest) = self.next()?;
         match token {
@@ -89,7 +90,7 @@ impl<'p> Cursor<'p> {
 
     /// Behind an identifier, with the name, without its `$`.
     pub fn id(self) -> Option<(&'p str, Cursor<'p>)>
-        ensures { GivesContent (λ n. n.now) is_id (front self.entry) result }
+        ensures { GivesContent (λ n. n.now) as_id (in_front self.entry) result }
     {
         let (token, rest) = self.next()?;
         match token {
@@ -100,7 +101,7 @@ impl<'p> Cursor<'p> {
 
     /// Behind an annotation, with the name, without its `@`.
     pub fn annotation(self) -> Option<(&'p str, Cursor<'p>)>
-        ensures { GivesContent (λ n. n.now) is_annotation (front self.entry) result }
+        ensures { GivesContent (λ n. n.now) as_annotation (in_front self.entry) result }
     {
         let (token, rest) = self.next()?;
         match token {
@@ -111,7 +112,7 @@ impl<'p> Cursor<'p> {
 
     /// Behind an integer, with the integer.
     pub fn integer(self) -> Option<(Integer<'p>, Cursor<'p>)>
-        ensures { GivesContent text_of is_integer (front self.entry) result }
+        ensures { GivesContent text_of as_integer (in_front self.entry) result }
     {
         let (token, rest) = self.next()?;
         match token {
@@ -122,7 +123,7 @@ impl<'p> Cursor<'p> {
 
     /// Behind a string, with the content, decoded.
     pub fn string(self) -> Option<(&'p [u8], Cursor<'p>)>
-        ensures { GivesContent (λ s. s.now) is_string (front self.entry) result }
+        ensures { GivesContent (λ s. s.now) as_string (in_front self.entry) result }
     {
         let (token, rest) = self.next()?;
         match token {
@@ -133,7 +134,7 @@ impl<'p> Cursor<'p> {
 
     /// Whether a group that begins with the keyword stands there.
     pub fn group_is(self, word: &str) -> bool
-        ensures { result ≡ begins_group word.now (front self.entry) }
+        ensures { result ≡ begins_group word.now (in_front self.entry) }
     {
         match self.lparen() {
             Some(inside) => match inside.keyword() {

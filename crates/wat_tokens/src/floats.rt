@@ -40,10 +40,7 @@ fn refused(parser: &Parser<'_>) -> Error
     ensures { result.fault ≢ Memory }
 {
     if may_be_literal(parser.cursor()) {
-        Error {
-            fault: Fault::FloatLiteral,
-            span: parser.cur_span(),
-        }
+        Error::at(Fault::FloatLiteral, parser.cur_span())
     } else {
         parser.unexpected()
     }

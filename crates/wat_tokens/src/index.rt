@@ -6,9 +6,10 @@ ghost use Rattle.std.specs.Cmp.Lexicographic.{bytes_decides, nat_list_eq_equiv};
 ghost use Rattle.std.specs.Hash as fed;
 ghost use Rattle.std.specs.Str.{bytes_eq};
 ghost use Rattle.std.proofs.Common.{ap};
-ghost use Rattle.wat_tokens.specs.Index.{name_of, span_of, identifier, Idx, seen_index, index, begins_index, same_index, index_writes};
+ghost use Rattle.wat_tokens.specs.Index.{name_of, span_of, identifier, Idx, seen_index, index};
+ghost use Rattle.wat_tokens.specs.Index.{begins_index, same_index, index_writes};
 ghost use Rattle.wat_tokens.specs.Laws.Index.{same_index_decides};
-ghost use Rattle.wat_tokens.specs.Lookup.{front};
+ghost use Rattle.wat_tokens.specs.Lookup.{in_front};
 ghost use Rattle.wat_tokens.specs.Tests.{begins_id};
 
 use crate::cursor::Cursor;
@@ -147,7 +148,7 @@ impl<'p> Peek for Id<'p> {
     ghost begins = { begins_id };
 
     fn peek(cursor: Cursor<'_>) -> bool
-        ensures { result ≡ begins_id (front cursor.entry) }
+        ensures { result ≡ begins_id (in_front cursor.entry) }
     {
         cursor.id().is_some()
     }
@@ -183,7 +184,7 @@ impl<'p> Peek for Index<'p> {
     ghost begins = { begins_index };
 
     fn peek(cursor: Cursor<'_>) -> bool
-        ensures { result ≡ begins_index (front cursor.entry) }
+        ensures { result ≡ begins_index (in_front cursor.entry) }
     {
         cursor.id().is_some() || cursor.integer().is_some()
     }

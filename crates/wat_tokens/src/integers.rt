@@ -40,10 +40,7 @@ fn unsigned(parser: &mut Parser<'_>, bits: u32) -> Result<u64, Error>
     let integer = parser.take_integer()?;
     match integer.unsigned(bits) {
         Some(number) => Ok(number),
-        None => Err(Error {
-            fault: Fault::Range,
-            span,
-        }),
+        None => Err(Error::at(Fault::Range, span)),
     }
 }
 
@@ -167,10 +164,7 @@ fn signed(parser: &mut Parser<'_>, bits: u32) -> Result<i64, Error>
     let integer = parser.take_integer()?;
     match integer.signed(bits) {
         Some(number) => Ok(number),
-        None => Err(Error {
-            fault: Fault::Range,
-            span,
-        }),
+        None => Err(Error::at(Fault::Range, span)),
     }
 }
 

@@ -1,7 +1,7 @@
 //! Keywords whose place is kept. Each type has the name of its word.
 
 ghost use Rattle.std.specs.Prelude.{◌≡◌, codes, true};
-ghost use Rattle.wat_tokens.specs.Lookup.{front};
+ghost use Rattle.wat_tokens.specs.Lookup.{in_front};
 ghost use Rattle.wat_tokens.specs.Parts.{word};
 ghost use Rattle.wat_tokens.specs.Place.{offset_of};
 ghost use Rattle.wat_tokens.specs.Tests.{begins_word};
@@ -14,7 +14,7 @@ use wat_lexer::span::Span;
 
 /// Whether the keyword stands in front.
 fn stands(cursor: Cursor<'_>, word: &str) -> bool
-    ensures { result ≡ begins_word word.now (front cursor.entry) }
+    ensures { result ≡ begins_word word.now (in_front cursor.entry) }
 {
     match cursor.keyword() {
         Some((text, _)) => text == word,

@@ -1,7 +1,7 @@
 //! The annotation that gives a name.
 
 ghost use Rattle.std.specs.Prelude.{◌≡◌, List, ℕ, true};
-ghost use Rattle.wat_tokens.specs.Lookup.{front};
+ghost use Rattle.wat_tokens.specs.Lookup.{in_front};
 ghost use Rattle.wat_tokens.specs.NameAnnotation.{name_annotation, begins_name};
 
 use crate::cursor::Cursor;
@@ -40,7 +40,7 @@ impl<'p> Peek for NameAnnotation<'p> {
     ghost begins = { begins_name };
 
     fn peek(cursor: Cursor<'_>) -> bool
-        ensures { result ≡ begins_name (front cursor.entry) }
+        ensures { result ≡ begins_name (in_front cursor.entry) }
     {
         match cursor.lparen() {
             Some(inside) => match inside.annotation() {

@@ -1,20 +1,23 @@
 //! The parser: a place in the tokens, and what was counted.
 
-ghost use Rattle.std.specs.Prelude.{◌≡◌, ◌≢◌, ◌+◌, ◌≤◌, List, [], length, drop, max, IfOk, IfErr, false};
+ghost use Rattle.std.specs.Prelude.{◌≡◌, ◌≢◌, ◌+◌, ◌≤◌, List, [], length, drop, max, IfOk, IfErr};
+ghost use Rattle.std.specs.Prelude.{false};
 ghost use Rattle.wat_lexer.specs.Cut.{IsCut, FirstFault};
 ghost use Rattle.wat_lexer.specs.Integer.{text_of};
 ghost use Rattle.wat_lexer.specs.Place.{offset_of};
-ghost use Rattle.wat_lexer.specs.Sight.{as_seen, hidden};
+ghost use Rattle.wat_lexer.specs.Sight.{as_shown, hidden};
 ghost use Rattle.wat_lexer.specs.Token.{Placed};
 ghost use Rattle.wat_lexer.specs.View.{toks, AreLeaps};
 ghost use Rattle.wat_tokens.specs.Counts.{Carries, Counted, Quiet, Kept};
-ghost use Rattle.wat_tokens.specs.Lookup.{front, FirstIs};
+ghost use Rattle.wat_tokens.specs.Lookup.{in_front, FirstIs};
 ghost use Rattle.wat_tokens.specs.Error.{Error};
 ghost use Rattle.wat_tokens.specs.Parts.{flag};
 ghost use Rattle.wat_tokens.specs.PartSpells.{one_reads};
 ghost use Rattle.wat_tokens.specs.Reads.{ReadsLight, Unmoved, BehindOne};
 ghost use Rattle.wat_tokens.specs.State.{begun, IsFresh};
-ghost use Rattle.wat_tokens.specs.Tests.{is_lparen, is_rparen, is_keyword, is_id, is_integer, is_string, word_only, annotation_only, begins_word, begins_group, begins_annotation, none_left, ends, second};
+ghost use Rattle.wat_tokens.specs.Tests.{as_lparen, as_rparen, as_keyword, as_id, as_integer};
+ghost use Rattle.wat_tokens.specs.Tests.{as_string, word_only, annotation_only, begins_word};
+ghost use Rattle.wat_tokens.specs.Tests.{begins_group, begins_annotation, none_left, ends, second};
 
 use crate::cursor::Cursor;
 use crate::tally::Tally;
@@ -64,10 +67,10 @@ impl<'a> Model for Parser<'a> {
 
     ghost Value = { State };
 
-    ghost use Rattle.wat_lexer.specs.Sight.{as_seen};
+    ghost use Rattle.wat_lexer.specs.Sight.{as_shown};
     ghost use Rattle.wat_lexer.specs.View.{toks, AreLeaps};
 
-    ghost view = { λ p. record { rest = toks (drop p.at p.tokens.items); left = as_seen p.known (toks (drop p.at p.tokens.items)); known = p.known; tracks = p.tracks; taken = p.taken.count; turns = p.turns.count; probes = p.probes.count; peak = p.peak; held = p.held } };
+    ghost view = { λ p. record { rest = toks (drop p.at p.tokens.items); left = as_shown p.known (toks (drop p.at p.tokens.items)); known = p.known; tracks = p.tracks; taken = p.taken.count; turns = p.turns.count; probes = p.probes.count; peak = p.peak; held = p.held } };
 
     ghost invariant = { λ p. (p.at ≤ length p.tokens.items) × AreLeaps p.tokens.items };
 }
@@ -114,8 +117,8 @@ impl<'a> Parser<'a> {
     /// Makes the five standard annotations known or unknown: `custom`, `producers`, `name`,
     /// `dylink.0` and `metadata.code.branch_hint`. The parser stays where it is.
     pub fn with_standard_annotations(&mut self, on: bool)
-        ensures value { self.new ≡ record self.old { known = on; left = as_seen on self.old.rest } }
-        ensures was { self.old.left ≡ as_seen self.old.known self.old.rest }
+        ensures value { self.new ≡ record self.old { known = on; left = as_shown on self.old.rest } }
+        ensures was { self.old.left ≡ as_shown self.old.known self.old.rest }
     {
         self.known = on;
     }
@@ -183,7 +186,7 @@ impl<'a> Parser<'a> {
 
     /// The place in front of the parser, for lookups.
     pub fn cursor(&self) -> Cursor<'_>
-        ensures { front result ≡ self.now.left }
+        ensures { in_front result ≡ self.now.left }
     {
         Cursor::new(from(&self.tokens, self.at), self.known)
     }
@@ -206,10 +209,7 @@ impl<'a> Parser<'a> {
     pub fn unexpected(&self) -> Error
         ensures { result.fault ≡ Fault.Unexpected }
     {
-        Error {
-            fault: Fault::Unexpected,
-            span: self.cur_span(),
-        }
+        Error::at(Fault::Unexpected, self.cur_span())
     }
 
     /// Whether no token is left.
@@ -317,7 +317,7 @@ impl<'a> Parser<'a> {
 
     /// Takes a `(`, or refuses with Unexpected.
     pub fn open(&mut self) -> Result<(), Error>
-        ensures reads { ReadsLight (λ x. x) result (one_reads is_lparen self.old.left) self.old
+        ensures reads { ReadsLight (λ x. x) result (one_reads as_lparen self.old.left) self.old
             self.new }
         ensures refused { Unmoved result self.old self.new }
         ensures stands { BehindOne result self.old self.new }
@@ -333,7 +333,7 @@ impl<'a> Parser<'a> {
 
     /// Takes a `)`, or refuses with Unexpected.
     pub fn close(&mut self) -> Result<(), Error>
-        ensures reads { ReadsLight (λ x. x) result (one_reads is_rparen self.old.left) self.old
+        ensures reads { ReadsLight (λ x. x) result (one_reads as_rparen self.old.left) self.old
             self.new }
         ensures refused { Unmoved result self.old self.new }
         ensures stands { BehindOne result self.old self.new }
@@ -398,7 +398,7 @@ impl<'a> Parser<'a> {
 
     /// Takes a keyword (Text Format, "Tokens"), whichever it is, or refuses with Unexpected.
     pub fn take_keyword(&mut self) -> Result<&'a str, Error>
-        ensures reads { ReadsLight (λ x. x.now) result (one_reads is_keyword self.old.left) self.old
+        ensures reads { ReadsLight (λ x. x.now) result (one_reads as_keyword self.old.left) self.old
             self.new }
         ensures refused { Unmoved result self.old self.new }
         ensures stands { BehindOne result self.old self.new }
@@ -415,7 +415,7 @@ impl<'a> Parser<'a> {
     /// Takes an identifier (Text Format, "Identifiers") and answers its name, without its `$`, or
     /// refuses with Unexpected.
     pub fn take_id(&mut self) -> Result<&'a str, Error>
-        ensures reads { ReadsLight (λ x. x.now) result (one_reads is_id self.old.left) self.old
+        ensures reads { ReadsLight (λ x. x.now) result (one_reads as_id self.old.left) self.old
             self.new }
         ensures refused { Unmoved result self.old self.new }
         ensures stands { BehindOne result self.old self.new }
@@ -431,7 +431,7 @@ impl<'a> Parser<'a> {
 
     /// Takes an integer (Text Format, "Integers") of any value, or refuses with Unexpected.
     pub fn take_integer(&mut self) -> Result<Integer<'a>, Error>
-        ensures reads { ReadsLight text_of result (one_reads is_integer self.old.left) self.old
+        ensures reads { ReadsLight text_of result (one_reads as_integer self.old.left) self.old
             self.new }
         ensures refused { Unmoved result self.old self.new }
         ensures stands { BehindOne result self.old self.new }
@@ -448,7 +448,7 @@ impl<'a> Parser<'a> {
     /// Takes a string (Text Format, "Strings") and answers its bytes, decoded, or refuses with
     /// Unexpected.
     pub fn take_string(&mut self) -> Result<&'a [u8], Error>
-        ensures reads { ReadsLight (λ x. x.now) result (one_reads is_string self.old.left) self.old
+        ensures reads { ReadsLight (λ x. x.now) result (one_reads as_string self.old.left) self.old
             self.new }
         ensures refused { Unmoved result self.old self.new }
         ensures stands { BehindOne result self.old self.new }

@@ -1,7 +1,7 @@
 //! Strings.
 
 ghost use Rattle.std.specs.Prelude.{◌≡◌, List, ℕ, true};
-ghost use Rattle.wat_tokens.specs.Lookup.{front};
+ghost use Rattle.wat_tokens.specs.Lookup.{in_front};
 ghost use Rattle.wat_tokens.specs.Strings.{string, text};
 ghost use Rattle.wat_tokens.specs.Tests.{begins_string};
 
@@ -30,7 +30,7 @@ impl<'p> Peek for &'p [u8] {
     ghost begins = { begins_string };
 
     fn peek(cursor: Cursor<'_>) -> bool
-        ensures { result ≡ begins_string (front cursor.entry) }
+        ensures { result ≡ begins_string (in_front cursor.entry) }
     {
         cursor.string().is_some()
     }
@@ -57,10 +57,7 @@ impl<'a> Parse<'a> for &'a str {
         let bytes = parser.take_string()?;
         match str::from_utf8(bytes) {
             Ok(text) => Ok(text),
-            Err(_) => Err(Error {
-                fault: Fault::Utf8,
-                span,
-            }),
+            Err(_) => Err(Error::at(Fault::Utf8, span)),
         }
     }
 }
@@ -70,7 +67,7 @@ impl<'p> Peek for &'p str {
     ghost begins = { begins_string };
 
     fn peek(cursor: Cursor<'_>) -> bool
-        ensures { result ≡ begins_string (front cursor.entry) }
+        ensures { result ≡ begins_string (in_front cursor.entry) }
     {
         cursor.string().is_some()
     }

@@ -1,10 +1,11 @@
 //! What can be parsed, and what can be looked for.
 
-ghost use Rattle.std.specs.Prelude.{◌≡◌, ◌≤◌, ◌+◌, max, length, List, ℕ, Bool, IsTrue, IfOk, IfErr, ◌++◌, ◌≢◌, true, false};
+ghost use Rattle.std.specs.Prelude.{◌≡◌, ◌≤◌, ◌+◌, max, length, List, ℕ, Bool, IsTrue, IfOk, IfErr};
+ghost use Rattle.std.specs.Prelude.{◌++◌, ◌≢◌, true, false};
 ghost use Rattle.wat_lexer.specs.Token.{Tok};
 ghost use Rattle.wat_tokens.specs.Counts.{Counted, Turned, Grows, Quiet, Stays, Kept};
 ghost use Rattle.wat_tokens.specs.Error.{Memory};
-ghost use Rattle.wat_tokens.specs.Lookup.{front};
+ghost use Rattle.wat_tokens.specs.Lookup.{in_front};
 ghost use Rattle.wat_tokens.specs.Parens.{nest};
 ghost use Rattle.wat_tokens.specs.Parses.{Gives, Accepts};
 ghost use Rattle.wat_tokens.specs.Production.{Production, Front};
@@ -56,12 +57,12 @@ pub trait Peek {
 
     /// Whether the tokens at the place begin a value.
     fn peek(cursor: Cursor<'_>) -> bool
-        ensures { result ≡ begins (front cursor.entry) };
+        ensures { result ≡ begins (in_front cursor.entry) };
 
     /// Whether the tokens behind the first one at the place begin a value; not where there is no
     /// token.
     fn peek2(cursor: Cursor<'_>) -> bool
-        ensures { result ≡ second begins (front cursor.entry) }
+        ensures { result ≡ second begins (in_front cursor.entry) }
     {
         match cursor.any() {
             Some(rest) => Self::peek(rest),

@@ -3,7 +3,7 @@ use Rattle.std.proofs.lemmas.Bool.{and_right}
 use Rattle.std.proofs.Common.{◌≡◌, Bool, true, false, List, [], ◌∷◌, Some, None, refl, sym, ap, ◌∙◌, inl, inr}
 use Rattle.std.specs.Prelude.{◌&&◌, codes}
 use Rattle.wat_tokens.specs.Token.{Tok, RParen}
-use Rattle.wat_tokens.specs.Tests.{is_lparen, is_rparen, begins_word}
+use Rattle.wat_tokens.specs.Tests.{as_lparen, as_rparen, begins_word}
 use Rattle.wat_tokens.specs.Production.{Read}
 use Rattle.wat_tokens.specs.Laws.Production.{by_read}
 use Rattle.wat_tokens.specs.Parts.{word, flag}
@@ -33,7 +33,7 @@ front_is : {A : Type 0} (x : Read (List A)) (y : List A × List Tok) → after_f
 front_is (Some x) y e = e
 front_is None y e = absurd cc
 
-module _ (b : Bool) (ps : List Idx) (t t1 t2 t3 t4 : List Tok) (k : begins_word (codes "sub") t ≡ true) (e : (word (codes "sub")).reads t ≡ Some (tt, t1)) (f : (flag (codes "final")).reads t1 ≡ Some (b, t2)) (g : after_front [] (many_reads begins_index index t2) ≡ Some (ps, t3)) (h : one_reads is_lparen t3 ≡ Some (tt, t4)) where
+module _ (b : Bool) (ps : List Idx) (t t1 t2 t3 t4 : List Tok) (k : begins_word (codes "sub") t ≡ true) (e : (word (codes "sub")).reads t ≡ Some (tt, t1)) (f : (flag (codes "final")).reads t1 ≡ Some (b, t2)) (g : after_front [] (many_reads begins_index index t2) ≡ Some (ps, t3)) (h : one_reads as_lparen t3 ≡ Some (tt, t4)) where
   pub sub_fails : maybe_shared.reads t4 ≡ None → type_def.reads t ≡ None
   unfolding type_def
   sub_fails n = rw (k, e, f, front_is (many_reads begins_index index t2) (ps, t3) g, h, n) refl
@@ -44,5 +44,5 @@ module _ (b : Bool) (ps : List Idx) (t t1 t2 t3 t4 : List Tok) (k : begins_word 
       (λ y m. (let s = maybe_shared.sound t4 y m in
       let bare : bare_def y.0 ≡ false = rw m at n in
       let left : bare_kind y.0.kind ≡ false = bare_left y.0.parents (bare_kind y.0.kind) (alone y.0 s.0 y.1 s.2) bare in
-      rw m (by_read (one_reads is_rparen y.1) (λ z o. rw o (and_right (no_items ps) (bare_kind y.0.kind) left)) (λ o. rw o tt))))
+      rw m (by_read (one_reads as_rparen y.1) (λ z o. rw o (and_right (no_items ps) (bare_kind y.0.kind) left)) (λ o. rw o tt))))
       (λ m. rw m tt))

@@ -6,7 +6,7 @@ use Rattle.wat_tokens.specs.Production.{Read, bind, option_of, some_of}
 use Rattle.wat_tokens.specs.Adding.{add_all, add_rest}
 use Rattle.wat_tokens.specs.Laws.Production.{by_test}
 use Rattle.wat_types.specs.Value.{ValTy}
-use Rattle.wat_types.specs.Group.{ParamTy, Group, param, result, params_in, results_in, function_of, empty_function, joined}
+use Rattle.wat_types.specs.Group.{ParamTy, Group, param, result, params_in, results_in, function_of, empty_function, merged}
 use Rattle.wat_types.specs.Order.{only_results, add, in_order}
 
 -- ---- adding group by group gives the concatenations, where the groups are in order
@@ -30,6 +30,6 @@ add_params (result (r ∷ rs) ∷ gs) ps = add_results gs ps rs r ∙ by_test (o
     (λ k. rw (k, no_params gs k) (ap (λ (u : List ParamTy). option_of (function_of u ((r ∷ rs) ++ flat_map results_in gs))) (sym (append-nil ps))))
     (λ k. rw k refl)
 
-pub add_groups : (x : Read (List Group)) → add_rest add empty_function x ≡ bind x (λ gs r. if in_order gs then some_of (joined gs, r) else None)
+pub add_groups : (x : Read (List Group)) → add_rest add empty_function x ≡ bind x (λ gs r. if in_order gs then some_of (merged gs, r) else None)
 add_groups (Some x) = rw (add_params x.0 []) (by_test (in_order x.0) (λ k. rw k refl) (λ k. rw k refl))
 add_groups None = refl

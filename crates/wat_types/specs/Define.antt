@@ -46,7 +46,8 @@ bare_kind (cont i) = true
 unfoldable pub kind : Production KindTy
 kind =
     where_else (begins_word (codes "func")) (made func (after_word (codes "func") function_type))
-    (where_else (begins_word (codes "struct")) (made struct_ (after_word (codes "struct") struct_type))
+    (where_else (begins_word (codes "struct"))
+    (made struct_ (after_word (codes "struct") struct_type))
     (where_else (begins_word (codes "array")) (made array (after_word (codes "array") field_type))
     (made cont (after_word (codes "cont") index))))
 
@@ -62,7 +63,17 @@ pub record DefTy : Type 0 where
   pub final_type : Option Bool
 
 abbrev pub seen_def : TypeDef → DefTy
-seen_def d = record { kind = seen_kind d.kind; shared = d.shared; parents = map seen_index d.parents.items; descriptor = seen_option seen_index d.descriptor; describes = seen_option seen_index d.describes; final_type = d.final_type }
+seen_def d =
+    record {
+      kind = seen_kind d.kind;
+      shared = d.shared;
+      parents = map seen_index d.parents.items;
+      descriptor =
+          seen_option seen_index d.descriptor;
+      describes =
+          seen_option seen_index d.describes;
+      final_type = d.final_type;
+    }
 
 -- no parent, no parameter, no result and no field
 abbrev pub bare_def : DefTy → Bool
@@ -73,25 +84,40 @@ unfoldable pub linked : List ℕ → Production (Option Idx)
 linked w = opt (begins_word w) (after_word w (made (λ v. v.0) (seq index turn)))
 
 abbrev pub plain_def : Option Idx × (Option Idx × KindTy) → DefTy
-plain_def v = record { kind = v.1.1; shared = false; parents = []; descriptor = v.1.0; describes = v.0; final_type = None }
+plain_def v =
+    record {
+      kind = v.1.1;
+      shared = false;
+      parents = [];
+      descriptor = v.1.0;
+      describes = v.0;
+      final_type = None;
+    }
 
 -- (`describes` idx `) (`)?, then (`descriptor` idx `) (`)?, then InnerTypeKind
 unfoldable pub described : Production DefTy
-described = made plain_def (seq (linked (codes "describes")) (seq (linked (codes "descriptor")) kind))
+described =
+    made plain_def (seq (linked (codes "describes")) (seq (linked (codes "descriptor")) kind))
 
 abbrev pub shared_def : DefTy → DefTy
 shared_def d = record d { shared = true }
 
 -- `shared (` K `)` | K
 unfoldable pub maybe_shared : Production DefTy
-maybe_shared = where_else (begins_word (codes "shared")) (made shared_def (after_word (codes "shared") (paren described))) described
+maybe_shared =
+    where_else (begins_word (codes "shared"))
+    (made shared_def (after_word (codes "shared") (paren described))) described
 
 abbrev pub sub_def : Bool × (List Idx × DefTy) → DefTy
 sub_def v = record v.1.1 { parents = v.1.0; final_type = Some v.0 }
 
 -- `sub final? idx* (` S `)` | S
 unfoldable pub type_def : Production DefTy
-type_def = where_else (begins_word (codes "sub")) (made sub_def (after_word (codes "sub") (seq (flag (codes "final")) (seq (many begins_index index (lit≤ tt)) (paren maybe_shared))))) maybe_shared
+type_def =
+    where_else (begins_word (codes "sub"))
+    (made sub_def (after_word (codes "sub")
+    (seq (flag (codes "final")) (seq (many begins_index index (lit≤ tt)) (paren maybe_shared)))))
+    maybe_shared
 
 -- ---- types and recursion groups
 
@@ -108,7 +134,8 @@ bare_type t = bare_def t.def
 
 -- `type id? name? (` TypeDef `)`
 unfoldable pub type_ : Production TypeTy
-type_ = made (λ v. record { label = v.0; def = v.1 }) (after_word (codes "type") (seq label (paren type_def)))
+type_ = made (λ v. record { label = v.0; def = v.1 })
+    (after_word (codes "type") (seq label (paren type_def)))
 
 abbrev pub begins_type : List Tok → Bool
 begins_type t = begins_word (codes "type") t

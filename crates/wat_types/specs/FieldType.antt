@@ -18,5 +18,6 @@ field_of m t = record { mutable = m; ty = t }
 -- where the second token is `mut`, ( mut StorageType ); else StorageType
 unfoldable pub field_type : Production FieldTy
 field_type =
-    where_else (second (begins_word (codes "mut"))) (made (field_of true) (group (codes "mut") storage_type))
+    where_else (second (begins_word (codes "mut")))
+    (made (field_of true) (group (codes "mut") storage_type))
     (made (field_of false) storage_type)

@@ -23,7 +23,8 @@ abbrev pub seen_params : List (Option Id × Option NameAnnotation × ValType) �
 seen_params ps = map seen_param ps
 
 abbrev pub seen_function : FunctionType → FuncTy
-seen_function f = record { params = seen_params f.params.items; results = map seen_val f.results.items }
+seen_function f =
+    record { params = seen_params f.params.items; results = map seen_val f.results.items }
 
 abbrev pub seen_unnamed : FunctionTypeNoNames → FuncTy
 seen_unnamed f = seen_function f.0
@@ -35,7 +36,9 @@ bare_function f = no_items f.params && no_items f.results
 -- ---- the grammar
 
 unfoldable pub function_groups : Bool → Production FuncTy
-function_groups labels = restated (function_tested labels) (FunctionSpells labels) (function_to labels) (function_from labels)
+function_groups labels =
+    restated (function_tested labels) (FunctionSpells labels) (function_to labels)
+    (function_from labels)
 
 -- parameter and result groups, of which parameters may have an identifier or a name
 abbrev pub function_type : Production FuncTy

@@ -4,7 +4,8 @@ use Rattle.wat_tokens.specs.Token.{Tok}
 use Rattle.wat_tokens.specs.Production.{Production}
 use Rattle.wat_tokens.specs.Parts.{made_where}
 use Rattle.wat_tokens.specs.Many.{many}
-use Rattle.wat_types.specs.Group.{Group, func_group, group_follows, params_in, results_in, FuncTy, joined, InOrder, unlabelled}
+use Rattle.wat_types.specs.Group.{Group, func_group, group_follows, params_in, results_in, FuncTy}
+use Rattle.wat_types.specs.Group.{merged, InOrder, unlabelled}
 use Rattle.wat_types.specs.Order.{in_order}
 use Rattle.wat_types.specs.Laws.Group.{func_group_eats}
 
@@ -17,10 +18,12 @@ func_groups labels = many group_follows (func_group labels) (func_group_eats lab
 -- groups: no result group with a type stands before a param group; params and results are the
 -- concatenations in order
 abbrev pub FunctionSpells : Bool → FuncTy → List Tok → List Tok → Type 0
-FunctionSpells labels f c r = (gs : List Group) × (func_groups labels).spells gs c r × InOrder gs × (f.params ≡ flat_map params_in gs) × (f.results ≡ flat_map results_in gs)
+FunctionSpells labels f c r =
+    (gs : List Group) × (func_groups labels).spells gs c r × InOrder gs
+    × (f.params ≡ flat_map params_in gs) × (f.results ≡ flat_map results_in gs)
 
 abbrev pub function_tested : Bool → Production FuncTy
-function_tested labels = made_where in_order joined (func_groups labels)
+function_tested labels = made_where in_order merged (func_groups labels)
 
 -- a FunctionType in which no param group has a label
 abbrev pub UnnamedSpells : FuncTy → List Tok → List Tok → Type 0

@@ -1,5 +1,6 @@
 -- The groups of a function type, and the order in which they may stand.
-use Rattle.std.specs.Prelude.{Bool, true, not, ◌&&◌, ◌||◌, List, [], ◌∷◌, codes, flat_map, AllPairs, ⊤}
+use Rattle.std.specs.Prelude.{Bool, true, not, ◌&&◌, ◌||◌, List, [], ◌∷◌, codes, flat_map, AllPairs}
+use Rattle.std.specs.Prelude.{⊤}
 use Rattle.wat_tokens.specs.Token.{Tok}
 use Rattle.wat_tokens.specs.Tests.{begins_word, begins_group, more, second}
 use Rattle.wat_tokens.specs.Production.{Production}
@@ -30,7 +31,9 @@ plain_params = many more plain_param_only val_type_eats
 
 -- where labels may stand and one begins, id? name? ValType; else ValType*
 unfoldable pub params : Bool → Production (List ParamTy)
-params labels = where_else (λ t. labels && begins_label t) (made labelled_param (seq label val_type)) plain_params
+params labels =
+    where_else (λ t. labels && begins_label t) (made labelled_param (seq label val_type))
+    plain_params
 
 -- ValType*
 unfoldable pub val_types : Production (List ValTy)
@@ -82,8 +85,8 @@ results_in (param ps) = []
 results_in (result rs) = rs
 
 -- the parameters and the results of all groups, one behind the other
-abbrev pub joined : List Group → FuncTy
-joined gs = function_of (flat_map params_in gs) (flat_map results_in gs)
+abbrev pub merged : List Group → FuncTy
+merged gs = function_of (flat_map params_in gs) (flat_map results_in gs)
 
 -- a result group with a type doesn't stand before a param group
 abbrev pub MayStandBefore : Group → Group → Type 0

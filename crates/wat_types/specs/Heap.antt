@@ -16,9 +16,12 @@ use Rattle.wat_types.specs.declared.heap.HeapType.TheVariants as code
 
 abbrev pub abstract_words : List (List ℕ × AbstractHeapType)
 abstract_words =
-    (codes "func", word.Func) ∷ (codes "extern", word.Extern) ∷ (codes "exn", word.Exn) ∷ (codes "cont", word.Cont) ∷ (codes "any", word.Any)
-    ∷ (codes "eq", word.Eq) ∷ (codes "struct", word.Struct) ∷ (codes "array", word.Array) ∷ (codes "i31", word.I31) ∷ (codes "nofunc", word.NoFunc)
-    ∷ (codes "noextern", word.NoExtern) ∷ (codes "noexn", word.NoExn) ∷ (codes "nocont", word.NoCont) ∷ (codes "none", word.None) ∷ []
+    (codes "func", word.Func) ∷ (codes "extern", word.Extern) ∷ (codes "exn", word.Exn)
+    ∷ (codes "cont", word.Cont) ∷ (codes "any", word.Any)
+    ∷ (codes "eq", word.Eq) ∷ (codes "struct", word.Struct) ∷ (codes "array", word.Array)
+    ∷ (codes "i31", word.I31) ∷ (codes "nofunc", word.NoFunc)
+    ∷ (codes "noextern", word.NoExtern) ∷ (codes "noexn", word.NoExn)
+    ∷ (codes "nocont", word.NoCont) ∷ (codes "none", word.None) ∷ []
 
 -- one of the words
 unfoldable pub abstract_heap_type : Production AbstractHeapType
@@ -46,9 +49,11 @@ unfoldable pub heap_type : Production HeapTy
 heap_type =
     where_else begins_index (made concrete index)
     (where_else (begins_group (codes "exact")) (made exact (group (codes "exact") index))
-    (where_else (begins_group (codes "shared")) (made (λ t. abstract_ true t) (group (codes "shared") abstract_heap_type))
+    (where_else (begins_group (codes "shared"))
+    (made (λ t. abstract_ true t) (group (codes "shared") abstract_heap_type))
     (made (λ t. abstract_ false t) abstract_heap_type)))
 
 -- an abstract word, or `(` and `shared` or `type`
 abbrev pub begins_heap : List Tok → Bool
-begins_heap t = begins_abstract t || (begins_group (codes "shared") t || begins_group (codes "type") t)
+begins_heap t =
+    begins_abstract t || (begins_group (codes "shared") t || begins_group (codes "type") t)

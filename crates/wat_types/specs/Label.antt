@@ -29,7 +29,8 @@ labelled l = is_some l.id || is_some l.name
 
 -- id? name?
 unfoldable pub label : Production Label
-label = made (λ v. label_of v.0 v.1) (seq (opt begins_id identifier) (opt begins_name name_annotation))
+label = made (λ v. label_of v.0 v.1)
+    (seq (opt begins_id identifier) (opt begins_name name_annotation))
 
 -- an id, or a name
 abbrev pub begins_label : List Tok → Bool

@@ -17,7 +17,8 @@ use Rattle.wat_types.specs.Laws.Limits.{exponent_to, exponent_from}
 
 -- ( i32 | i64 )?, whether `i64` stands
 unfoldable pub is_64 : Production Bool
-is_64 = where_else (begins_word (codes "i64")) (made (λ _. true) (word (codes "i64"))) (made (λ _. false) (flag (codes "i32")))
+is_64 = where_else (begins_word (codes "i64")) (made (λ _. true) (word (codes "i64")))
+    (made (λ _. false) (flag (codes "i32")))
 
 abbrev pub limits_of : Bool × (ℕ × Option ℕ) → Limits
 limits_of v = record { is64 = v.0; min = v.1.0; max = v.1.1 }

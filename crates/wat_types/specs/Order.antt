@@ -1,5 +1,6 @@
 -- Proofs: a test of the order of groups, and what adding them one by one gives.
-use Rattle.std.specs.Prelude.{Bool, true, false, if◌then◌else◌, List, [], ◌∷◌, ◌++◌, Option, Some, None}
+use Rattle.std.specs.Prelude.{Bool, true, false, if◌then◌else◌, List, [], ◌∷◌, ◌++◌, Option, Some}
+use Rattle.std.specs.Prelude.{None}
 use Rattle.wat_tokens.specs.Parses.{no_items}
 use Rattle.wat_types.specs.Group.{Group, param, result, FuncTy, function_of}
 
@@ -19,5 +20,6 @@ in_order (result (t ∷ ts) ∷ gs) = only_results gs
 
 -- one group more; none of params where there are results
 abbrev pub add : FuncTy → Group → Option FuncTy
-add f (param ps) = if no_items f.results then Some (function_of (f.params ++ ps) f.results) else None
+add f (param ps) =
+    if no_items f.results then Some (function_of (f.params ++ ps) f.results) else None
 add f (result rs) = Some (function_of f.params (f.results ++ rs))

@@ -1,5 +1,6 @@
 -- Reference types.
-use Rattle.std.specs.Prelude.{ℕ, Bool, true, false, ◌||◌, List, [], ◌∷◌, codes, Option, Some, None, refl}
+use Rattle.std.specs.Prelude.{ℕ, Bool, true, false, ◌||◌, List, [], ◌∷◌, codes, Option, Some, None}
+use Rattle.std.specs.Prelude.{refl}
 use Rattle.wat_tokens.specs.Token.{Tok}
 use Rattle.wat_tokens.specs.Tests.{word_in, begins_group}
 use Rattle.wat_tokens.specs.Production.{Production}
@@ -24,9 +25,12 @@ seen_ref t = record { nullable = t.nullable; heap = seen_heap t.heap }
 -- the heap type that a shorthand names
 abbrev pub shorthand_words : List (List ℕ × AbstractHeapType)
 shorthand_words =
-    (codes "funcref", word.Func) ∷ (codes "externref", word.Extern) ∷ (codes "exnref", word.Exn) ∷ (codes "contref", word.Cont) ∷ (codes "anyref", word.Any)
-    ∷ (codes "eqref", word.Eq) ∷ (codes "structref", word.Struct) ∷ (codes "arrayref", word.Array) ∷ (codes "i31ref", word.I31) ∷ (codes "nullfuncref", word.NoFunc)
-    ∷ (codes "nullexternref", word.NoExtern) ∷ (codes "nullexnref", word.NoExn) ∷ (codes "nullcontref", word.NoCont) ∷ (codes "nullref", word.None) ∷ []
+    (codes "funcref", word.Func) ∷ (codes "externref", word.Extern) ∷ (codes "exnref", word.Exn)
+    ∷ (codes "contref", word.Cont) ∷ (codes "anyref", word.Any)
+    ∷ (codes "eqref", word.Eq) ∷ (codes "structref", word.Struct) ∷ (codes "arrayref", word.Array)
+    ∷ (codes "i31ref", word.I31) ∷ (codes "nullfuncref", word.NoFunc)
+    ∷ (codes "nullexternref", word.NoExtern) ∷ (codes "nullexnref", word.NoExn)
+    ∷ (codes "nullcontref", word.NoCont) ∷ (codes "nullref", word.None) ∷ []
 
 -- one of the shorthands
 unfoldable pub shorthand : Production AbstractHeapType
@@ -43,8 +47,11 @@ short shared t = record { nullable = true; heap = abstract_ shared t }
 -- ( ref null? HeapType ) | ( shared shorthand ) | shorthand
 unfoldable pub ref_type : Production RefTy
 ref_type =
-    where_else (begins_group (codes "ref")) (made (λ v. record { nullable = v.0; heap = v.1 }) (group (codes "ref") (seq (flag (codes "null")) heap_type)))
-    (where_else (begins_group (codes "shared")) (made (short true) (group (codes "shared") shorthand))
+    where_else (begins_group (codes "ref"))
+    (made (λ v. record { nullable = v.0; heap = v.1 })
+    (group (codes "ref") (seq (flag (codes "null")) heap_type)))
+    (where_else (begins_group (codes "shared"))
+    (made (short true) (group (codes "shared") shorthand))
     (made (short false) shorthand))
 
 -- `(` and `ref` or `shared`

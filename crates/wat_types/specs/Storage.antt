@@ -55,5 +55,6 @@ plain_global t = record { ty = t; mutable = false; shared = false }
 -- where the second token is `shared` or `mut`, ( shared? mut? ValType ); else ValType
 unfoldable pub global_type : Production GlobalTy
 global_type =
-    where_else long_global (made global_of (paren (seq (flag (codes "shared")) (seq (flag (codes "mut")) val_type))))
+    where_else long_global (made global_of
+    (paren (seq (flag (codes "shared")) (seq (flag (codes "mut")) val_type))))
     (made plain_global val_type)

@@ -28,11 +28,15 @@ seen_val (code.Ref r) = ref (seen_ref r)
 
 -- the types of numbers and vectors
 abbrev pub plain_words : List (List ℕ × ValTy)
-plain_words = (codes "i32", i32) ∷ (codes "i64", i64) ∷ (codes "f32", f32) ∷ (codes "f64", f64) ∷ (codes "v128", v128) ∷ []
+plain_words =
+    (codes "i32", i32) ∷ (codes "i64", i64) ∷ (codes "f32", f32) ∷ (codes "f64", f64)
+    ∷ (codes "v128", v128) ∷ []
 
 -- one of five words, or a RefType
 unfoldable pub val_type : Production ValTy
-val_type = where_else (begins_one_of (word_in plain_words)) (one (word_in plain_words) (refl, refl)) (made ref ref_type)
+val_type =
+    where_else (begins_one_of (word_in plain_words)) (one (word_in plain_words) (refl, refl))
+    (made ref ref_type)
 
 -- the type that the word names, where it is one of the five
 abbrev pub IsPlain : List ℕ → Option ValType → Type 0

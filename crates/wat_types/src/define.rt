@@ -2,12 +2,15 @@
 
 ghost use Rattle.std.specs.Prelude.{◌≡◌, true, false, List};
 ghost use Rattle.wat_tokens.specs.Index.{Idx, seen_index, index};
-ghost use Rattle.wat_tokens.specs.Lookup.{front};
+ghost use Rattle.wat_tokens.specs.Lookup.{in_front};
 ghost use Rattle.wat_tokens.specs.Many.{after_front};
 ghost use Rattle.wat_tokens.specs.Parses.{no_items, seen_option};
 ghost use Rattle.wat_tokens.specs.Reads.{Reads, ReadsLight};
 ghost use Rattle.wat_tokens.specs.Tests.{second};
-ghost use Rattle.wat_types.specs.Define.{KindTy, seen_kind, bare_kind, kind, linked, DefTy, seen_def, bare_def, described, maybe_shared, type_def, TypeTy, seen_type, bare_type, type_, begins_type, grouped_type, seen_types};
+ghost use Rattle.wat_types.specs.Define.{KindTy, seen_kind, bare_kind, kind, linked, DefTy};
+ghost use Rattle.wat_types.specs.Define.{seen_def, bare_def, described, maybe_shared, type_def};
+ghost use Rattle.wat_types.specs.Define.{TypeTy, seen_type, bare_type, type_, begins_type};
+ghost use Rattle.wat_types.specs.Define.{grouped_type, seen_types};
 ghost use Rattle.wat_types.specs.Recursion.{types, seen_rec, rec};
 
 use crate::function::FunctionType;
@@ -237,7 +240,7 @@ impl<'p> Peek for Type<'p> {
     ghost begins = { begins_type };
 
     fn peek(cursor: Cursor<'_>) -> bool
-        ensures { result ≡ begins_type (front cursor.entry) }
+        ensures { result ≡ begins_type (in_front cursor.entry) }
     {
         match cursor.keyword() {
             Some((word, _)) => word == "type",

@@ -2,15 +2,17 @@
 
 ghost use Rattle.std.specs.Prelude.{◌≡◌, [], true, false};
 ghost use Rattle.wat_tokens.specs.Copies.{Copies};
-ghost use Rattle.wat_tokens.specs.Lookup.{front};
+ghost use Rattle.wat_tokens.specs.Lookup.{in_front};
 ghost use Rattle.wat_tokens.specs.Many.{after_front};
 ghost use Rattle.wat_tokens.specs.Adding.{add_read};
 ghost use Rattle.wat_tokens.specs.Parses.{no_items};
 ghost use Rattle.wat_tokens.specs.Reads.{Reads};
 ghost use Rattle.wat_tokens.specs.Tests.{more};
-ghost use Rattle.wat_types.specs.Function.{seen_param, seen_params, seen_function, seen_unnamed, bare_function, function_groups, function_type};
+ghost use Rattle.wat_types.specs.Function.{seen_param, seen_params, seen_function, seen_unnamed};
+ghost use Rattle.wat_types.specs.Function.{bare_function, function_groups, function_type};
 ghost use Rattle.wat_types.specs.FunctionNoNames.{function_type_no_names};
-ghost use Rattle.wat_types.specs.Group.{FuncTy, ParamTy, params, plain_param_only, func_group, group_follows, begins_func};
+ghost use Rattle.wat_types.specs.Group.{FuncTy, ParamTy, params, plain_param_only, func_group};
+ghost use Rattle.wat_types.specs.Group.{group_follows, begins_func};
 ghost use Rattle.wat_types.specs.Order.{add};
 
 use crate::value::ValType;
@@ -89,10 +91,7 @@ fn read_group<'a>(parser: &mut Parser<'a>, labels: bool, out: &mut FunctionType<
     parser.open()?;
     if is_param {
         if !out.results.is_empty() {
-            return Err(Error {
-                fault: Fault::ParamAfterResult,
-                span: parser.cur_span(),
-            });
+            return Err(Error::at(Fault::ParamAfterResult, parser.cur_span()));
         }
         parser.keyword("param")?;
         read_params(parser, labels, &mut out.params)?;
@@ -173,7 +172,7 @@ impl<'p> Peek for FunctionType<'p> {
     ghost begins = { begins_func };
 
     fn peek(cursor: Cursor<'_>) -> bool
-        ensures { result ≡ begins_func (front cursor.entry) }
+        ensures { result ≡ begins_func (in_front cursor.entry) }
     {
         cursor.group_is("param") || cursor.group_is("result")
     }
@@ -225,7 +224,7 @@ impl<'p> Peek for FunctionTypeNoNames<'p> {
     ghost begins = { begins_func };
 
     fn peek(cursor: Cursor<'_>) -> bool
-        ensures { result ≡ begins_func (front cursor.entry) }
+        ensures { result ≡ begins_func (in_front cursor.entry) }
     {
         FunctionType::peek(cursor)
     }

@@ -1,9 +1,10 @@
 //! Heap types.
 
 ghost use Rattle.std.specs.Prelude.{◌≡◌, true};
-ghost use Rattle.wat_tokens.specs.Lookup.{front};
+ghost use Rattle.wat_tokens.specs.Lookup.{in_front};
 ghost use Rattle.wat_tokens.specs.Tests.{look_up};
-ghost use Rattle.wat_types.specs.Heap.{abstract_words, abstract_heap_type, begins_abstract, heap_type, HeapTy, seen_heap, begins_heap};
+ghost use Rattle.wat_types.specs.Heap.{abstract_words, abstract_heap_type, begins_abstract};
+ghost use Rattle.wat_types.specs.Heap.{heap_type, HeapTy, seen_heap, begins_heap};
 
 use wat_tokens::{Cursor, Error, Fault, Index, Parse, Parser, Peek, Result};
 
@@ -97,10 +98,7 @@ impl<'a> Parse<'a> for AbstractHeapType {
         let span = parser.cur_span();
         match abstract_of(parser.take_keyword()?) {
             Some(ty) => Ok(ty),
-            None => Err(Error {
-                fault: Fault::Unexpected,
-                span,
-            }),
+            None => Err(Error::at(Fault::Unexpected, span)),
         }
     }
 }
@@ -161,7 +159,7 @@ impl<'p> Peek for HeapType<'p> {
     ghost begins = { begins_heap };
 
     fn peek(cursor: Cursor<'_>) -> bool
-        ensures { result ≡ begins_heap (front cursor.entry) }
+        ensures { result ≡ begins_heap (in_front cursor.entry) }
     {
         AbstractHeapType::peek(cursor) || cursor.group_is("shared") || cursor.group_is("type")
     }

@@ -2,7 +2,8 @@
 
 ghost use Rattle.wat_tokens.specs.Once.{HasOneReading};
 ghost use Rattle.wat_types.specs.Limits.{pagesize_or_none};
-ghost use Rattle.wat_types.specs.Rows.{PageSizes, Globals, LongLimits, FinalSub, OpenSub, Structure, Described, Uses};
+ghost use Rattle.wat_types.specs.Rows.{PageSizes, Globals, LongLimits, FinalSub, OpenSub};
+ghost use Rattle.wat_types.specs.Rows.{Structure, Described, Uses};
 
 /// No two fronts of one token list spell a page size, written or left out, unless they are one
 /// front and one size.

@@ -3,7 +3,8 @@
 ghost use Rattle.std.specs.Prelude.{◌≡◌, true};
 ghost use Rattle.wat_tokens.specs.Reads.{ReadsLight};
 ghost use Rattle.wat_types.specs.Exponent.{exponent};
-ghost use Rattle.wat_types.specs.Limits.{is_64, page_exponent, pagesize_or_none, TableTy, seen_table, table_type};
+ghost use Rattle.wat_types.specs.Limits.{is_64, page_exponent, pagesize_or_none, TableTy};
+ghost use Rattle.wat_types.specs.Limits.{seen_table, table_type};
 
 use crate::reference::RefType;
 use wat_tokens::{Error, Fault, Parse, Parser, Result};
@@ -105,10 +106,7 @@ fn take_exponent<'a>(parser: &mut Parser<'a>) -> Result<u32>
     let span = parser.cur_span();
     match exponent(u32::parse(parser)?) {
         Some(k) => Ok(k),
-        None => Err(Error {
-            fault: Fault::PageSize,
-            span,
-        }),
+        None => Err(Error::at(Fault::PageSize, span)),
     }
 }
 

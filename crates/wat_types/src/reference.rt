@@ -1,10 +1,12 @@
 //! Reference types.
 
 ghost use Rattle.std.specs.Prelude.{◌≡◌, true, IfSome};
-ghost use Rattle.wat_tokens.specs.Lookup.{front};
+ghost use Rattle.wat_tokens.specs.Lookup.{in_front};
 ghost use Rattle.wat_tokens.specs.Reads.{ReadsLight};
 ghost use Rattle.wat_tokens.specs.Tests.{look_up};
-ghost use Rattle.wat_types.specs.Reference.{RefTy, ref_type, seen_ref, shorthand, shorthand_words, begins_shorthand, begins_long_ref, begins_ref, nullable_ref, shared_ref};
+ghost use Rattle.wat_types.specs.Reference.{RefTy, ref_type, seen_ref, shorthand, shorthand_words};
+ghost use Rattle.wat_types.specs.Reference.{begins_shorthand, begins_long_ref, begins_ref};
+ghost use Rattle.wat_types.specs.Reference.{nullable_ref, shared_ref};
 
 use crate::heap::{AbstractHeapType, HeapType};
 use wat_tokens::{Cursor, Error, Fault, Parse, Parser, Peek, Result};
@@ -50,17 +52,14 @@ fn take_shorthand<'a>(parser: &mut Parser<'a>) -> Result<AbstractHeapType>
     let span = parser.cur_span();
     match shorthand_of(parser.take_keyword()?) {
         Some(ty) => Ok(ty),
-        None => Err(Error {
-            fault: Fault::Unexpected,
-            span,
-        }),
+        None => Err(Error::at(Fault::Unexpected, span)),
     }
 }
 
 /// Whether a shorthand stands there.
 #[tactic(auto, using(wat_tokens::specs::Laws::Begin::begins_table, wat_tokens::specs::Laws::Begin::begins_no_table), unfolding(crate::specs::Reference::begins_shorthand))]
 pub(crate) fn shorthand_at(cursor: Cursor<'_>) -> bool
-    ensures { result ≡ begins_shorthand (front cursor.entry) }
+    ensures { result ≡ begins_shorthand (in_front cursor.entry) }
 {
     match cursor.keyword() {
         Some((word, _)) => shorthand_of(word).is_some(),
@@ -70,7 +69,7 @@ pub(crate) fn shorthand_at(cursor: Cursor<'_>) -> bool
 
 /// Whether a reference type in parentheses stands there.
 pub(crate) fn long_ref_at(cursor: Cursor<'_>) -> bool
-    ensures { result ≡ begins_long_ref (front cursor.entry) }
+    ensures { result ≡ begins_long_ref (in_front cursor.entry) }
 {
     cursor.group_is("ref") || cursor.group_is("shared")
 }
@@ -241,7 +240,7 @@ impl<'p> Peek for RefType<'p> {
     ghost begins = { begins_ref };
 
     fn peek(cursor: Cursor<'_>) -> bool
-        ensures { result ≡ begins_ref (front cursor.entry) }
+        ensures { result ≡ begins_ref (in_front cursor.entry) }
     {
         shorthand_at(cursor) || long_ref_at(cursor)
     }

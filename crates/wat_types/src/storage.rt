@@ -1,7 +1,8 @@
 //! Storage types and global types.
 
 ghost use Rattle.std.specs.Prelude.{◌≡◌, true};
-ghost use Rattle.wat_types.specs.Storage.{StorageTy, seen_storage, storage_type, GlobalTy, seen_global, global_type, long_global};
+ghost use Rattle.wat_types.specs.Storage.{StorageTy, seen_storage, storage_type, GlobalTy};
+ghost use Rattle.wat_types.specs.Storage.{seen_global, global_type, long_global};
 
 use crate::value::ValType;
 use wat_tokens::{Parse, Parser, Result};

@@ -6,7 +6,8 @@ ghost use Rattle.wat_tokens.specs.Many.{after_front};
 ghost use Rattle.wat_tokens.specs.Parses.{no_items};
 ghost use Rattle.wat_tokens.specs.Reads.{Reads};
 ghost use Rattle.wat_tokens.specs.Tests.{more};
-ghost use Rattle.wat_types.specs.Struct.{seen_array, MemberTy, seen_member, seen_members, plain_member, members, member_group, seen_struct};
+ghost use Rattle.wat_types.specs.Struct.{seen_array, MemberTy, seen_member, seen_members};
+ghost use Rattle.wat_types.specs.Struct.{plain_member, members, member_group, seen_struct};
 ghost use Rattle.wat_types.specs.FieldType.{FieldTy, field_type};
 ghost use Rattle.wat_types.specs.StructType.{struct_type};
 

@@ -3,7 +3,8 @@
 ghost use Rattle.std.specs.Prelude.{◌≡◌, Some, None};
 ghost use Rattle.wat_tokens.specs.Copies.{Copies};
 ghost use Rattle.wat_types.specs.Function.{seen_function, seen_unnamed, bare_function};
-ghost use Rattle.wat_types.specs.Use.{UseTy, seen_use, bare_use, type_use, SameFunction, SameUnnamed, SameUse, with_names};
+ghost use Rattle.wat_types.specs.Use.{UseTy, seen_use, bare_use, type_use, SameFunction};
+ghost use Rattle.wat_types.specs.Use.{SameUnnamed, SameUse, with_names};
 
 use crate::function::{FunctionType, FunctionTypeNoNames};
 use wat_tokens::{Fault, Index, Parse, Parser, Peek, Result};

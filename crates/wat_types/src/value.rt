@@ -1,8 +1,9 @@
 //! Value types.
 
 ghost use Rattle.std.specs.Prelude.{◌≡◌, true};
-ghost use Rattle.wat_tokens.specs.Lookup.{front};
-ghost use Rattle.wat_types.specs.Value.{ValTy, seen_val, val_type, IsPlain, begins_plain, begins_val};
+ghost use Rattle.wat_tokens.specs.Lookup.{in_front};
+ghost use Rattle.wat_types.specs.Value.{ValTy, seen_val, val_type, IsPlain, begins_plain};
+ghost use Rattle.wat_types.specs.Value.{begins_val};
 
 use crate::reference::{RefType, long_ref_at, shorthand_at};
 use wat_tokens::{Cursor, Parse, Parser, Peek, Result};
@@ -68,7 +69,7 @@ impl<'a> Parse<'a> for ValType<'a> {
 /// Whether one of the five words stands there.
 #[tactic(auto, using(wat_tokens::specs::Laws::Begin::begins_table, wat_tokens::specs::Laws::Begin::begins_no_table), unfolding(crate::specs::Value::begins_plain))]
 fn plain_at(cursor: Cursor<'_>) -> bool
-    ensures { result ≡ begins_plain (front cursor.entry) }
+    ensures { result ≡ begins_plain (in_front cursor.entry) }
 {
     match cursor.keyword() {
         Some((word, _)) => plain(word).is_some(),
@@ -81,7 +82,7 @@ impl<'p> Peek for ValType<'p> {
     ghost begins = { begins_val };
 
     fn peek(cursor: Cursor<'_>) -> bool
-        ensures { result ≡ begins_val (front cursor.entry) }
+        ensures { result ≡ begins_val (in_front cursor.entry) }
     {
         plain_at(cursor) || shorthand_at(cursor) || long_ref_at(cursor)
     }

@@ -153,7 +153,7 @@ fn refusal_of(alloc: Allocator, text: &str) -> Result<Option<(Fault, usize)>, Fa
 }
 
 /// Where the standard annotations are known or not before a module, whether they are behind its
-/// `)`, and whether the annotation that follows is seen.
+/// `)`, and whether the annotation that follows is visible.
 fn known_behind(alloc: Allocator, known: bool) -> Result<(bool, bool), Fail> {
     let text = "(module (@custom \"a\" \"b\") (@other)) (@custom \"c\")";
     let arena = Bump::new(alloc);

@@ -3,7 +3,7 @@ use Rattle.std.proofs.Common.{◌≡◌, true, List, [], ◌∷◌, ◌++◌, co
 use Rattle.std.proofs.lemmas.List.{append_cancel_right}
 use Rattle.wat_tokens.specs.Token.{Tok, LParen, RParen, String}
 use Rattle.wat_instr.specs.Instruction.{Instr}
-use Rattle.wat_expr.specs.Items.{reads, word, hint_name, Items, Nil, Plain, Folded, Block, IfThen, IfElse, Hinted, lists}
+use Rattle.wat_expr.specs.Items.{reads, keyword, hint_name, Items, Nil, Plain, Folded, Block, IfThen, IfElse, Hinted, lists}
 use Rattle.wat_expr.specs.Expression.{Expr, expression_spells}
 use Rattle.wat_expr.specs.ExpressionProduction.{expression}
 use Rattle.wat_expr.specs.Folded.{Groups, NoGroup, Group, groups, folded_spells}
@@ -87,14 +87,14 @@ lists_move (Block i ys xs) ts t u al (a, b, d, e, s, h, ly, lx) =
 lists_move (IfThen i ops th xs) ts t u al (a, b, d, e, q, s, h, g, lo, lt, lx) =
     let x = lists_move xs e t u al lx in
     let y = moves_before (lists_move th) d (RParen ∷ RParen ∷ []) al x.0 lt in
-    let o = moves_before (lists_move ops) b (LParen ∷ word (codes "then") ∷ []) al y.0 lo in
+    let o = moves_before (lists_move ops) b (LParen ∷ keyword (codes "then") ∷ []) al y.0 lo in
     let f = moves_before (reads_move i) a [] al o.0 h in
     (behind ts (LParen ∷ []) q f.0, (f.0.new, o.0.new, y.0.new, x.0.new, refl, s, f.1, g, o.1, y.1, x.1))
 lists_move (IfElse i ops th el xs) ts t u al (a, b, d, e, j, q, s, h, g, lo, lt, le, lx) =
     let x = lists_move xs j t u al lx in
     let z = moves_before (lists_move el) e (RParen ∷ RParen ∷ []) al x.0 le in
-    let y = moves_before (lists_move th) d (RParen ∷ LParen ∷ word (codes "else") ∷ []) al z.0 lt in
-    let o = moves_before (lists_move ops) b (LParen ∷ word (codes "then") ∷ []) al y.0 lo in
+    let y = moves_before (lists_move th) d (RParen ∷ LParen ∷ keyword (codes "else") ∷ []) al z.0 lt in
+    let o = moves_before (lists_move ops) b (LParen ∷ keyword (codes "then") ∷ []) al y.0 lo in
     let f = moves_before (reads_move i) a [] al o.0 h in
     (behind ts (LParen ∷ []) q f.0, (f.0.new, o.0.new, y.0.new, z.0.new, x.0.new, refl, s, f.1, g, o.1, y.1, z.1, x.1))
 lists_move (Hinted v xs) ts t u al (d, e, lt, g, l) =

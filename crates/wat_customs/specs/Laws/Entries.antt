@@ -7,5 +7,6 @@ use Rattle.wat_customs.specs.DylinkEntries.{export_entry, import_entry}
 use Rattle.wat_customs.specs.Entries.{entry}
 
 pub entry_eats : 1 ≤ entry.least
-unfolding entry export_entry import_entry symbol_flags flag_list lone_entry mem_info_entry sizes names_entry
+unfolding entry export_entry import_entry symbol_flags flag_list lone_entry mem_info_entry sizes
+    names_entry
 entry_eats = lit≤ tt

@@ -8,5 +8,6 @@ use Rattle.wat_customs.specs.DylinkEntries.{export_entry, import_entry}
 -- ---- subsections
 
 pub subsection_eats : 1 ≤ subsection.least
-unfolding subsection export_entry import_entry symbol_flags flag_list lone_entry mem_info_entry sizes names_entry
+unfolding subsection export_entry import_entry symbol_flags flag_list lone_entry mem_info_entry
+    sizes names_entry
 subsection_eats = lit≤ tt

@@ -16,9 +16,12 @@ use Rattle.wat_expr.specs.Alone.{alone, nop}
 use Rattle.wat_expr.specs.FoldedProduction.{folded_instruction}
 
 -- where an instruction and then an end are read, the expression is that instruction
-pub alone_read : (i : Instr) (c r : List Tok) → instruction.reads (c ++ r) ≡ Some (i, r) → ends r ≡ true → expression.reads (c ++ r) ≡ Some (alone i, r)
+pub alone_read : (i : Instr) (c r : List Tok) → instruction.reads (c ++ r) ≡ Some (i, r)
+    → ends r ≡ true → expression.reads (c ++ r) ≡ Some (alone i, r)
 unfolding expression
-alone_read i c r e k = expression.complete (alone i) c r (Plain i Nil, (r, instruction.sound (c ++ r) (i, r) e, refl), k, refl)
+alone_read i c r e k =
+    expression.complete (alone i) c r
+    (Plain i Nil, (r, instruction.sound (c ++ r) (i, r) e, refl), k, refl)
 
 abbrev pub nop_text : List Tok
 nop_text = Keyword (codes "nop") ∷ []
@@ -27,21 +30,51 @@ nop_word : head_of (codes "nop") ≡ Some (word.Scalar scalar.nop)
 nop_word = head_of_word (word.Scalar scalar.nop) (codes "nop") refl
 
 -- `nop` before an end
-pub nop_read : (r : List Tok) → ends r ≡ true → expression.reads (nop_text ++ r) ≡ Some (alone nop, r)
+pub nop_read : (r : List Tok) → ends r ≡ true
+    → expression.reads (nop_text ++ r) ≡ Some (alone nop, r)
 unfolding instruction operand
 nop_read r k = alone_read nop nop_text r (rw nop_word refl) k
 
 -- where an instruction that opens no block stands alone in a group, and then an end, the expression
 -- is that instruction
-pub grouped_read : (i : Instr) (c r : List Tok) → instruction.reads (c ++ RParen ∷ r) ≡ Some (i, RParen ∷ r) → sort i ≡ IsOther → ends r ≡ true → expression.reads (in_parens c ++ r) ≡ Some (alone i, r)
+pub grouped_read : (i : Instr) (c r : List Tok)
+    → instruction.reads (c ++ RParen ∷ r) ≡ Some (i, RParen ∷ r) → sort i ≡ IsOther → ends r ≡ true
+    → expression.reads (in_parens c ++ r) ≡ Some (alone i, r)
 unfolding expression
 grouped_read i c r e s k =
     let front = instruction.sound (c ++ RParen ∷ r) (i, RParen ∷ r) e in
-    expression.complete (alone i) (in_parens c) r (Folded i Nil Nil, (c ++ RParen ∷ r, RParen ∷ r, r, ap (λ (u : List Tok). LParen ∷ u) (append_assoc c (RParen ∷ []) r), s, front, refl, refl), k, refl)
+    expression.complete (alone i) (in_parens c) r (
+      Folded i Nil Nil,
+      (
+        c ++ RParen ∷ r,
+        RParen ∷ r,
+        r,
+        ap (λ (u : List Tok). LParen ∷ u) (append_assoc c (RParen ∷ []) r),
+        s,
+        front,
+        refl,
+        refl,
+      ),
+      k,
+      refl,
+    )
 
 -- where it stands alone in a group, the folded instruction is that instruction
-pub folded_read : (i : Instr) (c r : List Tok) → instruction.reads (c ++ RParen ∷ r) ≡ Some (i, RParen ∷ r) → folded_instruction.reads (in_parens c ++ r) ≡ Some (alone i, r)
+pub folded_read : (i : Instr) (c r : List Tok)
+    → instruction.reads (c ++ RParen ∷ r) ≡ Some (i, RParen ∷ r)
+    → folded_instruction.reads (in_parens c ++ r) ≡ Some (alone i, r)
 unfolding folded_instruction
 folded_read i c r e =
     let front = instruction.sound (c ++ RParen ∷ r) (i, RParen ∷ r) e in
-    folded_instruction.complete (alone i) (in_parens c) r (i, NoGroup, (c ++ RParen ∷ r, RParen ∷ r, ap (λ (u : List Tok). LParen ∷ u) (append_assoc c (RParen ∷ []) r), front, refl), refl)
+    folded_instruction.complete (alone i) (in_parens c) r (
+      i,
+      NoGroup,
+      (
+        c ++ RParen ∷ r,
+        RParen ∷ r,
+        ap (λ (u : List Tok). LParen ∷ u) (append_assoc c (RParen ∷ []) r),
+        front,
+        refl,
+      ),
+      refl,
+    )

@@ -2,12 +2,14 @@
 use Rattle.std.specs.Prelude.{◌≡◌, ◌+◌, ◌≤◌, ◌<◌, List, [], ◌∷◌, ◌++◌, length, Some, codes}
 use Rattle.std.proofs.Common.{ap, subst, sym, ◌∙◌, arith, length-append, append_assoc}
 use Rattle.wat_tokens.specs.Token.{Tok, LParen, RParen, Keyword, String}
-use Rattle.wat_tokens.specs.Parens.{Level, opens, closes}
+use Rattle.wat_tokens.specs.Parens.{AreLevel, opens, closes}
 use Rattle.wat_tokens.specs.Laws.Production.{none_is_not, less_left}
 use Rattle.wat_tokens.specs.Laws.Parens.{opens-append, closes-append}
 use Rattle.wat_instr.specs.Instruction.{Instr, instruction}
-use Rattle.wat_instr.specs.Laws.First.{instruction_first, instruction_none, instruction_eats, instruction_not_then}
-use Rattle.wat_expr.specs.Items.{reads, word, hint_name, Items, Nil, Plain, Folded, Block, IfThen, IfElse, Hinted, lists}
+use Rattle.wat_instr.specs.Laws.First.{instruction_first, instruction_none, instruction_eats}
+use Rattle.wat_instr.specs.Laws.First.{instruction_not_then}
+use Rattle.wat_expr.specs.Items.{reads, keyword, hint_name, Items, Nil, Plain, Folded, Block}
+use Rattle.wat_expr.specs.Items.{IfThen, IfElse, Hinted, lists}
 
 -- ---- instructions
 
@@ -39,9 +41,10 @@ pub reads_shorter : (i : Instr) (ts m : List Tok) → reads i ts m → length m 
 reads_shorter i ts m h = less_left instruction ts i m instruction_eats (read_of i ts m h)
 
 -- its parentheses are level
-pub reads_level : (i : Instr) (ts m : List Tok) → reads i ts m → opens ts + closes m ≡ closes ts + opens m
+pub reads_level : (i : Instr) (ts m : List Tok) → reads i ts m
+    → opens ts + closes m ≡ closes ts + opens m
 reads_level i ts m h =
-    let e : Level h.0 = instruction.level i h.0 m h.2 in
+    let e : AreLevel h.0 = instruction.level i h.0 m h.2 in
     omega (arith, e, ap opens h.1, ap closes h.1, opens-append h.0 m, closes-append h.0 m)
 
 -- it is read of a front
@@ -49,8 +52,9 @@ pub reads_front : (i : Instr) (ts m : List Tok) → reads i ts m → (c : List T
 reads_front i ts m h = (h.0, h.1)
 
 -- its word isn't `then`
-pub reads_not_then : (i : Instr) (ts m : List Tok) → reads i (word (codes "then") ∷ ts) m → ⊥
-reads_not_then i ts m h = none_is_not (i, m) (sym (instruction_not_then ts) ∙ read_of i (word (codes "then") ∷ ts) m h)
+pub reads_not_then : (i : Instr) (ts m : List Tok) → reads i (keyword (codes "then") ∷ ts) m → ⊥
+reads_not_then i ts m h =
+    none_is_not (i, m) (sym (instruction_not_then ts) ∙ read_of i (keyword (codes "then") ∷ ts) m h)
 
 -- ---- what lists items is a front, with level parentheses
 
@@ -61,38 +65,48 @@ pub record Between (ts r : List Tok) : Type 0 where
   pub shorter : length r ≤ length ts
   pub level : opens ts + closes r ≡ closes ts + opens r
 
-abbrev pub between : (ts c r : List Tok) → ts ≡ c ++ r → opens ts + closes r ≡ closes ts + opens r → Between ts r
-between ts c r e l = record { front = c; is = e; shorter = omega (arith, ap length e, length-append c r); level = l }
+abbrev pub is_between : (ts c r : List Tok) → ts ≡ c ++ r
+    → opens ts + closes r ≡ closes ts + opens r → Between ts r
+is_between ts c r e l =
+    record { front = c; is = e; shorter = omega (arith, ap length e, length-append c r); level = l }
 
 joined : (a b m r : List Tok) → m ≡ b ++ r → a ++ m ≡ (a ++ b) ++ r
 joined a b m r e = rw e (simp append_assoc)
 
-pub group_is : (a f y x d b r : List Tok) → a ≡ f ++ b → b ≡ y ++ (RParen ∷ d) → d ≡ x ++ r → LParen ∷ a ≡ (LParen ∷ (f ++ (y ++ (RParen ∷ x)))) ++ r
+pub group_is : (a f y x d b r : List Tok) → a ≡ f ++ b → b ≡ y ++ (RParen ∷ d) → d ≡ x ++ r
+    → LParen ∷ a ≡ (LParen ∷ (f ++ (y ++ (RParen ∷ x)))) ++ r
 group_is a f y x d b r e1 e2 e3 = rw (e1, e2, e3) (simp append_assoc)
 
-then_is : (a f o t x b d e r : List Tok) → a ≡ f ++ b → b ≡ o ++ (LParen ∷ word (codes "then") ∷ d) → d ≡ t ++ (RParen ∷ RParen ∷ e) → e ≡ x ++ r
-    → LParen ∷ a ≡ (LParen ∷ (f ++ (o ++ (LParen ∷ word (codes "then") ∷ (t ++ (RParen ∷ RParen ∷ x)))))) ++ r
+then_is : (a f o t x b d e r : List Tok) → a ≡ f ++ b
+    → b ≡ o ++ (LParen ∷ keyword (codes "then") ∷ d) → d ≡ t ++ (RParen ∷ RParen ∷ e) → e ≡ x ++ r
+    → LParen ∷ a ≡ (LParen ∷ (f ++ (o
+    ++ (LParen ∷ keyword (codes "then") ∷ (t ++ (RParen ∷ RParen ∷ x)))))) ++ r
 then_is a f o t x b d e r e1 e2 e3 e4 = rw (e1, e2, e3, e4) (simp append_assoc)
 
-else_is : (a f o t u x b d e j r : List Tok) → a ≡ f ++ b → b ≡ o ++ (LParen ∷ word (codes "then") ∷ d) → d ≡ t ++ (RParen ∷ LParen ∷ word (codes "else") ∷ e) → e ≡ u ++ (RParen ∷ RParen ∷ j) → j ≡ x ++ r
-    → LParen ∷ a ≡ (LParen ∷ (f ++ (o ++ (LParen ∷ word (codes "then") ∷ (t ++ (RParen ∷ LParen ∷ word (codes "else") ∷ (u ++ (RParen ∷ RParen ∷ x)))))))) ++ r
+else_is : (a f o t u x b d e j r : List Tok) → a ≡ f ++ b
+    → b ≡ o ++ (LParen ∷ keyword (codes "then") ∷ d)
+    → d ≡ t ++ (RParen ∷ LParen ∷ keyword (codes "else") ∷ e) → e ≡ u ++ (RParen ∷ RParen ∷ j)
+    → j ≡ x ++ r → LParen ∷ a ≡ (LParen ∷ (f ++ (o
+    ++ (LParen ∷ keyword (codes "then")
+    ∷ (t ++ (RParen ∷ LParen ∷ keyword (codes "else") ∷ (u ++ (RParen ∷ RParen ∷ x)))))))) ++ r
 else_is a f o t u x b d e j r e1 e2 e3 e4 e5 = rw (e1, e2, e3, e4, e5) (simp append_assoc)
 
-grouped : (i : Instr) (ts a b d r : List Tok) → ts ≡ LParen ∷ a → reads i a b → Between b (RParen ∷ d) → Between d r → Between ts r
+grouped : (i : Instr) (ts a b d r : List Tok) → ts ≡ LParen ∷ a → reads i a b
+    → Between b (RParen ∷ d) → Between d r → Between ts r
 grouped i ts a b d r e h y x =
     let f = reads_front i a b h in
     let v = reads_level i a b h in
-    between ts (LParen ∷ (f.0 ++ (y.front ++ (RParen ∷ x.front)))) r
+    is_between ts (LParen ∷ (f.0 ++ (y.front ++ (RParen ∷ x.front)))) r
     (e ∙ group_is a f.0 y.front x.front d b r f.1 y.is x.is)
     (let z = ap opens e in let w = ap closes e in omega (arith, z, w, v, y.level, x.level))
 
 pub lists_between : (xs : Items) (ts r : List Tok) → lists xs ts r → Between ts r
-lists_between Nil ts r l = between ts [] r l (let e : ts ≡ r = l in rw e (omega arith))
+lists_between Nil ts r l = is_between ts [] r l (let e : ts ≡ r = l in rw e (omega arith))
 lists_between (Plain i xs) ts r (m, h, l) =
     let f = reads_front i ts m h in
     let k = lists_between xs m r l in
     let v = reads_level i ts m h in
-    between ts (f.0 ++ k.front) r (f.1 ∙ joined f.0 k.front m r k.is) (omega (arith, v, k.level))
+    is_between ts (f.0 ++ k.front) r (f.1 ∙ joined f.0 k.front m r k.is) (omega (arith, v, k.level))
 lists_between (Folded i ys xs) ts r (a, b, d, e, s, h, ly, lx) =
     grouped i ts a b d r e h (lists_between ys b (RParen ∷ d) ly) (lists_between xs d r lx)
 lists_between (Block i ys xs) ts r (a, b, d, e, s, h, ly, lx) =
@@ -103,7 +117,8 @@ lists_between (IfThen i ops th xs) ts r (a, b, d, e, q, s, h, g, lo, lt, lx) =
     let o = lists_between ops b _ lo in
     let t = lists_between th d _ lt in
     let k = lists_between xs e r lx in
-    between ts (LParen ∷ (f.0 ++ (o.front ++ (LParen ∷ word (codes "then") ∷ (t.front ++ (RParen ∷ RParen ∷ k.front)))))) r
+    is_between ts (LParen ∷ (f.0 ++ (o.front
+    ++ (LParen ∷ keyword (codes "then") ∷ (t.front ++ (RParen ∷ RParen ∷ k.front)))))) r
     (q ∙ then_is a f.0 o.front t.front k.front b d e r f.1 o.is t.is k.is)
     (let z = ap opens q in let y = ap closes q in omega (arith, z, y, v, o.level, t.level, k.level))
 lists_between (IfElse i ops th el xs) ts r (a, b, d, e, j, q, s, h, g, lo, lt, le, lx) =
@@ -113,11 +128,14 @@ lists_between (IfElse i ops th el xs) ts r (a, b, d, e, j, q, s, h, g, lo, lt, l
     let t = lists_between th d _ lt in
     let u = lists_between el e _ le in
     let k = lists_between xs j r lx in
-    between ts (LParen ∷ (f.0 ++ (o.front ++ (LParen ∷ word (codes "then") ∷ (t.front ++ (RParen ∷ LParen ∷ word (codes "else") ∷ (u.front ++ (RParen ∷ RParen ∷ k.front)))))))) r
+    is_between ts (LParen ∷ (f.0 ++ (o.front ++ (LParen ∷ keyword (codes "then")
+    ∷ (t.front ++ (RParen ∷ LParen ∷ keyword (codes "else")
+    ∷ (u.front ++ (RParen ∷ RParen ∷ k.front)))))))) r
     (q ∙ else_is a f.0 o.front t.front u.front k.front b d e j r f.1 o.is t.is u.is k.is)
-    (let z = ap opens q in let y = ap closes q in omega (arith, z, y, v, o.level, t.level, u.level, k.level))
+    (let z = ap opens q in let y = ap closes q in omega
+    (arith, z, y, v, o.level, t.level, u.level, k.level))
 lists_between (Hinted v xs) ts r (d, e, lt, g, l) =
     let k = lists_between xs d r l in
-    between ts (LParen ∷ hint_name ∷ String (v ∷ []) ∷ RParen ∷ k.front) r
+    is_between ts (LParen ∷ hint_name ∷ String (v ∷ []) ∷ RParen ∷ k.front) r
     (e ∙ ap (λ (u : List Tok). LParen ∷ hint_name ∷ String (v ∷ []) ∷ RParen ∷ u) k.is)
     (let z = ap opens e in let y = ap closes e in omega (arith, z, y, k.level))

@@ -1,21 +1,27 @@
 -- Laws: the reader of items and `lists` are one.
-use Rattle.std.specs.Prelude.{◌≡◌, ℕ, zero, suc, ◌<◌, ◌≤◌, nat_lt, true, false, if◌then◌else◌, List, [], ◌∷◌, ◌++◌, length, Some, None, codes, refl}
+use Rattle.std.specs.Prelude.{◌≡◌, ℕ, zero, suc, ◌<◌, ◌≤◌, nat_lt, true, false, if◌then◌else◌, List}
+use Rattle.std.specs.Prelude.{[], ◌∷◌, ◌++◌, length, Some, None, codes, refl}
 use Rattle.std.proofs.Common.{ap, subst, sym, ◌∙◌, arith}
 use Rattle.std.proofs.lemmas.Bool.{lt-ltb, ltb-true}
 use Rattle.std.specs.Str.{bytes_eq}
 use Rattle.std.specs.Cmp.Lexicographic.{bytes_decides}
 use Rattle.wat_tokens.specs.Token.{Tok, LParen, RParen, Keyword, Annotation, String}
-use Rattle.wat_tokens.specs.Parens.{Level}
+use Rattle.wat_tokens.specs.Parens.{AreLevel}
 use Rattle.wat_tokens.specs.Production.{Read, Front, bind, some_of, none_of}
 use Rattle.wat_tokens.specs.Tests.{ends}
 use Rattle.wat_tokens.specs.Laws.Production.{some_is, none_is_not, by_test, bind_some}
 use Rattle.wat_tokens.specs.Laws.Parens.{opens-append, closes-append}
 use Rattle.wat_instr.specs.Instruction.{Instr, instruction}
-use Rattle.wat_expr.specs.Items.{Sort, sort, IsBlock, IsIf, IsOther, reads, word, hint_name, Items, Nil, Plain, Folded, Block, IfThen, IfElse, Hinted, AreGroups, BeginsWithBranch, lists}
+use Rattle.wat_expr.specs.Items.{Sort, sort, IsBlock, IsIf, IsOther, reads, keyword, hint_name}
+use Rattle.wat_expr.specs.Items.{Items, Nil, Plain, Folded, Block, IfThen, IfElse, Hinted}
+use Rattle.wat_expr.specs.Items.{AreGroups, BeginsWithBranch, lists}
 use Rattle.wat_expr.specs.Facts.{Stops}
 use Rattle.wat_expr.specs.Expression.{Expr, value_of, expression_spells}
-use Rattle.wat_expr.specs.Reading.{are_groups, begins_branch, shut, opened, more_by, group_by, arms_by, if_by, sort_by, hint_by, paren_by, items_by, items_at, to_the_end, expression_reads}
-use Rattle.wat_expr.specs.Laws.Facts.{reads_of, reads_not_then, read_of, word_front, reads_nothing, reads_shorter, lists_between}
+use Rattle.wat_expr.specs.Reading.{are_groups, begins_branch, shut, opened, more_by, group_by}
+use Rattle.wat_expr.specs.Reading.{arms_by, if_by, sort_by, hint_by, paren_by, items_by, items_at}
+use Rattle.wat_expr.specs.Reading.{to_the_end, expression_reads}
+use Rattle.wat_expr.specs.Laws.Facts.{reads_of, reads_not_then, read_of, word_front, reads_nothing}
+use Rattle.wat_expr.specs.Laws.Facts.{reads_shorter, lists_between}
 
 -- ---- what is read is listed
 
@@ -42,10 +48,12 @@ shut_is [] x e = none_is_not x e
 shut_is (RParen ∷ t) x e = ap (λ (u : Unit {0} × List Tok). RParen ∷ u.1) (some_is (tt, t) x e)
 shut_is (_ ∷ t) x e = none_is_not x e
 
-shut_twice : (t : List Tok) (x y : Unit {0} × List Tok) → shut t ≡ Some x → shut x.1 ≡ Some y → t ≡ RParen ∷ RParen ∷ y.1
+shut_twice : (t : List Tok) (x y : Unit {0} × List Tok) → shut t ≡ Some x → shut x.1 ≡ Some y
+    → t ≡ RParen ∷ RParen ∷ y.1
 shut_twice t x y e f = shut_is t x e ∙ ap (λ (u : List Tok). RParen ∷ u) (shut_is x.1 y f)
 
-opened_is : (w : List ℕ) (t : List Tok) (x : Unit {0} × List Tok) → opened w t ≡ Some x → t ≡ LParen ∷ word w ∷ x.1
+opened_is : (w : List ℕ) (t : List Tok) (x : Unit {0} × List Tok) → opened w t ≡ Some x
+    → t ≡ LParen ∷ keyword w ∷ x.1
 opened_is w [] x e = none_is_not x e
 opened_is w (LParen ∷ []) x e = none_is_not x e
 opened_is w (LParen ∷ Keyword k ∷ t) x e =
@@ -64,56 +72,103 @@ Sound rec = (t : List Tok) (x : Items × List Tok) → rec t ≡ Some x → list
 abbrev Is : Items → List Tok → Items × List Tok → Type 0
 Is xs r x = (xs, r) ≡ x
 
-is_listed : (ts : List Tok) (xs : Items) (r : List Tok) (x : Items × List Tok) → Is xs r x → lists xs ts r → lists x.0 ts x.1
+is_listed : (ts : List Tok) (xs : Items) (r : List Tok) (x : Items × List Tok) → Is xs r x
+    → lists xs ts r → lists x.0 ts x.1
 is_listed ts xs r x e l = subst (λ (u : Items × List Tok). lists u.0 ts u.1) e l
 
 module _ (rec : List Tok → Read Items) (good : Sound rec) where
-  more_sound : (f : Items → Items) (t : List Tok) (x : Items × List Tok) → more_by rec f t ≡ Some x → (xs : Items) × (r : List Tok) × lists xs t r × Is (f xs) r x
+  more_sound : (f : Items → Items) (t : List Tok) (x : Items × List Tok) → more_by rec f t ≡ Some x
+      → (xs : Items) × (r : List Tok) × lists xs t r × Is (f xs) r x
   more_sound f t x e =
       let p = bind_some (rec t) (λ xs r. some_of (f xs, r)) x e in
       (p.0.0, p.0.1, good t p.0 p.1, some_is (f p.0.0, p.0.1) x p.2)
 
-  group_sound : (f : Items → Items → Items) (t : List Tok) (x : Items × List Tok) → group_by rec f t ≡ Some x → (ys xs : Items) × (d r : List Tok) × lists ys t (RParen ∷ d) × lists xs d r × Is (f ys xs) r x
+  group_sound : (f : Items → Items → Items) (t : List Tok) (x : Items × List Tok)
+      → group_by rec f t ≡ Some x → (ys xs : Items) × (d r : List Tok) × lists ys t (RParen ∷ d)
+      × lists xs d r × Is (f ys xs) r x
   group_sound f t x e =
       let p = bind_some (rec t) (λ ys u. bind (shut u) (λ _ d. more_by rec (f ys) d)) x e in
       let q = bind_some (shut p.0.1) (λ _ d. more_by rec (f p.0.0) d) x p.2 in
-      let m = more_sound (f p.0.0) q.0.1 x q.2 in
-      (p.0.0, m.0, q.0.1, m.1, subst (λ (u : List Tok). lists p.0.0 t u) (shut_is p.0.1 q.0 q.1) (good t p.0 p.1), m.2, m.3)
+      let m = more_sound (f p.0.0) q.0.1 x q.2 in (
+        p.0.0,
+        m.0,
+        q.0.1,
+        m.1,
+        subst (λ (u : List Tok). lists p.0.0 t u) (shut_is p.0.1 q.0 q.1)
+            (good t p.0 p.1),
+        m.2,
+        m.3,
+      )
 
-  module _ (i : Instr) (ops th : Items) (a b d : List Tok) (k : sort i ≡ IsIf) (h : reads i a b) (g : AreGroups ops) (lo : lists ops b (LParen ∷ word (codes "then") ∷ d)) where
-    else_sound : (t : List Tok) (x : Items × List Tok) → lists th d (RParen ∷ t) → bind (opened (codes "else") t) (λ _ e. bind (rec e) (λ el u. bind (shut u) (λ _ v. bind (shut v) (λ _ d. more_by rec (IfElse i ops th el) d)))) ≡ Some x → lists x.0 (LParen ∷ a) x.1
+  module _ (i : Instr) (ops th : Items) (a b d : List Tok) (k : sort i ≡ IsIf) (h : reads i a b)
+      (g : AreGroups ops) (lo : lists ops b (LParen ∷ keyword (codes "then") ∷ d)) where
+    else_sound : (t : List Tok) (x : Items × List Tok) → lists th d (RParen ∷ t)
+        → bind (opened (codes "else") t)
+        (λ _ e. bind (rec e) (λ el u. bind (shut u)
+        (λ _ v. bind (shut v) (λ _ d. more_by rec (IfElse i ops th el) d)))) ≡ Some x
+        → lists x.0 (LParen ∷ a) x.1
     else_sound t x lt e =
-        let p = bind_some (opened (codes "else") t) (λ _ e. bind (rec e) (λ el u. bind (shut u) (λ _ v. bind (shut v) (λ _ d. more_by rec (IfElse i ops th el) d)))) x e in
-        let q = bind_some (rec p.0.1) (λ el u. bind (shut u) (λ _ v. bind (shut v) (λ _ d. more_by rec (IfElse i ops th el) d))) x p.2 in
-        let s = bind_some (shut q.0.1) (λ _ v. bind (shut v) (λ _ d. more_by rec (IfElse i ops th q.0.0) d)) x q.2 in
+        let p = bind_some (opened (codes "else") t)
+        (λ _ e. bind (rec e) (λ el u. bind (shut u)
+        (λ _ v. bind (shut v) (λ _ d. more_by rec (IfElse i ops th el) d)))) x e in
+        let q = bind_some (rec p.0.1) (λ el u. bind (shut u)
+        (λ _ v. bind (shut v) (λ _ d. more_by rec (IfElse i ops th el) d))) x p.2 in
+        let s = bind_some (shut q.0.1)
+        (λ _ v. bind (shut v) (λ _ d. more_by rec (IfElse i ops th q.0.0) d)) x q.2 in
         let z = bind_some (shut s.0.1) (λ _ d. more_by rec (IfElse i ops th q.0.0) d) x s.2 in
         let m = more_sound (IfElse i ops th q.0.0) z.0.1 x z.2 in
         let o = opened_is (codes "else") t p.0 p.1 in
         let c : q.0.1 ≡ RParen ∷ RParen ∷ z.0.1 = shut_twice q.0.1 s.0 z.0 s.1 z.1 in
-        is_listed (LParen ∷ a) (IfElse i ops th q.0.0 m.0) m.1 x m.3
-        (a, b, d, p.0.1, z.0.1, refl, k, h, g, lo, subst (λ (u : List Tok). lists th d (RParen ∷ u)) o lt, subst (λ (u : List Tok). lists q.0.0 p.0.1 u) c (good p.0.1 q.0 q.1), m.2)
+        is_listed (LParen ∷ a) (IfElse i ops th q.0.0 m.0) m.1 x m.3 (
+          a,
+          b,
+          d,
+          p.0.1,
+          z.0.1,
+          refl,
+          k,
+          h,
+          g,
+          lo,
+          subst (λ (u : List Tok). lists th d (RParen ∷ u))
+              o lt,
+          subst (λ (u : List Tok). lists q.0.0 p.0.1 u) c (good p.0.1 q.0 q.1),
+          m.2,
+        )
 
-    arms_sound : (t : List Tok) (x : Items × List Tok) → lists th d (RParen ∷ t) → arms_by rec i ops th t ≡ Some x → lists x.0 (LParen ∷ a) x.1
+    arms_sound : (t : List Tok) (x : Items × List Tok) → lists th d (RParen ∷ t)
+        → arms_by rec i ops th t ≡ Some x → lists x.0 (LParen ∷ a) x.1
     arms_sound (RParen ∷ e) x lt q =
         let m = more_sound (IfThen i ops th) e x q in
-        is_listed (LParen ∷ a) (IfThen i ops th m.0) m.1 x m.3 (a, b, d, e, refl, k, h, g, lo, lt, m.2)
+        is_listed (LParen ∷ a) (IfThen i ops th m.0) m.1 x m.3
+        (a, b, d, e, refl, k, h, g, lo, lt, m.2)
     arms_sound [] x lt q = none_is_not x q
     arms_sound (t ∷ ts) x lt q = else_sound (t ∷ ts) x lt q
 
-  if_sound : (i : Instr) (a b : List Tok) (x : Items × List Tok) → sort i ≡ IsIf → reads i a b → if_by rec i b ≡ Some x → lists x.0 (LParen ∷ a) x.1
+  if_sound : (i : Instr) (a b : List Tok) (x : Items × List Tok) → sort i ≡ IsIf → reads i a b
+      → if_by rec i b ≡ Some x → lists x.0 (LParen ∷ a) x.1
   if_sound i a b x k h e =
-      let p = bind_some (rec b) (λ ops u. if are_groups ops then bind (opened (codes "then") u) (λ _ d. bind (rec d) (λ th v. bind (shut v) (λ _ w. arms_by rec i ops th w))) else None) x e in
+      let p = bind_some (rec b) (λ ops u. if are_groups ops then bind (opened (codes "then") u)
+      (λ _ d. bind (rec d) (λ th v. bind (shut v) (λ _ w. arms_by rec i ops th w))) else None) x
+      e in
       by_test (are_groups p.0.0)
-      (λ g. (let e2 : bind (opened (codes "then") p.0.1) (λ _ d. bind (rec d) (λ th v. bind (shut v) (λ _ w. arms_by rec i p.0.0 th w))) ≡ Some x = rw g at p.2 in
-      let q = bind_some (opened (codes "then") p.0.1) (λ _ d. bind (rec d) (λ th v. bind (shut v) (λ _ w. arms_by rec i p.0.0 th w))) x e2 in
-      let s = bind_some (rec q.0.1) (λ th v. bind (shut v) (λ _ w. arms_by rec i p.0.0 th w)) x q.2 in
+      (λ g. (let e2 : bind (opened (codes "then") p.0.1)
+      (λ _ d. bind (rec d) (λ th v. bind (shut v) (λ _ w. arms_by rec i p.0.0 th w))) ≡ Some x =
+      rw g at p.2 in
+      let q = bind_some (opened (codes "then") p.0.1)
+      (λ _ d. bind (rec d) (λ th v. bind (shut v) (λ _ w. arms_by rec i p.0.0 th w))) x e2 in
+      let s = bind_some (rec q.0.1) (λ th v. bind (shut v) (λ _ w. arms_by rec i p.0.0 th w)) x q.2
+      in
       let z = bind_some (shut s.0.1) (λ _ w. arms_by rec i p.0.0 s.0.0 w) x s.2 in
       arms_sound i p.0.0 s.0.0 a b q.0.1 k h (are_groups_so p.0.0 g)
-      (subst (λ (u : List Tok). lists p.0.0 b u) (opened_is (codes "then") p.0.1 q.0 q.1) (good b p.0 p.1))
-      z.0.1 x (subst (λ (u : List Tok). lists s.0.0 q.0.1 u) (shut_is s.0.1 z.0 z.1) (good q.0.1 s.0 s.1)) z.2))
+      (subst (λ (u : List Tok). lists p.0.0 b u) (opened_is (codes "then") p.0.1 q.0 q.1)
+      (good b p.0 p.1))
+      z.0.1 x (subst (λ (u : List Tok). lists s.0.0 q.0.1 u) (shut_is s.0.1 z.0 z.1)
+      (good q.0.1 s.0 s.1)) z.2))
       (λ g. (let e2 : none_of {A = Items} ≡ some_of x = rw g at p.2 in none_is_not x e2))
 
-  sort_sound : (i : Instr) (a b : List Tok) (x : Items × List Tok) (s : Sort) → sort i ≡ s → reads i a b → sort_by rec s i b ≡ Some x → lists x.0 (LParen ∷ a) x.1
+  sort_sound : (i : Instr) (a b : List Tok) (x : Items × List Tok) (s : Sort) → sort i ≡ s
+      → reads i a b → sort_by rec s i b ≡ Some x → lists x.0 (LParen ∷ a) x.1
   sort_sound i a b x IsOther k h e =
       let m = group_sound (Folded i) b x e in
       is_listed (LParen ∷ a) (Folded i m.0 m.1) m.3 x m.6 (a, b, m.2, refl, k, h, m.4, m.5)
@@ -122,39 +177,50 @@ module _ (rec : List Tok → Read Items) (good : Sound rec) where
       is_listed (LParen ∷ a) (Block i m.0 m.1) m.3 x m.6 (a, b, m.2, refl, k, h, m.4, m.5)
   sort_sound i a b x IsIf k h e = if_sound i a b x k h e
 
-  hint_items_sound : (v : ℕ) (d : List Tok) (x : Items × List Tok) → v < 2 → bind (rec d) (λ xs r. if begins_branch xs then Some (Hinted v xs, r) else None) ≡ Some x → lists x.0 (LParen ∷ hint_name ∷ String (v ∷ []) ∷ RParen ∷ d) x.1
+  hint_items_sound : (v : ℕ) (d : List Tok) (x : Items × List Tok) → v < 2
+      → bind (rec d) (λ xs r. if begins_branch xs then Some (Hinted v xs, r) else None) ≡ Some x
+      → lists x.0 (LParen ∷ hint_name ∷ String (v ∷ []) ∷ RParen ∷ d) x.1
   hint_items_sound v d x lt e =
-      let p = bind_some (rec d) (λ xs r. if begins_branch xs then Some (Hinted v xs, r) else None) x e in
+      let p = bind_some (rec d) (λ xs r. if begins_branch xs then Some (Hinted v xs, r) else None) x
+      e in
       by_test (begins_branch p.0.0)
       (λ g. (let e2 : some_of (Hinted v p.0.0, p.0.1) ≡ some_of x = rw g at p.2 in
-      is_listed _ (Hinted v p.0.0) p.0.1 x (some_is (Hinted v p.0.0, p.0.1) x e2) (d, refl, lt, begins_branch_so p.0.0 g, good d p.0 p.1)))
+      is_listed _ (Hinted v p.0.0) p.0.1 x (some_is (Hinted v p.0.0, p.0.1) x e2)
+      (d, refl, lt, begins_branch_so p.0.0 g, good d p.0 p.1)))
       (λ g. (let e2 : none_of {A = Items} ≡ some_of x = rw g at p.2 in none_is_not x e2))
 
-  hint_sound : (t : List Tok) (x : Items × List Tok) → hint_by rec t ≡ Some x → lists x.0 (LParen ∷ hint_name ∷ t) x.1
+  hint_sound : (t : List Tok) (x : Items × List Tok) → hint_by rec t ≡ Some x
+      → lists x.0 (LParen ∷ hint_name ∷ t) x.1
   hint_sound (String (v ∷ []) ∷ RParen ∷ d) x e =
       by_test (nat_lt v 2)
       (λ g. hint_items_sound v d x (ltb-true v 2 g) (rw g at e))
       (λ g. (let e2 : none_of {A = Items} ≡ some_of x = rw g at e in none_is_not x e2))
   hint_sound _ x e = none_is_not x e
 
-  paren_sound : (t : List Tok) (x : Items × List Tok) → paren_by rec t ≡ Some x → lists x.0 (LParen ∷ t) x.1
+  paren_sound : (t : List Tok) (x : Items × List Tok) → paren_by rec t ≡ Some x
+      → lists x.0 (LParen ∷ t) x.1
   paren_sound [] x e = none_is_not x e
   paren_sound (Keyword w ∷ t) x e =
       by_test (bytes_eq w (codes "then"))
       (λ g. (let e2 : some_of (Nil, LParen ∷ Keyword w ∷ t) ≡ some_of x = rw g at e in
       is_listed _ Nil (LParen ∷ Keyword w ∷ t) x (some_is (Nil, LParen ∷ Keyword w ∷ t) x e2) refl))
-      (λ g. (let e2 : bind (instruction.reads (Keyword w ∷ t)) (λ i b. sort_by rec (sort i) i b) ≡ Some x = rw g at e in
-      let p = bind_some (instruction.reads (Keyword w ∷ t)) (λ i b. sort_by rec (sort i) i b) x e2 in
-      sort_sound p.0.0 (Keyword w ∷ t) p.0.1 x (sort p.0.0) refl (reads_of p.0.0 (Keyword w ∷ t) p.0.1 p.1) p.2))
+      (λ g. (let e2 : bind (instruction.reads (Keyword w ∷ t)) (λ i b. sort_by rec (sort i) i b)
+      ≡ Some x = rw g at e in
+      let p = bind_some (instruction.reads (Keyword w ∷ t)) (λ i b. sort_by rec (sort i) i b) x e2
+      in
+      sort_sound p.0.0 (Keyword w ∷ t) p.0.1 x (sort p.0.0) refl
+      (reads_of p.0.0 (Keyword w ∷ t) p.0.1 p.1) p.2))
   paren_sound (Annotation n ∷ t) x e =
       by_test (bytes_eq n (codes "metadata.code.branch_hint"))
       (λ g. (let e2 : hint_by rec t ≡ Some x = rw g at e in
       let s = (bytes_decides n (codes "metadata.code.branch_hint")).0 g in
-      subst (λ (u : List ℕ). lists x.0 (LParen ∷ Annotation u ∷ t) x.1) (sym s) (hint_sound t x e2)))
+      subst (λ (u : List ℕ). lists x.0 (LParen ∷ Annotation u ∷ t) x.1) (sym s)
+      (hint_sound t x e2)))
       (λ g. (let e2 : none_of {A = Items} ≡ some_of x = rw g at e in none_is_not x e2))
   paren_sound (_ ∷ t) x e = none_is_not x e
 
-  plain_sound : (t : List Tok) (x : Items × List Tok) → bind (instruction.reads t) (λ i m. more_by rec (Plain i) m) ≡ Some x → lists x.0 t x.1
+  plain_sound : (t : List Tok) (x : Items × List Tok)
+      → bind (instruction.reads t) (λ i m. more_by rec (Plain i) m) ≡ Some x → lists x.0 t x.1
   plain_sound t x e =
       let p = bind_some (instruction.reads t) (λ i m. more_by rec (Plain i) m) x e in
       let m = more_sound (Plain p.0.0) p.0.1 x p.2 in
@@ -191,10 +257,13 @@ so_begins_branch (IfThen i ops th xs) g = refl
 so_begins_branch (IfElse i ops th el xs) g = refl
 so_begins_branch (Hinted v xs) g = absurd g
 
-not_then : (i : Instr) (w : List ℕ) (t m : List Tok) → reads i (Keyword w ∷ t) m → bytes_eq w (codes "then") ≡ false
+not_then : (i : Instr) (w : List ℕ) (t m : List Tok) → reads i (Keyword w ∷ t) m
+    → bytes_eq w (codes "then") ≡ false
 not_then i w t m h =
     by_test (bytes_eq w (codes "then"))
-    (λ g. absurd (reads_not_then i t m (subst (λ (u : List ℕ). reads i (Keyword u ∷ t) m) ((bytes_decides w (codes "then")).0 g) h)))
+    (λ g. absurd (reads_not_then i t m
+    (subst (λ (u : List ℕ). reads i (Keyword u ∷ t) m) ((bytes_decides w (codes "then")).0 g)
+    h)))
     (λ g. g)
 
 module _ (rec : List Tok → Read Items) where
@@ -206,17 +275,20 @@ module _ (rec : List Tok → Read Items) where
   ended (LParen ∷ _ ∷ r) s = absurd s
   ended (_ ∷ r) s = absurd s
 
-  begins_plain : (i : Instr) (ts m : List Tok) → reads i ts m → items_by rec ts ≡ more_by rec (Plain i) m
+  begins_plain : (i : Instr) (ts m : List Tok) → reads i ts m
+      → items_by rec ts ≡ more_by rec (Plain i) m
   begins_plain i [] m h = absurd (reads_nothing i m h)
   begins_plain i (Keyword w ∷ t) m h = rw (read_of i (Keyword w ∷ t) m h) refl
   begins_plain i (k ∷ t) m h = absurd (word_front i k t m h)
 
-  begins_group : (i : Instr) (a b : List Tok) → reads i a b → items_by rec (LParen ∷ a) ≡ sort_by rec (sort i) i b
+  begins_group : (i : Instr) (a b : List Tok) → reads i a b
+      → items_by rec (LParen ∷ a) ≡ sort_by rec (sort i) i b
   begins_group i [] b h = absurd (reads_nothing i b h)
   begins_group i (Keyword w ∷ t) b h = rw (not_then i w t b h, read_of i (Keyword w ∷ t) b h) refl
   begins_group i (k ∷ t) b h = absurd (word_front i k t b h)
 
-pub items_at_complete : (xs : Items) (n : ℕ) (ts r : List Tok) → length ts < n → Stops r → lists xs ts r → items_at n ts ≡ Some (xs, r)
+pub items_at_complete : (xs : Items) (n : ℕ) (ts r : List Tok) → length ts < n → Stops r
+    → lists xs ts r → items_at n ts ≡ Some (xs, r)
 unfolding items_at
 items_at_complete xs zero ts r lt s l = absurd (omega arith)
 items_at_complete Nil (suc n) ts r lt s l = rw l (ended (items_at n) r s)
@@ -227,28 +299,55 @@ items_at_complete (Folded i ys xs) (suc n) ts r lt s (a, b, d, e, q, h, ly, lx) 
     let k = reads_shorter i a b h in
     let z = ap length e in
     let y = (lists_between ys b (RParen ∷ d) ly).shorter in
-    rw e (begins_group (items_at n) i a b h ∙ rw (q, items_at_complete ys n b (RParen ∷ d) (omega arith) tt ly, items_at_complete xs n d r (omega arith) s lx) refl)
+    rw e (begins_group (items_at n) i a b h ∙ rw (
+      q,
+      items_at_complete ys n b (RParen ∷ d) (omega arith) tt ly,
+      items_at_complete xs n d
+          r (omega arith) s lx,
+    ) refl)
 items_at_complete (Block i ys xs) (suc n) ts r lt s (a, b, d, e, q, h, ly, lx) =
     let k = reads_shorter i a b h in
     let z = ap length e in
     let y = (lists_between ys b (RParen ∷ d) ly).shorter in
-    rw e (begins_group (items_at n) i a b h ∙ rw (q, items_at_complete ys n b (RParen ∷ d) (omega arith) tt ly, items_at_complete xs n d r (omega arith) s lx) refl)
+    rw e (begins_group (items_at n) i a b h ∙ rw (
+      q,
+      items_at_complete ys n b (RParen ∷ d) (omega arith) tt ly,
+      items_at_complete xs n d
+          r (omega arith) s lx,
+    ) refl)
 items_at_complete (IfThen i ops th xs) (suc n) ts r lt s (a, b, d, e, q, k, h, g, lo, lh, lx) =
     let z = ap length q in
     let y0 = reads_shorter i a b h in
     let y1 = (lists_between ops b _ lo).shorter in
     let y2 = (lists_between th d _ lh).shorter in
-    rw q (begins_group (items_at n) i a b h ∙ rw (k, items_at_complete ops n b _ (omega arith) refl lo, so_are_groups ops g, items_at_complete th n d _ (omega arith) tt lh, items_at_complete xs n e r (omega arith) s lx) refl)
-items_at_complete (IfElse i ops th el xs) (suc n) ts r lt s (a, b, d, e, f, q, k, h, g, lo, lh, le, lx) =
+    rw q (begins_group (items_at n) i a b h ∙ rw (
+      k,
+      items_at_complete ops n b _ (omega arith) refl lo,
+      so_are_groups ops g,
+      items_at_complete th n d _ (omega arith) tt lh,
+      items_at_complete xs n e r (omega arith) s
+          lx,
+    ) refl)
+items_at_complete (IfElse i ops th el xs) (suc n) ts r lt s
+    (a, b, d, e, f, q, k, h, g, lo, lh, le, lx) =
     let z = ap length q in
     let y0 = reads_shorter i a b h in
     let y1 = (lists_between ops b _ lo).shorter in
     let y2 = (lists_between th d _ lh).shorter in
     let y3 = (lists_between el e _ le).shorter in
-    rw q (begins_group (items_at n) i a b h ∙ rw (k, items_at_complete ops n b _ (omega arith) refl lo, so_are_groups ops g, items_at_complete th n d _ (omega arith) tt lh, items_at_complete el n e _ (omega arith) tt le, items_at_complete xs n f r (omega arith) s lx) refl)
+    rw q (begins_group (items_at n) i a b h ∙ rw (
+      k,
+      items_at_complete ops n b _ (omega arith) refl lo,
+      so_are_groups ops g,
+      items_at_complete th n d _ (omega arith) tt lh,
+      items_at_complete el n e _ (omega arith) tt
+          le,
+      items_at_complete xs n f r (omega arith) s lx,
+    ) refl)
 items_at_complete (Hinted v xs) (suc n) ts r lt s (d, e, less, g, l) =
     let z = ap length e in
-    rw (e, lt-ltb v 2 less, items_at_complete xs n d r (omega arith) s l, so_begins_branch xs g) refl
+    rw (e, lt-ltb v 2 less, items_at_complete xs n d r (omega arith) s l, so_begins_branch xs g)
+    refl
 
 -- ---- the production
 
@@ -257,25 +356,32 @@ stops_end [] e = tt
 stops_end (RParen ∷ r) e = tt
 stops_end (_ ∷ r) e = absurd cc
 
-pub expression_sound : (t : List Tok) (x : Expr × List Tok) → expression_reads t ≡ Some x → Front expression_spells t x
+pub expression_sound : (t : List Tok) (x : Expr × List Tok) → expression_reads t ≡ Some x
+    → Front expression_spells t x
 expression_sound t x e =
     let p = bind_some (items_at (suc (length t)) t) to_the_end x e in
     let l = items_at_sound (suc (length t)) t p.0 p.1 in
     let b = lists_between p.0.0 t p.0.1 l in
     by_test (ends p.0.1)
     (λ k. (let e2 : some_of (value_of p.0.0, p.0.1) ≡ some_of x = rw k at p.2 in
-    subst (λ (u : Expr × List Tok). Front expression_spells t u) (some_is (value_of p.0.0, p.0.1) x e2)
+    subst (λ (u : Expr × List Tok). Front expression_spells t u)
+    (some_is (value_of p.0.0, p.0.1) x e2)
     (b.front, b.is, (p.0.0, subst (λ (u : List Tok). lists p.0.0 u p.0.1) b.is l, k, refl))))
     (λ k. (let e2 : none_of {A = Expr} ≡ some_of x = rw k at p.2 in none_is_not x e2))
 
-pub expression_complete : (v : Expr) (c r : List Tok) → expression_spells v c r → expression_reads (c ++ r) ≡ Some (v, r)
+pub expression_complete : (v : Expr) (c r : List Tok) → expression_spells v c r
+    → expression_reads (c ++ r) ≡ Some (v, r)
 expression_complete v c r (xs, l, k, e) =
-    rw (items_at_complete xs (suc (length (c ++ r))) (c ++ r) r (omega arith) (stops_end r k) l, k, e) refl
+    rw (
+      items_at_complete xs (suc (length (c ++ r))) (c ++ r) r (omega arith) (stops_end r k) l,
+      k,
+      e,
+    ) refl
 
 pub expression_takes : (v : Expr) (c r : List Tok) → expression_spells v c r → 0 ≤ length c
 expression_takes v c r s = omega arith
 
-pub expression_level : (v : Expr) (c r : List Tok) → expression_spells v c r → Level c
+pub expression_level : (v : Expr) (c r : List Tok) → expression_spells v c r → AreLevel c
 expression_level v c r (xs, l, k, e) =
     let b = (lists_between xs (c ++ r) r l).level in
     omega (arith, b, opens-append c r, closes-append c r)

@@ -1,5 +1,6 @@
 -- Laws: powers of two, and the test of them.
-use Rattle.std.specs.Prelude.{◌≡◌, ℕ, zero, suc, ◌/◌, ◌%◌, ◌^◌, ◌≤◌, ◌==◌, true, false, count_ones, refl}
+use Rattle.std.specs.Prelude.{◌≡◌, ℕ, zero, suc, ◌/◌, ◌%◌, ◌^◌, ◌≤◌, ◌==◌, true, false, count_ones}
+use Rattle.std.specs.Prelude.{refl}
 use Rattle.std.specs.Cmp.{unsigned_Decides}
 use Rattle.std.specs.Int.{is_power_of_two}
 use Rattle.std.specs.Int.Count.{ones, ones_step}
@@ -44,4 +45,5 @@ pub power_of_two-holds : (n : ℕ) → is_power_of_two n ≡ true → IsPowerOfT
 power_of_two-holds n e = one_bit n n (omega arith) ((unsigned_Decides (count_ones n) 1).0 e)
 
 pub power_of_two-tested : (n : ℕ) → IsPowerOfTwo n → is_power_of_two n ≡ true
-power_of_two-tested n p = (unsigned_Decides (count_ones n) 1).1 (ap count_ones p.1 ∙ bits_of_power p.0)
+power_of_two-tested n p =
+    (unsigned_Decides (count_ones n) 1).1 (ap count_ones p.1 ∙ bits_of_power p.0)

@@ -19,7 +19,8 @@ unfolding instruction
 instruction_eats = omega arith
 
 -- the first token is a word
-pub instruction_first : (t : List Tok) (x : Instr × List Tok) → instruction.reads t ≡ Some x → (w : List ℕ) × (r : List Tok) × (t ≡ Keyword w ∷ r)
+pub instruction_first : (t : List Tok) (x : Instr × List Tok) → instruction.reads t ≡ Some x
+    → (w : List ℕ) × (r : List Tok) × (t ≡ Keyword w ∷ r)
 unfolding instruction
 instruction_first t x e =
     let p = bind_some (mnemonic_reads t) (λ h u. (behind_word h).reads u) x e in

@@ -7,7 +7,9 @@ use Rattle.wat_tokens.specs.Tests.{word_only, ends, begins_lparen}
 use Rattle.wat_tokens.specs.Strings.{text, text_in}
 use Rattle.wat_tokens.specs.Laws.Production.{by_test}
 use Rattle.wat_links.specs.Item.{SigTy}
-use Rattle.wat_links.specs.Import.{ItemsTy, single, group1, group2, item_follows, typed_list, named_list, shared_sig, single_item, typed_items, named_items, typed, import_choice}
+use Rattle.wat_links.specs.Import.{ItemsTy, single, group1, group2, item_follows, typed_list}
+use Rattle.wat_links.specs.Import.{named_list, shared_sig, single_item, typed_items, named_items}
+use Rattle.wat_links.specs.Import.{typed, import_choice}
 use Rattle.wat_links.specs.ImportItem.{typed_item, named_item}
 use Rattle.wat_links.specs.ItemForms.{ItemsSpells}
 
@@ -29,16 +31,20 @@ string_is : (x : Tok) (n : List ℕ) → text_in x ≡ Some n → (s : List ℕ)
 string_is (String s) n e = (s, refl)
 string_is _ n e = absurd cc
 
-keyword_is : (w : List ℕ) (x : Tok) (v : Unit {0}) → word_only w x ≡ Some v → (k : List ℕ) × (x ≡ Keyword k) × (bytes_eq k w ≡ true)
-keyword_is w (Keyword k) v e = (k, refl, by_test (bytes_eq k w) (λ h. h) (λ h. absurd (let q = rw h at e in cc)))
+keyword_is : (w : List ℕ) (x : Tok) (v : Unit {0}) → word_only w x ≡ Some v
+    → (k : List ℕ) × (x ≡ Keyword k) × (bytes_eq k w ≡ true)
+keyword_is w (Keyword k) v e =
+    (k, refl, by_test (bytes_eq k w) (λ h. h) (λ h. absurd (let q = rw h at e in cc)))
 keyword_is w _ v e = absurd cc
 
-text_first : (n : List ℕ) (d t : List Tok) → text.spells n d t → (typed (d ++ t) ≡ false) × (begins_lparen (d ++ t) ≡ false)
+text_first : (n : List ℕ) (d t : List Tok) → text.spells n d t
+    → (typed (d ++ t) ≡ false) × (begins_lparen (d ++ t) ≡ false)
 text_first n d t p =
     let s = string_is p.0 n p.2 in
     (rw (p.1, s.1) refl, rw (p.1, s.1) refl)
 
-typed_first : (x : List ℕ × SigTy) (d t : List Tok) → typed_item.spells x d t → typed (d ++ t) ≡ true
+typed_first : (x : List ℕ × SigTy) (d t : List Tok) → typed_item.spells x d t
+    → typed (d ++ t) ≡ true
 unfolding typed_item
 typed_first x d t p =
     let q = p.2.1 in
@@ -46,7 +52,8 @@ typed_first x d t p =
     let s = string_is q.4.3.0 p.2.0.1.0 q.4.3.2 in
     rw (p.1, q.2, q.3.1, k.1, q.4.2, q.4.3.1, s.1, q.4.4.1, k.2) refl
 
-named_first : (n : List ℕ) (d t : List Tok) → named_item.spells n d t → (typed (d ++ t) ≡ false) × (begins_lparen (d ++ t) ≡ true)
+named_first : (n : List ℕ) (d t : List Tok) → named_item.spells n d t
+    → (typed (d ++ t) ≡ false) × (begins_lparen (d ++ t) ≡ true)
 unfolding named_item
 named_first n d t p =
     let q = p.2.1 in
@@ -54,27 +61,31 @@ named_first n d t p =
     let s = string_is q.4.0 p.2.0.1 q.4.2 in
     (rw (p.1, q.2, q.3.1, k.1, q.4.1, s.1, k.2) refl, rw (p.1) refl)
 
-named_front : (xs : List (List ℕ)) (d t : List Tok) → named_list.spells xs d t → begins_lparen t ≡ true → (typed (d ++ t) ≡ false) × (begins_lparen (d ++ t) ≡ true)
+named_front : (xs : List (List ℕ)) (d t : List Tok) → named_list.spells xs d t
+    → begins_lparen t ≡ true → (typed (d ++ t) ≡ false) × (begins_lparen (d ++ t) ≡ true)
 unfolding named_list
 named_front [] d t p b = (rw (p.0) (untyped t b p.1), rw (p.0) b)
 named_front (x ∷ xs) d t p b =
     let q = named_first x p.0 (p.1 ++ t) p.4 in
     (rw (p.2, append_assoc p.0 p.1 t) (q.0), rw (p.2, append_assoc p.0 p.1 t) (q.1))
 
-shared_front : (s : SigTy) (c r : List Tok) → shared_sig.spells s c r → begins_lparen (c ++ r) ≡ true
+shared_front : (s : SigTy) (c r : List Tok) → shared_sig.spells s c r
+    → begins_lparen (c ++ r) ≡ true
 unfolding shared_sig
 shared_front s c r p = rw (p.1) refl
 
 -- ---- both ways
 
-typed_to : (xs : List (List ℕ × SigTy)) (c r : List Tok) → typed (c ++ r) ≡ true → typed_list.spells xs c r → ItemsSpells (group1 xs) c r
+typed_to : (xs : List (List ℕ × SigTy)) (c r : List Tok) → typed (c ++ r) ≡ true
+    → typed_list.spells xs c r → ItemsSpells (group1 xs) c r
 unfolding typed_list
 typed_to [] c r k p = (p.0, p.1, ends_there r p.1 (rw (p.0) at k))
 typed_to (x ∷ xs) c r k p = p
 
 pub items_to : (v : ItemsTy) (c r : List Tok) → import_choice.spells v c r → ItemsSpells v c r
 unfolding import_choice single_item typed_items named_items
-items_to v c r (inl p) = subst (λ (u : ItemsTy). ItemsSpells u c r) p.1.3 (typed_to p.1.0 c r p.0 p.1.1)
+items_to v c r (inl p) =
+    subst (λ (u : ItemsTy). ItemsSpells u c r) p.1.3 (typed_to p.1.0 c r p.0 p.1.1)
 items_to v c r (inr (k, inl p)) = subst (λ (u : ItemsTy). ItemsSpells u c r) p.1.3 p.1.1
 items_to v c r (inr (k, inr p)) = subst (λ (u : ItemsTy). ItemsSpells u c r) p.1.3 p.1.1
 
@@ -89,7 +100,8 @@ items_from (group1 []) c r p =
     let k : typed (c ++ r) ≡ true = rw (p.0, p.2) refl in
     inl (k, ([], (p.0, p.1), refl, refl))
 items_from (group1 (x ∷ xs)) c r p =
-    let k : typed (c ++ r) ≡ true = rw (p.2, append_assoc p.0 p.1 r) (typed_first x p.0 (p.1 ++ r) p.4) in
+    let k : typed (c ++ r) ≡ true =
+    rw (p.2, append_assoc p.0 p.1 r) (typed_first x p.0 (p.1 ++ r) p.4) in
     inl (k, (x ∷ xs, p, refl, refl))
 items_from (group2 s xs) c r p =
     let f = named_front xs p.0 (p.1 ++ r) p.3 (shared_front s p.1 r p.4) in

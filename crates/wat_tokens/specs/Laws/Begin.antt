@@ -2,7 +2,7 @@
 use Rattle.std.specs.Prelude.{◌≡◌, ℕ, false, List, [], ◌∷◌, Some, None, is_some, refl}
 use Rattle.std.proofs.Common.{ap}
 use Rattle.wat_lexer.specs.Token.{Tok, Keyword}
-use Rattle.wat_tokens.specs.Tests.{is_keyword, word_in, look_up}
+use Rattle.wat_tokens.specs.Tests.{as_keyword, word_in, look_up}
 use Rattle.wat_tokens.specs.Laws.Production.{some_is}
 use Rattle.wat_tokens.specs.PartSpells.{one_reads, with_rest}
 use Rattle.wat_tokens.specs.Begin.{begins_one_of}
@@ -10,22 +10,30 @@ use Rattle.wat_tokens.specs.Begin.{begins_one_of}
 -- ---- by what the word in front is
 
 module _ {A : Type 0} (table : List (List ℕ × A)) where
-  pub begins_table : (t : List Tok) (w : List ℕ) (r : List Tok) → one_reads is_keyword t ≡ Some (w, r) → begins_one_of (word_in table) t ≡ is_some (look_up table w)
+  pub begins_table : (t : List Tok) (w : List ℕ) (r : List Tok)
+      → one_reads as_keyword t ≡ Some (w, r)
+      → begins_one_of (word_in table) t ≡ is_some (look_up table w)
   begins_table [] w r e = absurd cc
-  begins_table (Keyword k ∷ t) w r e = ap (λ (u : List ℕ × List Tok). is_some (look_up table u.0)) (some_is (k, t) (w, r) e)
+  begins_table (Keyword k ∷ t) w r e =
+      ap (λ (u : List ℕ × List Tok). is_some (look_up table u.0)) (some_is (k, t) (w, r) e)
   begins_table (_ ∷ t) w r e = absurd cc
 
-  pub begins_no_table : (t : List Tok) → one_reads is_keyword t ≡ None → begins_one_of (word_in table) t ≡ false
+  pub begins_no_table : (t : List Tok) → one_reads as_keyword t ≡ None
+      → begins_one_of (word_in table) t ≡ false
   begins_no_table [] e = refl
   begins_no_table (Keyword k ∷ t) e = absurd cc
   begins_no_table (_ ∷ t) e = refl
 
-  pub reads_table : (t : List Tok) (w : List ℕ) (r : List Tok) → one_reads is_keyword t ≡ Some (w, r) → one_reads (word_in table) t ≡ with_rest (look_up table w) r
+  pub reads_table : (t : List Tok) (w : List ℕ) (r : List Tok)
+      → one_reads as_keyword t ≡ Some (w, r)
+      → one_reads (word_in table) t ≡ with_rest (look_up table w) r
   reads_table [] w r e = absurd cc
-  reads_table (Keyword k ∷ t) w r e = ap (λ (u : List ℕ × List Tok). with_rest (look_up table u.0) u.1) (some_is (k, t) (w, r) e)
+  reads_table (Keyword k ∷ t) w r e =
+      ap (λ (u : List ℕ × List Tok). with_rest (look_up table u.0) u.1) (some_is (k, t) (w, r) e)
   reads_table (_ ∷ t) w r e = absurd cc
 
-  pub reads_no_table : (t : List Tok) → one_reads is_keyword t ≡ None → one_reads (word_in table) t ≡ None
+  pub reads_no_table : (t : List Tok) → one_reads as_keyword t ≡ None
+      → one_reads (word_in table) t ≡ None
   reads_no_table [] e = refl
   reads_no_table (Keyword k ∷ t) e = absurd cc
   reads_no_table (_ ∷ t) e = refl

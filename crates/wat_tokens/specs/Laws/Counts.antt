@@ -13,15 +13,35 @@ counts_then a b e p q = record {
   front = p.front ++ q.front;
   left = p.left ∙ ap (λ l. p.front ++ l) q.left ∙ sym (append_assoc p.front q.front e.left);
   taken = omega (arith, p.taken, q.taken, length-append p.front q.front);
-  more = (omega (arith, p.more.0, q.more.0), omega (arith, p.more.1, q.more.1), omega (arith, p.more.2, q.more.2), omega (arith, p.more.3, q.more.3));
+  more = (
+    omega (arith, p.more.0, q.more.0),
+    omega (arith, p.more.1, q.more.1),
+    omega
+        (arith, p.more.2, q.more.2),
+    omega (arith, p.more.3, q.more.3),
+  );
   peak = omega (arith, p.peak, q.peak, nest_front p.front q.front, nest_end p.front q.front);
   names = q.names ∙ p.names;
-  stands = q.stands ∙ ap (λ (k : Bool). behind k (length q.front) b.rest) p.names ∙ ap (λ (t : List Tok). behind a.known (length q.front) t) p.stands ∙ behind_then a.known (length p.front) (length q.front) a.rest ∙ ap (λ (n : ℕ). behind a.known n a.rest) (sym (length-append p.front q.front));
+  stands = q.stands ∙ ap (λ (k : Bool). behind k (length q.front) b.rest) p.names
+      ∙ ap (λ (t : List Tok). behind a.known (length q.front) t) p.stands
+      ∙ behind_then a.known (length p.front) (length q.front) a.rest
+      ∙ ap (λ (n : ℕ). behind a.known n a.rest) (sym (length-append p.front q.front));
 }
 
 pub counts_none : (a : State) → Counts a a
 unfolding Counts behind
-counts_none a = record { front = []; left = refl; taken = omega arith; more = (omega arith, omega arith, omega arith, omega arith); peak = omega arith; names = refl; stands = refl }
+counts_none a =
+    record {
+      front = [];
+      left = refl;
+      taken = omega arith;
+      more =
+          (omega arith, omega arith, omega arith, omega arith);
+      peak =
+          omega arith;
+      names = refl;
+      stands = refl;
+    }
 
 pub carries_of : (a b : State) → Counts a b → Carries a b
 carries_of a b p s q = counts_then s a b q p
@@ -33,4 +53,5 @@ carried a b f = f a (counts_none a)
 -- what is left and what was taken are together as many as before
 pub counts_within : (a b : State) → Carries a b → b.taken + length b.left ≡ a.taken + length a.left
 unfolding Counts
-counts_within a b f = let p = carried a b f in omega (arith, p.taken, ap length p.left, length-append p.front b.left)
+counts_within a b f =
+    let p = carried a b f in omega (arith, p.taken, ap length p.left, length-append p.front b.left)

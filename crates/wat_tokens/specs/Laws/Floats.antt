@@ -1,7 +1,7 @@
 -- Laws: literals of floating-point numbers, which aren't read.
 use Rattle.std.specs.Prelude.{◌≡◌, List, ◌++◌, ◌≤◌, length, Some}
 use Rattle.wat_lexer.specs.Token.{Tok}
-use Rattle.wat_tokens.specs.Parens.{Level}
+use Rattle.wat_tokens.specs.Parens.{AreLevel}
 use Rattle.wat_tokens.specs.Production.{Front}
 use Rattle.wat_tokens.specs.Laws.Production.{none_is_not}
 use Rattle.wat_tokens.specs.NoneSpells.{none_spells, none_reads}
@@ -10,11 +10,12 @@ module _ {A : Type 0} where
   pub none_sound : (t : List Tok) (x : A × List Tok) → none_reads t ≡ Some x → Front none_spells t x
   none_sound t x e = none_is_not x e
 
-  pub none_complete : (v : A) (c r : List Tok) → none_spells v c r → none_reads (c ++ r) ≡ Some (v, r)
+  pub none_complete : (v : A) (c r : List Tok) → none_spells v c r
+      → none_reads (c ++ r) ≡ Some (v, r)
   none_complete v c r s = absurd s
 
   pub none_takes : (v : A) (c r : List Tok) → none_spells v c r → 1 ≤ length c
   none_takes v c r s = absurd s
 
-  pub none_level : (v : A) (c r : List Tok) → none_spells v c r → Level c
+  pub none_level : (v : A) (c r : List Tok) → none_spells v c r → AreLevel c
   none_level v c r s = absurd s

@@ -2,46 +2,57 @@
 use Rattle.std.specs.Prelude.{◌≡◌, ◌≤◌, List, [], ◌++◌, length, Some, refl}
 use Rattle.std.proofs.Common.{ap, sym, ◌∙◌, subst, arith, length-append, append_assoc}
 use Rattle.wat_lexer.specs.Token.{Tok}
-use Rattle.wat_tokens.specs.Parens.{Level}
+use Rattle.wat_tokens.specs.Parens.{AreLevel}
 use Rattle.wat_tokens.specs.Production.{Front, Production}
 use Rattle.wat_tokens.specs.Laws.Production.{bind_some, some_is}
-use Rattle.wat_tokens.specs.FollowedSpells.{followed_spells, followed_reads, blank_spells, blank_reads}
+use Rattle.wat_tokens.specs.FollowedSpells.{followed_spells, followed_reads, blank_spells}
+use Rattle.wat_tokens.specs.FollowedSpells.{blank_reads}
 use Rattle.wat_tokens.specs.Laws.Parens.{level_both}
 
 -- ---- what is in front, and then what it is followed by
 
 module _ {A B : Type 0} (g : Production A) (h : A → Production B) where
-  pub followed_sound : (t : List Tok) (x : B × List Tok) → followed_reads g h t ≡ Some x → Front (followed_spells g h) t x
+  pub followed_sound : (t : List Tok) (x : B × List Tok) → followed_reads g h t ≡ Some x
+      → Front (followed_spells g h) t x
   followed_sound t x e =
       let p = bind_some (g.reads t) (λ a t'. (h a).reads t') x e in
       let y = g.sound t p.0 p.1 in
       let z = (h p.0.0).sound p.0.1 x p.2 in
-      let s : followed_spells g h x.0 (y.0 ++ z.0) x.1 = (p.0.0, y.0, z.0, refl, subst (λ (u : List Tok). g.spells p.0.0 y.0 u) z.1 y.2, z.2) in
-      let whole : t ≡ (y.0 ++ z.0) ++ x.1 = y.1 ∙ ap (λ (u : List Tok). y.0 ++ u) z.1 ∙ sym (append_assoc y.0 z.0 x.1) in
+      let s : followed_spells g h x.0 (y.0 ++ z.0) x.1 =
+      (p.0.0, y.0, z.0, refl, subst (λ (u : List Tok). g.spells p.0.0 y.0 u) z.1 y.2, z.2) in
+      let whole : t ≡ (y.0 ++ z.0) ++ x.1 =
+      y.1 ∙ ap (λ (u : List Tok). y.0 ++ u) z.1 ∙ sym (append_assoc y.0 z.0 x.1) in
       (y.0 ++ z.0, whole, s)
 
-  pub followed_complete : (v : B) (c r : List Tok) → followed_spells g h v c r → followed_reads g h (c ++ r) ≡ Some (v, r)
+  pub followed_complete : (v : B) (c r : List Tok) → followed_spells g h v c r
+      → followed_reads g h (c ++ r) ≡ Some (v, r)
   followed_complete v c r s =
       let e : c ++ r ≡ s.1 ++ (s.2 ++ r) = rw (s.3) (append_assoc s.1 s.2 r) in
       rw (e, g.complete s.0 s.1 (s.2 ++ r) s.4) ((h s.0).complete v s.2 r s.5)
 
   pub followed_takes : (v : B) (c r : List Tok) → followed_spells g h v c r → g.least ≤ length c
-  followed_takes v c r s = rw (s.3) (omega (arith, length-append s.1 s.2, g.takes s.0 s.1 (s.2 ++ r) s.4))
+  followed_takes v c r s =
+      rw (s.3) (omega (arith, length-append s.1 s.2, g.takes s.0 s.1 (s.2 ++ r) s.4))
 
-  pub followed_level : (v : B) (c r : List Tok) → followed_spells g h v c r → Level c
-  followed_level v c r s = rw (s.3) (level_both s.1 s.2 (g.level s.0 s.1 (s.2 ++ r) s.4) ((h s.0).level v s.2 r s.5))
+  pub followed_level : (v : B) (c r : List Tok) → followed_spells g h v c r → AreLevel c
+  followed_level v c r s =
+      rw (s.3) (level_both s.1 s.2 (g.level s.0 s.1 (s.2 ++ r) s.4) ((h s.0).level v s.2 r s.5))
 
 -- ---- no tokens
 
 module _ {A : Type 0} (a : A) where
-  pub blank_sound : (t : List Tok) (x : A × List Tok) → blank_reads a t ≡ Some x → Front (blank_spells a) t x
-  blank_sound t x e = subst (λ (u : A × List Tok). Front (blank_spells a) t u) (some_is (a, t) x e) ([], refl, (refl, refl))
+  pub blank_sound : (t : List Tok) (x : A × List Tok) → blank_reads a t ≡ Some x
+      → Front (blank_spells a) t x
+  blank_sound t x e =
+      subst (λ (u : A × List Tok). Front (blank_spells a) t u) (some_is (a, t) x e)
+      ([], refl, (refl, refl))
 
-  pub blank_complete : (v : A) (c r : List Tok) → blank_spells a v c r → blank_reads a (c ++ r) ≡ Some (v, r)
+  pub blank_complete : (v : A) (c r : List Tok) → blank_spells a v c r
+      → blank_reads a (c ++ r) ≡ Some (v, r)
   blank_complete v c r s = rw (s.0) (rw (s.1) refl)
 
   pub blank_takes : (v : A) (c r : List Tok) → blank_spells a v c r → 0 ≤ length c
   blank_takes v c r s = omega arith
 
-  pub blank_level : (v : A) (c r : List Tok) → blank_spells a v c r → Level c
+  pub blank_level : (v : A) (c r : List Tok) → blank_spells a v c r → AreLevel c
   blank_level v c r s = rw (s.0) refl

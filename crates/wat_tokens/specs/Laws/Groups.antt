@@ -2,81 +2,101 @@
 use Rattle.std.specs.Prelude.{◌≡◌, ◌+◌, ◌≤◌, List, [], ◌∷◌, ◌++◌, length, Some, refl}
 use Rattle.std.proofs.Common.{ap, subst, sym, ◌∙◌, append_assoc, arith, length-append}
 use Rattle.wat_lexer.specs.Token.{Tok, LParen, RParen}
-use Rattle.wat_tokens.specs.Tests.{is_lparen, ends}
-use Rattle.wat_tokens.specs.Parens.{Level}
+use Rattle.wat_tokens.specs.Tests.{as_lparen, ends}
+use Rattle.wat_tokens.specs.Parens.{AreLevel}
 use Rattle.wat_tokens.specs.Production.{Front, Production, some_of, none_of}
 use Rattle.wat_tokens.specs.Laws.Production.{some_is, none_is_not, bind_some, by_test}
-use Rattle.wat_tokens.specs.GroupSpells.{shut, paren_spells, paren_reads, end_spells, if_ends, end_reads, turn_spells, turn_reads}
+use Rattle.wat_tokens.specs.GroupSpells.{shut, paren_spells, paren_reads, end_spells, if_ends}
+use Rattle.wat_tokens.specs.GroupSpells.{end_reads, turn_spells, turn_reads}
 use Rattle.wat_tokens.specs.Laws.Parens.{level_within}
 use Rattle.wat_tokens.specs.PartSpells.{one_reads}
 
 -- ---- ( .. )
 
 module _ {A : Type 0} (g : Production A) where
-  shut_sound : (v : A) (t : List Tok) (x : A × List Tok) → shut g v t ≡ Some x → (t ≡ RParen ∷ x.1) × (v ≡ x.0)
+  shut_sound : (v : A) (t : List Tok) (x : A × List Tok) → shut g v t ≡ Some x
+      → (t ≡ RParen ∷ x.1) × (v ≡ x.0)
   shut_sound v [] x e = none_is_not x e
-  shut_sound v (RParen ∷ t) x e = let p = some_is (v, t) x e in (ap (λ (u : A × List Tok). RParen ∷ u.1) p, ap (λ (u : A × List Tok). u.0) p)
+  shut_sound v (RParen ∷ t) x e =
+      let p = some_is (v, t) x e in (
+        ap (λ (u : A × List Tok). RParen ∷ u.1) p,
+        ap
+            (λ (u : A × List Tok). u.0) p,
+      )
   shut_sound v (_ ∷ t) x e = none_is_not x e
 
-  pub paren_sound : (t : List Tok) (x : A × List Tok) → paren_reads g t ≡ Some x → Front (paren_spells g) t x
+  pub paren_sound : (t : List Tok) (x : A × List Tok) → paren_reads g t ≡ Some x
+      → Front (paren_spells g) t x
   paren_sound [] x e = none_is_not x e
   paren_sound (LParen ∷ t) x e =
       let p = bind_some (g.reads t) (shut g) x e in
       let q = shut_sound p.0.0 p.0.1 x p.2 in
       let y = g.sound t p.0 p.1 in
-      let s : g.spells x.0 y.0 (RParen ∷ x.1) = subst (λ (u : A). g.spells u y.0 (RParen ∷ x.1)) q.1 (subst (λ (u : List Tok). g.spells p.0.0 y.0 u) q.0 y.2) in
-      let whole : t ≡ (y.0 ++ RParen ∷ []) ++ x.1 = y.1 ∙ ap (λ (u : List Tok). y.0 ++ u) q.0 ∙ sym (append_assoc y.0 (RParen ∷ []) x.1) in
+      let s : g.spells x.0 y.0 (RParen ∷ x.1) =
+      subst (λ (u : A). g.spells u y.0 (RParen ∷ x.1)) q.1
+      (subst (λ (u : List Tok). g.spells p.0.0 y.0 u) q.0 y.2) in
+      let whole : t ≡ (y.0 ++ RParen ∷ []) ++ x.1 =
+      y.1 ∙ ap (λ (u : List Tok). y.0 ++ u) q.0 ∙ sym (append_assoc y.0 (RParen ∷ []) x.1) in
       (LParen ∷ (y.0 ++ RParen ∷ []), ap (λ (u : List Tok). LParen ∷ u) whole, (y.0, refl, s))
   paren_sound (_ ∷ t) x e = none_is_not x e
 
-  pub paren_complete : (v : A) (c r : List Tok) → paren_spells g v c r → paren_reads g (c ++ r) ≡ Some (v, r)
+  pub paren_complete : (v : A) (c r : List Tok) → paren_spells g v c r
+      → paren_reads g (c ++ r) ≡ Some (v, r)
   paren_complete v c r s =
       rw (s.1) (rw (append_assoc s.0 (RParen ∷ []) r, g.complete v s.0 (RParen ∷ r) s.2) refl)
 
   pub paren_takes : (v : A) (c r : List Tok) → paren_spells g v c r → g.least + 2 ≤ length c
-  paren_takes v c r s = rw (s.1) (omega (arith, length-append s.0 (RParen ∷ []), g.takes v s.0 (RParen ∷ r) s.2))
+  paren_takes v c r s =
+      rw (s.1) (omega (arith, length-append s.0 (RParen ∷ []), g.takes v s.0 (RParen ∷ r) s.2))
 
-  pub paren_level : (v : A) (c r : List Tok) → paren_spells g v c r → Level c
+  pub paren_level : (v : A) (c r : List Tok) → paren_spells g v c r → AreLevel c
   paren_level v c r s = rw (s.1) (level_within s.0 (g.level v s.0 (RParen ∷ r) s.2))
 
 -- ---- a part that reaches to the end of its group
 
 module _ {A : Type 0} (g : Production A) where
-  pub end_sound : (t : List Tok) (x : A × List Tok) → end_reads g t ≡ Some x → Front (end_spells g) t x
+  pub end_sound : (t : List Tok) (x : A × List Tok) → end_reads g t ≡ Some x
+      → Front (end_spells g) t x
   end_sound t x e =
       let p = bind_some (g.reads t) (if_ends g) x e in
       let y = g.sound t p.0 p.1 in
       by_test (ends p.0.1)
       (λ k. (let e2 : some_of (p.0.0, p.0.1) ≡ some_of x = rw k at p.2 in
-      subst (λ (u : A × List Tok). Front (end_spells g) t u) (some_is (p.0.0, p.0.1) x e2) (y.0, y.1, (y.2, k))))
+      subst (λ (u : A × List Tok). Front (end_spells g) t u) (some_is (p.0.0, p.0.1) x e2)
+      (y.0, y.1, (y.2, k))))
       (λ k. (let e2 : none_of {A = A} ≡ some_of x = rw k at p.2 in none_is_not x e2))
 
-  pub end_complete : (v : A) (c r : List Tok) → end_spells g v c r → end_reads g (c ++ r) ≡ Some (v, r)
+  pub end_complete : (v : A) (c r : List Tok) → end_spells g v c r
+      → end_reads g (c ++ r) ≡ Some (v, r)
   end_complete v c r s = rw (g.complete v c r s.0, s.1) refl
 
   pub end_takes : (v : A) (c r : List Tok) → end_spells g v c r → g.least ≤ length c
   end_takes v c r s = g.takes v c r s.0
 
-  pub end_level : (v : A) (c r : List Tok) → end_spells g v c r → Level c
+  pub end_level : (v : A) (c r : List Tok) → end_spells g v c r → AreLevel c
   end_level v c r s = g.level v c r s.0
 
 -- ---- ) (
 
-opened : (t : List Tok) (x : Unit {0} × List Tok) → one_reads is_lparen t ≡ Some x → t ≡ LParen ∷ x.1
+opened : (t : List Tok) (x : Unit {0} × List Tok) → one_reads as_lparen t ≡ Some x
+    → t ≡ LParen ∷ x.1
 opened [] x e = none_is_not x e
 opened (LParen ∷ t) x e = ap (λ (u : Unit {0} × List Tok). LParen ∷ u.1) (some_is (tt, t) x e)
 opened (_ ∷ t) x e = none_is_not x e
 
-pub turn_sound : (t : List Tok) (x : Unit {0} × List Tok) → turn_reads t ≡ Some x → Front turn_spells t x
+pub turn_sound : (t : List Tok) (x : Unit {0} × List Tok) → turn_reads t ≡ Some x
+    → Front turn_spells t x
 turn_sound [] x e = none_is_not x e
-turn_sound (RParen ∷ t) x e = (RParen ∷ LParen ∷ [], ap (λ (u : List Tok). RParen ∷ u) (opened t x e), refl)
+turn_sound (RParen ∷ t) x e =
+    (RParen ∷ LParen ∷ [], ap (λ (u : List Tok). RParen ∷ u) (opened t x e), refl)
 turn_sound (_ ∷ t) x e = none_is_not x e
 
-pub turn_complete : (v : Unit {0}) (c r : List Tok) → turn_spells v c r → turn_reads (c ++ r) ≡ Some (v, r)
+pub turn_complete : (v : Unit {0}) (c r : List Tok) → turn_spells v c r
+    → turn_reads (c ++ r) ≡ Some (v, r)
 turn_complete v c r s = rw s refl
 
 pub turn_takes : (v : Unit {0}) (c r : List Tok) → turn_spells v c r → 2 ≤ length c
 turn_takes v c r s = rw s (omega arith)
 
-pub turn_level : (v : Unit {0}) (c r : List Tok) → turn_spells v c r → Level c
+pub turn_level : (v : Unit {0}) (c r : List Tok) → turn_spells v c r → AreLevel c
 turn_level v c r s = rw s refl

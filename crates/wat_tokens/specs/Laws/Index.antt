@@ -17,7 +17,9 @@ name_in (number n) = []
 name_in (name x) = x
 
 pub same_index_decides : (x y : Idx) → Decides (same_index x y) (x ≡ y)
-same_index_decides (number m) (number n) = (λ e. ap number ((unsigned_Decides m n).0 e), λ e. (unsigned_Decides m n).1 (ap number_in e))
+same_index_decides (number m) (number n) =
+    (λ e. ap number ((unsigned_Decides m n).0 e), λ e. (unsigned_Decides m n).1 (ap number_in e))
 same_index_decides (number m) (name y) = (λ e. absurd cc, λ e. absurd cc)
 same_index_decides (name x) (number n) = (λ e. absurd cc, λ e. absurd cc)
-same_index_decides (name x) (name y) = (λ e. ap name ((bytes_decides x y).0 e), λ e. (bytes_decides x y).1 (ap name_in e))
+same_index_decides (name x) (name y) =
+    (λ e. ap name ((bytes_decides x y).0 e), λ e. (bytes_decides x y).1 (ap name_in e))

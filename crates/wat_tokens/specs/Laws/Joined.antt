@@ -9,14 +9,19 @@ use Rattle.wat_tokens.specs.Joined.{all_of, join, joined_behind, joined}
 use Rattle.wat_tokens.specs.ManySpells.{many_reads}
 
 module _ {A : Type 0} where
-  pub joins : (gs : List (List A)) (before : List A) → add_all join gs before ≡ Some (before ++ all_of gs)
+  pub joins : (gs : List (List A)) (before : List A)
+      → add_all join gs before ≡ Some (before ++ all_of gs)
   joins [] before = ap (λ (u : List A). option_of u) (sym (append-nil before))
-  joins (g ∷ gs) before = joins gs (before ++ g) ∙ ap (λ (u : List A). option_of u) (append_assoc before g (all_of gs))
+  joins (g ∷ gs) before =
+      joins gs (before ++ g) ∙ ap (λ (u : List A). option_of u) (append_assoc before g (all_of gs))
 
-  pub join_all : (x : Read (List (List A))) → joined_behind [] x ≡ bind x (λ gs r. some_of (all_of gs, r))
+  pub join_all : (x : Read (List (List A)))
+      → joined_behind [] x ≡ bind x (λ gs r. some_of (all_of gs, r))
   join_all (Some x) = rw (joins x.0 []) refl
   join_all None = refl
 
 -- put behind nothing, they are what `joined` reads
-pub joined_reads : {A : Type 0} (follows : List Tok → Bool) (g : Production (List A)) (eats : 1 ≤ g.least) (t : List Tok) → joined_behind [] (many_reads follows g t) ≡ (joined follows g eats).reads t
+pub joined_reads : {A : Type 0} (follows : List Tok → Bool) (g : Production (List A))
+    (eats : 1 ≤ g.least) (t : List Tok)
+    → joined_behind [] (many_reads follows g t) ≡ (joined follows g eats).reads t
 joined_reads follows g eats t = join_all (many_reads follows g t)

@@ -1,10 +1,12 @@
 -- Laws: any number of parts, and what a loop that reads them keeps.
-use Rattle.std.specs.Prelude.{◌≡◌, ℕ, zero, suc, ◌-◌, ◌≤◌, ◌<◌, Bool, true, false, List, [], ◌∷◌, ◌++◌, length, Option, Some, None, refl}
+use Rattle.std.specs.Prelude.{◌≡◌, ℕ, zero, suc, ◌-◌, ◌≤◌, ◌<◌, Bool, true, false, List, [], ◌∷◌}
+use Rattle.std.specs.Prelude.{◌++◌, length, Option, Some, None, refl}
 use Rattle.std.proofs.Common.{ap, subst, sym, ◌∙◌, append_assoc, arith, length-append}
 use Rattle.wat_lexer.specs.Token.{Tok}
-use Rattle.wat_tokens.specs.Parens.{Level}
+use Rattle.wat_tokens.specs.Parens.{AreLevel}
 use Rattle.wat_tokens.specs.Production.{Read, Front, bind, Production, some_of, none_of, option_of}
-use Rattle.wat_tokens.specs.Laws.Production.{some_is, bind_some, none_is_not, by_test, by_read, by_option, less_left}
+use Rattle.wat_tokens.specs.Laws.Production.{some_is, bind_some, none_is_not, by_test, by_read}
+use Rattle.wat_tokens.specs.Laws.Production.{by_option, less_left}
 use Rattle.wat_tokens.specs.ManySpells.{many_spells, many_at, many_reads}
 use Rattle.wat_tokens.specs.Laws.Parens.{level_both}
 use Rattle.wat_tokens.specs.PartSpells.{with_rest}
@@ -13,12 +15,15 @@ use Rattle.wat_tokens.specs.Adding.{add_read, option_then, add_all, add_rest}
 -- ---- any number of parts: one more wherever the tokens in front begin one
 
 module _ {A : Type 0} (begins : List Tok → Bool) (g : Production A) where
-  many_none : (t : List Tok) (x : List A × List Tok) → begins t ≡ false → some_of {A = List A} ([], t) ≡ some_of x → Front (many_spells begins g) t x
+  many_none : (t : List Tok) (x : List A × List Tok) → begins t ≡ false
+      → some_of {A = List A} ([], t) ≡ some_of x → Front (many_spells begins g) t x
   many_none t x k e =
       let s : many_spells begins g [] [] t = (refl, k) in
-      subst (λ (u : List A × List Tok). Front (many_spells begins g) t u) (some_is {A = List A} ([], t) x e) ([], refl, s)
+      subst (λ (u : List A × List Tok). Front (many_spells begins g) t u)
+      (some_is {A = List A} ([], t) x e) ([], refl, s)
 
-  many_at_sound : (n : ℕ) (t : List Tok) (x : List A × List Tok) → many_at begins g n t ≡ Some x → Front (many_spells begins g) t x
+  many_at_sound : (n : ℕ) (t : List Tok) (x : List A × List Tok) → many_at begins g n t ≡ Some x
+      → Front (many_spells begins g) t x
   unfolding many_at
   many_at_sound zero t x e =
       by_test (begins t)
@@ -27,16 +32,28 @@ module _ {A : Type 0} (begins : List Tok → Bool) (g : Production A) where
   many_at_sound (suc n) t x e =
       by_test (begins t)
       (λ k.
-      (let p = bind_some (g.reads t) (λ v t'. bind (many_at begins g n t') (λ vs r. Some (v ∷ vs, r))) x (rw k at e) in
+      (let p = bind_some (g.reads t)
+      (λ v t'. bind (many_at begins g n t') (λ vs r. Some (v ∷ vs, r))) x (rw k at e) in
       let q = bind_some (many_at begins g n p.0.1) (λ vs r. Some (p.0.0 ∷ vs, r)) x p.2 in
       let y = g.sound t p.0 p.1 in
       let z = many_at_sound n p.0.1 q.0 q.1 in
-      let whole : t ≡ (y.0 ++ z.0) ++ q.0.1 = y.1 ∙ ap (λ (u : List Tok). y.0 ++ u) z.1 ∙ sym (append_assoc y.0 z.0 q.0.1) in
-      let s : many_spells begins g (p.0.0 ∷ q.0.0) (y.0 ++ z.0) q.0.1 = (y.0, z.0, refl, subst (λ (u : List Tok). begins u ≡ true) whole k, subst (λ (u : List Tok). g.spells p.0.0 y.0 u) z.1 y.2, z.2) in
-      subst (λ (u : List A × List Tok). Front (many_spells begins g) t u) (some_is (p.0.0 ∷ q.0.0, q.0.1) x q.2) (y.0 ++ z.0, whole, s)))
+      let whole : t ≡ (y.0 ++ z.0) ++ q.0.1 =
+      y.1 ∙ ap (λ (u : List Tok). y.0 ++ u) z.1 ∙ sym (append_assoc y.0 z.0 q.0.1) in
+      let s : many_spells begins g (p.0.0 ∷ q.0.0) (y.0 ++ z.0) q.0.1 = (
+        y.0,
+        z.0,
+        refl,
+        subst (λ (u : List Tok). begins u ≡ true) whole k,
+        subst
+            (λ (u : List Tok). g.spells p.0.0 y.0 u) z.1 y.2,
+        z.2,
+      ) in
+      subst (λ (u : List A × List Tok). Front (many_spells begins g) t u)
+      (some_is (p.0.0 ∷ q.0.0, q.0.1) x q.2) (y.0 ++ z.0, whole, s)))
       (λ k. many_none t x k (rw k at e))
 
-  many_at_complete : 1 ≤ g.least → (v : List A) (n : ℕ) (c r : List Tok) → length c ≤ n → many_spells begins g v c r → many_at begins g n (c ++ r) ≡ Some (v, r)
+  many_at_complete : 1 ≤ g.least → (v : List A) (n : ℕ) (c r : List Tok) → length c ≤ n
+      → many_spells begins g v c r → many_at begins g n (c ++ r) ≡ Some (v, r)
   unfolding many_at
   many_at_complete eats [] zero c r le s = rw (s.0) (rw (s.1) refl)
   many_at_complete eats [] (suc n) c r le s = rw (s.0) (rw (s.1) refl)
@@ -44,24 +61,29 @@ module _ {A : Type 0} (begins : List Tok → Bool) (g : Production A) where
       absurd (omega (arith, ap length s.2, length-append s.0 s.1, g.takes v s.0 (s.1 ++ r) s.4))
   many_at_complete eats (v ∷ vs) (suc n) c r le s =
       let e : c ++ r ≡ s.0 ++ (s.1 ++ r) = rw (s.2) (append_assoc s.0 s.1 r) in
-      let short : length s.1 ≤ n = omega (arith, ap length s.2, length-append s.0 s.1, g.takes v s.0 (s.1 ++ r) s.4) in
+      let short : length s.1 ≤ n =
+      omega (arith, ap length s.2, length-append s.0 s.1, g.takes v s.0 (s.1 ++ r) s.4) in
       let b : begins (s.0 ++ (s.1 ++ r)) ≡ true = rw (← e) (s.3) in
       rw (e, b, g.complete v s.0 (s.1 ++ r) s.4, many_at_complete eats vs n s.1 r short s.5) refl
 
   -- more room than the tokens need changes nothing
-  many_enough : 1 ≤ g.least → (n m : ℕ) (t : List Tok) → length t ≤ n → length t ≤ m → many_at begins g n t ≡ many_at begins g m t
+  many_enough : 1 ≤ g.least → (n m : ℕ) (t : List Tok) → length t ≤ n → length t ≤ m
+      → many_at begins g n t ≡ many_at begins g m t
   many_enough eats n m t le le2 =
       by_read (many_at begins g n t)
       (λ x e. (let f = many_at_sound n t x e in
       let short : length f.0 ≤ m = omega (arith, ap length f.1, length-append f.0 x.1) in
-      e ∙ sym (ap (λ (u : List Tok). many_at begins g m u) f.1 ∙ many_at_complete eats x.0 m f.0 x.1 short f.2)))
+      e ∙ sym (ap (λ (u : List Tok). many_at begins g m u) f.1
+      ∙ many_at_complete eats x.0 m f.0 x.1 short f.2)))
       (λ e. by_read (many_at begins g m t)
       (λ y e2. (let f = many_at_sound m t y e2 in
       let short : length f.0 ≤ n = omega (arith, ap length f.1, length-append f.0 y.1) in
-      ap (λ (u : List Tok). many_at begins g n u) f.1 ∙ many_at_complete eats y.0 n f.0 y.1 short f.2 ∙ sym e2))
+      ap (λ (u : List Tok). many_at begins g n u) f.1
+      ∙ many_at_complete eats y.0 n f.0 y.1 short f.2 ∙ sym e2))
       (λ e2. e ∙ sym e2))
 
-  many_room : 1 ≤ g.least → (n : ℕ) (t : List Tok) → length t ≤ n → many_at begins g n t ≡ many_reads begins g t
+  many_room : 1 ≤ g.least → (n : ℕ) (t : List Tok) → length t ≤ n
+      → many_at begins g n t ≡ many_reads begins g t
   unfolding many_reads
   many_room eats n t le = many_enough eats n (length t) t le (omega arith)
 
@@ -74,41 +96,54 @@ module _ {A : Type 0} (begins : List Tok → Bool) (g : Production A) where
   unfolding many_reads many_at
   many_stop t k = stops (length t) t k
 
-  fails_at : (n : ℕ) (t : List Tok) → begins t ≡ true → g.reads t ≡ None → many_at begins g n t ≡ None
+  fails_at : (n : ℕ) (t : List Tok) → begins t ≡ true → g.reads t ≡ None
+      → many_at begins g n t ≡ None
   unfolding many_at
   fails_at zero t k e = rw k refl
   fails_at (suc n) t k e = rw (k, e) refl
 
-  pub many_fails : (t : List Tok) → begins t ≡ true → g.reads t ≡ None → many_reads begins g t ≡ None
+  pub many_fails : (t : List Tok) → begins t ≡ true → g.reads t ≡ None
+      → many_reads begins g t ≡ None
   unfolding many_reads
   many_fails t k e = fails_at (length t) t k e
 
-  steps : 1 ≤ g.least → (n : ℕ) (t : List Tok) (v : A) (t' : List Tok) → begins t ≡ true → g.reads t ≡ Some (v, t') → length t' ≤ n → many_at begins g (suc n) t ≡ bind (many_reads begins g t') (λ vs r. Some (v ∷ vs, r))
+  steps : 1 ≤ g.least → (n : ℕ) (t : List Tok) (v : A) (t' : List Tok) → begins t ≡ true
+      → g.reads t ≡ Some (v, t') → length t' ≤ n
+      → many_at begins g (suc n) t ≡ bind (many_reads begins g t') (λ vs r. Some (v ∷ vs, r))
   unfolding many_at
-  steps eats n t v t' k e le = rw (k, e) (ap (λ (u : Read (List A)). bind u (λ vs r. Some (v ∷ vs, r))) (many_room eats n t' le))
+  steps eats n t v t' k e le =
+      rw (k, e) (ap (λ (u : Read (List A)). bind u (λ vs r. Some (v ∷ vs, r)))
+      (many_room eats n t' le))
 
-  pub many_step : 1 ≤ g.least → (t : List Tok) (v : A) (t' : List Tok) → begins t ≡ true → g.reads t ≡ Some (v, t') → many_reads begins g t ≡ bind (many_reads begins g t') (λ vs r. Some (v ∷ vs, r))
+  pub many_step : 1 ≤ g.least → (t : List Tok) (v : A) (t' : List Tok) → begins t ≡ true
+      → g.reads t ≡ Some (v, t') → many_reads begins g t
+      ≡ bind (many_reads begins g t') (λ vs r. Some (v ∷ vs, r))
   unfolding many_reads
   many_step eats t v t' k e =
       let f = g.sound t (v, t') e in
-      let less : length t' < length t = omega (arith, ap length f.1, length-append f.0 t', g.takes v f.0 t' f.2) in
+      let less : length t' < length t =
+      omega (arith, ap length f.1, length-append f.0 t', g.takes v f.0 t' f.2) in
       let n : length t ≡ suc (length t - 1) = omega arith in
       rw n (steps eats (length t - 1) t v t' k e (omega arith))
 
-  pub many_sound : (t : List Tok) (x : List A × List Tok) → many_reads begins g t ≡ Some x → Front (many_spells begins g) t x
+  pub many_sound : (t : List Tok) (x : List A × List Tok) → many_reads begins g t ≡ Some x
+      → Front (many_spells begins g) t x
   unfolding many_reads
   many_sound t x e = many_at_sound (length t) t x e
 
-  pub many_complete : 1 ≤ g.least → (v : List A) (c r : List Tok) → many_spells begins g v c r → many_reads begins g (c ++ r) ≡ Some (v, r)
+  pub many_complete : 1 ≤ g.least → (v : List A) (c r : List Tok) → many_spells begins g v c r
+      → many_reads begins g (c ++ r) ≡ Some (v, r)
   unfolding many_reads
-  many_complete eats v c r s = many_at_complete eats v (length (c ++ r)) c r (omega (arith, length-append c r)) s
+  many_complete eats v c r s =
+      many_at_complete eats v (length (c ++ r)) c r (omega (arith, length-append c r)) s
 
   pub many_takes : (v : List A) (c r : List Tok) → many_spells begins g v c r → 0 ≤ length c
   many_takes v c r s = omega arith
 
-  pub many_level : (v : List A) (c r : List Tok) → many_spells begins g v c r → Level c
+  pub many_level : (v : List A) (c r : List Tok) → many_spells begins g v c r → AreLevel c
   many_level [] c r s = rw (s.0) refl
-  many_level (v ∷ vs) c r s = rw (s.2) (level_both s.0 s.1 (g.level v s.0 (s.1 ++ r) s.4) (many_level vs s.1 r s.5))
+  many_level (v ∷ vs) c r s =
+      rw (s.2) (level_both s.0 s.1 (g.level v s.0 (s.1 ++ r) s.4) (many_level vs s.1 r s.5))
 
 -- ---- a loop that adds each part to what it has, where it fits
 
@@ -117,35 +152,53 @@ with_rest_none (Some v) r e = absurd cc
 with_rest_none None r e = refl
 
 module _ {A S : Type 0} (add : S → A → Option S) where
-  add_some : (s : S) (x : Read A) (y : S × List Tok) → add_read add s x ≡ Some y → (v : A) × (x ≡ Some (v, y.1)) × (add s v ≡ Some y.0)
+  add_some : (s : S) (x : Read A) (y : S × List Tok) → add_read add s x ≡ Some y
+      → (v : A) × (x ≡ Some (v, y.1)) × (add s v ≡ Some y.0)
   add_some s x y e =
       let p = bind_some x (λ v r. with_rest (add s v) r) y e in
       by_option (add s p.0.0)
       (λ s2 k. (let e2 : some_of (s2, p.0.1) ≡ some_of y = rw k at p.2 in
-      let q = some_is (s2, p.0.1) y e2 in
-      (p.0.0, p.1 ∙ ap (λ (r : List Tok). some_of (p.0.0, r)) (ap (λ (u : S × List Tok). u.1) q), k ∙ ap (λ (u : S). option_of u) (ap (λ (u : S × List Tok). u.0) q))))
+      let q = some_is (s2, p.0.1) y e2 in (
+        p.0.0,
+        p.1 ∙ ap (λ (r : List Tok). some_of (p.0.0, r)) (ap (λ (u : S × List Tok). u.1) q),
+        k ∙ ap (λ (u : S). option_of u) (ap (λ (u : S × List Tok). u.0) q),
+      )))
       (λ k. (let e2 : none_of {A = S} ≡ some_of y = rw k at p.2 in none_is_not y e2))
 
-  add_step : (s : S) (v : A) (o : Option S) (read : Read (List A)) → add s v ≡ o → add_rest add s (bind read (λ vs r. Some (v ∷ vs, r))) ≡ elim o [ Some s2 ↦ (add_rest add) s2 read | None ↦ None ]
-  add_step s v o (Some x) e = rw e (elim o as (λ p. with_rest (option_then p (add_all add x.0)) x.1 ≡ elim p [ Some s2 ↦ (add_rest add) s2 (Some x) | None ↦ None ]) [ Some s2 ↦ refl | None ↦ refl ])
-  add_step s v o None e = elim o as (λ p. none_of {A = S} ≡ elim p [ Some s2 ↦ (add_rest add) s2 None | None ↦ None ]) [ Some s2 ↦ refl | None ↦ refl ]
+  add_step : (s : S) (v : A) (o : Option S) (read : Read (List A)) → add s v ≡ o
+      → add_rest add s (bind read (λ vs r. Some (v ∷ vs, r)))
+      ≡ elim o [ Some s2 ↦ (add_rest add) s2 read | None ↦ None ]
+  add_step s v o (Some x) e =
+      rw e (elim o as (λ p. with_rest (option_then p (add_all add x.0)) x.1
+      ≡ elim p [ Some s2 ↦ (add_rest add) s2 (Some x) | None ↦ None ])
+      [ Some s2 ↦ refl | None ↦ refl ])
+  add_step s v o None e =
+      elim o as (λ p. none_of {A = S} ≡ elim p [ Some s2 ↦ (add_rest add) s2 None | None ↦ None ])
+      [ Some s2 ↦ refl | None ↦ refl ]
 
   module _ (begins : List Tok → Bool) (g : Production A) (eats : 1 ≤ g.least) where
-    pub adding_goes_on : (s : S) (t : List Tok) (s2 : S) (t2 : List Tok) → begins t ≡ true → add_read add s (g.reads t) ≡ Some (s2, t2)
+    pub adding_goes_on : (s : S) (t : List Tok) (s2 : S) (t2 : List Tok) → begins t ≡ true
+        → add_read add s (g.reads t) ≡ Some (s2, t2)
         → add_rest add s (many_reads begins g t) ≡ add_rest add s2 (many_reads begins g t2)
     adding_goes_on s t s2 t2 k e =
         let p = add_some s (g.reads t) (s2, t2) e in
-        ap (λ (u : Read (List A)). add_rest add s u) (many_step begins g eats t p.0 t2 k p.1) ∙ add_step s p.0 (Some s2) (many_reads begins g t2) p.2
+        ap (λ (u : Read (List A)). add_rest add s u) (many_step begins g eats t p.0 t2 k p.1)
+        ∙ add_step s p.0 (Some s2) (many_reads begins g t2) p.2
 
-    pub adding_ends : (s : S) (t : List Tok) → begins t ≡ false → add_rest add s (many_reads begins g t) ≡ Some (s, t)
+    pub adding_ends : (s : S) (t : List Tok) → begins t ≡ false
+        → add_rest add s (many_reads begins g t) ≡ Some (s, t)
     adding_ends s t k = rw (many_stop begins g t k) refl
 
-    pub adding_fails : (s : S) (t : List Tok) → begins t ≡ true → add_read add s (g.reads t) ≡ None → add_rest add s (many_reads begins g t) ≡ None
+    pub adding_fails : (s : S) (t : List Tok) → begins t ≡ true → add_read add s (g.reads t) ≡ None
+        → add_rest add s (many_reads begins g t) ≡ None
     adding_fails s t k e =
         by_read (g.reads t)
         (λ x h. (let n : add s x.0 ≡ None = with_rest_none (add s x.0) x.1 (rw h at e) in
-        ap (λ (u : Read (List A)). add_rest add s u) (many_step begins g eats t x.0 x.1 k h) ∙ add_step s x.0 None (many_reads begins g x.1) n))
+        ap (λ (u : Read (List A)). add_rest add s u) (many_step begins g eats t x.0 x.1 k h)
+        ∙ add_step s x.0 None (many_reads begins g x.1) n))
         (λ h. ap (λ (u : Read (List A)). add_rest add s u) (many_fails begins g t k h))
 
-    pub adding_takes : (s : S) (t : List Tok) (s2 : S) (t2 : List Tok) → add_read add s (g.reads t) ≡ Some (s2, t2) → length t2 < length t
-    adding_takes s t s2 t2 e = let p = add_some s (g.reads t) (s2, t2) e in less_left g t p.0 t2 eats p.1
+    pub adding_takes : (s : S) (t : List Tok) (s2 : S) (t2 : List Tok)
+        → add_read add s (g.reads t) ≡ Some (s2, t2) → length t2 < length t
+    adding_takes s t s2 t2 e =
+        let p = add_some s (g.reads t) (s2, t2) e in less_left g t p.0 t2 eats p.1

@@ -9,6 +9,11 @@ use Rattle.wat_tokens.specs.Once.{HasOneReading}
 
 pub reads_once : {A : Type 0} (g : Production A) → HasOneReading g
 reads_once {A} g v w c d r s e p q =
-    let x = some_is (v, r) (w, s) (sym (g.complete v c r p) ∙ ap (λ (u : List Tok). g.reads u) e ∙ g.complete w d s q) in
-    let rest : r ≡ s = ap (λ (u : A × List Tok). u.1) x in
-    (ap (λ (u : A × List Tok). u.0) x, rest, append_cancel_right c d s (subst (λ (u : List Tok). c ++ u ≡ d ++ s) rest e))
+    let x = some_is (v, r) (w, s) (sym (g.complete v c r p) ∙ ap (λ (u : List Tok). g.reads u) e
+    ∙ g.complete w d s q) in
+    let rest : r ≡ s = ap (λ (u : A × List Tok). u.1) x in (
+      ap (λ (u : A × List Tok). u.0) x,
+      rest,
+      append_cancel_right c d s
+          (subst (λ (u : List Tok). c ++ u ≡ d ++ s) rest e),
+    )

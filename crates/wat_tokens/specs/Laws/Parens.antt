@@ -2,7 +2,7 @@
 use Rattle.std.specs.Prelude.{◌≡◌, ◌+◌, ◌≤◌, List, [], ◌∷◌, ◌++◌}
 use Rattle.std.proofs.Common.{arith}
 use Rattle.wat_lexer.specs.Token.{Tok, LParen, RParen}
-use Rattle.wat_tokens.specs.Parens.{opens, closes, Level, rise, nest}
+use Rattle.wat_tokens.specs.Parens.{opens, closes, AreLevel, rise, nest}
 
 pub opens-append : (c d : List Tok) → opens (c ++ d) ≡ opens c + opens d
 opens-append [] d = omega arith
@@ -14,11 +14,11 @@ closes-append [] d = omega arith
 closes-append (RParen ∷ c) d = omega (arith, closes-append c d)
 closes-append (_ ∷ c) d = closes-append c d
 
-pub level_both : (c d : List Tok) → Level c → Level d → Level (c ++ d)
+pub level_both : (c d : List Tok) → AreLevel c → AreLevel d → AreLevel (c ++ d)
 level_both c d p q = omega (arith, opens-append c d, closes-append c d)
 
 -- a level stretch between parentheses
-pub level_within : (d : List Tok) → Level d → Level (LParen ∷ (d ++ RParen ∷ []))
+pub level_within : (d : List Tok) → AreLevel d → AreLevel (LParen ∷ (d ++ RParen ∷ []))
 level_within d p = omega (arith, opens-append d (RParen ∷ []), closes-append d (RParen ∷ []))
 
 -- a front rises at most as much as the whole

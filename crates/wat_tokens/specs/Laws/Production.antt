@@ -1,10 +1,12 @@
 -- Laws: productions: what tokens spell a value, and how it is read.
-use Rattle.std.specs.Prelude.{◌≡◌, ◌≤◌, ◌<◌, List, length, Option, Some, None, refl, Bool, true, false}
+use Rattle.std.specs.Prelude.{◌≡◌, ◌≤◌, ◌<◌, List, length, Option, Some, None, refl, Bool, true}
+use Rattle.std.specs.Prelude.{false}
 use Rattle.std.proofs.Common.{ap, arith, length-append}
 use Rattle.wat_lexer.specs.Token.{Tok}
 use Rattle.wat_tokens.specs.Production.{Read, bind, some_of, none_of, Production}
 
-pub bind_some : {A B : Type 0} (x : Read A) (f : A → List Tok → Read B) (y : B × List Tok) → bind x f ≡ Some y → (a : A × List Tok) × (x ≡ Some a) × (f a.0 a.1 ≡ Some y)
+pub bind_some : {A B : Type 0} (x : Read A) (f : A → List Tok → Read B) (y : B × List Tok)
+    → bind x f ≡ Some y → (a : A × List Tok) × (x ≡ Some a) × (f a.0 a.1 ≡ Some y)
 bind_some (Some x) f y e = (x, refl, e)
 bind_some None f y e = absurd cc
 
@@ -18,12 +20,14 @@ pub by_test : {P : Type 0} (b : Bool) → (b ≡ true → P) → (b ≡ false �
 by_test true f g = f refl
 by_test false f g = g refl
 
-pub by_read : {A P : Type 0} (x : Read A) → ((y : A × List Tok) → x ≡ Some y → P) → (x ≡ None → P) → P
+pub by_read : {A P : Type 0} (x : Read A) → ((y : A × List Tok) → x ≡ Some y → P) → (x ≡ None → P)
+    → P
 by_read (Some y) f g = f y refl
 by_read None f g = g refl
 
 -- where a value takes a token, less is left
-pub less_left : {A : Type 0} (g : Production A) (t : List Tok) (v : A) (r : List Tok) → 1 ≤ g.least → g.reads t ≡ Some (v, r) → length r < length t
+pub less_left : {A : Type 0} (g : Production A) (t : List Tok) (v : A) (r : List Tok) → 1 ≤ g.least
+    → g.reads t ≡ Some (v, r) → length r < length t
 less_left g t v r eats e =
     let f = g.sound t (v, r) e in
     omega (arith, ap length f.1, length-append f.0 r, g.takes v f.0 r f.2)

@@ -1,5 +1,6 @@
 -- Laws: powers of two and their exponents.
-use Rattle.std.specs.Prelude.{◌≡◌, ℕ, zero, suc, ◌*◌, ◌^◌, ◌<◌, ◌≤◌, ◌==◌, true, false, if◌then◌else◌, Option, Some, None, refl}
+use Rattle.std.specs.Prelude.{◌≡◌, ℕ, zero, suc, ◌*◌, ◌^◌, ◌<◌, ◌≤◌, ◌==◌, true, false}
+use Rattle.std.specs.Prelude.{if◌then◌else◌, Option, Some, None, refl}
 use Rattle.std.proofs.Common.{ap, arith, sym, ◌∙◌, subst}
 use Rattle.std.proofs.Math.Pow.{pow_mono}
 use Rattle.std.proofs.lemmas.Nat.{pow_pos}
@@ -41,7 +42,8 @@ found_below : (m n k : ℕ) → k < m → 2 ^ k ≤ n → n < 2 * 2 ^ k → expo
 found_below zero n k less low high = absurd (omega (arith, less))
 found_below (suc m) n k less low high =
     by_test (m == k)
-    (λ e. subst (λ (j : ℕ). exponent_below (suc j) n ≡ decided_by k n) (sym (equal m k e)) (rw (none_below k n low) refl))
+    (λ e. subst (λ (j : ℕ). exponent_below (suc j) n ≡ decided_by k n) (sym (equal m k e))
+    (rw (none_below k n low) refl))
     (λ e.
     (let near : k < m = by_order k m less e in
     let above : n < 2 ^ m = omega (arith, high, doubles k, pow_mono {i = suc k} {j = m} near) in

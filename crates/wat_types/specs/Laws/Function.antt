@@ -8,12 +8,15 @@ use Rattle.wat_types.specs.Function.{function_groups}
 
 -- ---- the grammar
 
-pub unnamed_to : (f : FuncTy) (c r : List Tok) → (function_groups false).spells f c r → UnnamedSpells f c r
+pub unnamed_to : (f : FuncTy) (c r : List Tok) → (function_groups false).spells f c r
+    → UnnamedSpells f c r
 unfolding function_groups func_groups
 unnamed_to f c r s =
     let p = groups_allow s.0 c r s.1 in
     ((s.0, p.0, s.2, s.3, s.4), rw (s.3) p.1)
 
-pub unnamed_from : (f : FuncTy) (c r : List Tok) → UnnamedSpells f c r → (function_groups false).spells f c r
+pub unnamed_from : (f : FuncTy) (c r : List Tok) → UnnamedSpells f c r
+    → (function_groups false).spells f c r
 unfolding function_groups func_groups
-unnamed_from f c r s = let p = s.0 in (p.0, groups_forbid p.0 c r p.1 (rw p.3 at s.1), p.2, p.3, p.4)
+unnamed_from f c r s =
+    let p = s.0 in (p.0, groups_forbid p.0 c r p.1 (rw p.3 at s.1), p.2, p.3, p.4)

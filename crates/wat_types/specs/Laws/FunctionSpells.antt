@@ -8,8 +8,23 @@ use Rattle.wat_types.specs.FunctionSpells.{FunctionSpells, function_tested}
 
 -- ---- the grammar
 
-pub function_to : (labels : Bool) (f : FuncTy) (c r : List Tok) → (function_tested labels).spells f c r → FunctionSpells labels f c r
-function_to labels f c r s = (s.0, s.1, in_order-holds s.0 s.2, ap (λ (u : FuncTy). u.params) (sym s.3), ap (λ (u : FuncTy). u.results) (sym s.3))
+pub function_to : (labels : Bool) (f : FuncTy) (c r : List Tok)
+    → (function_tested labels).spells f c r → FunctionSpells labels f c r
+function_to labels f c r s = (
+  s.0,
+  s.1,
+  in_order-holds s.0 s.2,
+  ap (λ (u : FuncTy). u.params) (sym s.3),
+  ap
+      (λ (u : FuncTy). u.results) (sym s.3),
+)
 
-pub function_from : (labels : Bool) (f : FuncTy) (c r : List Tok) → FunctionSpells labels f c r → (function_tested labels).spells f c r
-function_from labels f c r s = (s.0, s.1, InOrder-tested s.0 s.2, by_parts f (flat_map params_in s.0) (flat_map results_in s.0) s.3 s.4)
+pub function_from : (labels : Bool) (f : FuncTy) (c r : List Tok) → FunctionSpells labels f c r
+    → (function_tested labels).spells f c r
+function_from labels f c r s = (
+  s.0,
+  s.1,
+  InOrder-tested s.0 s.2,
+  by_parts f (flat_map params_in s.0) (flat_map results_in s.0)
+      s.3 s.4,
+)

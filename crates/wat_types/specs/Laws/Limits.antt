@@ -9,7 +9,9 @@ use Rattle.wat_types.specs.PageSize.{has_exponent, exponent_or_0, ExponentSpells
 -- ---- page sizes
 
 is_two_to : (k n : ℕ) → has_exponent n ≡ true → exponent_or_0 n ≡ k → IsTwoTo k n
-is_two_to k n s e = by_option (exponent n) (λ j f. exponent_sound n k (let g : j ≡ k = rw f at e in rw g at f)) (λ f. absurd (let g : false ≡ true = rw f at s in cc))
+is_two_to k n s e =
+    by_option (exponent n) (λ j f. exponent_sound n k (let g : j ≡ k = rw f at e in rw g at f))
+    (λ f. absurd (let g : false ≡ true = rw f at s in cc))
 
 pub exponent_to : (k : ℕ) (c r : List Tok) → exponent_tested.spells k c r → ExponentSpells k c r
 exponent_to k c r s = (s.0, s.1, is_two_to k s.0 s.2 s.3)

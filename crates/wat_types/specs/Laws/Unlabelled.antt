@@ -1,5 +1,6 @@
 -- Laws: groups in which no label may stand are those in which one may and none does.
-use Rattle.std.specs.Prelude.{◌≡◌, ℕ, true, false, not, ◌&&◌, List, [], ◌∷◌, ◌++◌, codes, Option, Some, None, flat_map, refl}
+use Rattle.std.specs.Prelude.{◌≡◌, ℕ, true, false, not, ◌&&◌, List, [], ◌∷◌, ◌++◌, codes, Option}
+use Rattle.std.specs.Prelude.{Some, None, flat_map, refl}
 use Rattle.std.specs.Cmp.{first_so, second_so}
 use Rattle.std.specs.Cmp.Derive.{both_true}
 use Rattle.std.proofs.Common.{sym, ◌∙◌, inl, inr, append_assoc, subst}
@@ -15,11 +16,13 @@ use Rattle.wat_tokens.specs.ManySpells.{many_spells}
 use Rattle.wat_types.specs.Reference.{ref_type, shorthand}
 use Rattle.wat_types.specs.Value.{ValTy, val_type}
 use Rattle.wat_types.specs.Label.{Label, label_of, label, labelled, begins_label}
-use Rattle.wat_types.specs.Group.{ParamTy, labelled_param, plain_params, params, Group, func_group, group_follows, params_in, unlabelled}
+use Rattle.wat_types.specs.Group.{ParamTy, labelled_param, plain_params, params, Group, func_group}
+use Rattle.wat_types.specs.Group.{group_follows, params_in, unlabelled}
 
 -- ---- a value type is no label
 
-reads_no_label : (t : List Tok) (x : ValTy × List Tok) → val_type.reads t ≡ Some x → begins_label t ≡ false
+reads_no_label : (t : List Tok) (x : ValTy × List Tok) → val_type.reads t ≡ Some x
+    → begins_label t ≡ false
 unfolding val_type ref_type shorthand
 reads_no_label [] x e = refl
 reads_no_label (Id n ∷ t) x e = absurd cc
@@ -33,27 +36,35 @@ ends_no_label (Id n ∷ t) e = absurd cc
 ends_no_label (LParen ∷ t) e = absurd cc
 ends_no_label (_ ∷ t) e = refl
 
-plain_no_label : (ps : List ParamTy) (c r : List Tok) → plain_params.spells ps c r → begins_label (c ++ r) ≡ false
+plain_no_label : (ps : List ParamTy) (c r : List Tok) → plain_params.spells ps c r
+    → begins_label (c ++ r) ≡ false
 unfolding plain_params
 plain_no_label [] c r s = rw (s.0) (ends_no_label r s.1)
 plain_no_label (p ∷ ps) c r s =
     let e : c ++ r ≡ s.0 ++ (s.1 ++ r) = rw (s.2) (append_assoc s.0 s.1 r) in
-    rw e (reads_no_label (s.0 ++ (s.1 ++ r)) (s.4.0, s.1 ++ r) (val_type.complete s.4.0 s.0 (s.1 ++ r) s.4.1))
+    rw e (reads_no_label (s.0 ++ (s.1 ++ r)) (s.4.0, s.1 ++ r)
+    (val_type.complete s.4.0 s.0 (s.1 ++ r) s.4.1))
 
-plain_unlabelled : (ps : List ParamTy) (c r : List Tok) → plain_params.spells ps c r → unlabelled ps ≡ true
+plain_unlabelled : (ps : List ParamTy) (c r : List Tok) → plain_params.spells ps c r
+    → unlabelled ps ≡ true
 unfolding plain_params
 plain_unlabelled [] c r s = refl
-plain_unlabelled (p ∷ ps) c r s = subst (λ (q : ParamTy). (not (labelled q.label) && unlabelled ps) ≡ true) s.4.3 (plain_unlabelled ps s.1 r s.5)
+plain_unlabelled (p ∷ ps) c r s =
+    subst (λ (q : ParamTy). (not (labelled q.label) && unlabelled ps) ≡ true) s.4.3
+    (plain_unlabelled ps s.1 r s.5)
 
 -- ---- what stands in a param group
 
-params_allow : (ps : List ParamTy) (c r : List Tok) → (params false).spells ps c r → (params true).spells ps c r × (unlabelled ps ≡ true)
+params_allow : (ps : List ParamTy) (c r : List Tok) → (params false).spells ps c r
+    → (params true).spells ps c r × (unlabelled ps ≡ true)
 unfolding params
 params_allow ps c r (inl s) = absurd (let f : false ≡ true = s.0 in cc)
 params_allow ps c r (inr s) = (inr (plain_no_label ps c r s.1, s.1), plain_unlabelled ps c r s.1)
 
 -- a label is there, where one begins
-has_part : (i n : Option (List ℕ)) (d e r : List Tok) → opt_spells begins_id identifier i d (e ++ r) → opt_spells begins_name name_annotation n e r → begins_label (d ++ (e ++ r)) ≡ true → labelled (label_of i n) ≡ true
+has_part : (i n : Option (List ℕ)) (d e r : List Tok) → opt_spells begins_id identifier i d (e ++ r)
+    → opt_spells begins_name name_annotation n e r → begins_label (d ++ (e ++ r)) ≡ true
+    → labelled (label_of i n) ≡ true
 has_part (Some i) n d e r p q k = refl
 has_part None (Some n) d e r p q k = refl
 has_part None None d e r p q k =
@@ -62,20 +73,24 @@ has_part None None d e r p q k =
     let not : begins_label r ≡ false = rw (no_id, q.1) refl in
     absurd cc
 
-has_label : (l : Label) (c r : List Tok) → label.spells l c r → begins_label (c ++ r) ≡ true → labelled l ≡ true
+has_label : (l : Label) (c r : List Tok) → label.spells l c r → begins_label (c ++ r) ≡ true
+    → labelled l ≡ true
 unfolding label
 has_label l c r s k =
     let q = s.1 in
     let e : c ++ r ≡ q.0 ++ (q.1 ++ r) = rw (q.2) (append_assoc q.0 q.1 r) in
-    subst (λ (m : Label). labelled m ≡ true) s.3 (has_part s.0.0 s.0.1 q.0 q.1 r q.3 q.4 (rw e at k))
+    subst (λ (m : Label). labelled m ≡ true) s.3
+    (has_part s.0.0 s.0.1 q.0 q.1 r q.3 q.4 (rw e at k))
 
-params_forbid : (ps : List ParamTy) (c r : List Tok) → (params true).spells ps c r → unlabelled ps ≡ true → (params false).spells ps c r
+params_forbid : (ps : List ParamTy) (c r : List Tok) → (params true).spells ps c r
+    → unlabelled ps ≡ true → (params false).spells ps c r
 unfolding params
 params_forbid ps c r (inl s) u =
     let q = s.1.1 in
     let e : c ++ r ≡ q.0 ++ (q.1 ++ r) = rw (q.2) (append_assoc q.0 q.1 r) in
     let named = has_label s.1.0.0 q.0 (q.1 ++ r) q.3 (rw e at s.0) in
-    let one : unlabelled (labelled_param s.1.0) ≡ true = subst (λ (l : List ParamTy). unlabelled l ≡ true) (sym s.1.3) u in
+    let one : unlabelled (labelled_param s.1.0) ≡ true =
+    subst (λ (l : List ParamTy). unlabelled l ≡ true) (sym s.1.3) u in
     absurd (let f : false ≡ true = rw named at one in cc)
 params_forbid ps c r (inr s) u = inr (refl, s.1)
 
@@ -83,7 +98,8 @@ params_forbid ps c r (inr s) u = inr (refl, s.1)
 
 module _ {A : Type 0} (w : List ℕ) (g h : Production A) (Q P : A → Type 0) where
   -- what holds of the part in a group holds of the group
-  group_maps : ((v : A) (c r : List Tok) → g.spells v c r → Q v → h.spells v c r × P v) → (v : A) (c r : List Tok) → (group w g).spells v c r → Q v → (group w h).spells v c r × P v
+  group_maps : ((v : A) (c r : List Tok) → g.spells v c r → Q v → h.spells v c r × P v)
+      → (v : A) (c r : List Tok) → (group w g).spells v c r → Q v → (group w h).spells v c r × P v
   group_maps f v c r s u =
       let a = s.2.0 in
       let q = s.2.1 in
@@ -93,35 +109,61 @@ module _ {A : Type 0} (w : List ℕ) (g h : Production A) (Q P : A → Type 0) w
 abbrev Unlabelled : List ParamTy → Type 0
 Unlabelled ps = unlabelled ps ≡ true
 
-one_allow : (x : Group) (c r : List Tok) → (func_group false).spells x c r → (func_group true).spells x c r × Unlabelled (params_in x)
+one_allow : (x : Group) (c r : List Tok) → (func_group false).spells x c r
+    → (func_group true).spells x c r × Unlabelled (params_in x)
 unfolding func_group
 one_allow x c r (inl s) =
-    let m = group_maps (codes "param") (params false) (params true) (λ _. Unit {0}) Unlabelled (λ v d t p _. params_allow v d t p) s.1.0 c r s.1.1 tt in
-    (inl (s.0, (s.1.0, m.0, s.1.2, s.1.3)), subst (λ (y : Group). Unlabelled (params_in y)) s.1.3 m.1)
+    let m = group_maps (codes "param") (params false) (params true) (λ _. Unit {0}) Unlabelled
+    (λ v d t p _. params_allow v d t p) s.1.0 c r s.1.1 tt in (
+      inl (s.0, (s.1.0, m.0, s.1.2, s.1.3)),
+      subst (λ (y : Group). Unlabelled (params_in y)) s.1.3
+          m.1,
+    )
 one_allow x c r (inr s) = (inr s, subst (λ (y : Group). Unlabelled (params_in y)) s.1.3 refl)
 
-one_forbid : (x : Group) (c r : List Tok) → (func_group true).spells x c r → Unlabelled (params_in x) → (func_group false).spells x c r
+one_forbid : (x : Group) (c r : List Tok) → (func_group true).spells x c r
+    → Unlabelled (params_in x) → (func_group false).spells x c r
 unfolding func_group
 one_forbid x c r (inl s) u =
-    let m = group_maps (codes "param") (params true) (params false) Unlabelled (λ _. Unit {0}) (λ v d t p q. (params_forbid v d t p q, tt)) s.1.0 c r s.1.1 (subst (λ (y : Group). Unlabelled (params_in y)) (sym s.1.3) u) in
+    let m = group_maps (codes "param") (params true) (params false) Unlabelled (λ _. Unit {0})
+    (λ v d t p q. (params_forbid v d t p q, tt)) s.1.0 c r s.1.1
+    (subst (λ (y : Group). Unlabelled (params_in y)) (sym s.1.3) u) in
     inl (s.0, (s.1.0, m.0, s.1.2, s.1.3))
 one_forbid x c r (inr s) u = inr s
 
 -- ---- all the groups
 
-unlabelled-append : (ps qs : List ParamTy) → unlabelled (ps ++ qs) ≡ (unlabelled ps && unlabelled qs)
+unlabelled-append : (ps qs : List ParamTy)
+    → unlabelled (ps ++ qs) ≡ (unlabelled ps && unlabelled qs)
 unlabelled-append [] qs = refl
-unlabelled-append (p ∷ ps) qs = by_test (labelled p.label) (λ k. rw k refl) (λ k. rw k (unlabelled-append ps qs))
+unlabelled-append (p ∷ ps) qs =
+    by_test (labelled p.label) (λ k. rw k refl) (λ k. rw k (unlabelled-append ps qs))
 
-pub groups_allow : (gs : List Group) (c r : List Tok) → many_spells group_follows (func_group false) gs c r → many_spells group_follows (func_group true) gs c r × Unlabelled (flat_map params_in gs)
+pub groups_allow : (gs : List Group) (c r : List Tok)
+    → many_spells group_follows (func_group false) gs c r
+    → many_spells group_follows (func_group true) gs c r × Unlabelled (flat_map params_in gs)
 groups_allow [] c r s = (s, refl)
 groups_allow (x ∷ gs) c r s =
     let m = one_allow x s.0 (s.1 ++ r) s.4 in
-    let n = groups_allow gs s.1 r s.5 in
-    ((s.0, s.1, s.2, s.3, m.0, n.0), unlabelled-append (params_in x) (flat_map params_in gs) ∙ both_true m.1 n.1)
+    let n = groups_allow gs s.1 r s.5 in (
+      (s.0, s.1, s.2, s.3, m.0, n.0),
+      unlabelled-append (params_in x) (flat_map params_in gs)
+          ∙ both_true m.1 n.1,
+    )
 
-pub groups_forbid : (gs : List Group) (c r : List Tok) → many_spells group_follows (func_group true) gs c r → Unlabelled (flat_map params_in gs) → many_spells group_follows (func_group false) gs c r
+pub groups_forbid : (gs : List Group) (c r : List Tok)
+    → many_spells group_follows (func_group true) gs c r → Unlabelled (flat_map params_in gs)
+    → many_spells group_follows (func_group false) gs c r
 groups_forbid [] c r s u = s
 groups_forbid (x ∷ gs) c r s u =
-    let w = sym (unlabelled-append (params_in x) (flat_map params_in gs)) ∙ u in
-    (s.0, s.1, s.2, s.3, one_forbid x s.0 (s.1 ++ r) s.4 (first_so (unlabelled (params_in x)) (unlabelled (flat_map params_in gs)) w), groups_forbid gs s.1 r s.5 (second_so (unlabelled (params_in x)) (unlabelled (flat_map params_in gs)) w))
+    let w = sym (unlabelled-append (params_in x) (flat_map params_in gs)) ∙ u in (
+      s.0,
+      s.1,
+      s.2,
+      s.3,
+      one_forbid x s.0 (s.1 ++ r) s.4
+          (first_so (unlabelled (params_in x)) (unlabelled (flat_map params_in gs)) w),
+      groups_forbid
+          gs s.1 r s.5 (second_so (unlabelled (params_in x)) (unlabelled (flat_map params_in gs))
+          w),
+    )

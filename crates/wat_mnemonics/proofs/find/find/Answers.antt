@@ -3,7 +3,7 @@ use Rattle.std.proofs.lemmas.Map.Lookups.{exact_bytes}
 use Rattle.wat_mnemonics.specs.Heads.{head_word}
 use Rattle.wat_mnemonics.specs.Order.{words, first, cmp}
 use Rattle.wat_mnemonics.proofs.WordOrder.{below_less, above_greater, absent}
-use Rattle.wat_mnemonics.specs.Laws.Places.{in_order, words_length, entry_at}
+use Rattle.wat_mnemonics.specs.Laws.Places.{words_rise, words_length, entry_at}
 use Rattle.wat_mnemonics.proofs.RowsBelow.{found_at}
 use Rattle.wat_mnemonics.specs.declared.head.Head.{Head}
 use Rattle.wat_mnemonics.specs.Table.{all_heads}
@@ -26,7 +26,7 @@ halves-preserved-in-Less c =
     record {
       bound = omega arith;
       top = c.halves.invariant.top;
-      less = below_less words c.args.text.now _ in_order (omega arith) (sym e ∙ sym c.cmp.ensures ∙ c.in-Less.is);
+      less = below_less words c.args.text.now _ words_rise (omega arith) (sym e ∙ sym c.cmp.ensures ∙ c.in-Less.is);
       more = c.halves.invariant.more;
       only = probed_only c.args.parser.now c.halves.parser c.probe.new.self c.halves.invariant.only c.probe.ensures.only;
       counts = λ s p. c.probe.ensures.counts s (c.halves.invariant.counts s p);
@@ -44,7 +44,7 @@ halves-preserved c =
       bound = omega arith;
       top = omega arith;
       less = c.halves.invariant.less;
-      more = λ k l u. above_greater words c.args.text.now _ in_order (sym e ∙ sym c.cmp.ensures ∙ c.in-Greater.is) k l (omega arith);
+      more = λ k l u. above_greater words c.args.text.now _ words_rise (sym e ∙ sym c.cmp.ensures ∙ c.in-Greater.is) k l (omega arith);
       only = probed_only c.args.parser.now c.halves.parser c.probe.new.self c.halves.invariant.only c.probe.ensures.only;
       counts = λ s p. c.probe.ensures.counts s (c.halves.invariant.counts s p);
       some = made_one c.args.parser.now.probes c.halves.parser.probes c.probe.new.self.probes (c.halves.high - c.halves.low) _ n (omega (arith, c.halves.invariant.top)) c.halves.invariant.some;

@@ -24,7 +24,7 @@ returns-clause-found c =
     let o = opened text c.in_ok-parser.parser q _ c.in_ok-parser.ensures.fresh c.in_ok-open.ensures.reads.exact c.in_ok-open.ensures.stands c.in_ok-open.ensures.reads.names.0 in
     let f = c.in_ok-module.ensures in
     passed_on c.closed.result c.in_ok-module.module (λ m. SpelledModule text (seen_module m)) (e.left ≡ RParen ∷ []) c.closed.ensures.value c.closed.ensures.stands
-    (module_found text q e o (seen_module c.in_ok-module.module) f.sound f.ends f.stands f.names.0 f.seen)
+    (module_found text q e o (seen_module c.in_ok-module.module) f.sound f.ends f.stands f.names.0 f.visible)
 
 pub returns-clause-none : goal.returns-clause-none
 returns-clause-none c =
@@ -34,4 +34,4 @@ returns-clause-none c =
     let o = opened text c.in_ok-parser.parser q _ c.in_ok-parser.ensures.fresh c.in_ok-open.ensures.reads.exact c.in_ok-open.ensures.stands c.in_ok-open.ensures.reads.names.0 in
     let f = c.in_ok-module.ensures in
     IfErr-weaker c.closed.result (λ _. e.left ≢ RParen ∷ []) (λ r. r.fault ≢ Memory → (m : ModuleTy) → SpelledModule text m → ⊥)
-    (λ r apart fault m s. apart (module_closes text q e o m c.one_cut.ensures s (λ d l d_is spells. (f.accepts m d l d_is spells).1) f.stands f.names.0 f.seen)) c.closed.ensures.refused
+    (λ r apart fault m s. apart (module_closes text q e o m c.one_cut.ensures s (λ d l d_is spells. (f.accepts m d l d_is spells).1) f.stands f.names.0 f.visible)) c.closed.ensures.refused
