@@ -271,17 +271,45 @@ fn nested(alloc: Global, open: &str, close: &str, times: usize) -> Result<String
     repeated(alloc, front.as_str(), close, times, "")
 }
 
+/// How often the tests below nest, in two sizes, so that a time that grows faster than the text is
+/// seen as a test that doesn't end.
+const DEPTHS: [usize; 2] = [100000, 1000000];
+
 #[test]
-fn deep_nesting_returns(rt: HostRuntime) -> Result<(), Fail> {
+fn deep_comments_are_passed_over(rt: HostRuntime) -> Result<(), Fail> {
     let alloc = rt.alloc();
-    for (times, count) in [(100000, 300000), (1000000, 3000000)] {
+    for times in DEPTHS {
         let comments = nested(alloc, "(;", ";)", times)?;
         assert_eq!(rt; shown(alloc, comments.as_str())?.as_str(), "");
+    }
+    Ok(())
+}
+
+#[test]
+fn deep_comments_left_open(rt: HostRuntime) -> Result<(), Fail> {
+    let alloc = rt.alloc();
+    for times in DEPTHS {
         let open = repeated(alloc, "", "(;", times, "")?;
         assert_eq!(rt; shown(alloc, open.as_str())?.as_str(), "LexComment 0");
+    }
+    Ok(())
+}
+
+#[test]
+fn deep_annotation_groups_are_cut(rt: HostRuntime) -> Result<(), Fail> {
+    let alloc = rt.alloc();
+    for times in DEPTHS {
         let groups = nested(alloc, "(@a", ")", times)?;
         let arena = Bump::new(alloc);
-        assert_eq!(rt; cut(alloc, groups.as_str(), &arena)?.len(), count);
+        assert_eq!(rt; cut(alloc, groups.as_str(), &arena)?.len(), 3 * times);
+    }
+    Ok(())
+}
+
+#[test]
+fn deep_annotation_groups_left_open(rt: HostRuntime) -> Result<(), Fail> {
+    let alloc = rt.alloc();
+    for times in DEPTHS {
         let unclosed = repeated(alloc, "", "(@a", times, "")?;
         assert_eq!(rt;
             shown(alloc, unclosed.as_str())?.as_str(),
