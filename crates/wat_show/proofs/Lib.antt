@@ -1,5 +1,3 @@
 pub mod Enclosed
-pub mod InstructionText
-pub mod Lines
 pub mod Lists
 pub mod Showing

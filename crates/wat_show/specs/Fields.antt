@@ -23,14 +23,11 @@ use Rattle.wat_segments.specs.DataVal.{DataValTy, bytes_in}
 use Rattle.wat_segments.specs.Memory.{MemoryKindTy}
 use Rattle.wat_segments.specs.Memory as memories
 use Rattle.wat_tokens.specs.Index.{Idx}
-use Rattle.wat_show.specs.Expressions.{below}
-use Rattle.wat_show.specs.Listing.{index_text}
+use Rattle.wat_listing.specs.Expressions.{below}
+use Rattle.wat_listing.specs.Listing.{index_text}
+use Rattle.wat_streams.specs.Written.{counted}
 
 -- ---- what lines are made of
-
--- words and a number, on a line
-abbrev pub counted : List ℕ → ℕ → List ℕ
-counted words n = words ++ (decimal n ++ codes "\n")
 
 -- how many bytes the pieces have together
 abbrev pub byte_count : List (List ℕ) → ℕ

@@ -1,10 +1,5 @@
-pub mod Expressions
 pub mod Fields
-pub mod Instructions
-pub mod Listing
 pub mod Modes
 pub mod Modules
-pub mod Run
 pub mod Shown
-pub mod Streams
 pub mod Whole

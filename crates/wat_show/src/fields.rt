@@ -20,10 +20,10 @@ ghost use Rattle.wat_show.specs.Fields.{elem_offset, elem_text, start_text, memo
 ghost use Rattle.wat_show.specs.Fields.{custom_text, field_text};
 
 use crate::entries::add_entries;
-use crate::expressions::add_below;
-use crate::listing::add_index;
+use wat_listing::expressions::add_below;
+use wat_listing::listing::add_index;
 use crate::pieces::total;
-use crate::text::{add, add_counted};
+use wat_streams::text::{add, add_counted};
 use std::alloc::AllocError;
 use wat_core::ModuleField;
 use wat_elems::{ElemKind, ElemPayload, TableKind};

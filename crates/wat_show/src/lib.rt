@@ -3,23 +3,13 @@
 #![tactic(auto)]
 
 pub mod entries;
-pub mod error;
-pub mod expressions;
 pub mod fields;
-pub mod input;
-pub mod instructions;
-pub mod listing;
 pub mod mode;
 pub mod modules;
-pub mod output;
 pub mod pieces;
-pub mod show;
 pub mod shown;
-pub mod text;
 pub mod value;
-pub mod watched;
 pub mod whole;
 
-pub use error::RunError;
 pub use mode::{Mode, run};
-pub use watched::Watched;
+pub use wat_streams::{RunError, Watched};

@@ -6,7 +6,7 @@ ghost use Rattle.wat_show.specs.Modules.{kind_listing, module_text};
 
 use crate::entries::{Entry, add_entries};
 use crate::pieces::{Piece, total};
-use crate::text::add_counted;
+use wat_streams::text::add_counted;
 use std::alloc::AllocError;
 use wat_core::{Module, ModuleKindOf};
 

@@ -5,7 +5,7 @@ ghost use Rattle.wat_show.specs.Shown.{refusal};
 ghost use Rattle.wat_tokens.specs.Error.{Memory};
 ghost use Rattle.wat_tokens.specs.Place.{offset_of};
 
-use crate::text::{add, add_number};
+use wat_streams::text::{add, add_number};
 use std::alloc::{AllocError, Global};
 use wat_tokens::{Error, Fault};
 

@@ -17,9 +17,10 @@ abbrev pub Front : {A : Type 0} → (A → List Tok → List Tok → Type 0) →
     → Type 0
 Front spells t x = (c : List Tok) × (t ≡ c ++ x.1) × spells x.0 c x.1
 
--- spells v c r: in front of the rest r the tokens c spell v. reads t: the value that stands in
--- front of t, and what is left. The facts say that the reader and the relation are one, that a
--- value takes at least `least` tokens, and that its parentheses are level.
+-- spells v c r: in front of the rest r the tokens c spell v.
+-- reads t: the value that stands in front of t, and what is left.
+-- The facts say that the reader and the relation are one, that a value takes at least `least`
+-- tokens, and that its parentheses are level.
 pub record Production (A : Type 0) : Type 1 where
   pub spells : A → List Tok → List Tok → Type 0
   pub reads : List Tok → Read A

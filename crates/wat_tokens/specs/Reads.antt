@@ -7,9 +7,12 @@ use Rattle.wat_tokens.specs.Parses.{Gives, Exactly}
 use Rattle.wat_tokens.specs.Production.{Read}
 use Rattle.wat_tokens.specs.State.{State}
 
--- From a to b a call answered r. exact: what it answers is what stands in front, and it is refused
--- where nothing does, or where memory ran out counts: what was taken, and no more turns than tokens
--- quiet: what wasn't counted names: which names are on, and whether spans are kept, stays
+-- From a to b a call answered r.
+-- exact: what it answers is what stands in front, and it is refused where nothing does, or where
+-- memory ran out
+-- counts: what was taken, and no more turns than tokens
+-- quiet: what wasn't counted
+-- names: which names are on, and whether spans are kept, stays
 pub record Call {X : Type 0} (answers silence : Type 0) (r : Result X Error) (a b : State) : Type 0
   where
     pub exact : answers

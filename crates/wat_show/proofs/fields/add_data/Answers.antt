@@ -2,8 +2,9 @@ use Rattle.std.proofs.Common.{◌≡◌, ◌++◌, ◌∙◌, ℕ, ap, sym, subs
 use Rattle.std.proofs.lemmas.Simd.{map-map}
 use Rattle.std.specs.Prelude.{OnOk, codes}
 use Rattle.wat_segments.specs.DataVal.{bytes_in, seen_val, seen_vals}
-use Rattle.wat_show.specs.Fields.{counted, byte_count, vals_count}
-use Rattle.wat_show.proofs.Lines.{added_both}
+use Rattle.wat_show.specs.Fields.{byte_count, vals_count}
+use Rattle.wat_streams.specs.Laws.Written.{added_both}
+use Rattle.wat_streams.specs.Written.{counted}
 use Rattle.wat_show.proofs.fields.add_data.Goals as goal
 
 pub returns-in-Passive : goal.returns-in-Passive

@@ -1,0 +1,2 @@
+pub mod InstructionText
+pub mod Lines
