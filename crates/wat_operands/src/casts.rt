@@ -2,9 +2,10 @@
 //! Instructions, "Reference Instructions" and "Control Instructions").
 
 ghost use Rattle.std.specs.Prelude.{true};
+ghost use Rattle.wat_tokens.specs.Reads.{ReadsLight};
 ghost use Rattle.wat_operands.specs.Casts.{seen_test, seen_cast, seen_cast_desc_eq, BranchTy};
 ghost use Rattle.wat_operands.specs.Casts.{seen_branch, seen_branch_fail, seen_branch_desc_eq};
-ghost use Rattle.wat_operands.specs.Casts.{seen_branch_desc_eq_fail, cast_branch};
+ghost use Rattle.wat_operands.specs.Casts.{seen_branch_desc_eq_fail, branch_between, cast_branch};
 ghost use Rattle.wat_types.specs.Reference.{RefTy, ref_type};
 
 use wat_tokens::{Index, Parse, Parser, Result};
@@ -126,6 +127,18 @@ impl<'a> Parse<'a> for RefCastDescEq<'a> {
     }
 }
 
+/// The label that a branch goes to, and the types that it casts from and to.
+#[tactic(auto, unfolding(crate::specs::Casts::cast_branch))]
+fn branch<'a>(parser: &mut Parser<'a>) -> Result<(Index<'a>, RefType<'a>, RefType<'a>)>
+    ensures reads { ReadsLight (λ b. branch_between b.0 b.1 b.2) result
+        (cast_branch.reads parser.old.left) parser.old parser.new }
+{
+    let label = Index::parse(parser)?;
+    let from_type = RefType::parse(parser)?;
+    let to_type = RefType::parse(parser)?;
+    Ok((label, from_type, to_type))
+}
+
 /// An index, and two reference types: the label, from, to.
 impl<'a> Parse<'a> for BrOnCast<'a> {
     ghost Seen = { BranchTy };
@@ -136,11 +149,8 @@ impl<'a> Parse<'a> for BrOnCast<'a> {
 
     ghost grammar = { cast_branch };
 
-    #[tactic(auto, unfolding(crate::specs::Casts::cast_branch))]
     fn parse(parser: &mut Parser<'a>) -> Result<Self> {
-        let label = Index::parse(parser)?;
-        let from_type = RefType::parse(parser)?;
-        let to_type = RefType::parse(parser)?;
+        let (label, from_type, to_type) = branch(parser)?;
         Ok(BrOnCast {
             label,
             from_type,
@@ -159,11 +169,8 @@ impl<'a> Parse<'a> for BrOnCastFail<'a> {
 
     ghost grammar = { cast_branch };
 
-    #[tactic(auto, unfolding(crate::specs::Casts::cast_branch))]
     fn parse(parser: &mut Parser<'a>) -> Result<Self> {
-        let label = Index::parse(parser)?;
-        let from_type = RefType::parse(parser)?;
-        let to_type = RefType::parse(parser)?;
+        let (label, from_type, to_type) = branch(parser)?;
         Ok(BrOnCastFail {
             label,
             from_type,
@@ -182,11 +189,8 @@ impl<'a> Parse<'a> for BrOnCastDescEq<'a> {
 
     ghost grammar = { cast_branch };
 
-    #[tactic(auto, unfolding(crate::specs::Casts::cast_branch))]
     fn parse(parser: &mut Parser<'a>) -> Result<Self> {
-        let label = Index::parse(parser)?;
-        let from_type = RefType::parse(parser)?;
-        let to_type = RefType::parse(parser)?;
+        let (label, from_type, to_type) = branch(parser)?;
         Ok(BrOnCastDescEq {
             label,
             from_type,
@@ -205,11 +209,8 @@ impl<'a> Parse<'a> for BrOnCastDescEqFail<'a> {
 
     ghost grammar = { cast_branch };
 
-    #[tactic(auto, unfolding(crate::specs::Casts::cast_branch))]
     fn parse(parser: &mut Parser<'a>) -> Result<Self> {
-        let label = Index::parse(parser)?;
-        let from_type = RefType::parse(parser)?;
-        let to_type = RefType::parse(parser)?;
+        let (label, from_type, to_type) = branch(parser)?;
         Ok(BrOnCastDescEqFail {
             label,
             from_type,
