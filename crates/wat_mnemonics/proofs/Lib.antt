@@ -1,5 +1,6 @@
 mod Halves
 mod Heads
+mod KeyOrder
 mod Prefix
 mod Rows
 mod RowsBelow

@@ -9,7 +9,7 @@ use Rattle.wat_mnemonics.specs.Laws.Order.{less_between, self_equal}
 greater_back : (x y : List ℕ) → cmp x y ≡ Greater → cmp y x ≡ Less
 greater_back x y h = nat_list_cmp_total.antisymm y x ∙ ap ordering_reverse h
 
-less_back : (x y : List ℕ) → cmp x y ≡ Less → cmp y x ≡ Greater
+pub less_back : (x y : List ℕ) → cmp x y ≡ Less → cmp y x ≡ Greater
 less_back x y h = nat_list_cmp_total.antisymm y x ∙ ap ordering_reverse h
 
 -- what is below an entry that is less is less

@@ -1,6 +1,7 @@
 pub mod Access
 pub mod Heads
 pub mod Indexed
+pub mod Keys
 pub mod Laws
 pub mod Mnemonic
 pub mod Opcodes

@@ -4,13 +4,15 @@ ghost use Rattle.std.specs.Prelude.{◌≡◌, ◌≢◌, ◌<◌, ◌≤◌, �
 ghost use Rattle.std.specs.Prelude.{slice_index_or};
 ghost use Rattle.wat_tokens.specs.Token.{Tok, Keyword};
 ghost use Rattle.wat_mnemonics.specs.Heads.{head_word};
-ghost use Rattle.wat_mnemonics.specs.Order.{first};
+ghost use Rattle.wat_mnemonics.specs.Keys.{key as key_of};
+ghost use Rattle.wat_mnemonics.specs.Order.{cmp, first};
 ghost use Rattle.wat_mnemonics.specs.Probes.{ReadsWord, AtMostTen};
 ghost use Rattle.wat_mnemonics.specs.Table.{all_heads};
 ghost use Rattle.wat_mnemonics.specs.declared.head.Head.{Head as AnyHead};
 ghost use Rattle.wat_tokens.specs.Counts.{Carries};
 
 use crate::head::Head;
+use crate::keys::{KEYS, key_of};
 use crate::table::HEADS;
 use std::cmp::Ordering;
 use wat_tokens::{Error, Fault, Parser, Result};
@@ -23,6 +25,19 @@ fn head_at(place: usize) -> Head
     HEADS[place]
 }
 
+/// How the word of an entry and a text compare: by their keys, and where these are equal, whole.
+fn compared(place: usize, key: u64, text: &str) -> Ordering
+    requires place { place < 623 }
+    requires key { key ≡ key_of text.now }
+    ensures { result ≡ cmp (head_word (slice_index_or all_heads place first)) text.now }
+{
+    match KEYS[place].cmp(&key) {
+        Ordering::Less => Ordering::Less,
+        Ordering::Equal => head_at(place).mnemonic().cmp(text),
+        Ordering::Greater => Ordering::Greater,
+    }
+}
+
 /// The head of a word, or None where the word is no mnemonic. The parser counts each comparison
 /// with an entry of the table, of which there are 1 to 10; it changes in nothing else.
 pub fn find(parser: &mut Parser<'_>, text: &str) -> Option<Head>
@@ -33,15 +48,15 @@ pub fn find(parser: &mut Parser<'_>, text: &str) -> Option<Head>
     ensures probed { parser.old.probes + 1 ≤ parser.new.probes }
     ensures probes { parser.new.probes ≤ parser.old.probes + 10 }
 {
+    let key = key_of(text);
     let mut low = 0;
     let mut high = 623;
     'halves: while low < high {
         let middle = low + (high - low) / 2;
-        let head = head_at(middle);
         parser.probe();
-        match head.mnemonic().cmp(text) {
+        match compared(middle, key, text) {
             Ordering::Less => low = middle + 1,
-            Ordering::Equal => return Some(head),
+            Ordering::Equal => return Some(head_at(middle)),
             Ordering::Greater => high = middle,
         }
     }

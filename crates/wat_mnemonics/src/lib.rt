@@ -9,6 +9,7 @@ pub mod access;
 pub mod find;
 pub mod head;
 pub mod indexed;
+pub(crate) mod keys;
 pub mod laws;
 pub mod opcode;
 pub mod ordered;

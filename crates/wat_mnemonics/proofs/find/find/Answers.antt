@@ -5,7 +5,6 @@ use Rattle.wat_mnemonics.specs.Order.{words, first, cmp}
 use Rattle.wat_mnemonics.proofs.WordOrder.{below_less, above_greater, absent}
 use Rattle.wat_mnemonics.specs.Laws.Places.{words_rise, words_length, entry_at}
 use Rattle.wat_mnemonics.proofs.RowsBelow.{found_at}
-use Rattle.wat_mnemonics.specs.declared.head.Head.{Head}
 use Rattle.wat_mnemonics.specs.Table.{all_heads}
 use Rattle.wat_mnemonics.proofs.Halves.{few_above, few_below, made_one, probed_only}
 use Rattle.wat_tokens.specs.State.{State}
@@ -14,19 +13,19 @@ use Rattle.wat_mnemonics.proofs.find.find.Goals as goal
 mid_below : (a b : ℕ) → a < b → b ≤ 623 → a + (b - a) / 2 < 623
 mid_below a b h k = omega arith
 
-middle_is : (m : ℕ) (r : Head) (w t : List ℕ) → m < 623 → r ≡ get_or all_heads m first → w ≡ head_word r → cmp w t ≡ cmp (get_or words m []) t
-middle_is m r w t h e f = ap (λ (x : List ℕ). cmp x t) (f ∙ ap head_word e ∙ sym (entry_at m h))
+middle_is : (m : ℕ) (t : List ℕ) → m < 623 → cmp (head_word (get_or all_heads m first)) t ≡ cmp (get_or words m []) t
+middle_is m t h = ap (λ (x : List ℕ). cmp x t) (sym (entry_at m h))
 
 pub halves-preserved-in-Less : goal.halves-preserved-in-Less
 halves-preserved-in-Less c =
     let b : c.halves.low + (c.halves.high - c.halves.low) / 2 < 623 = mid_below _ _ c.halves-test.true c.halves.invariant.top in
     let s : length words ≡ 623 = words_length in
     let n : c.probe.new.self.probes ≡ c.halves.parser.probes + 1 = ap (λ (s : State). s.probes) c.probe.ensures.only in
-    let e = middle_is _ _ _ c.args.text.now b c.head_at-head.ensures c.mnemonic.ensures in
+    let e = middle_is _ c.args.text.now b in
     record {
       bound = omega arith;
       top = c.halves.invariant.top;
-      less = below_less words c.args.text.now _ words_rise (omega arith) (sym e ∙ sym c.cmp.ensures ∙ c.in-Less.is);
+      less = below_less words c.args.text.now _ words_rise (omega arith) (sym e ∙ sym c.compared.ensures ∙ c.in-Less.is);
       more = c.halves.invariant.more;
       only = probed_only c.args.parser.now c.halves.parser c.probe.new.self c.halves.invariant.only c.probe.ensures.only;
       counts = λ s p. c.probe.ensures.counts s (c.halves.invariant.counts s p);
@@ -39,12 +38,12 @@ halves-preserved c =
     let b : c.halves.low + (c.halves.high - c.halves.low) / 2 < 623 = mid_below _ _ c.halves-test.true c.halves.invariant.top in
     let s : length words ≡ 623 = words_length in
     let n : c.probe.new.self.probes ≡ c.halves.parser.probes + 1 = ap (λ (s : State). s.probes) c.probe.ensures.only in
-    let e = middle_is _ _ _ c.args.text.now b c.head_at-head.ensures c.mnemonic.ensures in
+    let e = middle_is _ c.args.text.now b in
     record {
       bound = omega arith;
       top = omega arith;
       less = c.halves.invariant.less;
-      more = λ k l u. above_greater words c.args.text.now _ words_rise (sym e ∙ sym c.cmp.ensures ∙ c.in-Greater.is) k l (omega arith);
+      more = λ k l u. above_greater words c.args.text.now _ words_rise (sym e ∙ sym c.compared.ensures ∙ c.in-Greater.is) k l (omega arith);
       only = probed_only c.args.parser.now c.halves.parser c.probe.new.self c.halves.invariant.only c.probe.ensures.only;
       counts = λ s p. c.probe.ensures.counts s (c.halves.invariant.counts s p);
       some = made_one c.args.parser.now.probes c.halves.parser.probes c.probe.new.self.probes (c.halves.high - c.halves.low) _ n (omega (arith, c.halves.invariant.top)) c.halves.invariant.some;
@@ -52,7 +51,7 @@ halves-preserved c =
     }
 
 pub returns-in-Equal-clause-found : goal.returns-in-Equal-clause-found
-returns-in-Equal-clause-found c = sym c.mnemonic.ensures ∙ exact_bytes _ _ (sym c.cmp.ensures ∙ c.in-Equal.is)
+returns-in-Equal-clause-found c = ap head_word c.head_at.ensures ∙ exact_bytes _ _ (sym c.compared.ensures ∙ c.in-Equal.is)
 
 pub returns-clause-missing : goal.returns-clause-missing
 returns-clause-missing c = λ n e.
