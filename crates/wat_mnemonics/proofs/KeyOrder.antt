@@ -1,7 +1,7 @@
 -- The keys of words, and how words compare by them.
-use Rattle.std.proofs.Common.{◌≡◌, ℕ, zero, suc, ◌+◌, ◌*◌, ◌<◌, ◌≤◌, ◌⊎◌, inl, inr, Bool, true, List, [], ◌∷◌, length, get_or, map, refl, sym, ◌∙◌, ap, arith, subst}
-use Rattle.std.specs.Cmp.{nat_cmp_is, ranks, first_so, second_so}
-use Rattle.std.specs.Ordering.{nat_cmp, MatchOrdering, ordering_then}
+use Rattle.std.proofs.Common.{◌≡◌, ℕ, zero, suc, ◌+◌, ◌*◌, ◌<◌, ◌≤◌, ◌⊎◌, inl, inr, Bool, true, List, [], ◌∷◌, length, get_or, map, refl, sym, ◌∙◌, ap, arith}
+use Rattle.std.specs.Cmp.{nat_cmp_is, first_so, second_so}
+use Rattle.std.specs.Ordering.{ordering_then}
 use Rattle.std.specs.declared.cmp.Ordering.{Ordering}
 use Rattle.std.specs.declared.cmp.Ordering.TheVariants.{Less, Equal, Greater}
 use Rattle.std.proofs.Math.Dec.{ltb}
@@ -98,12 +98,10 @@ below_by (suc n) a b p q l =
         cases x y = grind arith
 
 module _ (k : ℕ) (l : k < 623) (text : List ℕ) (bytes : IsBytes text) where
-  pub key_less : {o : Ordering} → o ≡ nat_cmp (get_or KEYS k 0) (key text) → o ≡ Less → cmp (get_or words k []) text ≡ Less
-  key_less e is =
-      let less : get_or KEYS k 0 < key text = subst (λ (r : Ordering). MatchOrdering r (get_or KEYS k 0 < key text) (get_or KEYS k 0 ≡ key text) (key text < get_or KEYS k 0)) (sym e ∙ is) (ranks (get_or KEYS k 0) (key text)) in
+  pub key_less : get_or KEYS k 0 < key text → cmp (get_or words k []) text ≡ Less
+  key_less less =
       below_by 8 (get_or words k []) text (word_bytes k l) bytes (omega (arith, less, key_at k l))
 
-  pub key_greater : {o : Ordering} → o ≡ nat_cmp (get_or KEYS k 0) (key text) → o ≡ Greater → cmp (get_or words k []) text ≡ Greater
-  key_greater e is =
-      let more : key text < get_or KEYS k 0 = subst (λ (r : Ordering). MatchOrdering r (get_or KEYS k 0 < key text) (get_or KEYS k 0 ≡ key text) (key text < get_or KEYS k 0)) (sym e ∙ is) (ranks (get_or KEYS k 0) (key text)) in
+  pub key_greater : key text < get_or KEYS k 0 → cmp (get_or words k []) text ≡ Greater
+  key_greater more =
       less_back text (get_or words k []) (below_by 8 text (get_or words k []) bytes (word_bytes k l) (omega (arith, more, key_at k l)))

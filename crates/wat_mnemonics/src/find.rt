@@ -25,16 +25,29 @@ fn head_at(place: usize) -> Head
     HEADS[place]
 }
 
-/// How the word of an entry and a text compare: by their keys, and where these are equal, whole.
+/// How the word of an entry and a text compare.
+#[cold]
+fn compared_whole(place: usize, text: &str) -> Ordering
+    requires { place < 623 }
+    ensures { result ≡ cmp (head_word (slice_index_or all_heads place first)) text.now }
+{
+    head_at(place).mnemonic().cmp(text)
+}
+
+/// The same, by their keys where these differ.
 fn compared(place: usize, key: u64, text: &str) -> Ordering
     requires place { place < 623 }
     requires key { key ≡ key_of text.now }
     ensures { result ≡ cmp (head_word (slice_index_or all_heads place first)) text.now }
 {
-    match KEYS[place].cmp(&key) {
-        Ordering::Less => Ordering::Less,
-        Ordering::Equal => head_at(place).mnemonic().cmp(text),
-        Ordering::Greater => Ordering::Greater,
+    let entry = KEYS[place];
+    if entry == key {
+        return compared_whole(place, text);
+    }
+    if entry < key {
+        Ordering::Less
+    } else {
+        Ordering::Greater
     }
 }
 
@@ -49,15 +62,18 @@ pub fn find(parser: &mut Parser<'_>, text: &str) -> Option<Head>
     ensures probes { parser.new.probes ≤ parser.old.probes + 10 }
 {
     let key = key_of(text);
-    let mut low = 0;
-    let mut high = 623;
-    'halves: while low < high {
-        let middle = low + (high - low) / 2;
+    let mut base = 0;
+    let mut size = 624;
+    // (the entries before the base are less, and those from base + size - 1 on are greater)
+    'halves: while size > 1 {
+        let half = size / 2;
+        let place = base + half - 1;
+        size -= half;
         parser.probe();
-        match compared(middle, key, text) {
-            Ordering::Less => low = middle + 1,
-            Ordering::Equal => return Some(head_at(middle)),
-            Ordering::Greater => high = middle,
+        match compared(place, key, text) {
+            Ordering::Less => base += half,
+            Ordering::Equal => return Some(head_at(place)),
+            Ordering::Greater => {}
         }
     }
     None
