@@ -7,10 +7,10 @@ ghost use Rattle.wat_listing.specs.Expressions.{AreMarks, line, lines, lines_of,
 ghost use Rattle.wat_listing.specs.Expressions.{expression_text, below};
 
 use crate::instructions::add_instruction;
-use wat_streams::text::{add, add_number};
 use std::alloc::{AllocError, Global};
 use wat_expr::{BranchHint, Expression};
 use wat_instr::Instruction;
+use wat_streams::text::{add, add_number};
 
 /// Notes a hint at its index, where none is noted there yet.
 fn mark(marks: &mut Vec<Option<u32>>, hint: &BranchHint)

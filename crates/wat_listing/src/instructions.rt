@@ -4,9 +4,9 @@ ghost use Rattle.wat_instr.specs.Instruction.{head_in, operand_in, seen_instruct
 ghost use Rattle.wat_listing.specs.Instructions.{shown_operand, instr_text};
 
 use crate::listing::add_index;
-use wat_streams::text::{add, add_signed};
 use std::alloc::AllocError;
 use wat_instr::Instruction;
+use wat_streams::text::{add, add_signed};
 
 /// Adds a space and the operand, where that is an index, an i32 or an i64.
 fn add_operand(out: &mut Vec<u8>, instr: &Instruction) -> Result<(), AllocError>

@@ -8,8 +8,8 @@ ghost use Rattle.wat_types.specs.Function.{seen_function, seen_params};
 ghost use Rattle.wat_listing.specs.Listing.{index_text, abstract_text, within, heap_text, ref_text};
 ghost use Rattle.wat_listing.specs.Listing.{val_text, types_text, param_types, function_text};
 
-use wat_streams::text::{add, add_number};
 use std::alloc::AllocError;
+use wat_streams::text::{add, add_number};
 use wat_tokens::{Id, Index, NameAnnotation};
 use wat_types::{AbstractHeapType, FunctionType, HeapType, RefType, ValType};
 

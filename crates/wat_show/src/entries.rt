@@ -6,11 +6,11 @@ ghost use Rattle.wat_expr.specs.Expression.{seen_expression};
 ghost use Rattle.wat_listing.specs.Expressions.{below};
 ghost use Rattle.wat_show.specs.Fields.{field_text};
 
-use wat_listing::expressions::add_below;
 use crate::fields::add_field;
 use std::alloc::AllocError;
 use wat_core::ModuleField;
 use wat_expr::Expression;
+use wat_listing::expressions::add_below;
 
 /// A value in a list of its kind.
 pub trait Entry {

@@ -20,16 +20,16 @@ ghost use Rattle.wat_show.specs.Fields.{elem_offset, elem_text, start_text, memo
 ghost use Rattle.wat_show.specs.Fields.{custom_text, field_text};
 
 use crate::entries::add_entries;
-use wat_listing::expressions::add_below;
-use wat_listing::listing::add_index;
 use crate::pieces::total;
-use wat_streams::text::{add, add_counted};
 use std::alloc::AllocError;
 use wat_core::ModuleField;
 use wat_elems::{ElemKind, ElemPayload, TableKind};
 use wat_funcs::{FuncKind, GlobalKind, TagKind};
 use wat_links::{Custom, ExportKind, ImportItems};
+use wat_listing::expressions::add_below;
+use wat_listing::listing::add_index;
 use wat_segments::{DataKind, DataVal, MemoryKind};
+use wat_streams::text::{add, add_counted};
 use wat_tokens::Index;
 
 fn add_import(out: &mut Vec<u8>, items: &ImportItems) -> Result<(), AllocError>

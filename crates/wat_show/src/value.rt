@@ -14,8 +14,6 @@ ghost use Rattle.wat_tokens.specs.Error.{Memory};
 ghost use Rattle.wat_types.specs.Function.{seen_function, function_type};
 ghost use Rattle.wat_types.specs.Group.{FuncTy};
 
-use wat_listing::expressions::add_expression;
-use wat_listing::listing::add_function;
 use crate::modules::add_module;
 use crate::shown::refused;
 use crate::whole::{read_module, read_whole};
@@ -23,6 +21,8 @@ use bumpalo::Bump;
 use std::alloc::{AllocError, Global};
 use wat_core::Module;
 use wat_expr::{Expression, FoldedInstruction};
+use wat_listing::expressions::add_expression;
+use wat_listing::listing::add_function;
 use wat_tokens::Error;
 use wat_types::FunctionType;
 
