@@ -1,11 +1,11 @@
 -- The keys of words, and how words compare by them.
-use Rattle.std.proofs.Common.{◌≡◌, ℕ, zero, suc, ◌+◌, ◌*◌, ◌<◌, ◌≤◌, ◌⊎◌, inl, inr, Bool, true, List, [], ◌∷◌, length, get_or, map, refl, sym, ◌∙◌, ap, arith}
+use Rattle.std.proofs.Common.{◌≡◌, ℕ, zero, suc, ◌+◌, ◌*◌, ◌<◌, ◌⊎◌, inl, inr, Bool, true, List, [], ◌∷◌, get_or, map, refl, sym, ◌∙◌, ap, arith}
 use Rattle.std.specs.Cmp.{nat_cmp_is, first_so, second_so}
 use Rattle.std.specs.Ordering.{ordering_then}
 use Rattle.std.specs.declared.cmp.Ordering.{Ordering}
 use Rattle.std.specs.declared.cmp.Ordering.TheVariants.{Less, Equal, Greater}
 use Rattle.std.proofs.Math.Dec.{ltb}
-use Rattle.std.proofs.lemmas.Bool.{ltb-true}
+use Rattle.std.proofs.lemmas.Bool.{cases_lt, ltb-true}
 use Rattle.std.proofs.lemmas.List.{get_or-map}
 use Rattle.std.specs.List.{list_all}
 use Rattle.wat_mnemonics.specs.Keys.{number_of, key}
@@ -19,14 +19,21 @@ use Rattle.wat_mnemonics.proofs.WordOrder.{less_back}
 keys_are : KEYS ≡ map key words
 keys_are = refl
 
-pub key_at : (k : ℕ) → k < 623 → get_or KEYS k 0 ≡ key (get_or words k [])
+key_at : (k : ℕ) → k < 623 → get_or KEYS k 0 ≡ key (get_or words k [])
 key_at k l =
     ap (λ (xs : List ℕ). get_or xs k 0) keys_are ∙ get_or-map key words k [] 0 (let e = words_length in omega (arith, l, e))
 
 -- ---- bytes
 
-abbrev pub IsBytes : List ℕ → Type 0
+abbrev IsBytes : List ℕ → Type 0
 IsBytes t = (i : ℕ) → get_or t i 0 < 256
+
+-- what passes for all of a list passes at each place, where it does for what stands past the end
+passes_at : {X : Type 0} (test : X → Bool) (d : X) → test d ≡ true → (xs : List X) → list_all test xs ≡ true → (k : ℕ) → test (get_or xs k d) ≡ true
+passes_at test d p [] e zero = p
+passes_at test d p [] e (suc k) = p
+passes_at test d p (x ∷ xs) e zero = first_so (test x) (list_all test xs) e
+passes_at test d p (x ∷ xs) e (suc k) = passes_at test d p xs (second_so (test x) (list_all test xs) e) k
 
 abbrev is_byte : ℕ → Bool
 is_byte b = ltb b 256
@@ -34,22 +41,12 @@ is_byte b = ltb b 256
 abbrev are_bytes : List ℕ → Bool
 are_bytes t = list_all is_byte t
 
-all_are : (test : List ℕ → Bool) (xs : List (List ℕ)) → list_all test xs ≡ true → (k : ℕ) → k < length xs → test (get_or xs k []) ≡ true
-all_are test [] e k l = absurd (omega (arith, l))
-all_are test (x ∷ xs) e zero l = first_so (test x) (list_all test xs) e
-all_are test (x ∷ xs) e (suc k) l = all_are test xs (second_so (test x) (list_all test xs) e) k (omega (arith, l))
-
-bytes_are : (t : List ℕ) → are_bytes t ≡ true → IsBytes t
-bytes_are [] e zero = omega arith
-bytes_are [] e (suc i) = omega arith
-bytes_are (b ∷ t) e zero = ltb-true b 256 (first_so (is_byte b) (list_all is_byte t) e)
-bytes_are (b ∷ t) e (suc i) = bytes_are t (second_so (is_byte b) (list_all is_byte t) e) i
-
 words_are : list_all are_bytes words ≡ true
 words_are = refl
 
-pub word_bytes : (k : ℕ) → k < 623 → IsBytes (get_or words k [])
-word_bytes k l = bytes_are (get_or words k []) (all_are are_bytes words words_are k (let e = words_length in omega (arith, l, e)))
+word_bytes : (k : ℕ) → IsBytes (get_or words k [])
+word_bytes k i =
+    ltb-true (get_or (get_or words k []) i 0) 256 (passes_at is_byte 0 refl (get_or words k []) (passes_at are_bytes [] refl words words_are k) i)
 
 -- ---- the number of the first bytes tells how texts compare
 
@@ -59,13 +56,10 @@ same_bytes zero a b p q e k l = absurd (omega (arith, l))
 same_bytes (suc n) a b p q e k l =
     let fronts : number_of a n ≡ number_of b n = omega (arith, e, p n, q n) in
     let last : get_or a n 0 ≡ get_or b n 0 = omega (arith, e, p n, q n) in
-    elim (split k n (omega (arith, l))) [
+    elim (cases_lt k n) [
       | inl below ↦ same_bytes n a b p q fronts k below
-      | inr is ↦ rw is last
+      | inr over ↦ (let is : k ≡ n = omega (arith, l, over) in rw is last)
     ]
-  where
-    split : (k n : ℕ) → k ≤ n → (k < n) ⊎ (k ≡ n)
-    split k n l = grind arith
 
 -- the first byte that differs decides
 decides : (n : ℕ) (a b : List ℕ) → ((k : ℕ) → k < n → get_or a k 0 ≡ get_or b k 0) → get_or a n 0 < get_or b n 0 → cmp a b ≡ Less
@@ -89,19 +83,16 @@ below_by (suc n) a b p q l =
   where
     split : (x y u v : ℕ) → u < 256 → v < 256 → x * 256 + u < y * 256 + v → (x < y) ⊎ ((x ≡ y) × (u < v))
     split x y u v p q l =
-        elim (cases x y) [
+        elim (cases_lt x y) [
           | inl s ↦ inl s
           | inr s ↦ inr (omega (arith, p, q, l, s), omega (arith, p, q, l, s))
         ]
-      where
-        cases : (x y : ℕ) → (x < y) ⊎ (y ≤ x)
-        cases x y = grind arith
 
 module _ (k : ℕ) (l : k < 623) (text : List ℕ) (bytes : IsBytes text) where
   pub key_less : get_or KEYS k 0 < key text → cmp (get_or words k []) text ≡ Less
   key_less less =
-      below_by 8 (get_or words k []) text (word_bytes k l) bytes (omega (arith, less, key_at k l))
+      below_by 8 (get_or words k []) text (word_bytes k) bytes (omega (arith, less, key_at k l))
 
   pub key_greater : key text < get_or KEYS k 0 → cmp (get_or words k []) text ≡ Greater
   key_greater more =
-      less_back text (get_or words k []) (below_by 8 text (get_or words k []) bytes (word_bytes k l) (omega (arith, more, key_at k l)))
+      less_back text (get_or words k []) (below_by 8 text (get_or words k []) bytes (word_bytes k) (omega (arith, more, key_at k l)))

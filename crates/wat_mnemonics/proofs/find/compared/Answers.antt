@@ -1,4 +1,5 @@
-use Rattle.std.proofs.Common.{◌≡◌, ◌≢◌, ℕ, ◌<◌, ◌≤◌, ◌⊎◌, inl, inr, List, get_or, sym, ◌∙◌, ap, arith}
+use Rattle.std.proofs.Common.{◌≢◌, ℕ, ◌<◌, ◌≤◌, inl, inr, List, get_or, sym, ◌∙◌, ap, arith}
+use Rattle.std.proofs.lemmas.Bool.{cases_lt}
 use Rattle.wat_mnemonics.specs.Keys.{key}
 use Rattle.wat_mnemonics.specs.Laws.Places.{entry_at}
 use Rattle.wat_mnemonics.specs.Order.{cmp}
@@ -8,13 +9,10 @@ use Rattle.wat_mnemonics.proofs.find.compared.Goals as goal
 
 above : (a b : ℕ) → a ≢ b → b ≤ a → b < a
 above a b n l =
-    elim (split b a l) [
+    elim (cases_lt b a) [
       | inl p ↦ p
-      | inr p ↦ absurd (n (sym p))
+      | inr p ↦ absurd (n (omega (arith, l, p)))
     ]
-  where
-    split : (b a : ℕ) → b ≤ a → (b < a) ⊎ (b ≡ a)
-    split b a l = grind arith
 
 pub returns-then-entry-key-2 : goal.returns-then-entry-key-2
 returns-then-entry-key-2 c =
