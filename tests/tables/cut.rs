@@ -42,9 +42,9 @@ fn shown(alloc: Global, text: &str) -> Result<String, AllocError> {
     let mut out = String::new(alloc);
     match cut(alloc, text, &arena) {
         Ok(tokens) => {
-            for lexeme in &tokens {
+            for at in 0..tokens.len() {
                 out.push_str(" ")?;
-                add(&mut out, lexeme.token)?;
+                add(&mut out, tokens.token(at))?;
             }
         }
         Err(error) => {
@@ -60,9 +60,10 @@ fn shown(alloc: Global, text: &str) -> Result<String, AllocError> {
 fn offsets(alloc: Global, text: &str) -> Result<String, Error> {
     let arena = Bump::new(alloc);
     let mut out = String::new(alloc);
-    for lexeme in &cut(alloc, text, &arena)? {
+    let tokens = cut(alloc, text, &arena)?;
+    for at in 0..tokens.len() {
         out.push_str(" ")?;
-        add_number(alloc, &mut out, lexeme.offset)?;
+        add_number(alloc, &mut out, tokens.offset(at))?;
     }
     Ok(out)
 }

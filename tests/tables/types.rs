@@ -90,37 +90,26 @@ fn heap_types_are_peeked(rt: HostRuntime) -> Result<(), Fail> {
     Ok(())
 }
 
-fn has_params(rt: &impl Abort, ty: &FunctionType<'_>, times: usize) {
-    assert_eq!(rt; ty.params.len(), times);
+/// Wants so many parameters and so many results, all `i64`.
+fn has_numbers(rt: &impl Abort, ty: &FunctionType<'_>, wanted: (usize, usize)) {
+    assert_eq!(rt; (ty.params.len(), ty.results.len()), wanted);
     assert!(rt; ty.params.iter().all(|param| param.2 == ValType::I64));
+    assert!(rt; ty.results.iter().all(|ty| *ty == ValType::I64));
 }
 
-/// Wants so many parameters where the part between the two others, so many times, is read.
-fn reads_params(
+/// Wants so many parameters and so many results where the part between the two others, as many
+/// times as both together, is read; and of a copy too.
+fn reads_function(
     rt: &impl Abort,
     alloc: Global,
-    times: usize,
+    wanted: (usize, usize),
     parts: (&str, &str, &str),
 ) -> Result<(), Fail> {
     let arena = Bump::new(alloc);
-    let text = repeated(alloc, parts.0, parts.1, times, parts.2)?;
+    let text = repeated(alloc, parts.0, parts.1, wanted.0 + wanted.1, parts.2)?;
     let found = read_unannotated::<FunctionType>(alloc, text.as_str(), &arena)?;
-    has_params(rt, &found, times);
-    has_params(rt, &found.clone()?, times);
-    Ok(())
-}
-
-/// Wants so many results where the part between the two others, so many times, is read.
-fn reads_results(
-    rt: &impl Abort,
-    alloc: Global,
-    times: usize,
-    parts: (&str, &str, &str),
-) -> Result<(), Fail> {
-    let arena = Bump::new(alloc);
-    let text = repeated(alloc, parts.0, parts.1, times, parts.2)?;
-    let found = read_unannotated::<FunctionType>(alloc, text.as_str(), &arena)?.clone()?;
-    assert_eq!(rt; found.results.len(), times);
+    has_numbers(rt, &found, wanted);
+    has_numbers(rt, &found.clone()?, wanted);
     Ok(())
 }
 
@@ -128,10 +117,10 @@ fn reads_results(
 fn functions_of_any_length(rt: HostRuntime) -> Result<(), Fail> {
     let alloc = rt.alloc();
     for times in [0, 1, 2, 1000] {
-        reads_params(&rt, alloc, times, ("(param", " i64", ")"))?;
-        reads_params(&rt, alloc, times, ("", "(param i64)", ""))?;
-        reads_results(&rt, alloc, times, ("(result", " i64", ")"))?;
-        reads_results(&rt, alloc, times, ("", "(result i64)", ""))?;
+        reads_function(&rt, alloc, (times, 0), ("(param", " i64", ")"))?;
+        reads_function(&rt, alloc, (times, 0), ("", "(param i64)", ""))?;
+        reads_function(&rt, alloc, (0, times), ("(result", " i64", ")"))?;
+        reads_function(&rt, alloc, (0, times), ("", "(result i64)", ""))?;
     }
     Ok(())
 }

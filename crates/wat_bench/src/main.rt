@@ -16,7 +16,7 @@ use std::time::Instant;
 use std::{env, io};
 use wat_expr::Expression;
 use wat_lexer::cut::cut;
-use wat_lexer::token::Lexeme;
+use wat_lexer::lexeme::Lexeme;
 use wat_mnemonics::Head;
 use wat_tokens::{Parse, Parser};
 

@@ -2,7 +2,6 @@
 pub mod Rests
 pub mod Productions
 pub mod Types
-pub mod Immediates
 pub mod Operands
 pub mod Expressions
 pub mod Links

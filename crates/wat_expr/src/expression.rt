@@ -223,7 +223,10 @@ impl<'a> Parse<'a> for Expression<'a> {
         }
         match reader.pending {
             Some(_) => Err(Error::at(Fault::HintPlace, parser.cur_span())),
-            None => Ok(reader.out),
+            None => {
+                reader.out.instrs.shrink_to_fit();
+                Ok(reader.out)
+            }
         }
     }
 }

@@ -151,6 +151,7 @@ impl<'a> Levels<'a> {
     }
 
     /// Opens a group of a kind that holds an instruction, or refuses with Memory.
+    #[inline(always)]
     fn hold(&mut self, kind: Kind, head: Head<'a>) -> Result<()>
         requires { waiting (kind ∷ []) ≡ 1 }
         ensures { MatchResult result (λ _. self.new ≡ levels (kind ∷ [])
@@ -167,6 +168,7 @@ impl<'a> Levels<'a> {
     }
 
     /// Opens a group; Memory refuses it.
+    #[inline(always)]
     pub fn push(&mut self, level: Level<'a>) -> Result<()>
         ensures { MatchResult result (λ _. self.new ≡ seen_level level.entry ∷ self.old)
             (λ e. e.fault ≡ Fault.Memory) }

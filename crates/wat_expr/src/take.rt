@@ -38,6 +38,9 @@ pub fn take_hint_name(parser: &mut Parser<'_>) -> bool
     ensures exact { Takes hint_name result parser.old.left parser.new.left }
     ensures steady { Steady parser.old parser.new }
 {
+    if parser.cursor().annotation().is_none() {
+        return false;
+    }
     parser.take_annotation("metadata.code.branch_hint").is_ok()
 }
 

@@ -1,9 +1,5 @@
 pub mod Firsts
-pub mod Immediates
-pub mod Operands
 pub mod Rests
 pub mod RowFamilies
-pub mod Stands
 pub mod Steady
-pub mod Types
 pub mod Words

@@ -1,5 +1,5 @@
 -- Two rests that an instruction's tests don't tell apart: one front, and then anything in the one, and in the other what may follow.
-use Rattle.std.proofs.Common.{◌≡◌, ℕ, ◌+◌, ◌≤◌, true, false, is_some, List, [], ◌∷◌, ◌++◌, length, codes, refl, bytes_eq, ap, sym, ◌∙◌, append_assoc, arith, length-append, Bool}
+use Rattle.std.proofs.Common.{◌≡◌, ℕ, ◌+◌, ◌≤◌, false, is_some, List, [], ◌∷◌, ◌++◌, length, codes, bytes_eq, arith, length-append}
 use Rattle.wat_tokens.specs.Token.{Tok, RParen}
 use Rattle.wat_tokens.specs.Parens.{opens, closes, AreLevel}
 use Rattle.wat_tokens.specs.Laws.Parens.{opens-append, closes-append}
@@ -8,6 +8,7 @@ use Rattle.wat_tokens.specs.Index.{begins_index}
 use Rattle.wat_immediates.specs.Memory.{begins_with}
 use Rattle.wat_immediates.specs.Align.{past_front}
 use Rattle.wat_instr.specs.Follows.{NoTypeSecond}
+use Rattle.wat_instr.specs.Laws.Rests.{Rests, Fronted, fronted, fronted_behind}
 
 -- a word that no part of an instruction is asked to begin with
 pub record IsPlain (w : List ℕ) : Type 0 where
@@ -37,70 +38,30 @@ pub record Follows (t : List Tok) : Type 0 where
   pub then : NoTypeSecond t
 
 -- t and u have a front in common, of n tokens or more, which opens no group that it leaves open; behind it, u goes on with what may follow
-pub record Alike (n : ℕ) (t u : List Tok) : Type 0 where
-  pub front : List Tok
-  pub old : List Tok
-  pub new : List Tok
-  pub old_is : t ≡ front ++ old
-  pub new_is : u ≡ front ++ new
-  pub long : n ≤ length front
-  pub shut : opens front ≤ closes front
-  pub follows : Follows new
+abbrev pub Alike : ℕ → List Tok → List Tok → Type 0
+Alike n t u = Fronted (λ e r s. (n ≤ length e) × (opens e ≤ closes e) × Follows s) t u
 
 -- nothing in front
 pub alike_at_once : (t u : List Tok) → Follows u → Alike 0 t u
-alike_at_once t u f = record {
-  front = [];
-  old = t;
-  new = u;
-  old_is = refl;
-  new_is = refl;
-  long = omega arith;
-  shut = omega arith;
-  follows = f;
-}
+alike_at_once t u f = fronted t u (omega arith, omega arith, f)
 
-pub alike_fewer : (m n : ℕ) {t u : List Tok} → m ≤ n → Alike n t u → Alike m t u
-alike_fewer m n le a = record {
-  front = a.front;
-  old = a.old;
-  new = a.new;
-  old_is = a.old_is;
-  new_is = a.new_is;
-  long = omega (arith, le, a.long);
-  shut = a.shut;
-  follows = a.follows;
-}
+pub alike_fewer : (m n : ℕ) (t u : List Tok) → m ≤ n → Alike n t u → Alike m t u
+alike_fewer m n t u le a = fronted_behind [] t u a (omega (arith, le, a.fits.0), a.fits.1, a.fits.2)
 
 -- behind k tokens more
 pub alike_behind : (c t u : List Tok) (k n : ℕ) → k ≤ length c → AreLevel c → Alike n t u → Alike (k + n) (c ++ t) (c ++ u)
-alike_behind c t u k n le level a = record {
-  front = c ++ a.front;
-  old = a.old;
-  new = a.new;
-  old_is = ap (λ (x : List Tok). c ++ x) a.old_is ∙ sym (append_assoc c a.front a.old);
-  new_is = ap (λ (x : List Tok). c ++ x) a.new_is ∙ sym (append_assoc c a.front a.new);
-  long = omega (arith, length-append c a.front, le, a.long);
-  shut = omega (arith, opens-append c a.front, closes-append c a.front, level, a.shut);
-  follows = a.follows;
-}
+alike_behind c t u k n le level a =
+    fronted_behind c t u a (omega (arith, length-append c a.front, le, a.fits.0), omega (arith, opens-append c a.front, closes-append c a.front, level, a.fits.1), a.fits.2)
 
 -- behind what closes a group
 pub alike_shut : (t u : List Tok) (n : ℕ) → Alike n t u → Alike (1 + n) (RParen ∷ t) (RParen ∷ u)
-alike_shut t u n a = record {
-  front = RParen ∷ a.front;
-  old = a.old;
-  new = a.new;
-  old_is = ap (λ (x : List Tok). RParen ∷ x) a.old_is;
-  new_is = ap (λ (x : List Tok). RParen ∷ x) a.new_is;
-  long = omega (arith, a.long);
-  shut = omega (arith, a.shut);
-  follows = a.follows;
+alike_shut t u n a = fronted_behind (RParen ∷ []) t u a (omega (arith, a.fits.0), omega (arith, a.fits.1), a.fits.2)
+
+-- such rests are alike as the lemmas on operands want it
+abbrev pub following : Rests
+following = record {
+  Alike = Alike;
+  fewer = alike_fewer;
+  behind = alike_behind;
+  shut = alike_shut;
 }
-
--- ---- tests
-
--- the test answers the same before a rest that is alike: where it holds, at a front of i tokens or more; where it fails, of j or more
-pub record Steady (i j : ℕ) (test : List Tok → Bool) : Type 0 where
-  pub holds : (t u : List Tok) → Alike i t u → test t ≡ true → test u ≡ true
-  pub fails : (t u : List Tok) → Alike j t u → test t ≡ false → test u ≡ false

@@ -1,8 +1,10 @@
 -- No mnemonic is a word that a part of an instruction is asked to begin with.
 use Rattle.std.proofs.Common.{◌≡◌, ℕ, zero, suc, ◌<◌, Bool, false, ◌||◌, is_some, List, [], ◌∷◌, length, get_or, codes, bytes_eq, refl, subst, sym, arith, true, ◌⊎◌, inl, inr}
 use Rattle.std.proofs.lemmas.Bool.{or_parts}
-use Rattle.wat_tokens.specs.Token.{Tok, Keyword, RParen}
-use Rattle.wat_tokens.specs.Tests.{ends}
+use Rattle.wat_tokens.specs.Token.{Tok, Keyword}
+use Rattle.wat_tokens.specs.Tests.{begins_word, begins_group, begins_annotation, begins_id, begins_integer, ends}
+use Rattle.wat_tokens.specs.Index.{begins_index}
+use Rattle.wat_immediates.specs.Memory.{begins_with}
 use Rattle.wat_immediates.specs.Align.{past_front}
 use Rattle.wat_mnemonics.specs.Heads.{head_word}
 use Rattle.wat_mnemonics.specs.Order.{first}
@@ -11,6 +13,7 @@ use Rattle.wat_mnemonics.specs.Laws.Places.{there, place_below, table_length}
 use Rattle.wat_mnemonics.specs.Table.{all_heads}
 use Rattle.wat_mnemonics.specs.declared.head.Head.{Head}
 use Rattle.wat_instr.specs.Follows.{BeginsMnemonic, NoTypeSecond, MayFollow}
+use Rattle.wat_instr.specs.Laws.Sees.{fails_at_end}
 use Rattle.wat_instr.proofs.Rests.{IsPlain, Follows}
 
 -- the word is one that a part of an instruction may be asked to begin with
@@ -68,37 +71,21 @@ word_follows w t p e = record {
 
 -- and where a group ends
 end_follows : (s : List Tok) → ends s ≡ true → NoTypeSecond s → Follows s
-end_follows [] k e = record {
-  not_type = refl;
-  not_param = refl;
-  not_result = refl;
-  not_seqcst = refl;
-  not_acqrel = refl;
-  no_offset = refl;
-  no_align = refl;
-  no_index = refl;
-  no_id = refl;
-  no_integer = refl;
-  no_group = λ w. refl;
-  no_annotation = λ n. refl;
+end_follows s k e = record {
+  not_type = fails_at_end (begins_word (codes "type")) refl (λ x. refl) s k;
+  not_param = fails_at_end (begins_word (codes "param")) refl (λ x. refl) s k;
+  not_result = fails_at_end (begins_word (codes "result")) refl (λ x. refl) s k;
+  not_seqcst = fails_at_end (begins_word (codes "seqcst")) refl (λ x. refl) s k;
+  not_acqrel = fails_at_end (begins_word (codes "acqrel")) refl (λ x. refl) s k;
+  no_offset = fails_at_end (begins_with (codes "offset=")) refl (λ x. refl) s k;
+  no_align = fails_at_end (begins_with (codes "align=")) refl (λ x. refl) s k;
+  no_index = fails_at_end begins_index refl (λ x. refl) s k;
+  no_id = fails_at_end begins_id refl (λ x. refl) s k;
+  no_integer = fails_at_end begins_integer refl (λ x. refl) s k;
+  no_group = λ w. fails_at_end (begins_group w) refl (λ x. refl) s k;
+  no_annotation = λ n. fails_at_end (begins_annotation n) refl (λ x. refl) s k;
   then = e;
 }
-end_follows (RParen ∷ t) k e = record {
-  not_type = refl;
-  not_param = refl;
-  not_result = refl;
-  not_seqcst = refl;
-  not_acqrel = refl;
-  no_offset = refl;
-  no_align = refl;
-  no_index = refl;
-  no_id = refl;
-  no_integer = refl;
-  no_group = λ w. refl;
-  no_annotation = λ n. refl;
-  then = e;
-}
-end_follows (_ ∷ t) k e = absurd cc
 
 first_follows : (s : List Tok) → BeginsMnemonic s ⊎ (ends s ≡ true) → NoTypeSecond s → Follows s
 first_follows s (inl m) e = subst Follows (sym m.2) (word_follows (head_word m.0) m.1 (mnemonic_is_plain m.0) (subst NoTypeSecond m.2 e))

@@ -19,142 +19,155 @@ impl<'a> Instruction<'a> {
     pub fn clone(&self) -> Result<Instruction<'a>>
         ensures copies { Copies SameInstruction seen_instruction bare_instruction result self.now }
     {
-        match self {
-            Instruction::Block(op, x) => clone_block(*op, x),
-            Instruction::Label(op, x) => clone_label(*op, x),
-            Instruction::Scalar(op) => Ok(Instruction::Scalar(*op)),
-            Instruction::Indexed(op, x) => clone_indexed(*op, x),
-            Instruction::CallIndirect(op, x) => clone_call_indirect(*op, x),
+        let same = match self {
+            Instruction::Block(op, x) => return clone_block(*op, x),
+            Instruction::Label(op, x) => return clone_label(*op, x),
+            Instruction::Scalar(op) => Instruction::Scalar(*op),
+            Instruction::Indexed(op, x) => return clone_indexed(*op, x),
+            Instruction::CallIndirect(op, x) => return clone_call_indirect(*op, x),
             Instruction::Table(op, x) => match x.clone() {
-                Ok(same) => Ok(Instruction::Table(*op, same)),
-                Err(refused) => Err(Error::from(refused)),
+                Ok(same) => Instruction::Table(*op, same),
+                Err(refused) => return Err(Error::from(refused)),
             },
-            Instruction::Access(op, x) => match x.clone() {
-                Ok(same) => Ok(Instruction::Access(*op, same)),
-                Err(refused) => Err(Error::from(refused)),
-            },
+            Instruction::Access(op, x) => {
+                return match x.clone() {
+                    Ok(same) => Ok(Instruction::Access(*op, same)),
+                    Err(refused) => Err(Error::from(refused)),
+                };
+            }
             Instruction::Memory(op, x) => match x.clone() {
-                Ok(same) => Ok(Instruction::Memory(*op, same)),
-                Err(refused) => Err(Error::from(refused)),
+                Ok(same) => Instruction::Memory(*op, same),
+                Err(refused) => return Err(Error::from(refused)),
             },
             Instruction::Struct(op, x) => match x.clone() {
-                Ok(same) => Ok(Instruction::Struct(*op, same)),
-                Err(refused) => Err(Error::from(refused)),
+                Ok(same) => Instruction::Struct(*op, same),
+                Err(refused) => return Err(Error::from(refused)),
             },
             Instruction::ArrayInit(op, x) => match x.clone() {
-                Ok(same) => Ok(Instruction::ArrayInit(*op, same)),
-                Err(refused) => Err(Error::from(refused)),
+                Ok(same) => Instruction::ArrayInit(*op, same),
+                Err(refused) => return Err(Error::from(refused)),
             },
-            Instruction::AtomicAccess(op, x) => match x.clone() {
-                Ok(same) => Ok(Instruction::AtomicAccess(*op, same)),
-                Err(refused) => Err(Error::from(refused)),
-            },
-            Instruction::RmwAccess(op, x) => match x.clone() {
-                Ok(same) => Ok(Instruction::RmwAccess(*op, same)),
-                Err(refused) => Err(Error::from(refused)),
-            },
+            Instruction::AtomicAccess(op, x) => {
+                return match x.clone() {
+                    Ok(same) => Ok(Instruction::AtomicAccess(*op, same)),
+                    Err(refused) => Err(Error::from(refused)),
+                };
+            }
+            Instruction::RmwAccess(op, x) => {
+                return match x.clone() {
+                    Ok(same) => Ok(Instruction::RmwAccess(*op, same)),
+                    Err(refused) => Err(Error::from(refused)),
+                };
+            }
             Instruction::OrderedIndex(op, x) => match x.clone() {
-                Ok(same) => Ok(Instruction::OrderedIndex(*op, same)),
-                Err(refused) => Err(Error::from(refused)),
+                Ok(same) => Instruction::OrderedIndex(*op, same),
+                Err(refused) => return Err(Error::from(refused)),
             },
             Instruction::OrderedTable(op, x) => match x.clone() {
-                Ok(same) => Ok(Instruction::OrderedTable(*op, same)),
-                Err(refused) => Err(Error::from(refused)),
+                Ok(same) => Instruction::OrderedTable(*op, same),
+                Err(refused) => return Err(Error::from(refused)),
             },
             Instruction::OrderedStruct(op, x) => match x.clone() {
-                Ok(same) => Ok(Instruction::OrderedStruct(*op, same)),
-                Err(refused) => Err(Error::from(refused)),
+                Ok(same) => Instruction::OrderedStruct(*op, same),
+                Err(refused) => return Err(Error::from(refused)),
             },
-            Instruction::LaneAccess(op, x) => match x.clone() {
-                Ok(same) => Ok(Instruction::LaneAccess(*op, same)),
-                Err(refused) => Err(Error::from(refused)),
-            },
+            Instruction::LaneAccess(op, x) => {
+                return match x.clone() {
+                    Ok(same) => Ok(Instruction::LaneAccess(*op, same)),
+                    Err(refused) => Err(Error::from(refused)),
+                };
+            }
             Instruction::Lane(op, x) => match x.clone() {
-                Ok(same) => Ok(Instruction::Lane(*op, same)),
-                Err(refused) => Err(Error::from(refused)),
+                Ok(same) => Instruction::Lane(*op, same),
+                Err(refused) => return Err(Error::from(refused)),
             },
-            Instruction::Vector(op) => Ok(Instruction::Vector(*op)),
-            Instruction::br_table(x) => clone_br_table(x),
-            Instruction::select(x) => clone_select(x),
+            Instruction::Vector(op) => Instruction::Vector(*op),
+            Instruction::br_table(x) => return clone_br_table(x),
+            Instruction::select(x) => return clone_select(x),
             Instruction::memory_init(x) => match x.clone() {
-                Ok(same) => Ok(Instruction::memory_init(same)),
-                Err(refused) => Err(Error::from(refused)),
+                Ok(same) => Instruction::memory_init(same),
+                Err(refused) => return Err(Error::from(refused)),
             },
             Instruction::memory_copy(x) => match x.clone() {
-                Ok(same) => Ok(Instruction::memory_copy(same)),
-                Err(refused) => Err(Error::from(refused)),
+                Ok(same) => Instruction::memory_copy(same),
+                Err(refused) => return Err(Error::from(refused)),
             },
             Instruction::table_init(x) => match x.clone() {
-                Ok(same) => Ok(Instruction::table_init(same)),
-                Err(refused) => Err(Error::from(refused)),
+                Ok(same) => Instruction::table_init(same),
+                Err(refused) => return Err(Error::from(refused)),
             },
             Instruction::table_copy(x) => match x.clone() {
-                Ok(same) => Ok(Instruction::table_copy(same)),
-                Err(refused) => Err(Error::from(refused)),
+                Ok(same) => Instruction::table_copy(same),
+                Err(refused) => return Err(Error::from(refused)),
             },
-            Instruction::ref_null(x) => Ok(Instruction::ref_null(*x)),
+            Instruction::ref_null(x) => Instruction::ref_null(*x),
             Instruction::array_new_fixed(x) => match x.clone() {
-                Ok(same) => Ok(Instruction::array_new_fixed(same)),
-                Err(refused) => Err(Error::from(refused)),
+                Ok(same) => Instruction::array_new_fixed(same),
+                Err(refused) => return Err(Error::from(refused)),
             },
             Instruction::array_new_data(x) => match x.clone() {
-                Ok(same) => Ok(Instruction::array_new_data(same)),
-                Err(refused) => Err(Error::from(refused)),
+                Ok(same) => Instruction::array_new_data(same),
+                Err(refused) => return Err(Error::from(refused)),
             },
             Instruction::array_new_elem(x) => match x.clone() {
-                Ok(same) => Ok(Instruction::array_new_elem(same)),
-                Err(refused) => Err(Error::from(refused)),
+                Ok(same) => Instruction::array_new_elem(same),
+                Err(refused) => return Err(Error::from(refused)),
             },
             Instruction::array_fill(x) => match x.clone() {
-                Ok(same) => Ok(Instruction::array_fill(same)),
-                Err(refused) => Err(Error::from(refused)),
+                Ok(same) => Instruction::array_fill(same),
+                Err(refused) => return Err(Error::from(refused)),
             },
             Instruction::array_copy(x) => match x.clone() {
-                Ok(same) => Ok(Instruction::array_copy(same)),
-                Err(refused) => Err(Error::from(refused)),
+                Ok(same) => Instruction::array_copy(same),
+                Err(refused) => return Err(Error::from(refused)),
             },
             Instruction::ref_test(x) => match x.clone() {
-                Ok(same) => Ok(Instruction::ref_test(same)),
-                Err(refused) => Err(Error::from(refused)),
+                Ok(same) => Instruction::ref_test(same),
+                Err(refused) => return Err(Error::from(refused)),
             },
             Instruction::ref_cast(x) => match x.clone() {
-                Ok(same) => Ok(Instruction::ref_cast(same)),
-                Err(refused) => Err(Error::from(refused)),
+                Ok(same) => Instruction::ref_cast(same),
+                Err(refused) => return Err(Error::from(refused)),
             },
-            Instruction::br_on_cast(x) => clone_br_on_cast(x),
-            Instruction::br_on_cast_fail(x) => clone_br_on_cast_fail(x),
-            Instruction::i32_const(x) => Ok(Instruction::i32_const(*x)),
-            Instruction::i64_const(x) => Ok(Instruction::i64_const(*x)),
-            Instruction::f32_const(x) => Ok(Instruction::f32_const(*x)),
-            Instruction::f64_const(x) => Ok(Instruction::f64_const(*x)),
-            Instruction::atomic_fence(x) => Ok(Instruction::atomic_fence(*x)),
-            Instruction::v128_const(x) => match x.clone() {
-                Ok(same) => Ok(Instruction::v128_const(same)),
-                Err(refused) => Err(Error::from(refused)),
-            },
-            Instruction::i8x16_shuffle(x) => match x.clone() {
-                Ok(same) => Ok(Instruction::i8x16_shuffle(same)),
-                Err(refused) => Err(Error::from(refused)),
-            },
-            Instruction::try_table(x) => clone_try_table(x),
+            Instruction::br_on_cast(x) => return clone_br_on_cast(x),
+            Instruction::br_on_cast_fail(x) => return clone_br_on_cast_fail(x),
+            Instruction::i32_const(x) => Instruction::i32_const(*x),
+            Instruction::i64_const(x) => Instruction::i64_const(*x),
+            Instruction::f32_const(x) => Instruction::f32_const(*x),
+            Instruction::f64_const(x) => Instruction::f64_const(*x),
+            Instruction::atomic_fence(x) => Instruction::atomic_fence(*x),
+            Instruction::v128_const(x) => {
+                return match x.clone() {
+                    Ok(same) => Ok(Instruction::v128_const(same)),
+                    Err(refused) => Err(Error::from(refused)),
+                };
+            }
+            Instruction::i8x16_shuffle(x) => {
+                return match x.clone() {
+                    Ok(same) => Ok(Instruction::i8x16_shuffle(same)),
+                    Err(refused) => Err(Error::from(refused)),
+                };
+            }
+            Instruction::try_table(x) => return clone_try_table(x),
             Instruction::cont_bind(x) => match x.clone() {
-                Ok(same) => Ok(Instruction::cont_bind(same)),
-                Err(refused) => Err(Error::from(refused)),
+                Ok(same) => Instruction::cont_bind(same),
+                Err(refused) => return Err(Error::from(refused)),
             },
-            Instruction::resume(x) => clone_resume(x),
-            Instruction::resume_throw(x) => clone_resume_throw(x),
-            Instruction::resume_throw_ref(x) => clone_resume_throw_ref(x),
+            Instruction::resume(x) => return clone_resume(x),
+            Instruction::resume_throw(x) => return clone_resume_throw(x),
+            Instruction::resume_throw_ref(x) => return clone_resume_throw_ref(x),
             Instruction::switch(x) => match x.clone() {
-                Ok(same) => Ok(Instruction::switch(same)),
-                Err(refused) => Err(Error::from(refused)),
+                Ok(same) => Instruction::switch(same),
+                Err(refused) => return Err(Error::from(refused)),
             },
             Instruction::ref_cast_desc_eq(x) => match x.clone() {
-                Ok(same) => Ok(Instruction::ref_cast_desc_eq(same)),
-                Err(refused) => Err(Error::from(refused)),
+                Ok(same) => Instruction::ref_cast_desc_eq(same),
+                Err(refused) => return Err(Error::from(refused)),
             },
-            Instruction::br_on_cast_desc_eq(x) => clone_br_on_cast_desc_eq(x),
-            Instruction::br_on_cast_desc_eq_fail(x) => clone_br_on_cast_desc_eq_fail(x),
-        }
+            Instruction::br_on_cast_desc_eq(x) => return clone_br_on_cast_desc_eq(x),
+            Instruction::br_on_cast_desc_eq_fail(x) => return clone_br_on_cast_desc_eq_fail(x),
+        };
+        Ok(same)
     }
 }
 
@@ -197,7 +210,10 @@ fn clone_br_table<'a>(x: &BrTableIndices<'a>) -> Result<Instruction<'a>>
     ensures copies { Copies SameInstruction seen_instruction bare_instruction result
         (code.br_table x.now) }
 {
-    Ok(Instruction::br_table(x.clone()?))
+    match x.clone() {
+        Ok(same) => Ok(Instruction::br_table(same)),
+        Err(refused) => Err(refused),
+    }
 }
 
 /// `select`, once more.
@@ -205,7 +221,10 @@ fn clone_select<'a>(x: &SelectTypes<'a>) -> Result<Instruction<'a>>
     ensures copies { Copies SameInstruction seen_instruction bare_instruction result
         (code.select x.now) }
 {
-    Ok(Instruction::select(x.clone()?))
+    match x.clone() {
+        Ok(same) => Ok(Instruction::select(same)),
+        Err(refused) => Err(refused),
+    }
 }
 
 /// `br_on_cast`, once more.
@@ -213,7 +232,10 @@ fn clone_br_on_cast<'a>(x: &Box<BrOnCast<'a>>) -> Result<Instruction<'a>>
     ensures copies { Copies SameInstruction seen_instruction bare_instruction result
         (code.br_on_cast x.now) }
 {
-    Ok(Instruction::br_on_cast(x.clone()?))
+    match x.clone() {
+        Ok(same) => Ok(Instruction::br_on_cast(same)),
+        Err(refused) => Err(Error::from(refused)),
+    }
 }
 
 /// `br_on_cast_fail`, once more.
@@ -221,7 +243,10 @@ fn clone_br_on_cast_fail<'a>(x: &Box<BrOnCastFail<'a>>) -> Result<Instruction<'a
     ensures copies { Copies SameInstruction seen_instruction bare_instruction result
         (code.br_on_cast_fail x.now) }
 {
-    Ok(Instruction::br_on_cast_fail(x.clone()?))
+    match x.clone() {
+        Ok(same) => Ok(Instruction::br_on_cast_fail(same)),
+        Err(refused) => Err(Error::from(refused)),
+    }
 }
 
 /// `try_table`, once more.
@@ -229,7 +254,10 @@ fn clone_try_table<'a>(x: &TryTable<'a>) -> Result<Instruction<'a>>
     ensures copies { Copies SameInstruction seen_instruction bare_instruction result
         (code.try_table x.now) }
 {
-    Ok(Instruction::try_table(x.clone()?))
+    match x.clone() {
+        Ok(same) => Ok(Instruction::try_table(same)),
+        Err(refused) => Err(refused),
+    }
 }
 
 /// `resume`, once more.
@@ -237,7 +265,10 @@ fn clone_resume<'a>(x: &Resume<'a>) -> Result<Instruction<'a>>
     ensures copies { Copies SameInstruction seen_instruction bare_instruction result
         (code.resume x.now) }
 {
-    Ok(Instruction::resume(x.clone()?))
+    match x.clone() {
+        Ok(same) => Ok(Instruction::resume(same)),
+        Err(refused) => Err(refused),
+    }
 }
 
 /// `resume_throw`, once more.
@@ -245,7 +276,10 @@ fn clone_resume_throw<'a>(x: &ResumeThrow<'a>) -> Result<Instruction<'a>>
     ensures copies { Copies SameInstruction seen_instruction bare_instruction result
         (code.resume_throw x.now) }
 {
-    Ok(Instruction::resume_throw(x.clone()?))
+    match x.clone() {
+        Ok(same) => Ok(Instruction::resume_throw(same)),
+        Err(refused) => Err(refused),
+    }
 }
 
 /// `resume_throw_ref`, once more.
@@ -253,7 +287,10 @@ fn clone_resume_throw_ref<'a>(x: &ResumeThrowRef<'a>) -> Result<Instruction<'a>>
     ensures copies { Copies SameInstruction seen_instruction bare_instruction result
         (code.resume_throw_ref x.now) }
 {
-    Ok(Instruction::resume_throw_ref(x.clone()?))
+    match x.clone() {
+        Ok(same) => Ok(Instruction::resume_throw_ref(same)),
+        Err(refused) => Err(refused),
+    }
 }
 
 /// `br_on_cast_desc_eq`, once more.
@@ -261,7 +298,10 @@ fn clone_br_on_cast_desc_eq<'a>(x: &Box<BrOnCastDescEq<'a>>) -> Result<Instructi
     ensures copies { Copies SameInstruction seen_instruction bare_instruction result
         (code.br_on_cast_desc_eq x.now) }
 {
-    Ok(Instruction::br_on_cast_desc_eq(x.clone()?))
+    match x.clone() {
+        Ok(same) => Ok(Instruction::br_on_cast_desc_eq(same)),
+        Err(refused) => Err(Error::from(refused)),
+    }
 }
 
 /// `br_on_cast_desc_eq_fail`, once more.
@@ -269,5 +309,8 @@ fn clone_br_on_cast_desc_eq_fail<'a>(x: &Box<BrOnCastDescEqFail<'a>>) -> Result<
     ensures copies { Copies SameInstruction seen_instruction bare_instruction result
         (code.br_on_cast_desc_eq_fail x.now) }
 {
-    Ok(Instruction::br_on_cast_desc_eq_fail(x.clone()?))
+    match x.clone() {
+        Ok(same) => Ok(Instruction::br_on_cast_desc_eq_fail(same)),
+        Err(refused) => Err(Error::from(refused)),
+    }
 }

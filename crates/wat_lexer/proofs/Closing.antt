@@ -6,30 +6,24 @@ use Rattle.std.proofs.lemmas.List.{reverse-append, drop-map, length-map, drop_mo
 use Rattle.std.proofs.lemmas.Option.{slice_get-get_or, slice_get-map}
 use Rattle.std.proofs.Math.ListN.{set, drop_of_length-le}
 use Rattle.std.proofs.Math.Seq.{map-set_same}
-use Rattle.wat_lexer.specs.Token.{Tok, LParen, RParen, Keyword, Id, Annotation, Integer, String, Reserved, Placed, tokens_of, is_open, is_close}
+use Rattle.wat_lexer.specs.Token.{Entry, Tok, LParen, RParen, Keyword, Id, Annotation, Integer, String, Reserved, Placed, tokens_of, is_open, is_close}
 use Rattle.wat_lexer.specs.Sight.{hides, annotated, is_standard, annotation_name, shuts, deeper, behind_group, hidden_at, hidden}
 use Rattle.wat_lexer.specs.Cut.{Unclosed, Closed, FirstUnclosed}
-use Rattle.wat_lexer.specs.View.{lexeme_tok, toks, placed_of, placed, leap, AreLeaps}
-use Rattle.wat_lexer.specs.declared.token.Lexeme.{Lexeme}
-use Rattle.wat_lexer.specs.declared.token.Token.TheVariants as of
+use Rattle.wat_lexer.specs.View.{entry_tok, toks, placed_of, placed, leap, leaping, blank, AreLeaps}
 use Rattle.wat_lexer.proofs.Leaps.{leaps_later}
 
 -- TOKENS AND THEIR PLACES
 
-pub tokens_of-placed : (ls : List Lexeme) → tokens_of (placed ls) ≡ toks ls
+pub tokens_of-placed : (ls : List Entry) → tokens_of (placed ls) ≡ toks ls
 tokens_of-placed [] = refl
-tokens_of-placed (x ∷ ls) = ap (λ l. lexeme_tok x ∷ l) (tokens_of-placed ls)
+tokens_of-placed (x ∷ ls) = ap (λ l. entry_tok x ∷ l) (tokens_of-placed ls)
 
 -- where only leaps were told, the tokens are the same
-toks_at : (ls before : List Lexeme) (i : ℕ) → placed ls ≡ placed before → toks (drop i ls) ≡ drop i (tokens_of (placed before))
-toks_at ls before i e = rw (← e, tokens_of-placed ls, drop-map lexeme_tok i ls)
+toks_at : (ls before : List Entry) (i : ℕ) → placed ls ≡ placed before → toks (drop i ls) ≡ drop i (tokens_of (placed before))
+toks_at ls before i e = rw (← e, tokens_of-placed ls, drop-map entry_tok i ls)
 
-pub placed_length : (ls before : List Lexeme) → placed ls ≡ placed before → length ls ≡ length before
+pub placed_length : (ls before : List Entry) → placed ls ≡ placed before → length ls ≡ length before
 placed_length ls before e = omega (arith, ap length e, length-map ls placed_of, length-map before placed_of)
-
--- what stands where there is no token
-abbrev pub blank : Lexeme
-blank = record { token = of.LParen; offset = 0; skip = 0 }
 
 -- GROUPS
 
@@ -62,12 +56,12 @@ hides_is (LParen ∷ _ ∷ r) h = cc
 hides_is (_ ∷ r) h = cc
 
 -- leaps are told from a place on, where they are told behind it and there
-leaps_cons : (x : Lexeme) (ls : List Lexeme) → AreLeaps ls → ((known : Bool) → hides known (toks (x ∷ ls)) ≡ true → leap known (x ∷ ls) ≡ hidden known (toks (x ∷ ls))) → AreLeaps (x ∷ ls)
+leaps_cons : (x : Entry) (ls : List Entry) → AreLeaps ls → ((known : Bool) → hides known (toks (x ∷ ls)) ≡ true → leap known (x ∷ ls) ≡ hidden known (toks (x ∷ ls))) → AreLeaps (x ∷ ls)
 leaps_cons x ls behind here known zero = here known
 leaps_cons x ls behind here known (suc j) = behind known j
 
 -- where no group is hidden, nothing is to be told
-leaps_past : (x : Lexeme) (ls : List Lexeme) → AreLeaps ls → hides false (toks (x ∷ ls)) ≡ false → AreLeaps (x ∷ ls)
+leaps_past : (x : Entry) (ls : List Entry) → AreLeaps ls → hides false (toks (x ∷ ls)) ≡ false → AreLeaps (x ∷ ls)
 leaps_past x ls behind none = leaps_cons x ls behind (λ known h. let f = hidden_anyway known (toks (x ∷ ls)) h in cc)
 
 -- behind the first token of an annotation's group no group begins
@@ -77,31 +71,28 @@ second LParen _ r h = cc
 second _ b r h = cc
 
 -- what was told at a group's first two tokens is right
-told : (x y : Lexeme) (ls : List Lexeme) → AreLeaps ls → hides false (toks (x ∷ y ∷ ls)) ≡ true → x.skip ≡ hidden false (toks (x ∷ y ∷ ls)) → (hides true (toks (x ∷ y ∷ ls)) ≡ true → y.skip ≡ hidden true (toks (x ∷ y ∷ ls))) → AreLeaps (x ∷ y ∷ ls)
-told x y ls behind begins all unknown = leaps_cons x (y ∷ ls) (leaps_past y ls behind (second (lexeme_tok x) (lexeme_tok y) (toks ls) begins)) (elim [ true ↦ unknown | false ↦ λ _. all ])
+told : (x y : Entry) (ls : List Entry) → AreLeaps ls → hides false (toks (x ∷ y ∷ ls)) ≡ true → x.skip ≡ hidden false (toks (x ∷ y ∷ ls)) → (hides true (toks (x ∷ y ∷ ls)) ≡ true → y.skip ≡ hidden true (toks (x ∷ y ∷ ls))) → AreLeaps (x ∷ y ∷ ls)
+told x y ls behind begins all unknown = leaps_cons x (y ∷ ls) (leaps_past y ls behind (second (entry_tok x) (entry_tok y) (toks ls) begins)) (elim [ true ↦ unknown | false ↦ λ _. all ])
 
 -- the list with another leap at a place
-abbrev leaping : List Lexeme → ℕ → ℕ → Lexeme
-leaping ls i leap = record { token = (get_or ls i blank).token; offset = (get_or ls i blank).offset; skip = leap }
-
-abbrev marked : List Lexeme → ℕ → ℕ → List Lexeme
+abbrev marked : List Entry → ℕ → ℕ → List Entry
 marked ls i leap = set ls i (leaping ls i leap)
 
-marked_same : (ls : List Lexeme) (i leap : ℕ) → placed (marked ls i leap) ≡ placed ls
+marked_same : (ls : List Entry) (i leap : ℕ) → placed (marked ls i leap) ≡ placed ls
 marked_same ls i leap = map-set_same placed_of ls i (leaping ls i leap) blank refl
 
 -- the list with leaps at two neighbouring places
-abbrev pub twice_marked : List Lexeme → ℕ → ℕ → ℕ → List Lexeme
+abbrev pub twice_marked : List Entry → ℕ → ℕ → ℕ → List Entry
 twice_marked ls at all unknown = marked (marked ls at all) (at + 1) unknown
 
-pub twice_same : (ls : List Lexeme) (at all unknown : ℕ) → placed (twice_marked ls at all unknown) ≡ placed ls
+pub twice_same : (ls : List Entry) (at all unknown : ℕ) → placed (twice_marked ls at all unknown) ≡ placed ls
 twice_same ls at all unknown = marked_same (marked ls at all) (at + 1) unknown ∙ marked_same ls at all
 
-pub twice_leaps : (ls : List Lexeme) (at all unknown : ℕ) → hides false (toks (drop at ls)) ≡ true → AreLeaps (drop (at + 1) ls) → all ≡ hidden false (toks (drop at ls)) → (hides true (toks (drop at ls)) ≡ true → unknown ≡ hidden true (toks (drop at ls)))
+pub twice_leaps : (ls : List Entry) (at all unknown : ℕ) → hides false (toks (drop at ls)) ≡ true → AreLeaps (drop (at + 1) ls) → all ≡ hidden false (toks (drop at ls)) → (hides true (toks (drop at ls)) ≡ true → unknown ≡ hidden true (toks (drop at ls)))
     → AreLeaps (drop at (twice_marked ls at all unknown))
 twice_leaps ls at all unknown begins behind e f =
     let (n, r, is) = hides_is (toks (drop at ls)) begins in
-    let lt : at + 1 < length ls = omega (arith, ap length is, length-map (drop at ls) lexeme_tok, length-drop at ls) in
+    let lt : at + 1 < length ls = omega (arith, ap length is, length-map (drop at ls) entry_tok, length-drop at ls) in
     let x = leaping ls at all in
     let y = leaping (marked ls at all) (at + 1) unknown in
     let next : at + 1 + 1 ≡ at + 2 = omega arith in
@@ -138,12 +129,12 @@ FirstFrom ps i None = (j : ℕ) → i ≤ j → Unclosed (tokens_of ps) j → �
 FirstFrom ps i (Some offset) = (j : ℕ) × (t : Placed) × (i ≤ j) × (slice_get ps j ≡ Some t) × (offset ≡ t.offset) × Unclosed (tokens_of ps) j × ((k : ℕ) → i ≤ k → k < j → Unclosed (tokens_of ps) k → ⊥)
 
 -- where the group closes, from the place on, in which k more lie open
-abbrev pub ClosesAt : List Lexeme → ℕ → ℕ → Option ℕ → Type 0
+abbrev pub ClosesAt : List Entry → ℕ → ℕ → Option ℕ → Type 0
 ClosesAt before i k None = behind_group k (drop i (tokens_of (placed before))) ≡ None
 ClosesAt before i k (Some e) = (behind_group k (drop i (tokens_of (placed before))) ≡ Some (drop e (tokens_of (placed before)))) × (i < e) × (e ≤ length before)
 
 -- From the place on: where each group ends, by the stack; the leaps; the first group that isn't closed.
-pub record LeapsSoFar (before : List Lexeme) (i : ℕ) (ls : List Lexeme) (stack : List ℕ) (first : Option ℕ) : Type 0 where
+pub record LeapsSoFar (before : List Entry) (i : ℕ) (ls : List Entry) (stack : List ℕ) (first : Option ℕ) : Type 0 where
   pub same : placed ls ≡ placed before
   pub within : i ≤ length ls
   pub tops : (k : ℕ) → ClosesAt before i k (at_top stack k)
@@ -151,7 +142,7 @@ pub record LeapsSoFar (before : List Lexeme) (i : ℕ) (ls : List Lexeme) (stack
   pub unclosed : FirstFrom (placed before) i first
 
 -- one place further to the left
-moved : (before : List Lexeme) (i k n : ℕ) (o : Option ℕ) → behind_group n (drop i (tokens_of (placed before))) ≡ behind_group k (drop (i + 1) (tokens_of (placed before))) → ClosesAt before (i + 1) k o → ClosesAt before i n o
+moved : (before : List Entry) (i k n : ℕ) (o : Option ℕ) → behind_group n (drop i (tokens_of (placed before))) ≡ behind_group k (drop (i + 1) (tokens_of (placed before))) → ClosesAt before (i + 1) k o → ClosesAt before i n o
 moved before i k n None e h = e ∙ h
 moved before i k n (Some x) e (h, low, high) = (e ∙ h, omega arith, high)
 
@@ -199,9 +190,9 @@ first_passed ps i None closed behind = λ j le. past (Unclosed (tokens_of ps)) i
 first_passed ps i (Some offset) closed (j, t, le, here, at, u, before) =
     (j, t, omega arith, here, at, u, λ k from lt. past (Unclosed (tokens_of ps)) i k from closed (λ more. before k more lt))
 
-pub nothing_yet : (ls : List Lexeme) → LeapsSoFar ls (length ls) ls [] None
+pub nothing_yet : (ls : List Entry) → LeapsSoFar ls (length ls) ls [] None
 nothing_yet ls =
-    let over : (j : ℕ) → length ls ≤ j → drop j (tokens_of (placed ls)) ≡ [] = λ j le. rw (tokens_of-placed ls) (drop_of_length-le (toks ls) (omega (arith, length-map ls lexeme_tok))) in
+    let over : (j : ℕ) → length ls ≤ j → drop j (tokens_of (placed ls)) ≡ [] = λ j le. rw (tokens_of-placed ls) (drop_of_length-le (toks ls) (omega (arith, length-map ls entry_tok))) in
     let none : drop (length ls) ls ≡ [] = drop_of_length-le ls (omega arith) in record {
       same = refl;
       within = omega arith;
@@ -211,12 +202,12 @@ nothing_yet ls =
     }
 
 -- the place in front of those passed
-module _ {before ls : List Lexeme} {j : ℕ} {stack : List ℕ} {first : Option ℕ} (i : ℕ) (so : LeapsSoFar before j ls stack first) (back : j ≡ i + 1) where
+module _ {before ls : List Entry} {j : ℕ} {stack : List ℕ} {first : Option ℕ} (i : ℕ) (so : LeapsSoFar before j ls stack first) (back : j ≡ i + 1) where
   abbrev ts : List Tok
   ts = tokens_of (placed before)
 
   abbrev tok : Tok
-  tok = lexeme_tok (get_or ls i blank)
+  tok = entry_tok (get_or ls i blank)
 
   now : LeapsSoFar before (i + 1) ls stack first
   now = rw (← back) so
@@ -259,7 +250,7 @@ module _ {before ls : List Lexeme} {j : ℕ} {stack : List ℕ} {first : Option 
     counts e low high there known =
         rw (toks_at ls before i so.same, toks_at ls before e so.same) (group_counts known ts i e tok low (omega (arith, within, length-map before placed_of, length-map (placed before) (λ (p : Placed). p.token))) front there)
 
-    opening : {next : Option ℕ} (new : List Lexeme) → is_open tok ≡ true → placed new ≡ placed ls → AreLeaps (drop i new) → FirstFrom (placed before) i next → LeapsSoFar before i new rest next
+    opening : {next : Option ℕ} (new : List Entry) → is_open tok ≡ true → placed new ≡ placed ls → AreLeaps (drop i new) → FirstFrom (placed before) i next → LeapsSoFar before i new rest next
     opening new opens same leaps unclosed = record {
       same = same ∙ so.same;
       within = omega (arith, within, placed_length new ls same);
@@ -286,10 +277,10 @@ module _ {before ls : List Lexeme} {j : ℕ} {stack : List ℕ} {first : Option 
   unfolding behind_group
   behind_name n r e = let tail : drop (i + 1) ts ≡ Annotation n ∷ r = cc front in rw tail
 
-  pub hid_closed : {rest : List ℕ} {end : ℕ} (new : List Lexeme) → Popped stack rest (Some end) → is_open tok ≡ true → placed new ≡ placed ls → AreLeaps (drop i new) → LeapsSoFar before i new rest first
+  pub hid_closed : {rest : List ℕ} {end : ℕ} (new : List Entry) → Popped stack rest (Some end) → is_open tok ≡ true → placed new ≡ placed ls → AreLeaps (drop i new) → LeapsSoFar before i new rest first
   hid_closed new pop opens same leaps = opening pop new opens same leaps (first_passed (placed before) i first (λ (n, r, e, none). let f = sym (behind pop).0 ∙ behind_name n r e ∙ none in cc) now.unclosed)
 
-  pub hid_open : {rest : List ℕ} (new : List Lexeme) → Popped stack rest None → is_open tok ≡ true → hides false (toks (drop i ls)) ≡ true → placed new ≡ placed ls → AreLeaps (drop i new) → LeapsSoFar before i new rest (Some ((get_or ls i blank).offset))
+  pub hid_open : {rest : List ℕ} (new : List Entry) → Popped stack rest None → is_open tok ≡ true → hides false (toks (drop i ls)) ≡ true → placed new ≡ placed ls → AreLeaps (drop i new) → LeapsSoFar before i new rest (Some ((get_or ls i blank).offset))
   hid_open new pop opens begins same leaps =
       let (n, r, e) = hides_is (drop i ts) (rw (toks_at ls before i so.same) at begins) in
       opening pop new opens same leaps (i, placed_of (get_or ls i blank), omega arith, rw (← so.same, slice_get-map placed_of ls i, slice_get-get_or ls i blank within.0), refl, (n, r, e, sym (behind_name n r e) ∙ behind pop), λ k from less v. absurd (omega arith))

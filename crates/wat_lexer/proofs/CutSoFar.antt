@@ -3,13 +3,12 @@ use Rattle.std.proofs.Common.{◌≡◌, ℕ, ◌-◌, List, [], ◌∷◌, ◌+
 use Rattle.std.specs.Prelude.{Bool, false, ◌||◌}
 use Rattle.std.proofs.Math.Bool.{or_assoc, or-false}
 use Rattle.wat_lexer.specs.Place.{offset_of}
-use Rattle.wat_lexer.specs.Token.{Tok, Placed, is_open, is_annotation, has_annotation}
+use Rattle.wat_lexer.specs.Token.{Entry, Tok, Placed, is_open, is_annotation, has_annotation}
 use Rattle.wat_lexer.specs.Cut.{Cuts, done, Fails}
 use Rattle.wat_lexer.specs.Scan.{BlankTo, TokenTo, front}
-use Rattle.wat_lexer.specs.View.{lexeme_tok, toks, IfFault, WrongIs, FailsAt}
+use Rattle.wat_lexer.specs.View.{entry_tok, toks, IfFault, WrongIs, FailsAt}
 use Rattle.wat_lexer.specs.declared.fault.Error.{Error}
 use Rattle.wat_lexer.specs.declared.fault.Fault.{Fault}
-use Rattle.wat_lexer.specs.declared.token.Lexeme.{Lexeme}
 use Rattle.wat_lexer.proofs.Fronts.{cut_front, front_cut, front_fails}
 
 -- the text's cuts are the tokens so far with the cuts of the rest, and where the rest fails the text fails
@@ -45,9 +44,9 @@ fault_here text at ts behind e so h = λ no_memory.
     let o = offset_of e.span in
     (drop o text, so.fails e.fault (drop o text) (front_fails (rw wrong (refl, refl))), omega (arith, length-drop o text))
 
-has_more : (ls : List Lexeme) (x : Lexeme) → has_annotation (toks (ls ++ x ∷ [])) ≡ has_annotation (toks ls) || is_annotation (lexeme_tok x)
-has_more [] x = or-false (is_annotation (lexeme_tok x))
+has_more : (ls : List Entry) (x : Entry) → has_annotation (toks (ls ++ x ∷ [])) ≡ has_annotation (toks ls) || is_annotation (entry_tok x)
+has_more [] x = or-false (is_annotation (entry_tok x))
 has_more (y ∷ ls) x = rw (has_more ls x, or_assoc)
 
-pub noted_more : (ls : List Lexeme) (x : Lexeme) (noted more : Bool) → noted ≡ has_annotation (toks ls) → more ≡ (noted || is_annotation (lexeme_tok x)) → more ≡ has_annotation (toks (ls ++ x ∷ []))
+pub noted_more : (ls : List Entry) (x : Entry) (noted more : Bool) → noted ≡ has_annotation (toks ls) → more ≡ (noted || is_annotation (entry_tok x)) → more ≡ has_annotation (toks (ls ++ x ∷ []))
 noted_more ls x noted more e f = rw (f, e, has_more ls x)

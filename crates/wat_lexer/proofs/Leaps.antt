@@ -3,15 +3,14 @@ use Rattle.std.proofs.Common.{◌≡◌, ℕ, ◌+◌, ◌-◌, ◌≤◌, Bool,
 use Rattle.std.specs.Prelude.{Option}
 use Rattle.std.proofs.lemmas.Bool.{cases_Bool}
 use Rattle.std.proofs.lemmas.List.{drop-map, length-map}
-use Rattle.wat_lexer.specs.Token.{Tok}
+use Rattle.wat_lexer.specs.Token.{Entry, Tok}
 use Rattle.wat_lexer.specs.Sight.{hides, shuts, deeper, visible, as_shown, hidden_at, hidden}
-use Rattle.wat_lexer.specs.View.{lexeme_tok, toks, AreLeaps, Shown}
-use Rattle.wat_lexer.specs.declared.token.Lexeme.{Lexeme}
+use Rattle.wat_lexer.specs.View.{entry_tok, toks, AreLeaps, Shown}
 
-pub leaps_drop : (n : ℕ) (ls : List Lexeme) → AreLeaps ls → AreLeaps (drop n ls)
+pub leaps_drop : (n : ℕ) (ls : List Entry) → AreLeaps ls → AreLeaps (drop n ls)
 leaps_drop n ls p known i = rw (drop-drop i n ls) (p known (n + i))
 
-pub leaps_later : (ls : List Lexeme) (a b : ℕ) → a ≤ b → AreLeaps (drop a ls) → AreLeaps (drop b ls)
+pub leaps_later : (ls : List Entry) (a b : ℕ) → a ≤ b → AreLeaps (drop a ls) → AreLeaps (drop b ls)
 leaps_later ls a b le p = let n : a + (b - a) ≡ b = omega arith in rw (drop-drop (b - a) a ls, n) at (leaps_drop (b - a) (drop a ls) p)
 
 -- behind what is hidden the rest is visible, and nothing more is hidden there
@@ -39,20 +38,20 @@ unfolding hidden hidden_at
 hidden_none known [] h = refl
 hidden_none known (x ∷ r) h = rw h
 
-pub hidden_within : (known : Bool) (ls : List Lexeme) → hidden known (toks ls) ≤ length ls
+pub hidden_within : (known : Bool) (ls : List Entry) → hidden known (toks ls) ≤ length ls
 unfolding hidden
-hidden_within known ls = omega (arith, (passed known None (toks ls)).within, length-map ls lexeme_tok)
+hidden_within known ls = omega (arith, (passed known None (toks ls)).within, length-map ls entry_tok)
 
 -- what is visible begins with the first of the list, where that isn't hidden
-shown_here : (known : Bool) (ls : List Lexeme) → hides known (toks ls) ≡ false → Shown known ls (as_shown known (toks ls))
+shown_here : (known : Bool) (ls : List Entry) → hides known (toks ls) ≡ false → Shown known ls (as_shown known (toks ls))
 unfolding as_shown visible
 shown_here known [] h = refl
 shown_here known (x ∷ ls) h = rw h
 
 -- and it begins with the first behind what is hidden
-pub shown_at : (known : Bool) (ls : List Lexeme) (n : ℕ) → n ≡ hidden known (toks ls) → Shown known (drop n ls) (as_shown known (toks ls))
+pub shown_at : (known : Bool) (ls : List Entry) (n : ℕ) → n ≡ hidden known (toks ls) → Shown known (drop n ls) (as_shown known (toks ls))
 unfolding as_shown hidden
 shown_at known ls n e =
     let p = passed known None (toks ls) in
-    let same : toks (drop n ls) ≡ drop (hidden_at known None (toks ls)) (toks ls) = rw (← drop-map lexeme_tok n ls, e) in
+    let same : toks (drop n ls) ≡ drop (hidden_at known None (toks ls)) (toks ls) = rw (← drop-map entry_tok n ls, e) in
     subst (Shown known (drop n ls)) (rw (same, p.rest)) (shown_here known (drop n ls) (rw same p.stands))

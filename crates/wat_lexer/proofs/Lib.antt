@@ -1,7 +1,9 @@
 pub mod Classes
 pub mod Closing
 pub mod CutSoFar
+pub mod Entries
 pub mod Fronts
+pub mod Idchars
 pub mod Leaps
 pub mod Outcomes
 pub mod Pieces

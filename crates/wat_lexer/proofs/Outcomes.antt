@@ -1,17 +1,14 @@
 -- A text has one outcome: its cut or its first fault.
 use Rattle.std.proofs.lemmas.Bool.{or_parts}
-use Rattle.std.proofs.Common.{◌≡◌, ℕ, zero, suc, ◌-◌, ◌<◌, List, [], ◌∷◌, ◌++◌, length, drop, take, refl, ap, sym, ◌∙◌, arith, append-nil}
+use Rattle.std.proofs.Common.{◌≡◌, ℕ, zero, suc, ◌-◌, ◌<◌, List, [], ◌∷◌, length, drop, refl, ap, sym, ◌∙◌, arith}
 use Rattle.std.specs.Prelude.{true, false}
 use Rattle.std.proofs.lemmas.List.{drop-map}
-use Rattle.std.proofs.Math.ListN.{drop_of_length-le}
-use Rattle.std.proofs.Math.Seq.{take-length}
 use Rattle.wat_lexer.specs.Place.{offset_of}
 use Rattle.wat_lexer.specs.Sight.{annotated}
-use Rattle.wat_lexer.specs.Token.{Tok, LParen, Annotation, Placed, tokens_of, is_annotation, has_annotation}
-use Rattle.wat_lexer.specs.View.{lexeme_tok, toks, placed, AreLeaps}
+use Rattle.wat_lexer.specs.Token.{Entry, Tok, LParen, Annotation, Placed, tokens_of, is_annotation, has_annotation}
+use Rattle.wat_lexer.specs.View.{entry_tok, toks, placed, AreLeaps}
 use Rattle.wat_lexer.specs.declared.fault.Error.{Error}
 use Rattle.wat_lexer.specs.declared.fault.Fault.TheVariants.{LexAnnotation}
-use Rattle.wat_lexer.specs.declared.token.Lexeme.{Lexeme}
 use Rattle.wat_lexer.proofs.Closing.{tokens_of-placed}
 use Rattle.wat_lexer.specs.Cut.{Cuts, IsCut, Closed, Unclosed, FirstUnclosed, FirstFault, cutting, closing}
 use Rattle.wat_lexer.specs.declared.fault.Fault.{Fault}
@@ -54,17 +51,11 @@ none_noted (LParen ∷ _ ∷ ts) e zero = refl
 none_noted (_ ∷ ts) e zero = refl
 
 -- where no annotation is among the tokens, each group of one is closed, and nothing is to be told
-pub closed_anyway : (ls : List Lexeme) → has_annotation (toks ls) ≡ false → Closed (tokens_of (placed ls))
+pub closed_anyway : (ls : List Entry) → has_annotation (toks ls) ≡ false → Closed (tokens_of (placed ls))
 closed_anyway ls e i (n, r, is, open_group) =
     let f : true ≡ false = ap annotated (sym is) ∙ rw (tokens_of-placed ls) (none_noted (toks ls) e i) in cc
 
-pub told_anyway : (ls : List Lexeme) → has_annotation (toks ls) ≡ false → AreLeaps ls
+pub told_anyway : (ls : List Entry) → has_annotation (toks ls) ≡ false → AreLeaps ls
 told_anyway ls e = λ known i h.
-    let none : annotated (toks (drop i ls)) ≡ false = rw (← drop-map lexeme_tok i ls) (none_noted (toks ls) e i) in
+    let none : annotated (toks (drop i ls)) ≡ false = rw (← drop-map entry_tok i ls) (none_noted (toks ls) e i) in
     absurd (let f = rw none at h in cc)
-
--- a slice that was written whole
-pub whole_back : (new old : List Lexeme) (size : ℕ) → size ≡ length old → length new ≡ length old → take size (new ++ drop (length new) old) ≡ new
-whole_back new old size e f =
-    let none : drop (length new) old ≡ [] = drop_of_length-le old (omega arith) in
-    let all : size ≡ length new = omega arith in rw (none, append-nil new, all) (take-length new)

@@ -112,3 +112,12 @@ class_more behind at quote after end s h k l within e all f =
     let run = slice_range s at end in
     class_by behind (quote - at) run (rw (take-take (quote - at) (end - at) (drop at s) (omega arith)) all) (rw (rest, slice_front quote end s (omega arith) within, e))
     ∙ class_none behind (quote - at) run (rw (rest, string_here quote after end c s k (omega arith) within e found, slice_front after end s l within))
+
+-- a run that is one string
+pub class_string : (behind : Bool) (at end : ℕ) (c s : List ℕ) → at < end → end ≤ length s → get_or s at 0 ≡ 34 → string_at Raw (drop (at + 1) s) ≡ Some (c, drop end s) → class behind (slice_range s at end) ≡ String c
+unfolding all_idchars
+class_string behind at end c s order within e f =
+    let run = slice_range s at end in
+    let none : at - at ≡ 0 = omega arith in
+    let is : string_of run ≡ Some c = rw none at (whole_here at at end c s (omega arith) order within e f) in
+    class_by behind 0 run refl (rw (slice_front at end s order within, e)) ∙ rw is

@@ -1,11 +1,14 @@
 //! The class of a run.
 
-ghost use Rattle.std.specs.Prelude.{◌≡◌, ◌+◌, ◌-◌, ◌≤◌, ◌<◌, ◌++◌, true, option_map, IfOk, OnOk};
+ghost use Rattle.std.specs.Prelude.{◌≡◌, ◌+◌, ◌-◌, ◌≤◌, ◌<◌, ◌++◌, true, false, option_map, IfOk};
+ghost use Rattle.std.specs.Prelude.{OnOk};
 ghost use Rattle.std.specs.Prelude.{IsTrue, Some, length, drop, take, slice_range, slice_index};
 ghost use Rattle.wat_lexer.specs.Scan.{all_idchars, string_at, rest_at, spelled, string_of, class};
 ghost use Rattle.wat_lexer.specs.Scan.{text_name, Raw};
-ghost use Rattle.wat_lexer.specs.View.{view};
+ghost use Rattle.wat_lexer.specs.Token.{LParen};
+ghost use Rattle.wat_lexer.specs.View.{view, tok_at, Readable, is_paren};
 
+use crate::lexeme::Kind;
 use crate::number::Integer;
 use crate::string::{Escaped, escape, raw_end};
 use crate::token::Token;
@@ -24,34 +27,35 @@ pub fn part(text: &str, from: usize, end: usize) -> &str
     &text[from..end]
 }
 
-/// The token of a run of idchars.
+/// The kind of a run of idchars.
 #[tactic(auto, using(crate::proofs::Plain::plain_here, crate::proofs::Plain::plain_name, crate::proofs::Plain::plain_bare, crate::proofs::Plain::plain_ascii))]
-pub fn plain_token<'a>(text: &'a str, from: usize, end: usize, behind: bool) -> Token<'a>
+pub fn plain_kind(text: &str, from: usize, end: usize, behind: bool) -> Kind
     requires order { from < end }
     requires within { end ≤ length text.now }
     requires all { all_idchars (slice_range text.now from end) ≡ true }
-    ensures { view result ≡ class behind (slice_range text.now from end) }
+    ensures class { tok_at result text.now from end LParen ≡ class behind
+        (slice_range text.now from end) }
+    ensures fits { Readable result text.now from end ⊥ }
 {
-    let run = part(text, from, end);
     let first = text.as_bytes()[from];
     if first == b'$' {
         if from + 1 < end {
-            Token::Id(part(text, from + 1, end))
+            Kind::Id
         } else {
-            Token::Reserved(run)
+            Kind::Reserved
         }
     } else if behind && first == b'@' {
         if from + 1 < end {
-            Token::Annotation(part(text, from + 1, end))
+            Kind::Annotation
         } else {
-            Token::Reserved(run)
+            Kind::Reserved
         }
     } else if first.is_ascii_lowercase() {
-        Token::Keyword(run)
+        Kind::Keyword
     } else {
-        match Integer::of(run) {
-            Some(integer) => Token::Integer(integer),
-            None => Token::Reserved(run),
+        match Integer::of(part(text, from, end)) {
+            Some(_) => Kind::Integer,
+            None => Kind::Reserved,
         }
     }
 }
@@ -134,7 +138,8 @@ pub fn string_token<'a>(run: &'a str, quote: usize, behind: bool, content: &'a [
     requires within { quote < length run.now }
     requires prefix { all_idchars (take quote run.now) ≡ true }
     requires a_string { string_of (drop quote run.now) ≡ Some content.now }
-    ensures { view result ≡ class behind run.now }
+    ensures class { view result ≡ class behind run.now }
+    ensures no_paren { is_paren (view result) ≡ false }
 {
     if quote == 0 {
         return Token::String(content);

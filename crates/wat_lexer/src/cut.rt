@@ -6,22 +6,24 @@ ghost use Rattle.wat_lexer.specs.Cut.{Cuts, Fails, FirstFault, IsCut};
 ghost use Rattle.wat_lexer.specs.Place.{offset_of};
 ghost use Rattle.wat_lexer.specs.Scan.{front, run_front, behind_run, all_idchars, Between};
 ghost use Rattle.wat_lexer.specs.Token.{Placed, has_annotation, is_annotation};
-ghost use Rattle.wat_lexer.specs.View.{view, toks, placed, AreLeaps, FrontGives, IfFault, FailsAt};
+ghost use Rattle.wat_lexer.specs.View.{toks, placed, found_tok, FoundFits, AreLeaps, FrontGives, IfFault, FailsAt};
 ghost use Rattle.wat_lexer.specs.declared.fault.Fault.{Fault};
 
-use crate::class::{content, part, plain_token, string_token};
+use crate::class::{content, part, plain_kind, string_token};
 use crate::fault::{Error, Fault, fault_at};
 use crate::groups::tell_leaps;
+use crate::lexeme::{Found, Kind};
 use crate::scan::{comment_end, is_space, line_end, plain_end, run_end};
 use crate::string::string_end;
-use crate::token::{Lexeme, Token, is_annotation, is_open};
+use crate::token::Token;
+use crate::tokens::Tokens;
 use bumpalo::Bump;
 use std::alloc::Global;
 
 /// What stands in front, a token or a blank, and where it ends.
 #[derive(Clone, Copy, Debug)]
 pub struct Piece<'a> {
-    pub token: Option<Token<'a>>,
+    pub found: Option<Found<'a>>,
     pub end: usize,
 }
 
@@ -30,7 +32,7 @@ pub struct Piece<'a> {
 fn run<'a>(text: &'a str, at: usize, behind: bool, arena: &'a Bump) -> Result<Piece<'a>, Error>
     requires { at < length text.now }
     ensures within { IfOk result (λ p. (at < p.end) × (p.end ≤ length text.now)) }
-    ensures value { FrontGives text.now result (run_front behind (drop at text.now)
+    ensures value { FrontGives text.now at result (run_front behind (drop at text.now)
         (behind_run Between (drop at text.now))) }
 {
     let bytes = text.as_bytes();
@@ -41,9 +43,9 @@ fn run<'a>(text: &'a str, at: usize, behind: bool, arena: &'a Bump) -> Result<Pi
     if plain == at {
         return Err(fault_at(Fault::LexChar, at));
     }
-    let token = plain_token(text, at, plain, behind);
+    let kind = plain_kind(text, at, plain, behind);
     Ok(Piece {
-        token: Some(token),
+        found: Some(Found::Plain(kind)),
         end: plain,
     })
 }
@@ -64,7 +66,7 @@ fn string_run<'a>(
     requires same { behind_run Between (drop at text.now) ≡ behind_run Between
         (drop quote text.now) }
     ensures within { IfOk result (λ p. (at < p.end) × (p.end ≤ length text.now)) }
-    ensures value { FrontGives text.now result (run_front behind (drop at text.now)
+    ensures value { FrontGives text.now at result (run_front behind (drop at text.now)
         (behind_run Between (drop at text.now))) }
 {
     let bytes = text.as_bytes();
@@ -76,6 +78,12 @@ fn string_run<'a>(
         Ok(end) => end,
         Err(wrong) => return Err(fault_at(Fault::LexString, wrong)),
     };
+    if plain && at == quote && end == after {
+        return Ok(Piece {
+            found: Some(Found::Plain(Kind::String)),
+            end,
+        });
+    }
     let run = part(text, at, end);
     let token = if end == after {
         let content = content(bytes, quote + 1, end, plain, arena)?;
@@ -84,7 +92,7 @@ fn string_run<'a>(
         Token::Reserved(run)
     };
     Ok(Piece {
-        token: Some(token),
+        found: Some(Found::Aside(token)),
         end,
     })
 }
@@ -94,36 +102,36 @@ fn string_run<'a>(
 fn front<'a>(text: &'a str, at: usize, behind: bool, arena: &'a Bump) -> Result<Piece<'a>, Error>
     requires { at < length text.now }
     ensures within { IfOk result (λ p. (at < p.end) × (p.end ≤ length text.now)) }
-    ensures value { FrontGives text.now result (front behind (drop at text.now)) }
+    ensures value { FrontGives text.now at result (front behind (drop at text.now)) }
 {
     let bytes = text.as_bytes();
     let b = bytes[at];
     if is_space(b) {
         Ok(Piece {
-            token: None,
+            found: None,
             end: at + 1,
         })
     } else if b == b'(' {
         if at + 1 < bytes.len() && bytes[at + 1] == b';' {
             match comment_end(bytes, at + 2) {
-                Some(end) => Ok(Piece { token: None, end }),
+                Some(end) => Ok(Piece { found: None, end }),
                 None => Err(fault_at(Fault::LexComment, at)),
             }
         } else {
             Ok(Piece {
-                token: Some(Token::LParen),
+                found: Some(Found::Plain(Kind::LParen)),
                 end: at + 1,
             })
         }
     } else if b == b')' {
         Ok(Piece {
-            token: Some(Token::RParen),
+            found: Some(Found::Plain(Kind::RParen)),
             end: at + 1,
         })
     } else if b == b';' {
         if at + 1 < bytes.len() && bytes[at + 1] == b';' {
             Ok(Piece {
-                token: None,
+                found: None,
                 end: line_end(bytes, at + 2),
             })
         } else {
@@ -135,10 +143,11 @@ fn front<'a>(text: &'a str, at: usize, behind: bool, arena: &'a Bump) -> Result<
 }
 
 /// Whether an annotation was among the tokens or this is one.
-fn notes(noted: bool, token: Token) -> bool
-    ensures { result ≡ (noted || is_annotation (view token.entry)) }
+fn notes(noted: bool, found: Found) -> bool
+    ensures { (text : List ℕ) (at end : ℕ) → FoundFits text at end found.entry
+        → result ≡ (noted || is_annotation (found_tok text at end found.entry)) }
 {
-    noted || is_annotation(token)
+    noted || found.is_annotation()
 }
 
 /// Cuts a text into pieces. The flag says whether an annotation is among the tokens.
@@ -146,12 +155,14 @@ fn cut_pieces<'a>(
     alloc: Global,
     text: &'a str,
     arena: &'a Bump,
-) -> Result<(Vec<Lexeme<'a>>, bool), Error>
-    ensures found { IfOk result (λ v. Cuts (length text.now) false text.now (placed v.0.items)) }
-    ensures noted { IfOk result (λ v. v.1 ≡ has_annotation (toks v.0.items)) }
+) -> Result<(Tokens<'a>, bool), Error>
+    requires { length text.now ≤ 4294967295 }
+    ensures found { IfOk result (λ v. Cuts (length text.now) false text.now (placed v.0)) }
+    ensures noted { IfOk result (λ v. v.1 ≡ has_annotation (toks v.0)) }
     ensures fails { IfErr result (λ e. IfFault e (FailsAt text.now e)) }
 {
     let mut tokens = Vec::with_capacity(alloc, text.len() / 4)?;
+    let mut aside = Vec::new(alloc);
     let mut noted = false;
     let mut behind = false;
     let mut at = 0;
@@ -160,38 +171,38 @@ fn cut_pieces<'a>(
             Err(e) => return Err(e),
             Ok(piece) => piece,
         };
-        match piece.token {
+        match piece.found {
             None => {
                 behind = false;
                 at = piece.end;
             }
-            Some(token) => {
-                behind = is_open(token);
-                noted = notes(noted, token);
-                tokens.push(Lexeme {
-                    token,
-                    offset: at,
-                    skip: 0,
-                })?;
+            Some(found) => {
+                behind = found.is_open();
+                noted = notes(noted, found);
+                tokens.push(found.keep(at, piece.end, &mut aside)?)?;
                 at = piece.end;
             }
         }
     }
-    Ok((tokens, noted))
+    Ok((Tokens::of(text, tokens, aside), noted))
 }
 
 /// Cuts a text into tokens, each of whose annotation groups is closed. Names and strings without
 /// escapes are slices of the text, the others lie in the arena.
 ///
-/// The faults are LexChar, LexString, LexComment, LexAnnotation and Memory. WebAssembly Core
-/// Specification, Text Format, Lexical Format.
-pub fn cut<'a>(alloc: Global, text: &'a str, arena: &'a Bump) -> Result<Vec<Lexeme<'a>>, Error>
-    ensures found { IfOk result (λ ts. IsCut text.now (placed ts.items)) }
-    ensures leaps { IfOk result (λ ts. AreLeaps ts.items) }
+/// The faults are LexChar, LexString, LexComment, LexAnnotation and Memory, which a text of 2^32
+/// bytes or more is always refused with. WebAssembly Core Specification, Text Format, Lexical
+/// Format.
+pub fn cut<'a>(alloc: Global, text: &'a str, arena: &'a Bump) -> Result<Tokens<'a>, Error>
+    ensures found { IfOk result (λ ts. IsCut text.now (placed ts)) }
+    ensures leaps { IfOk result (λ ts. AreLeaps ts) }
     // The fault is the text's first from the left.
     ensures fault { IfErr result (λ e. IfFault e (FirstFault text.now e.fault (offset_of e.span))) }
     ensures none { IfErr result (λ e. IfFault e ((ts : List Placed) → IsCut text.now ts → ⊥)) }
 {
+    if text.len() > 0xffff_ffff {
+        return Err(fault_at(Fault::Memory, 0));
+    }
     let (mut tokens, noted) = match cut_pieces(alloc, text, arena) {
         Err(e) => return Err(e),
         Ok(parts) => parts,

@@ -7,13 +7,13 @@ ghost use Rattle.wat_lexer.specs.Sight.{hides, hidden};
 ghost use Rattle.wat_lexer.specs.Token.{tokens_of};
 ghost use Rattle.wat_lexer.specs.View.{toks, placed, AreLeaps};
 
-use crate::sight::{from, hidden, hides};
-use crate::token::{Lexeme, is_close, is_open};
+use crate::sight::{hidden, hides};
+use crate::tokens::Tokens;
 use std::alloc::{AllocError, Global};
 
 /// Tells the group of an annotation that begins at a place and ends before another how many tokens
 /// are left out there.
-fn tell_leap(tokens: &mut [Lexeme], at: usize, end: usize)
+fn tell_leap(tokens: &mut Tokens, at: usize, end: usize)
     requires begins { hides false (toks (drop at tokens.old)) ≡ true }
     requires order { at < end }
     requires within { end ≤ length tokens.old }
@@ -24,16 +24,15 @@ fn tell_leap(tokens: &mut [Lexeme], at: usize, end: usize)
     ensures same { placed tokens.new ≡ placed tokens.old }
     ensures leaps { AreLeaps (drop at tokens.new) }
 {
-    let rest = from(tokens, end);
-    let all = end - at + hidden(rest, false);
-    let unknown = end - at + hidden(rest, true);
-    tokens[at].skip = all;
-    tokens[at + 1].skip = unknown;
+    let all = end - at + hidden(tokens, end, false);
+    let unknown = end - at + hidden(tokens, end, true);
+    tokens.set_skip(at, all);
+    tokens.set_skip(at + 1, unknown);
 }
 
 /// Tells each group of an annotation how many tokens are left out where it stands. Answers the
 /// offset of the first one that isn't closed.
-pub fn tell_leaps(alloc: Global, tokens: &mut [Lexeme]) -> Result<Option<usize>, AllocError>
+pub fn tell_leaps(alloc: Global, tokens: &mut Tokens) -> Result<Option<usize>, AllocError>
     ensures same { placed tokens.new ≡ placed tokens.old }
     ensures leaps { IfOk result (λ o. AreLeaps tokens.new) }
     ensures first { IfOk result (λ o. MatchOption o (Closed (tokens_of (placed tokens.old)))
@@ -44,22 +43,21 @@ pub fn tell_leaps(alloc: Global, tokens: &mut [Lexeme]) -> Result<Option<usize>,
     let mut i = tokens.len();
     while i > 0 {
         i -= 1;
-        let token = tokens[i].token;
-        if is_close(token) {
+        if tokens.closes(i) {
             ends.push(i + 1)?;
             continue;
         }
-        if !is_open(token) {
+        if !tokens.opens(i) {
             continue;
         }
         let end = ends.pop();
-        if !hides(from(tokens, i), false) {
+        if !hides(tokens, i, false) {
             continue;
         }
         match end {
             Some(end) => tell_leap(tokens, i, end),
             None => {
-                first = Some(tokens[i].offset);
+                first = Some(tokens.offset(i));
                 let end = tokens.len();
                 tell_leap(tokens, i, end);
             }

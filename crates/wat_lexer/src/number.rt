@@ -41,6 +41,13 @@ impl<'a> Integer<'a> {
         }
     }
 
+    /// The integer of a text that is one.
+    pub(crate) fn over(text: &'a str) -> Integer<'a>
+        ensures { text_of result ≡ text.now }
+    {
+        Integer { text }
+    }
+
     /// The text, with its sign, its `0x` and its underscores
     /// ('WebAssembly Core Specification, Text Format, Values, Integers').
     pub fn text(self) -> &'a str

@@ -14,13 +14,36 @@ pub fn is_space(b: u8) -> bool
     matches!(b, b' ' | b'\t' | b'\n' | b'\r')
 }
 
+const T: bool = true;
+
+const F: bool = false;
+
+/// Which bytes are idchars, 16 in each row.
+#[rattlefmt::skip]
+static IDCHARS: [bool; 256] = [
+    F, F, F, F, F, F, F, F, F, F, F, F, F, F, F, F,
+    F, F, F, F, F, F, F, F, F, F, F, F, F, F, F, F,
+    F, T, F, T, T, T, T, T, F, F, T, T, F, T, T, T,
+    T, T, T, T, T, T, T, T, T, T, T, F, T, T, T, T,
+    T, T, T, T, T, T, T, T, T, T, T, T, T, T, T, T,
+    T, T, T, T, T, T, T, T, T, T, T, F, T, F, T, T,
+    T, T, T, T, T, T, T, T, T, T, T, T, T, T, T, T,
+    T, T, T, T, T, T, T, T, T, T, T, F, T, F, T, F,
+    F, F, F, F, F, F, F, F, F, F, F, F, F, F, F, F,
+    F, F, F, F, F, F, F, F, F, F, F, F, F, F, F, F,
+    F, F, F, F, F, F, F, F, F, F, F, F, F, F, F, F,
+    F, F, F, F, F, F, F, F, F, F, F, F, F, F, F, F,
+    F, F, F, F, F, F, F, F, F, F, F, F, F, F, F, F,
+    F, F, F, F, F, F, F, F, F, F, F, F, F, F, F, F,
+    F, F, F, F, F, F, F, F, F, F, F, F, F, F, F, F,
+    F, F, F, F, F, F, F, F, F, F, F, F, F, F, F, F,
+];
+
+#[tactic(auto, using(crate::proofs::Idchars::idchar_at))]
 fn is_idchar(b: u8) -> bool
     ensures { result ≡ is_idchar b }
 {
-    matches!(
-        b,
-        b'!' | b'#'..=b'\'' | b'*'..=b'+' | b'-'..=b':' | b'<'..=b'Z' | b'\\' | b'^'..=b'z' | b'|' | b'~'
-    )
+    IDCHARS[usize::from(b)]
 }
 
 /// The end of the block comment whose `(;` ends at from.

@@ -1,10 +1,11 @@
 //! Which tokens are visible: groups of annotations that aren't known are left out.
 
-ghost use Rattle.std.specs.Prelude.{◌≡◌, ◌≤◌, ◌∷◌, [], length, drop};
+ghost use Rattle.std.specs.Prelude.{◌≡◌, ◌≤◌, ◌+◌, ◌∷◌, [], length, drop, IfSome, MatchOption};
 ghost use Rattle.wat_lexer.specs.Sight.{is_standard, hides, hidden, as_shown};
 ghost use Rattle.wat_lexer.specs.View.{view, toks, leap, AreLeaps, Shown};
 
-use crate::token::{Lexeme, Token};
+use crate::token::Token;
+use crate::tokens::Tokens;
 
 /// Whether it is one of the five names: `custom`, `producers`, `name`, `dylink.0`,
 /// `metadata.code.branch_hint`.
@@ -31,58 +32,84 @@ fn begins_hidden(first: Token, second: Token, known: bool) -> bool
     }
 }
 
-/// Whether a group whose annotation isn't known stands in front.
-pub fn hides(tokens: &[Lexeme], known: bool) -> bool
-    ensures { result ≡ hides known (toks tokens.now) }
-{
-    match tokens {
-        [first, second, ..] => begins_hidden(first.token, second.token, known),
-        _ => false,
-    }
-}
-
-/// How far the tokens tell to go from an annotation's group in front.
-fn leap(tokens: &[Lexeme], known: bool) -> usize
-    ensures { result ≡ leap known tokens.now }
-{
-    match tokens {
-        [first, second, ..] => { if known { second.skip } else { first.skip } }
-        _ => 0,
-    }
-}
-
-/// The tokens from a place on.
-#[tactic(auto, using(crate::proofs::Leaps::leaps_drop))]
-pub fn from<'p, 'a>(tokens: &'p [Lexeme<'a>], at: usize) -> &'p [Lexeme<'a>]
+/// Whether a group whose annotation isn't known stands at the place.
+#[tactic(auto, using(crate::proofs::Entries::hides_few, crate::proofs::Entries::hides_none))]
+pub fn hides(tokens: &Tokens, at: usize, known: bool) -> bool
     requires { at ≤ length tokens.now }
-    ensures value { result.now ≡ drop at tokens.now }
-    ensures leaps { AreLeaps tokens.now → AreLeaps result.now }
+    ensures value { result ≡ hides known (toks (drop at tokens.now)) }
+    ensures small { length tokens.now ≤ 4294967295 }
 {
-    &tokens[at..]
+    let count = tokens.len();
+    if at + 1 < count && tokens.opens(at) {
+        begins_hidden(tokens.token(at), tokens.token(at + 1), known)
+    } else {
+        false
+    }
 }
 
-/// How many tokens stand before the first that is visible. It takes the same time however many are
-/// hidden.
-#[tactic(auto, using(crate::proofs::Leaps::hidden_none))]
-pub fn hidden(tokens: &[Lexeme], known: bool) -> usize
-    requires { AreLeaps tokens.now }
-    ensures value { result ≡ hidden known (toks tokens.now) }
-    ensures within { result ≤ length tokens.now }
-    ensures leaps { AreLeaps (drop result tokens.now) }
-    ensures first { Shown known (drop result tokens.now) (as_shown known (toks tokens.now)) }
+/// How far the tokens tell to go from an annotation's group at the place.
+fn leap(tokens: &Tokens, at: usize, known: bool) -> usize
+    requires { at ≤ length tokens.now }
+    ensures { result ≡ leap known (drop at tokens.now) }
 {
-    if hides(tokens, known) {
-        leap(tokens, known)
+    let count = tokens.len();
+    if at + 1 < count {
+        if known {
+            tokens.skip(at + 1)
+        } else {
+            tokens.skip(at)
+        }
     } else {
         0
     }
 }
 
-/// The tokens from the first that is visible on.
-pub fn shown<'p, 'a>(tokens: &'p [Lexeme<'a>], known: bool) -> &'p [Lexeme<'a>]
-    requires { AreLeaps tokens.now }
-    ensures leaps { AreLeaps result.now }
-    ensures first { Shown known result.now (as_shown known (toks tokens.now)) }
+/// How many tokens stand from a place on before the first that is visible. It takes the same time
+/// however many are hidden.
+#[tactic(auto, using(crate::proofs::Leaps::hidden_none))]
+pub fn hidden(tokens: &Tokens, at: usize, known: bool) -> usize
+    requires within { at ≤ length tokens.now }
+    requires leaps { AreLeaps (drop at tokens.now) }
+    ensures value { result ≡ hidden known (toks (drop at tokens.now)) }
+    ensures within { at + result ≤ length tokens.now }
+    ensures small { length tokens.now ≤ 4294967295 }
+    ensures first { Shown known (drop result (drop at tokens.now)) (as_shown known (toks
+        (drop at tokens.now))) }
 {
-    from(tokens, hidden(tokens, known))
+    if hides(tokens, at, known) {
+        leap(tokens, at, known)
+    } else {
+        0
+    }
+}
+
+/// The place of the first token from a place on that is visible.
+#[tactic(auto, using(crate::proofs::Leaps::leaps_drop))]
+pub fn shown(tokens: &Tokens, at: usize, known: bool) -> usize
+    requires within { at ≤ length tokens.now }
+    requires leaps { AreLeaps tokens.now }
+    ensures value { result ≡ at + hidden known (toks (drop at tokens.now)) }
+    ensures within { result ≤ length tokens.now }
+    ensures first { Shown known (drop result tokens.now) (as_shown known (toks
+        (drop at tokens.now))) }
+{
+    at + hidden(tokens, at, known)
+}
+
+/// The first token from a place on that is visible, and the place behind it.
+#[tactic(auto, using(crate::proofs::Entries::next_some, crate::proofs::Entries::next_none))]
+pub fn next<'a>(tokens: &Tokens<'a>, at: usize, known: bool) -> Option<(Token<'a>, usize)>
+    requires within { at ≤ length tokens.now }
+    requires leaps { AreLeaps tokens.now }
+    ensures within { IfSome result (λ r. r.1 ≤ length tokens.now) }
+    ensures value { MatchOption result (as_shown known (toks (drop at tokens.now)) ≡ [])
+        (λ r. as_shown known (toks (drop at tokens.now)) ≡ view r.0 ∷ as_shown known
+        (toks (drop r.1 tokens.now))) }
+{
+    let place = shown(tokens, at, known);
+    if place < tokens.len() {
+        Some((tokens.token(place), place + 1))
+    } else {
+        None
+    }
 }

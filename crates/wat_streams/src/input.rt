@@ -19,7 +19,7 @@ pub fn read_all<R: Read>(alloc: Global, reader: &mut Watched<R>) -> Result<Vec<u
     ensures not_write { ¬ IsErrOf result RunError.Write }
 {
     let mut bytes = Vec::new(alloc);
-    let mut piece = [0u8; 4096];
+    let mut piece = [0u8; 65536];
     loop {
         match reader.read(&mut piece) {
             Ok(0) => return Ok(bytes),

@@ -17,14 +17,20 @@ pub fn add(out: &mut Vec<u8>, text: &str) -> Result<(), AllocError>
 pub fn add_number(out: &mut Vec<u8>, number: usize) -> Result<(), AllocError>
     ensures { OnOk result (out.new.items ≡ out.old.items ++ decimal number) }
 {
-    let digits = format!(in *out.allocator(); "{number}")?;
-    add(out, digits.as_str())
+    if number >= 10 {
+        add_number(out, number / 10)?;
+    }
+    out.push(b'0' + (number % 10) as u8)?;
+    Ok(())
 }
 
 /// Adds a number with its sign, in decimal digits.
 pub fn add_signed(out: &mut Vec<u8>, number: i64) -> Result<(), AllocError>
     ensures { OnOk result (out.new.items ≡ out.old.items ++ signed_decimal number) }
 {
+    if number >= 0 {
+        return add_number(out, number as usize);
+    }
     let digits = format!(in *out.allocator(); "{number}")?;
     add(out, digits.as_str())
 }

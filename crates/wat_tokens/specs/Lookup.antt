@@ -9,7 +9,7 @@ use Rattle.wat_tokens.specs.declared.cursor.Cursor.{Cursor}
 
 -- the tokens that a lookup sees
 abbrev pub in_front : Cursor → List Tok
-in_front c = as_shown c.known (toks c.rest.now)
+in_front c = as_shown c.known (toks (drop c.at c.tokens.now))
 
 -- the token in front, where there is one
 abbrev pub FirstIs : Option Token → List Tok → Type 0

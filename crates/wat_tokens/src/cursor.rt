@@ -1,11 +1,12 @@
 //! Lookups into the tokens in front.
 
-ghost use Rattle.std.specs.Prelude.{◌≡◌};
+ghost use Rattle.std.specs.Prelude.{◌≡◌, ◌≤◌, length, drop};
 ghost use Rattle.wat_lexer.specs.View.{AreLeaps};
 
 use wat_lexer::number::Integer;
-use wat_lexer::sight::{from, shown};
-use wat_lexer::token::{Lexeme, Token};
+use wat_lexer::sight::next;
+use wat_lexer::token::Token;
+use wat_lexer::tokens::Tokens;
 
 /// A place in the tokens, to look at what stands there. A lookup takes nothing: where a token of
 /// its kind is the next that is visible, it answers the place behind that token, and what stands in
@@ -15,9 +16,11 @@ use wat_lexer::token::{Lexeme, Token};
 /// over, however many stand there, in one step.
 #[derive(Clone, Copy)]
 pub struct Cursor<'p> {
-    rest: &'p [Lexeme<'p>],
+    tokens: &'p Tokens<'p>,
+    at: usize,
     known: bool,
-    ghost leaps: { AreLeaps rest.now },
+    ghost within: { at ≤ length tokens.now },
+    ghost leaps: { AreLeaps tokens.now },
 }
 
 impl<'p> Cursor<'p> {
@@ -28,23 +31,22 @@ impl<'p> Cursor<'p> {
     ghost use Rattle.wat_tokens.specs.Tests.{as_any, as_lparen, as_rparen, as_keyword, as_id};
     ghost use Rattle.wat_tokens.specs.Tests.{as_annotation, as_integer, as_string, begins_group};
 
-    /// The place in front of the tokens; `known` says whether the five standard annotations are.
-    pub(crate) fn new(rest: &'p [Lexeme<'p>], known: bool) -> Cursor<'p>
-        requires { AreLeaps rest.now }
-        ensures { in_front result ≡ as_shown known (toks rest.entry.now) }
+    /// The place behind so many of the tokens; `known` says whether the five standard annotations
+    /// are.
+    pub(crate) fn new(tokens: &'p Tokens<'p>, at: usize, known: bool) -> Cursor<'p>
+        requires within { at ≤ length tokens.now }
+        requires leaps { AreLeaps tokens.now }
+        ensures { in_front result ≡ as_shown known (toks (drop at tokens.entry.now)) }
     {
-        Cursor { rest, known }
+        Cursor { tokens, at, known }
     }
 
     /// The token in front, and the place behind it.
     fn next(self) -> Option<(Token<'p>, Cursor<'p>)>
         ensures { NextIs result (in_front self.entry) }
     {
-        let tokens = shown(self.rest, self.known);
-        match tokens {
-            [first, ..] => Some((first.token, Cursor::new(from(tokens, 1), self.known))),
-            [] => None,
-        }
+        let (token, behind) = next(self.tokens, self.at, self.known)?;
+        Some((token, Cursor::new(self.tokens, behind, self.known)))
     }
 
     /// Behind a `(`.

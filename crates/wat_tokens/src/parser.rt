@@ -27,9 +27,10 @@ use std::marker::Model;
 use wat_lexer::cut::cut;
 use wat_lexer::fault::{Error, Fault};
 use wat_lexer::number::Integer;
-use wat_lexer::sight::{from, hidden, shown};
+use wat_lexer::sight::{next, shown};
 use wat_lexer::span::Span;
-use wat_lexer::token::{Lexeme, Token};
+use wat_lexer::token::Token;
+use wat_lexer::tokens::Tokens;
 
 /// Takes the tokens of a text from the front.
 ///
@@ -45,7 +46,7 @@ use wat_lexer::token::{Lexeme, Token};
 /// counted.
 #[derive(Drop)]
 pub struct Parser<'a> {
-    tokens: Vec<Lexeme<'a>>,
+    tokens: Tokens<'a>,
     at: usize,
     /// How many bytes the text has.
     end: usize,
@@ -70,9 +71,9 @@ impl<'a> Model for Parser<'a> {
     ghost use Rattle.wat_lexer.specs.Sight.{as_shown};
     ghost use Rattle.wat_lexer.specs.View.{toks, AreLeaps};
 
-    ghost view = { λ p. record { rest = toks (drop p.at p.tokens.items); left = as_shown p.known (toks (drop p.at p.tokens.items)); known = p.known; tracks = p.tracks; taken = p.taken.count; turns = p.turns.count; probes = p.probes.count; peak = p.peak; held = p.held } };
+    ghost view = { λ p. record { rest = toks (drop p.at p.tokens); left = as_shown p.known (toks (drop p.at p.tokens)); known = p.known; tracks = p.tracks; taken = p.taken.count; turns = p.turns.count; probes = p.probes.count; peak = p.peak; held = p.held } };
 
-    ghost invariant = { λ p. (p.at ≤ length p.tokens.items) × AreLeaps p.tokens.items };
+    ghost invariant = { λ p. (p.at ≤ length p.tokens) × AreLeaps p.tokens };
 }
 
 impl<'a> Parser<'a> {
@@ -81,7 +82,7 @@ impl<'a> Parser<'a> {
     ///
     /// Where the text can't be cut, it is refused with its first fault from the left: LexChar,
     /// LexString or LexComment, and where it has none of these, LexAnnotation. Memory may be
-    /// answered for any text.
+    /// answered for any text, and is for one of 4 GiB or more.
     pub fn new(alloc: Global, text: &'a str, arena: &'a Bump) -> Result<Parser<'a>, Error>
         ensures fresh { IfOk result (λ p. IsFresh text.now p) }
         ensures fault { IfErr result (λ e. e.fault ≢ Fault.Memory
@@ -94,9 +95,9 @@ impl<'a> Parser<'a> {
     }
 
     /// A parser in front of the tokens of a text of `end` bytes. No annotation is known.
-    fn over(alloc: Global, tokens: Vec<Lexeme<'a>>, end: usize) -> Parser<'a>
-        requires { AreLeaps tokens.items }
-        ensures { result ≡ begun (toks tokens.entry.items) }
+    fn over(alloc: Global, tokens: Tokens<'a>, end: usize) -> Parser<'a>
+        requires { AreLeaps tokens }
+        ensures { result ≡ begun (toks tokens.entry) }
     {
         Parser {
             tokens,
@@ -188,15 +189,17 @@ impl<'a> Parser<'a> {
     pub fn cursor(&self) -> Cursor<'_>
         ensures { in_front result ≡ self.now.left }
     {
-        Cursor::new(from(&self.tokens, self.at), self.known)
+        Cursor::new(&self.tokens, self.at, self.known)
     }
 
     /// Where the token in front begins, or the end of the text where none is left. No clause says
     /// which offset it is.
     pub fn cur_span(&self) -> Span {
-        match shown(from(&self.tokens, self.at), self.known) {
-            [first, ..] => Span::from_offset(first.offset),
-            [] => Span::from_offset(self.end),
+        let place = shown(&self.tokens, self.at, self.known);
+        if place < self.tokens.len() {
+            Span::from_offset(self.tokens.offset(place))
+        } else {
+            Span::from_offset(self.end)
         }
     }
 
@@ -277,10 +280,8 @@ impl<'a> Parser<'a> {
     fn first(&self) -> Option<Token<'a>>
         ensures { FirstIs result self.now.left }
     {
-        match shown(from(&self.tokens, self.at), self.known) {
-            [first, ..] => Some(first.token),
-            [] => None,
-        }
+        let (token, _) = next(&self.tokens, self.at, self.known)?;
+        Some(token)
     }
 
     /// Takes the token in front.
@@ -294,9 +295,9 @@ impl<'a> Parser<'a> {
         ensures quiet { Quiet self.old self.new }
         ensures names { Kept self.old self.new }
     {
-        let at = self.at + hidden(from(&self.tokens, self.at), self.known);
+        let at = shown(&self.tokens, self.at, self.known);
         prove!(at < self.tokens.len());
-        self.prev = self.tokens[at].offset;
+        self.prev = self.tokens.offset(at);
         self.at = at + 1;
         self.taken.tick();
     }
@@ -355,9 +356,9 @@ impl<'a> Parser<'a> {
         ensures refused { Unmoved result self.old self.new }
         ensures stands { BehindOne result self.old self.new }
     {
-        let span = self.cur_span();
         match self.first() {
             Some(Token::Keyword(text)) if text == word => {
+                let span = self.cur_span();
                 self.step();
                 Ok(span)
             }
@@ -386,9 +387,9 @@ impl<'a> Parser<'a> {
         ensures refused { Unmoved result self.old self.new }
         ensures stands { BehindOne result self.old self.new }
     {
-        let span = self.cur_span();
         match self.first() {
             Some(Token::Annotation(text)) if text == name => {
+                let span = self.cur_span();
                 self.step();
                 Ok(span)
             }

@@ -198,6 +198,7 @@ pub fn all_parts<'a, V: Drop, P: Part<'a, V>>(parser: &mut Parser<'a>) -> Result
 {
     let mut found = Vec::new(parser.alloc());
     parts::<V, P>(parser, &mut found)?;
+    found.shrink_to_fit();
     Ok(found)
 }
 
@@ -210,6 +211,7 @@ pub fn all_groups<'a, V: Drop, G: Group<'a, V>>(parser: &mut Parser<'a>) -> Resu
 {
     let mut found = Vec::new(parser.alloc());
     groups::<V, G>(parser, &mut found)?;
+    found.shrink_to_fit();
     Ok(found)
 }
 
@@ -221,5 +223,6 @@ pub fn all_to_end<'a, T: Parse<'a> + Drop>(parser: &mut Parser<'a>) -> Result<Ve
 {
     let mut found = Vec::new(parser.alloc());
     rest_of_group::<T>(parser, &mut found)?;
+    found.shrink_to_fit();
     Ok(found)
 }

@@ -3,11 +3,11 @@ use Rattle.std.proofs.lemmas.Bool.{and_right}
 use Rattle.std.proofs.Common.{◌≡◌, Bool, true, false, List, [], ◌∷◌, Some, None, refl, sym, ap, ◌∙◌, inl, inr}
 use Rattle.std.specs.Prelude.{◌&&◌, codes}
 use Rattle.wat_tokens.specs.Token.{Tok, RParen}
-use Rattle.wat_tokens.specs.Tests.{as_lparen, as_rparen, begins_word}
+use Rattle.wat_tokens.specs.Tests.{begins_word}
+use Rattle.wat_tokens.specs.Groups.{paren}
 use Rattle.wat_tokens.specs.Production.{Read}
 use Rattle.wat_tokens.specs.Laws.Production.{by_read}
 use Rattle.wat_tokens.specs.Parts.{word, flag}
-use Rattle.wat_tokens.specs.PartSpells.{one_reads}
 use Rattle.wat_tokens.specs.Many.{after_front}
 use Rattle.wat_tokens.specs.ManySpells.{many_reads}
 use Rattle.wat_tokens.specs.Index.{Idx, index, begins_index}
@@ -33,16 +33,16 @@ front_is : {A : Type 0} (x : Read (List A)) (y : List A × List Tok) → after_f
 front_is (Some x) y e = e
 front_is None y e = absurd cc
 
-module _ (b : Bool) (ps : List Idx) (t t1 t2 t3 t4 : List Tok) (k : begins_word (codes "sub") t ≡ true) (e : (word (codes "sub")).reads t ≡ Some (tt, t1)) (f : (flag (codes "final")).reads t1 ≡ Some (b, t2)) (g : after_front [] (many_reads begins_index index t2) ≡ Some (ps, t3)) (h : one_reads as_lparen t3 ≡ Some (tt, t4)) where
-  pub sub_fails : maybe_shared.reads t4 ≡ None → type_def.reads t ≡ None
+module _ (b : Bool) (ps : List Idx) (t t1 t2 t3 : List Tok) (k : begins_word (codes "sub") t ≡ true) (e : (word (codes "sub")).reads t ≡ Some (tt, t1)) (f : (flag (codes "final")).reads t1 ≡ Some (b, t2)) (g : after_front [] (many_reads begins_index index t2) ≡ Some (ps, t3)) where
+  pub sub_fails : (paren maybe_shared).reads t3 ≡ None → type_def.reads t ≡ None
   unfolding type_def
-  sub_fails n = rw (k, e, f, front_is (many_reads begins_index index t2) (ps, t3) g, h, n) refl
+  sub_fails n = rw (k, e, f, front_is (many_reads begins_index index t2) (ps, t3) g, n) refl
 
-  pub sub_not_bare : NotBare bare_def (maybe_shared.reads t4) → NotBare bare_def (type_def.reads t)
+  pub sub_not_bare : NotBare bare_def ((paren maybe_shared).reads t3) → NotBare bare_def (type_def.reads t)
   unfolding type_def
-  sub_not_bare n = rw (k, e, f, front_is (many_reads begins_index index t2) (ps, t3) g, h) (by_read (maybe_shared.reads t4)
-      (λ y m. (let s = maybe_shared.sound t4 y m in
+  sub_not_bare n = rw (k, e, f, front_is (many_reads begins_index index t2) (ps, t3) g) (by_read ((paren maybe_shared).reads t3)
+      (λ y m. (let s = (paren maybe_shared).sound t3 y m in
       let bare : bare_def y.0 ≡ false = rw m at n in
-      let left : bare_kind y.0.kind ≡ false = bare_left y.0.parents (bare_kind y.0.kind) (alone y.0 s.0 y.1 s.2) bare in
-      rw m (by_read (one_reads as_rparen y.1) (λ z o. rw o (and_right (no_items ps) (bare_kind y.0.kind) left)) (λ o. rw o tt))))
+      let left : bare_kind y.0.kind ≡ false = bare_left y.0.parents (bare_kind y.0.kind) (alone y.0 s.2.0 (RParen ∷ y.1) s.2.2) bare in
+      rw m (and_right (no_items ps) (bare_kind y.0.kind) left)))
       (λ m. rw m tt))

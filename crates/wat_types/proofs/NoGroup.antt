@@ -1,15 +1,36 @@
--- What begins no group.
-use Rattle.std.specs.Prelude.{◌≡◌, List, ◌∷◌, None, refl}
-use Rattle.wat_tokens.specs.Token.{Tok, LParen}
-use Rattle.wat_types.specs.Heap.{abstract_heap_type}
-use Rattle.wat_types.specs.Reference.{shorthand}
+-- What stands in parentheses is the last form of a group that isn't another one.
+use Rattle.std.specs.Prelude.{◌≡◌, ℕ, true, false, List, [], ◌∷◌, None, codes, refl}
+use Rattle.wat_tokens.specs.Production.{Production}
+use Rattle.wat_tokens.specs.Token.{Tok, LParen, Keyword}
+use Rattle.wat_tokens.specs.Tests.{begins_lparen, begins_group}
+use Rattle.wat_tokens.specs.Groups.{group}
+use Rattle.wat_tokens.specs.Parts.{made}
+use Rattle.wat_tokens.specs.Index.{begins_index}
+use Rattle.wat_tokens.specs.Laws.Production.{by_test}
+use Rattle.wat_types.specs.Heap.{abstract_, abstract_heap_type, heap_type}
+use Rattle.wat_types.specs.Reference.{short, shorthand, ref_type}
 
--- ---- abstract heap types
+no_group : {A : Type 0} (w : List ℕ) (g : Production A) (t : List Tok) → begins_group w t ≡ false → (group w g).reads t ≡ None
+no_group w g [] e = refl
+no_group w g (LParen ∷ []) e = refl
+no_group w g (LParen ∷ Keyword k ∷ t) e = rw e refl
+no_group w g (LParen ∷ _ ∷ t) e = refl
+no_group w g (_ ∷ t) e = refl
 
-pub abstract_no_group : (t : List Tok) → abstract_heap_type.reads (LParen ∷ t) ≡ None
-unfolding abstract_heap_type
-abstract_no_group t = refl
+-- ---- heap types
 
-pub shorthand_no_group : (t : List Tok) → shorthand.reads (LParen ∷ t) ≡ None
-unfolding shorthand
-shorthand_no_group t = refl
+pub shared_heap : (t : List Tok) → begins_lparen t ≡ true → begins_index t ≡ false → begins_group (codes "exact") t ≡ false
+    → heap_type.reads t ≡ (made (λ a. abstract_ true a) (group (codes "shared") abstract_heap_type)).reads t
+unfolding heap_type abstract_heap_type
+shared_heap [] o i e = absurd cc
+shared_heap (LParen ∷ t) o i e = rw e (by_test (begins_group (codes "shared") (LParen ∷ t)) (λ k. rw k refl) (λ k. rw (k, no_group (codes "shared") abstract_heap_type (LParen ∷ t) k) refl))
+shared_heap (_ ∷ t) o i e = absurd cc
+
+-- ---- reference types
+
+pub shared_ref : (t : List Tok) → begins_lparen t ≡ true → begins_group (codes "ref") t ≡ false
+    → ref_type.reads t ≡ (made (short true) (group (codes "shared") shorthand)).reads t
+unfolding ref_type shorthand
+shared_ref [] o e = absurd cc
+shared_ref (LParen ∷ t) o e = rw e (by_test (begins_group (codes "shared") (LParen ∷ t)) (λ k. rw k refl) (λ k. rw (k, no_group (codes "shared") shorthand (LParen ∷ t) k) refl))
+shared_ref (_ ∷ t) o e = absurd cc

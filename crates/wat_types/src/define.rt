@@ -5,15 +5,16 @@ ghost use Rattle.wat_tokens.specs.Index.{Idx, seen_index, index};
 ghost use Rattle.wat_tokens.specs.Lookup.{in_front};
 ghost use Rattle.wat_tokens.specs.Many.{after_front};
 ghost use Rattle.wat_tokens.specs.Parses.{no_items, seen_option};
-ghost use Rattle.wat_tokens.specs.Reads.{Reads, ReadsLight};
+ghost use Rattle.wat_tokens.specs.Reads.{ReadsLight};
 ghost use Rattle.wat_tokens.specs.Tests.{second};
 ghost use Rattle.wat_types.specs.Define.{KindTy, seen_kind, bare_kind, kind, linked, DefTy};
-ghost use Rattle.wat_types.specs.Define.{seen_def, bare_def, described, maybe_shared, type_def};
+ghost use Rattle.wat_types.specs.Define.{seen_def, bare_def, type_def};
 ghost use Rattle.wat_types.specs.Define.{TypeTy, seen_type, bare_type, type_, begins_type};
 ghost use Rattle.wat_types.specs.Define.{grouped_type, seen_types};
 ghost use Rattle.wat_types.specs.Recursion.{types, seen_rec, rec};
 
 use crate::function::FunctionType;
+use crate::hand::{behind, in_parens, take_label};
 use crate::structure::{ArrayType, StructType};
 use wat_tokens::repeat::{Part, parts, while_begun};
 use wat_tokens::{Cursor, Id, Index, NameAnnotation, Parse, Parser, Peek, Result, Span};
@@ -107,19 +108,15 @@ impl<'a> Parse<'a> for InnerTypeKind<'a> {
     #[tactic(auto, unfolding(crate::specs::Define::kind))]
     fn parse(parser: &mut Parser<'a>) -> Result<Self> {
         if parser.next_is("func") {
-            parser.keyword("func")?;
-            return Ok(InnerTypeKind::Func(FunctionType::parse(parser)?));
+            return Ok(InnerTypeKind::Func(behind(parser, "func")?));
         }
         if parser.next_is("struct") {
-            parser.keyword("struct")?;
-            return Ok(InnerTypeKind::Struct(StructType::parse(parser)?));
+            return Ok(InnerTypeKind::Struct(behind(parser, "struct")?));
         }
         if parser.next_is("array") {
-            parser.keyword("array")?;
-            return Ok(InnerTypeKind::Array(ArrayType::parse(parser)?));
+            return Ok(InnerTypeKind::Array(behind(parser, "array")?));
         }
-        parser.keyword("cont")?;
-        Ok(InnerTypeKind::Cont(ContType::parse(parser)?))
+        Ok(InnerTypeKind::Cont(behind(parser, "cont")?))
     }
 }
 
@@ -140,39 +137,65 @@ fn read_link<'a>(parser: &mut Parser<'a>, word: &str) -> Result<Option<Index<'a>
 }
 
 /// A definition with neither `sub` nor `shared`.
-#[tactic(auto, unfolding(crate::specs::Define::described))]
-fn read_described<'a>(parser: &mut Parser<'a>) -> Result<TypeDef<'a>>
-    ensures reads { Reads bare_def seen_def result (described.reads parser.old.left) parser.old
-        parser.new }
-{
-    let describes = read_link(parser, "describes")?;
-    let descriptor = read_link(parser, "descriptor")?;
-    let kind = InnerTypeKind::parse(parser)?;
-    Ok(TypeDef {
-        kind,
-        shared: false,
-        parents: Vec::new(parser.alloc()),
-        descriptor,
-        describes,
-        final_type: None,
-    })
+#[derive(Drop)]
+struct Described<'a>(TypeDef<'a>);
+
+impl<'a> Parse<'a> for Described<'a> {
+    ghost use Rattle.wat_types.specs.Define.{DefTy, seen_def, bare_def, described};
+
+    ghost Seen = { DefTy };
+
+    ghost seen = { λ d. seen_def d.0 };
+
+    ghost light = { false };
+
+    ghost bare = { bare_def };
+
+    ghost grammar = { described };
+
+    #[tactic(auto, unfolding(crate::specs::Define::described))]
+    fn parse(parser: &mut Parser<'a>) -> Result<Self> {
+        let describes = read_link(parser, "describes")?;
+        let descriptor = read_link(parser, "descriptor")?;
+        let kind = InnerTypeKind::parse(parser)?;
+        Ok(Described(TypeDef {
+            kind,
+            shared: false,
+            parents: Vec::new(parser.alloc()),
+            descriptor,
+            describes,
+            final_type: None,
+        }))
+    }
 }
 
 /// A definition without `sub`.
-#[tactic(auto, unfolding(crate::specs::Define::maybe_shared))]
-fn read_maybe_shared<'a>(parser: &mut Parser<'a>) -> Result<TypeDef<'a>>
-    ensures reads { Reads bare_def seen_def result (maybe_shared.reads parser.old.left) parser.old
-        parser.new }
-{
-    if !parser.next_is("shared") {
-        return read_described(parser);
+#[derive(Drop)]
+struct MaybeShared<'a>(TypeDef<'a>);
+
+impl<'a> Parse<'a> for MaybeShared<'a> {
+    ghost use Rattle.wat_types.specs.Define.{DefTy, seen_def, bare_def, maybe_shared};
+
+    ghost Seen = { DefTy };
+
+    ghost seen = { λ d. seen_def d.0 };
+
+    ghost light = { false };
+
+    ghost bare = { bare_def };
+
+    ghost grammar = { maybe_shared };
+
+    #[tactic(auto, unfolding(crate::specs::Define::maybe_shared))]
+    fn parse(parser: &mut Parser<'a>) -> Result<Self> {
+        if !parser.next_is("shared") {
+            return Ok(MaybeShared(Described::parse(parser)?.0));
+        }
+        parser.keyword("shared")?;
+        let mut def = in_parens::<Described>(parser)?.0;
+        def.shared = true;
+        Ok(MaybeShared(def))
     }
-    parser.keyword("shared")?;
-    parser.open()?;
-    let mut def = read_described(parser)?;
-    parser.close()?;
-    def.shared = true;
-    Ok(def)
 }
 
 /// `sub final? idx* (` S `)` or S; S is `shared (` K `)` or K; K is (`describes` idx `) (`)?, then
@@ -191,15 +214,13 @@ impl<'a> Parse<'a> for TypeDef<'a> {
     #[tactic(auto, unfolding(crate::specs::Define::type_def))]
     fn parse(parser: &mut Parser<'a>) -> Result<Self> {
         if !parser.next_is("sub") {
-            return read_maybe_shared(parser);
+            return Ok(MaybeShared::parse(parser)?.0);
         }
         parser.keyword("sub")?;
         let is_final = parser.flag("final");
         let mut parents = Vec::new(parser.alloc());
         while_begun::<Index>(parser, &mut parents)?;
-        parser.open()?;
-        let mut def = read_maybe_shared(parser)?;
-        parser.close()?;
+        let mut def = in_parens::<MaybeShared>(parser)?.0;
         def.parents = parents;
         def.final_type = Some(is_final);
         Ok(def)
@@ -218,14 +239,11 @@ impl<'a> Parse<'a> for Type<'a> {
 
     ghost grammar = { type_ };
 
-    #[tactic(auto, unfolding(crate::specs::Define::type_, crate::specs::Label::label))]
+    #[tactic(auto, unfolding(crate::specs::Define::type_))]
     fn parse(parser: &mut Parser<'a>) -> Result<Self> {
         let span = parser.keyword("type")?;
-        let id = Option::<Id>::parse(parser)?;
-        let name = Option::<NameAnnotation>::parse(parser)?;
-        parser.open()?;
-        let def = TypeDef::parse(parser)?;
-        parser.close()?;
+        let (id, name) = take_label(parser)?;
+        let def = in_parens::<TypeDef>(parser)?;
         Ok(Type {
             span,
             id,
@@ -274,10 +292,7 @@ impl<'a> Part<'a, Type<'a>> for GroupedType {
     }
 
     fn take(parser: &mut Parser<'a>) -> Result<Type<'a>> {
-        parser.open()?;
-        let found = Type::parse(parser)?;
-        parser.close()?;
-        Ok(found)
+        in_parens::<Type>(parser)
     }
 }
 

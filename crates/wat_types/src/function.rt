@@ -1,20 +1,24 @@
 //! Function types.
 
-ghost use Rattle.std.specs.Prelude.{◌≡◌, [], true, false};
+ghost use Rattle.std.specs.Prelude.{◌≡◌, [], codes, true, false};
 ghost use Rattle.wat_tokens.specs.Copies.{Copies};
+ghost use Rattle.wat_tokens.specs.Groups.{group};
 ghost use Rattle.wat_tokens.specs.Lookup.{in_front};
 ghost use Rattle.wat_tokens.specs.Many.{after_front};
 ghost use Rattle.wat_tokens.specs.Adding.{add_read};
 ghost use Rattle.wat_tokens.specs.Parses.{no_items};
+ghost use Rattle.wat_tokens.specs.Parts.{made};
 ghost use Rattle.wat_tokens.specs.Reads.{Reads};
 ghost use Rattle.wat_tokens.specs.Tests.{more};
 ghost use Rattle.wat_types.specs.Function.{seen_param, seen_params, seen_function, seen_unnamed};
 ghost use Rattle.wat_types.specs.Function.{bare_function, function_groups, function_type};
 ghost use Rattle.wat_types.specs.FunctionNoNames.{function_type_no_names};
 ghost use Rattle.wat_types.specs.Group.{FuncTy, ParamTy, params, plain_param_only, func_group};
-ghost use Rattle.wat_types.specs.Group.{group_follows, begins_func};
+ghost use Rattle.wat_types.specs.Group.{group_follows, begins_func, val_types};
+ghost use Rattle.wat_types.specs.Group.{param as in_param, result as in_result};
 ghost use Rattle.wat_types.specs.Order.{add};
 
+use crate::hand::take_label;
 use crate::value::ValType;
 use std::alloc::Global;
 use wat_tokens::repeat::{Part, parts, rest_of_group};
@@ -60,7 +64,7 @@ impl<'a> Part<'a, (Option<Id<'a>>, Option<NameAnnotation<'a>>, ValType<'a>)> for
 
 /// The parameters of a group, each put behind those that are there; `labels` says whether one may
 /// have a label.
-#[tactic(auto, using(crate::specs::Laws::Value::val_type_eats), unfolding(crate::specs::Group::params, crate::specs::Group::plain_params, crate::specs::Label::label))]
+#[tactic(auto, using(crate::specs::Laws::Value::val_type_eats), unfolding(crate::specs::Group::params, crate::specs::Group::plain_params))]
 fn read_params<'a>(
     parser: &mut Parser<'a>,
     labels: bool,
@@ -71,8 +75,7 @@ fn read_params<'a>(
         parser.new }
 {
     if labels && (parser.peek::<Id>() || parser.peek::<NameAnnotation>()) {
-        let id = Option::<Id>::parse(parser)?;
-        let name = Option::<NameAnnotation>::parse(parser)?;
+        let (id, name) = take_label(parser)?;
         let ty = ValType::parse(parser)?;
         out.push((id, name, ty))?;
         return Ok(());
@@ -80,34 +83,65 @@ fn read_params<'a>(
     parts::<_, PlainParam>(parser, out)
 }
 
+/// A param group, put behind what is there.
+fn read_param_group<'a>(
+    parser: &mut Parser<'a>,
+    labels: bool,
+    out: &mut FunctionType<'a>,
+) -> Result<()>
+    ensures reads { Reads bare_function (λ _. seen_function out.new) result (add_read add
+        (seen_function out.old) ((made in_param (group (codes "param") (params labels))).reads
+        parser.old.left)) parser.old parser.new }
+{
+    parser.open()?;
+    if !out.results.is_empty() {
+        return Err(Error::at(Fault::ParamAfterResult, parser.cur_span()));
+    }
+    parser.keyword("param")?;
+    read_params(parser, labels, &mut out.params)?;
+    parser.close()?;
+    Ok(())
+}
+
+/// A result group, put behind what is there.
+#[tactic(auto, using(crate::specs::Laws::Value::val_type_eats), unfolding(crate::specs::Group::val_types))]
+fn read_result_group<'a>(parser: &mut Parser<'a>, out: &mut FunctionType<'a>) -> Result<()>
+    ensures reads { Reads bare_function (λ _. seen_function out.new) result (add_read add
+        (seen_function out.old) ((made in_result (group (codes "result") val_types)).reads
+        parser.old.left)) parser.old parser.new }
+{
+    parser.open()?;
+    parser.keyword("result")?;
+    rest_of_group::<ValType>(parser, &mut out.results)?;
+    parser.close()?;
+    Ok(())
+}
+
 /// One group, put behind what is there.
-#[tactic(auto, using(crate::specs::Laws::Value::val_type_eats), unfolding(crate::specs::Group::func_group, crate::specs::Group::val_types))]
+#[tactic(auto, unfolding(crate::specs::Group::func_group))]
 fn read_group<'a>(parser: &mut Parser<'a>, labels: bool, out: &mut FunctionType<'a>) -> Result<()>
     ensures reads { Reads bare_function (λ _. seen_function out.new) result (add_read add
         (seen_function out.old) ((func_group labels).reads parser.old.left)) parser.old
         parser.new }
 {
-    let is_param = parser.group_is("param");
-    parser.open()?;
-    if is_param {
-        if !out.results.is_empty() {
-            return Err(Error::at(Fault::ParamAfterResult, parser.cur_span()));
-        }
-        parser.keyword("param")?;
-        read_params(parser, labels, &mut out.params)?;
+    if parser.group_is("param") {
+        read_param_group(parser, labels, out)
     } else {
-        parser.keyword("result")?;
-        rest_of_group::<ValType>(parser, &mut out.results)?;
+        read_result_group(parser, out)
     }
-    parser.close()?;
-    Ok(())
 }
 
 /// Whether the second token is `param` or `result`, whatever the first is.
 fn group_next(parser: &Parser<'_>) -> bool
     ensures { result ≡ group_follows parser.now.left }
 {
-    parser.second_is("param") || parser.second_is("result")
+    match parser.cursor().any() {
+        Some(rest) => match rest.keyword() {
+            Some((word, _)) => word == "param" || word == "result",
+            None => false,
+        },
+        None => false,
+    }
 }
 
 /// Groups, as long as one has to follow.
@@ -119,6 +153,8 @@ fn read_groups<'a>(parser: &mut Parser<'a>, labels: bool) -> Result<FunctionType
     'groups: while group_next(parser) {
         read_group(parser, labels, &mut found)?;
     }
+    found.params.shrink_to_fit();
+    found.results.shrink_to_fit();
     Ok(found)
 }
 
@@ -174,7 +210,13 @@ impl<'p> Peek for FunctionType<'p> {
     fn peek(cursor: Cursor<'_>) -> bool
         ensures { result ≡ begins_func (in_front cursor.entry) }
     {
-        cursor.group_is("param") || cursor.group_is("result")
+        match cursor.lparen() {
+            Some(inside) => match inside.keyword() {
+                Some((word, _)) => word == "param" || word == "result",
+                None => false,
+            },
+            None => false,
+        }
     }
 
     fn display() -> &'static str {

@@ -6,6 +6,7 @@ ghost use Rattle.wat_tokens.specs.Tests.{look_up};
 ghost use Rattle.wat_types.specs.Heap.{abstract_words, abstract_heap_type, begins_abstract};
 ghost use Rattle.wat_types.specs.Heap.{heap_type, HeapTy, seen_heap, begins_heap};
 
+use crate::hand::{in_group, opens};
 use wat_tokens::{Cursor, Error, Fault, Index, Parse, Parser, Peek, Result};
 
 /// An abstract heap type (Text Format, Types, "Heap Types"). Each variant has the name of its word.
@@ -129,28 +130,24 @@ impl<'a> Parse<'a> for HeapType<'a> {
 
     ghost grammar = { heap_type };
 
-    #[tactic(auto, using(crate::proofs::NoGroup::abstract_no_group), unfolding(crate::specs::Heap::heap_type))]
+    #[tactic(auto, using(crate::proofs::NoGroup::shared_heap), unfolding(crate::specs::Heap::heap_type))]
     fn parse(parser: &mut Parser<'a>) -> Result<Self> {
         if parser.peek::<Index>() {
             return Ok(HeapType::Concrete(Index::parse(parser)?));
         }
-        if parser.cursor().lparen().is_none() {
+        if !opens(parser) {
             return Ok(HeapType::Abstract {
                 shared: false,
                 ty: AbstractHeapType::parse(parser)?,
             });
         }
-        parser.open()?;
-        if parser.next_is("exact") {
-            parser.keyword("exact")?;
-            let index = Index::parse(parser)?;
-            parser.close()?;
-            return Ok(HeapType::Exact(index));
+        if parser.group_is("exact") {
+            return Ok(HeapType::Exact(in_group::<Index>(parser, "exact")?));
         }
-        parser.keyword("shared")?;
-        let ty = AbstractHeapType::parse(parser)?;
-        parser.close()?;
-        Ok(HeapType::Abstract { shared: true, ty })
+        Ok(HeapType::Abstract {
+            shared: true,
+            ty: in_group::<AbstractHeapType>(parser, "shared")?,
+        })
     }
 }
 

@@ -6,6 +6,7 @@
 
 pub mod define;
 pub mod function;
+mod hand;
 pub mod heap;
 pub mod laws;
 pub mod limits;

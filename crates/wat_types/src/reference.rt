@@ -8,6 +8,7 @@ ghost use Rattle.wat_types.specs.Reference.{RefTy, ref_type, seen_ref, shorthand
 ghost use Rattle.wat_types.specs.Reference.{begins_shorthand, begins_long_ref, begins_ref};
 ghost use Rattle.wat_types.specs.Reference.{nullable_ref, shared_ref};
 
+use crate::hand::{in_group, opens};
 use crate::heap::{AbstractHeapType, HeapType};
 use wat_tokens::{Cursor, Error, Fault, Parse, Parser, Peek, Result};
 
@@ -43,16 +44,56 @@ fn shorthand_of(word: &str) -> Option<AbstractHeapType>
     }
 }
 
-/// The shorthand in front.
-#[tactic(auto, using(wat_tokens::specs::Laws::Begin::reads_table, wat_tokens::specs::Laws::Begin::reads_no_table), unfolding(crate::specs::Reference::shorthand))]
-fn take_shorthand<'a>(parser: &mut Parser<'a>) -> Result<AbstractHeapType>
-    ensures reads { ReadsLight (λ t. t) result (shorthand.reads parser.old.left) parser.old
-        parser.new }
-{
-    let span = parser.cur_span();
-    match shorthand_of(parser.take_keyword()?) {
-        Some(ty) => Ok(ty),
-        None => Err(Error::at(Fault::Unexpected, span)),
+/// A shorthand, by the heap type that it names.
+#[derive(Drop)]
+struct Shorthand(AbstractHeapType);
+
+impl<'a> Parse<'a> for Shorthand {
+    ghost use Rattle.wat_types.specs.declared.heap.AbstractHeapType.{AbstractHeapType};
+    ghost use Rattle.wat_types.specs.Reference.{shorthand};
+
+    ghost Seen = { AbstractHeapType };
+
+    ghost seen = { λ s. s.0 };
+
+    ghost bare = { λ _. true };
+
+    ghost grammar = { shorthand };
+
+    #[tactic(auto, using(wat_tokens::specs::Laws::Begin::reads_table, wat_tokens::specs::Laws::Begin::reads_no_table), unfolding(crate::specs::Reference::shorthand))]
+    fn parse(parser: &mut Parser<'a>) -> Result<Self> {
+        let span = parser.cur_span();
+        match shorthand_of(parser.take_keyword()?) {
+            Some(ty) => Ok(Shorthand(ty)),
+            None => Err(Error::at(Fault::Unexpected, span)),
+        }
+    }
+}
+
+/// What `(ref ..)` holds: `null? HeapType`.
+#[derive(Drop)]
+struct LongRef<'a> {
+    nullable: bool,
+    heap: HeapType<'a>,
+}
+
+impl<'a> Parse<'a> for LongRef<'a> {
+    ghost use Rattle.std.specs.Prelude.{Bool, codes};
+    ghost use Rattle.wat_tokens.specs.Parts.{seq, flag};
+    ghost use Rattle.wat_types.specs.Heap.{HeapTy, seen_heap, heap_type};
+
+    ghost Seen = { Bool × HeapTy };
+
+    ghost seen = { λ r. (r.nullable, seen_heap r.heap) };
+
+    ghost bare = { λ _. true };
+
+    ghost grammar = { seq (flag (codes "null")) heap_type };
+
+    fn parse(parser: &mut Parser<'a>) -> Result<Self> {
+        let nullable = parser.flag("null");
+        let heap = HeapType::parse(parser)?;
+        Ok(LongRef { nullable, heap })
     }
 }
 
@@ -212,25 +253,22 @@ impl<'a> Parse<'a> for RefType<'a> {
 
     ghost grammar = { ref_type };
 
-    #[tactic(auto, using(crate::proofs::NoGroup::shorthand_no_group), unfolding(crate::specs::Reference::ref_type))]
+    #[tactic(auto, using(crate::proofs::NoGroup::shared_ref), unfolding(crate::specs::Reference::ref_type))]
     fn parse(parser: &mut Parser<'a>) -> Result<Self> {
-        if parser.cursor().lparen().is_none() {
-            return Ok(RefType::nullable(take_shorthand(parser)?));
+        if !opens(parser) {
+            return Ok(RefType::nullable(Shorthand::parse(parser)?.0));
         }
-        parser.open()?;
-        if parser.next_is("ref") {
-            parser.keyword("ref")?;
-            let nullable = parser.flag("null");
-            let heap = HeapType::parse(parser)?;
-            parser.close()?;
+        if parser.group_is("ref") {
+            let LongRef { nullable, heap } = in_group::<LongRef>(parser, "ref")?;
             return Ok(RefType { nullable, heap });
         }
-        parser.keyword("shared")?;
-        let ty = take_shorthand(parser)?;
-        parser.close()?;
+        let shorthand = in_group::<Shorthand>(parser, "shared")?;
         Ok(RefType {
             nullable: true,
-            heap: HeapType::Abstract { shared: true, ty },
+            heap: HeapType::Abstract {
+                shared: true,
+                ty: shorthand.0,
+            },
         })
     }
 }

@@ -11,6 +11,7 @@ ghost use Rattle.wat_types.specs.Struct.{plain_member, members, member_group, se
 ghost use Rattle.wat_types.specs.FieldType.{FieldTy, field_type};
 ghost use Rattle.wat_types.specs.StructType.{struct_type};
 
+use crate::hand::{in_group, take_label};
 use crate::storage::StorageType;
 use wat_tokens::repeat::{Group, Part, groups, parts};
 use wat_tokens::{Fault, Id, NameAnnotation, Parse, Parser, Result};
@@ -58,10 +59,7 @@ impl<'a> Parse<'a> for ArrayType<'a> {
     #[tactic(auto, unfolding(crate::specs::FieldType::field_type))]
     fn parse(parser: &mut Parser<'a>) -> Result<Self> {
         if parser.second_is("mut") {
-            parser.open()?;
-            parser.keyword("mut")?;
-            let ty = StorageType::parse(parser)?;
-            parser.close()?;
+            let ty = in_group::<StorageType>(parser, "mut")?;
             return Ok(ArrayType { mutable: true, ty });
         }
         let ty = StorageType::parse(parser)?;
@@ -99,14 +97,13 @@ impl<'a> Part<'a, StructField<'a>> for PlainField {
 }
 
 /// The fields of a group, each put behind those that are there.
-#[tactic(auto, using(crate::specs::Laws::FieldType::field_type_eats), unfolding(crate::specs::Struct::members, crate::specs::Struct::plain_members, crate::specs::Label::label))]
+#[tactic(auto, using(crate::specs::Laws::FieldType::field_type_eats), unfolding(crate::specs::Struct::members, crate::specs::Struct::plain_members))]
 fn read_fields<'a>(parser: &mut Parser<'a>, out: &mut Vec<StructField<'a>>) -> Result<()>
     ensures reads { Reads no_items (λ _. seen_members out.new.items) result (after_front
         (seen_members out.old.items) (members.reads parser.old.left)) parser.old parser.new }
 {
     if parser.peek::<Id>() || parser.peek::<NameAnnotation>() {
-        let id = Option::<Id>::parse(parser)?;
-        let name = Option::<NameAnnotation>::parse(parser)?;
+        let (id, name) = take_label(parser)?;
         let field = ArrayType::parse(parser)?;
         out.push(StructField {
             id,

@@ -7,6 +7,7 @@ ghost use Rattle.wat_types.specs.Use.{UseTy, seen_use, bare_use, type_use, SameF
 ghost use Rattle.wat_types.specs.Use.{SameUnnamed, SameUse, with_names};
 
 use crate::function::{FunctionType, FunctionTypeNoNames};
+use crate::hand::in_group;
 use wat_tokens::{Fault, Index, Parse, Parser, Peek, Result};
 
 /// A use of a type (WebAssembly Core Specification, Text Format, "Type Uses"): its index, the type
@@ -52,11 +53,7 @@ impl<'a, T: Parse<'a> + Peek> Parse<'a> for TypeUse<'a, T> {
     #[tactic(auto, unfolding(crate::specs::Use::type_use))]
     fn parse(parser: &mut Parser<'a>) -> Result<Self> {
         let index = if parser.second_is("type") {
-            parser.open()?;
-            parser.keyword("type")?;
-            let index = Index::parse(parser)?;
-            parser.close()?;
-            Some(index)
+            Some(in_group::<Index>(parser, "type")?)
         } else {
             None
         };

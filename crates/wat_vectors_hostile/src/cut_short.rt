@@ -79,8 +79,8 @@ fn is_refused_cut(rt: &impl Abort, alloc: Global, text: &str) -> Result<usize, F
     let arena = Bump::new(alloc);
     let tokens = cut(alloc, text, &arena)?;
     let mut cuts: usize = 0;
-    for next in tokens.iter().skip(1) {
-        let part = text.get(..next.offset).ok_or("no boundary")?;
+    for next in 1..tokens.len() {
+        let part = text.get(..tokens.offset(next)).ok_or("no boundary")?;
         is_refused(rt, alloc, part.trim_ascii_end())?;
         cuts = cuts.saturating_add(1);
     }

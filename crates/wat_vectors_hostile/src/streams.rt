@@ -150,8 +150,8 @@ fn reads_all(rt: &impl Abort, alloc: Global, text: &[u8]) -> Result<(), Fail> {
 #[test]
 fn reads_all_pieces(rt: HostRuntime) -> Result<(), Fail> {
     let mut text = b"a short text".to_vec(rt.alloc())?;
-    text.resize(10_000, b'x')?;
-    for len in [0, 1, 12, 4096, 10_000] {
+    text.resize(100_000, b'x')?;
+    for len in [0, 1, 12, 65_536, 100_000] {
         let part = text.get(..len).ok_or("too long")?;
         reads_all(&rt, rt.alloc(), part)?;
     }

@@ -22,8 +22,7 @@ use Rattle.wat_core.specs.Field.{start, last_field, further_field, defined_field
 use Rattle.wat_core.proofs.Calm.Rests.{CalmTest, either_test, word_test, lparen_test, guarded_test}
 use Rattle.wat_core.proofs.Calm.Productions.{Calm, calm}
 use Rattle.wat_core.proofs.Calm.Types.{label_calm, val_calm, begins_label_test, ref_calm, begins_ref_test, global_calm, pagesize_calm, table_calm, memory_calm, tag_calm, type_calm, rec_calm}
-use Rattle.wat_core.proofs.Calm.Immediates.{v128_const_calm}
-use Rattle.wat_core.proofs.Calm.Operands.{instruction_calm}
+use Rattle.wat_core.proofs.Calm.Operands.{v128_const_calm, instruction_calm}
 use Rattle.wat_core.proofs.Calm.Expressions.{expression_calm, folded_calm}
 use Rattle.wat_core.proofs.Calm.Links.{func_use_calm, imports_calm, inline_import_calm, export_calm, head_calm, custom_calm}
 
@@ -33,13 +32,9 @@ locals_calm : Calm true locals
 unfolding locals local_parser listed_locals labelled_local plain_locals
 locals_calm = search (calm, begins_label_test, label_calm, val_calm) depth 40
 
-func_defined_calm : Calm true func_defined
-unfolding func_defined func_import func_inline exact_use
-func_defined_calm = search (calm, inline_import_calm, func_use_calm, locals_calm, expression_calm) depth 40
-
 func_calm : Calm true func
-unfolding func
-func_calm = search (calm, head_calm, func_defined_calm) depth 40
+unfolding func func_defined func_import func_inline exact_use
+func_calm = search (calm, head_calm, expression_calm, locals_calm, func_use_calm, inline_import_calm) depth 40
 
 global_field_calm : Calm true global
 unfolding global global_defined
@@ -51,25 +46,13 @@ tag_field_calm = search (calm, head_calm, inline_import_calm, tag_calm) depth 40
 
 -- ---- data segments and memories
 
-numbers_calm : Calm true number_list
-unfolding number_list wide_numbers other_numbers
-numbers_calm = search (calm, v128_const_calm) depth 40
-
 data_vals_calm : Calm true data_vals
-unfolding data_vals data_val
-data_vals_calm = search (calm, numbers_calm) depth 40
-
-offset_calm : Calm true offset_inside
-unfolding offset_inside head_last
-offset_calm = search (calm, expression_calm, instruction_calm) depth 40
-
-data_kind_calm : Calm true data_kind
-unfolding data_kind data_active data_memory
-data_kind_calm = search (calm, offset_calm) depth 40
+unfolding data_vals data_val number_list wide_numbers other_numbers
+data_vals_calm = search (calm, v128_const_calm) depth 40
 
 data_calm : Calm true data_segment
-unfolding data_segment
-data_calm = search (calm, label_calm, data_kind_calm, data_vals_calm) depth 40
+unfolding data_segment data_kind data_active data_memory offset_inside head_last
+data_calm = search (calm, label_calm, expression_calm, instruction_calm, data_vals_calm) depth 40
 
 -- behind `i32` or `i64`, whether the second token is `(`
 width_then_lparen : CalmTest true (λ t. (begins_word (codes "i32") t || begins_word (codes "i64") t) && second begins_lparen t)
@@ -105,17 +88,9 @@ payload_or_indices_calm : Calm true payload_or_indices
 unfolding payload_or_indices
 payload_or_indices_calm = search (calm, indices_calm, begins_ref_test, typed_items_calm) depth 40
 
-active_calm : Calm true active_segment
-unfolding active_segment in_table in_some_table table_number elem_offset
-active_calm = search (calm, written_calm, payload_calm, payload_or_indices_calm) depth 40
-
-segment_calm : Calm true segment
-unfolding segment declared_segment passive_segment
-segment_calm = search (calm, payload_calm, begins_ref_test, active_calm) depth 40
-
 elem_calm : Calm true elem
-unfolding elem
-elem_calm = search (calm, label_calm, segment_calm) depth 40
+unfolding elem segment declared_segment passive_segment active_segment in_table in_some_table table_number elem_offset
+elem_calm = search (calm, label_calm, written_calm, payload_or_indices_calm, begins_ref_test, payload_calm) depth 40
 
 prefix_test : {i : Bool} → CalmTest i begins_prefix
 prefix_test = search calm depth 40
@@ -128,13 +103,9 @@ listed_calm : Calm true listed
 unfolding listed
 listed_calm = search (calm, items_calm, indices_calm) depth 40
 
-table_kind_calm : Calm true table_kind
-unfolding table_kind inline_table normal_table imported_table is_64
-table_kind_calm = search (calm, prefix_then_ref, begins_ref_test, prefix_test, ref_calm, listed_calm, table_calm, expression_calm, inline_import_calm) depth 40
-
 table_field_calm : Calm true table
-unfolding table
-table_field_calm = search (calm, head_calm, table_kind_calm) depth 40
+unfolding table table_kind inline_table normal_table imported_table is_64
+table_field_calm = search (calm, head_calm, inline_import_calm, expression_calm, table_calm, listed_calm, ref_calm, prefix_test, begins_ref_test, prefix_then_ref) depth 40
 
 -- ---- every field
 

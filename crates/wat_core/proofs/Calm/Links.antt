@@ -20,34 +20,27 @@ use Rattle.wat_links.specs.Forms.{import_items, imports}
 use Rattle.wat_links.specs.Export.{export_kind, export_, inline_export}
 use Rattle.wat_links.specs.InlineName.{inline_name}
 use Rattle.wat_links.specs.Head.{head}
-use Rattle.wat_core.proofs.Calm.Productions.{Calm, calm, one_calm, made_calm, seq_calm, behind_calm}
-use Rattle.wat_core.proofs.Calm.Types.{label_calm, use_calm, begins_func_test, function_calm, tag_calm, table_calm, memory_calm, global_calm}
+use Rattle.wat_instr.specs.Laws.Stands.{one_stands, made_stands, both_stand, behind_stands}
+use Rattle.wat_core.proofs.Calm.Productions.{Calm, calm}
+use Rattle.wat_core.proofs.Calm.Types.{label_calm, tag_calm, table_calm, memory_calm, global_calm}
 
 -- ---- signatures
 
 pub func_use_calm : Calm true func_use
-func_use_calm = search (calm, use_calm, begins_func_test, function_calm) depth 40
-
-func_kind_calm : Calm true func_kind
-unfolding func_kind
-func_kind_calm = search (calm, func_use_calm) depth 40
+func_use_calm = tag_calm
 
 labelled_calm : {w : List ℕ} {k : Production KindTy} → Calm true k → Calm true (labelled w k)
-labelled_calm p = made_calm (behind_calm (seq_calm label_calm p))
+labelled_calm p = made_stands (behind_stands (both_stand label_calm p))
 
 item_calm : Calm true item_sig
-unfolding item_sig global_or_tag
-item_calm = search (calm, labelled_calm, func_kind_calm, table_calm, memory_calm, global_calm, tag_calm) depth 40
+unfolding item_sig global_or_tag func_kind
+item_calm = search (calm, labelled_calm, func_use_calm, table_calm, memory_calm, global_calm) depth 40
 
 -- ---- imports
 
-choice_calm : Calm true import_choice
-unfolding import_choice typed_items typed_list typed_item named_items named_list named_item shared_sig single_item
-choice_calm = search (calm, item_calm) depth 40
-
 pub imports_calm : Calm true imports
-unfolding imports import_items
-imports_calm = search (calm, choice_calm) depth 40
+unfolding imports import_items import_choice typed_items typed_list typed_item named_items named_list named_item shared_sig single_item
+imports_calm = search (calm, item_calm) depth 40
 
 pub inline_import_calm : Calm true inline_import
 unfolding inline_import
@@ -59,22 +52,18 @@ pub export_calm : Calm true export_
 unfolding export_ export_kind
 export_calm = search calm depth 40
 
-inline_export_calm : Calm true inline_export
-unfolding inline_export inline_name
-inline_export_calm = search calm depth 40
-
 pub head_calm : Calm true head
-unfolding head
-head_calm = search (calm, label_calm, inline_export_calm) depth 40
+unfolding head inline_export inline_name
+head_calm = search (calm, label_calm) depth 40
 
 -- ---- custom sections
 
 place_calm : Calm true custom_place
 unfolding custom_place before after section
-place_calm = search (calm, behind_calm) depth 40
+place_calm = search (calm, behind_stands) depth 40
 
 annotated_calm : {A : Type 0} {g : Production A} {w : List ℕ} → Calm true g → Calm true (annotation w g)
-annotated_calm p = made_calm (seq_calm (one_calm (refl, refl)) p)
+annotated_calm p = made_stands (both_stand (one_stands (refl, refl)) p)
 
 raw_calm : Calm true raw_custom
 unfolding raw_custom raw_place raw_data
@@ -88,33 +77,9 @@ flags_calm : Calm true symbol_flags
 unfolding symbol_flags flag_list flag_bits
 flags_calm = search calm depth 40
 
-sizes_calm : (w : List ℕ) → Calm true (sizes w)
-unfolding sizes
-sizes_calm w = search calm depth 40
-
-names_calm : (w : List ℕ) → Calm true (names_entry w)
-unfolding names_entry
-names_calm w = search calm depth 40
-
-lone_calm : Calm true lone_entry
-unfolding lone_entry mem_info_entry
-lone_calm = search (calm, sizes_calm, names_calm) depth 40
-
-export_entry_calm : Calm true export_entry
-unfolding export_entry
-export_entry_calm = search (calm, flags_calm) depth 40
-
-import_entry_calm : Calm true import_entry
-unfolding import_entry
-import_entry_calm = search (calm, flags_calm) depth 40
-
-subsection_calm : Calm true subsection
-unfolding subsection
-subsection_calm = search (calm, export_entry_calm, import_entry_calm, lone_calm) depth 40
-
 dylink_calm : Calm true dylink
-unfolding dylink cut_subsections subsections
-dylink_calm = search (calm, annotated_calm, subsection_calm) depth 40
+unfolding dylink cut_subsections subsections subsection export_entry import_entry lone_entry mem_info_entry sizes names_entry
+dylink_calm = search (calm, annotated_calm, flags_calm) depth 40
 
 pub custom_calm : Calm true custom
 unfolding custom

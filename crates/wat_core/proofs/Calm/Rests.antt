@@ -1,11 +1,14 @@
 -- Two rests that differ only behind where a group, or the text, ends; and the tests that don't tell them apart.
-use Rattle.std.proofs.Common.{◌≡◌, ℕ, Bool, true, false, not, ◌||◌, ◌&&◌, List, [], ◌∷◌, ◌++◌, codes, Option, refl, ap, sym, ◌∙◌, append_assoc, bytes_eq}
+use Rattle.std.proofs.Common.{◌≡◌, ℕ, Bool, true, false, not, ◌||◌, ◌&&◌, List, [], ◌∷◌, ◌++◌, codes, Option, refl, ap, sym, ◌∙◌, bytes_eq, arith}
 use Rattle.wat_tokens.specs.Token.{Tok, LParen, RParen, Keyword, Id, Annotation, Integer, String}
-use Rattle.wat_tokens.specs.Tests.{begins_word, begins_group, begins_annotation, begins_id, begins_integer, ends, more, second, begins_lparen}
+use Rattle.wat_tokens.specs.Tests.{begins_word, begins_group, begins_annotation, begins_id, begins_integer, ends, more, second, begins_lparen, word_in}
 use Rattle.wat_tokens.specs.Begin.{begins_one_of}
 use Rattle.wat_tokens.specs.Index.{begins_index}
 use Rattle.wat_immediates.specs.Memory.{begins_with}
 use Rattle.wat_immediates.specs.Lanes.{goes_on, is_alone}
+use Rattle.wat_types.specs.Value.{plain_words}
+use Rattle.wat_instr.specs.Laws.Rests.{Rests, Fronted, fronted, fronted_behind, Steady, Tested}
+use Rattle.wat_instr.specs.Laws.Sees.{Sees, begins_word_sees, begins_index_sees, begins_id_sees, begins_integer_sees, begins_with_sees, one_of_sees, fails_at_end}
 use Rattle.wat_customs.specs.Custom.{begins_annotated}
 use Rattle.wat_links.specs.Import.{opens_typed, typed, begins_inline_import}
 use Rattle.wat_links.specs.Export.{begins_inline_export}
@@ -32,34 +35,21 @@ rest_ends false x p = p
 
 -- a front in common, and behind it a rest and another one
 pub record Alike (i : Bool) (t u : List Tok) : Type 0 where
-  pub front : List Tok
-  pub old : List Tok
-  pub new : List Tok
-  pub old_is : t ≡ front ++ old
-  pub new_is : u ≡ front ++ new
-  pub old_rest : Rest i old
-  pub new_rest : Rest i new
+  pub by : Fronted (λ e r s. Rest i r × Rest i s) t u
 
 pub alike_at_once : {i : Bool} (t u : List Tok) → Rest i t → Rest i u → Alike i t u
-alike_at_once t u p q = record {
-  front = [];
-  old = t;
-  new = u;
-  old_is = refl;
-  new_is = refl;
-  old_rest = p;
-  new_rest = q;
-}
+alike_at_once t u p q = record { by = fronted t u (p, q) }
 
 pub alike_behind : {i : Bool} (c t u : List Tok) → Alike i t u → Alike i (c ++ t) (c ++ u)
-alike_behind c t u a = record {
-  front = c ++ a.front;
-  old = a.old;
-  new = a.new;
-  old_is = ap (λ (x : List Tok). c ++ x) a.old_is ∙ sym (append_assoc c a.front a.old);
-  new_is = ap (λ (x : List Tok). c ++ x) a.new_is ∙ sym (append_assoc c a.front a.new);
-  old_rest = a.old_rest;
-  new_rest = a.new_rest;
+alike_behind c t u a = record { by = fronted_behind c t u a.by a.by.fits }
+
+-- so alike, however long the front is
+abbrev pub ending : Bool → Rests
+ending i = record {
+  Alike = λ n t u. Alike i t u;
+  fewer = λ m n t u le a. a;
+  behind = λ c t u k n le level a. alike_behind c t u a;
+  shut = λ t u n a. alike_behind (RParen ∷ []) t u a;
 }
 
 -- ---- tests
@@ -67,6 +57,9 @@ alike_behind c t u a = record {
 -- the test answers the same before alike rests
 pub record CalmTest (i : Bool) (test : List Tok → Bool) : Type 0 where
   pub same : (t u : List Tok) → Alike i t u → test t ≡ test u
+
+pub calm_steady : {i : Bool} {m n : ℕ} {test : List Tok → Bool} → CalmTest i test → Steady (ending i) m n test
+calm_steady k = record { holds = λ t u a h. sym (k.same t u a) ∙ h; fails = λ t u a h. sym (k.same t u a) ∙ h }
 
 -- behind any front it answers the same of all ends
 abbrev AtEnds : (List Tok → Bool) → Type 0
@@ -78,7 +71,7 @@ Inside test = (e r s : List Tok) → quiet r ≡ true → quiet s ≡ true → t
 
 calm_at_ends : {i : Bool} (test : List Tok → Bool) → AtEnds test → CalmTest i test
 calm_at_ends {i = i} test f = record {
-  same = λ t u a. ap test a.old_is ∙ f a.front a.old a.new (rest_ends i a.old a.old_rest) (rest_ends i a.new a.new_rest) ∙ sym (ap test a.new_is);
+  same = λ t u l. (let a = l.by in ap test a.old_is ∙ f a.front a.old a.new (rest_ends i a.old a.fits.0) (rest_ends i a.new a.fits.1) ∙ sym (ap test a.new_is));
 }
 
 closed : (e x r : List Tok) → x ≡ RParen ∷ r → e ++ x ≡ e ++ (RParen ∷ r)
@@ -86,7 +79,7 @@ closed e x r p = rw p refl
 
 calm_inside : (test : List Tok → Bool) → Inside test → CalmTest true test
 calm_inside test f = record {
-  same = λ t u a. (let p = a.old_rest in let q = a.new_rest in
+  same = λ t u l. (let a = l.by in let p = a.fits.0 in let q = a.fits.1 in
       ap test (a.old_is ∙ closed a.front a.old p.0 p.1) ∙ f a.front p.0 q.0 p.2 q.2 ∙ sym (ap test (a.new_is ∙ closed a.front a.new q.0 q.1)));
 }
 
@@ -103,63 +96,46 @@ pub always_test : {i : Bool} (b : Bool) → CalmTest i (λ t. b)
 always_test b = record { same = λ t u l. refl }
 
 -- a test that fails at an end
-off : (test : List Tok → Bool) → test [] ≡ false → ((x : List Tok) → test (RParen ∷ x) ≡ false) → (r : List Tok) → ends r ≡ true → test r ≡ false
-off test f g [] p = f
-off test f g (RParen ∷ r) p = g r
-off test f g (_ ∷ r) p = absurd cc
-
 both_off : (test : List Tok → Bool) → test [] ≡ false → ((x : List Tok) → test (RParen ∷ x) ≡ false) → (r s : List Tok) → ends r ≡ true → ends s ≡ true → test r ≡ test s
-both_off test f g r s p q = off test f g r p ∙ sym (off test f g s q)
+both_off test f g r s p q = fails_at_end test f g r p ∙ sym (fails_at_end test f g s q)
+
+-- so does a test of one token, which fails at an end
+at_first : (test : List Tok → Bool) → Sees 1 test → test [] ≡ false → ((x : List Tok) → test (RParen ∷ x) ≡ false) → AtEnds test
+at_first test sees f g [] r s p q = both_off test f g r s p q
+at_first test sees f g (x ∷ e) r s p q = sees (x ∷ e) r s (omega arith)
 
 -- ---- one token
 
 word_at : (w : List ℕ) → AtEnds (begins_word w)
-word_at w [] r s p q = both_off (begins_word w) refl (λ x. refl) r s p q
-word_at w (Keyword k ∷ e) r s p q = refl
-word_at w (_ ∷ e) r s p q = refl
+word_at w = at_first (begins_word w) (begins_word_sees w) refl (λ x. refl)
 
 pub word_test : {i : Bool} (w : List ℕ) → CalmTest i (begins_word w)
 word_test w = calm_at_ends (begins_word w) (word_at w)
 
 index_at : AtEnds begins_index
-index_at [] r s p q = both_off begins_index refl (λ x. refl) r s p q
-index_at (Id n ∷ e) r s p q = refl
-index_at (_ ∷ e) r s p q = refl
+index_at = at_first begins_index begins_index_sees refl (λ x. refl)
 
 pub index_test : {i : Bool} → CalmTest i begins_index
 index_test = calm_at_ends begins_index index_at
 
-id_at : AtEnds begins_id
-id_at [] r s p q = both_off begins_id refl (λ x. refl) r s p q
-id_at (Id n ∷ e) r s p q = refl
-id_at (_ ∷ e) r s p q = refl
-
 pub id_test : {i : Bool} → CalmTest i begins_id
-id_test = calm_at_ends begins_id id_at
+id_test = calm_at_ends begins_id (at_first begins_id begins_id_sees refl (λ x. refl))
 
 integer_at : AtEnds begins_integer
-integer_at [] r s p q = both_off begins_integer refl (λ x. refl) r s p q
-integer_at (Integer text ∷ e) r s p q = refl
-integer_at (_ ∷ e) r s p q = refl
+integer_at = at_first begins_integer begins_integer_sees refl (λ x. refl)
 
 pub integer_test : {i : Bool} → CalmTest i begins_integer
 integer_test = calm_at_ends begins_integer integer_at
 
 with_at : (front : List ℕ) → AtEnds (begins_with front)
-with_at front [] r s p q = both_off (begins_with front) refl (λ x. refl) r s p q
-with_at front (Keyword w ∷ e) r s p q = refl
-with_at front (_ ∷ e) r s p q = refl
+with_at front = at_first (begins_with front) (begins_with_sees front) refl (λ x. refl)
 
 pub with_test : {i : Bool} (front : List ℕ) → CalmTest i (begins_with front)
 with_test front = calm_at_ends (begins_with front) (with_at front)
 
 -- where it fails of `)`
-one_of_at : {A : Type 0} (value_of : Tok → Option A) → begins_one_of value_of (RParen ∷ []) ≡ false → AtEnds (begins_one_of value_of)
-one_of_at value_of f [] r s p q = both_off (begins_one_of value_of) refl (λ x. f) r s p q
-one_of_at value_of f (x ∷ e) r s p q = refl
-
 pub one_of_test : {i : Bool} {A : Type 0} (value_of : Tok → Option A) → begins_one_of value_of (RParen ∷ []) ≡ false → CalmTest i (begins_one_of value_of)
-one_of_test value_of f = calm_at_ends (begins_one_of value_of) (one_of_at value_of f)
+one_of_test value_of f = calm_at_ends (begins_one_of value_of) (at_first (begins_one_of value_of) (one_of_sees value_of) refl (λ x. f))
 
 ends_at : AtEnds ends
 ends_at [] r s p q = p ∙ sym q
@@ -246,7 +222,7 @@ lparen_test = calm_at_ends begins_lparen lparen_at
 
 -- a test that fails at an end, and with it what the second token has to be
 guarded_at : (p q : List Tok → Bool) → p [] ≡ false → ((x : List Tok) → p (RParen ∷ x) ≡ false) → AtEnds p → AtEnds q → AtEnds (λ t. p t && second q t)
-guarded_at p q f g h k [] r s a b = rw (off p f g r a, off p f g s b) refl
+guarded_at p q f g h k [] r s a b = rw (fails_at_end p f g r a, fails_at_end p f g s b) refl
 guarded_at p q f g h k (x ∷ e) r s a b = rw (h (x ∷ e) r s a b, k e r s a b) refl
 
 at_ends : (test : List Tok → Bool) → CalmTest false test → AtEnds test
@@ -326,3 +302,25 @@ pub passive_test : CalmTest true begins_passive
 passive_test = calm_inside begins_passive passive_inside
 
 pub ruleset tests = (either_test, both_test, not_test, always_test, word_test, index_test, id_test, integer_test, with_test, one_of_test, ends_test, more_test, group_test, annotation_test, second_word_test, second_index_test, alone_test, lparen_test, inline_import_test, inline_export_test, typed_test, annotated_test, passive_test)
+
+-- ---- the tests by which parts of an instruction are told apart
+
+pub tested : Tested (ending true)
+tested = record {
+  word = λ w. calm_steady (word_test w);
+  seqcst = calm_steady (word_test (codes "seqcst"));
+  acqrel = calm_steady (word_test (codes "acqrel"));
+  index = calm_steady index_test;
+  id = calm_steady id_test;
+  offset = calm_steady (with_test (codes "offset="));
+  align = calm_steady (with_test (codes "align="));
+  plain = calm_steady (one_of_test (word_in plain_words) refl);
+  more = calm_steady more_test;
+  group = λ w. calm_steady (group_test w);
+  annotation = λ n. calm_steady (annotation_test n);
+  second_type = calm_steady (second_word_test (codes "type"));
+  second_param = calm_steady (second_word_test (codes "param"));
+  second_result = calm_steady (second_word_test (codes "result"));
+  second_index = calm_steady second_index_test;
+  alone = calm_steady alone_test;
+}

@@ -92,6 +92,24 @@ module _ {A : Type 0} (f : A → EntryTy) (begins : List Tok → Bool) (g : Prod
       let w = subst (λ (u : List Tok). g.spells x s.0 u) e q.1 in
       (s.0 ++ p.0, p.1, whole, (λ k. (s.0, p.0, refl, b, w, p.3 k)), p.4)
 
+  -- a run in front of entries, and behind it nothing of its kind
+  run_in_front : (vs : List A) (d e r : List Tok) (es : List EntryTy)
+      → begins (d ++ (e ++ r)) ≡ true → (run begins g eats).spells vs d (e ++ r)
+      → many_spells more entry es e r
+      → many_spells more entry (map f vs ++ es) (d ++ e) r × (begins (e ++ r) ≡ false)
+  run_in_front vs d e r es b s p =
+      let all = run_is_many vs d (e ++ r) b s in
+      (run_entries vs d e r es all p, many_ends begins g vs d (e ++ r) all)
+
+  -- all of its kind that stand in front of others are a run
+  front_is_run : (x : A) (xs : List A) (c d e r : List Tok) → c ≡ d ++ e
+      → many_spells begins g (x ∷ xs) d (e ++ r)
+      → (more (c ++ r) ≡ true) × (begins (d ++ (e ++ r)) ≡ true)
+      × (run begins g eats).spells (x ∷ xs) d (e ++ r)
+  front_is_run x xs c d e r p s =
+      let m : more (c ++ r) ≡ true = rw (p, regroup d e r) (goes_on (d ++ (e ++ r)) s.3) in
+      (m, s.3, many_is_run x xs d (e ++ r) s)
+
 -- ---- entries of the two kinds
 
 export_as : (x : List ℕ × ℕ) (d t : List Tok) → begins_export (d ++ t) ≡ true
@@ -245,29 +263,17 @@ first_cut : (s : SubsectionTy) (ss : List SubsectionTy) (d e r : List Tok)
     → IsFirst ss (d ++ e) r s
 unfolding subsection entry
 first_cut s ss d e r m (inl p) rest es =
-    let all = run_is_many of_export begins_export export_entry export_entry_eats export_as export_of
-    (group_more (codes "export-info")) p.1.0 d (e ++ r) p.0 p.1.1 in
-    let filled : IsFilled (export_info p.1.0) =
-    subst (λ (u : List (List ℕ × ℕ)). IsFilled (export_info u)) p.1.1.3 tt in
-    let here =
-    run_entries of_export begins_export export_entry export_entry_eats export_as export_of
-    (group_more (codes "export-info")) p.1.0 d e r (flat ss) all es in
-    let apart =
-    apart_export p.1.0 ss e r (many_ends begins_export export_entry p.1.0 d (e ++ r) all) rest
-    in
-    subst (λ (u : SubsectionTy). IsFirst ss (d ++ e) r u) p.1.3 (here, filled, apart)
+    let q = run_in_front of_export begins_export export_entry export_entry_eats export_as export_of
+    (group_more (codes "export-info")) p.1.0 d e r (flat ss) p.0 p.1.1 es in
+    let filled = subst (λ (u : List (List ℕ × ℕ)). IsFilled (export_info u)) p.1.1.3 tt in
+    subst (λ (u : SubsectionTy). IsFirst ss (d ++ e) r u) p.1.3
+    (q.0, filled, apart_export p.1.0 ss e r q.1 rest)
 first_cut s ss d e r m (inr (b, inl p)) rest es =
-    let all = run_is_many of_import begins_import import_entry import_entry_eats import_as import_of
-    (group_more (codes "import-info")) p.1.0 d (e ++ r) p.0 p.1.1 in
-    let filled : IsFilled (import_info p.1.0) =
-    subst (λ (u : List (List ℕ × List ℕ × ℕ)). IsFilled (import_info u)) p.1.1.3 tt in
-    let here =
-    run_entries of_import begins_import import_entry import_entry_eats import_as import_of
-    (group_more (codes "import-info")) p.1.0 d e r (flat ss) all es in
-    let apart =
-    apart_import p.1.0 ss e r (many_ends begins_import import_entry p.1.0 d (e ++ r) all) rest
-    in
-    subst (λ (u : SubsectionTy). IsFirst ss (d ++ e) r u) p.1.3 (here, filled, apart)
+    let q = run_in_front of_import begins_import import_entry import_entry_eats import_as import_of
+    (group_more (codes "import-info")) p.1.0 d e r (flat ss) p.0 p.1.1 es in
+    let filled = subst (λ (u : List (List ℕ × List ℕ × ℕ)). IsFilled (import_info u)) p.1.1.3 tt in
+    subst (λ (u : SubsectionTy). IsFirst ss (d ++ e) r u) p.1.3
+    (q.0, filled, apart_import p.1.0 ss e r q.1 rest)
 first_cut s ss d e r m (inr (b, inr p)) rest es =
     let q = lone_entries s (lone_is s d (e ++ r) p.1) in
     let here : many_spells more entry (other s ∷ flat ss) (d ++ e) r =
@@ -309,36 +315,19 @@ from_cut (export_info (x ∷ xs) ∷ ss) c r s a =
     let p = entries_run of_export begins_export export_entry export_entry_eats export_as export_of
     (group_more (codes "export-info")) (x ∷ xs) c r (flat ss) s in
     let rest = from_cut ss p.1 r p.4 a.2 in
-    let all = p.3 (stops_export (x ∷ xs) ss p.1 r a.1 rest) in
-    let b : begins_export (p.0 ++ (p.1 ++ r)) ≡ true = all.3 in
-    let m : more (c ++ r) ≡ true =
-    rw (p.2, regroup p.0 p.1 r) (group_more (codes "export-info") (p.0 ++ (p.1 ++ r)) b) in
-    let here =
-    many_is_run of_export begins_export export_entry export_entry_eats export_as export_of
-    (group_more (codes "export-info")) x xs p.0 (p.1 ++ r) all in
-    (p.0, p.1, p.2, m, inl (b, (x ∷ xs, here, refl, refl)), rest)
+    let q = front_is_run of_export begins_export export_entry export_entry_eats export_as export_of
+    (group_more (codes "export-info")) x xs c p.0 p.1 r p.2
+    (p.3 (stops_export (x ∷ xs) ss p.1 r a.1 rest)) in
+    (p.0, p.1, p.2, q.0, inl (q.1, (x ∷ xs, q.2, refl, refl)), rest)
 from_cut (import_info (x ∷ xs) ∷ ss) c r s a =
     let p = entries_run of_import begins_import import_entry import_entry_eats import_as import_of
     (group_more (codes "import-info")) (x ∷ xs) c r (flat ss) s in
     let rest = from_cut ss p.1 r p.4 a.2 in
-    let all = p.3 (stops_import (x ∷ xs) ss p.1 r a.1 rest) in
-    let b : begins_import (p.0 ++ (p.1 ++ r)) ≡ true = all.3 in
-    let m : more (c ++ r) ≡ true =
-    rw (p.2, regroup p.0 p.1 r) (group_more (codes "import-info") (p.0 ++ (p.1 ++ r)) b) in
-    let here =
-    many_is_run of_import begins_import import_entry import_entry_eats import_as import_of
-    (group_more (codes "import-info")) x xs p.0 (p.1 ++ r) all in (
-      p.0,
-      p.1,
-      p.2,
-      m,
-      inr (
-        import_no_export (p.0 ++ (p.1 ++ r)) b,
-        inl
-            (b, (x ∷ xs, here, refl, refl)),
-      ),
-      rest,
-    )
+    let q = front_is_run of_import begins_import import_entry import_entry_eats import_as import_of
+    (group_more (codes "import-info")) x xs c p.0 p.1 r p.2
+    (p.3 (stops_import (x ∷ xs) ss p.1 r a.1 rest)) in
+    let no = import_no_export (p.0 ++ (p.1 ++ r)) q.1 in
+    (p.0, p.1, p.2, q.0, inr (no, inl (q.1, (x ∷ xs, q.2, refl, refl))), rest)
 from_cut (s ∷ ss) c r q a =
     (q.0, q.1, q.2, q.3, lone_alone s q.0 (q.1 ++ r) q.4, from_cut ss q.1 r q.5 a.2)
 

@@ -287,6 +287,16 @@ module _ (rec : List Tok → Read Items) where
   begins_group i (Keyword w ∷ t) b h = rw (not_then i w t b h, read_of i (Keyword w ∷ t) b h) refl
   begins_group i (k ∷ t) b h = absurd (word_front i k t b h)
 
+-- what stands in a group, and what stands behind the token that ends it, are shorter than all
+group_shorter : (i : Instr) (ys : Items) (n : ℕ) (ts a b : List Tok) (x : Tok) (d : List Tok)
+    → length ts < suc n → ts ≡ LParen ∷ a → reads i a b → lists ys b (x ∷ d)
+    → (length b < n) × (length d < n)
+group_shorter i ys n ts a b x d lt e h ly =
+    let k = reads_shorter i a b h in
+    let z = ap length e in
+    let y = (lists_between ys b (x ∷ d) ly).shorter in
+    (omega arith, omega arith)
+
 pub items_at_complete : (xs : Items) (n : ℕ) (ts r : List Tok) → length ts < n → Stops r
     → lists xs ts r → items_at n ts ≡ Some (xs, r)
 unfolding items_at
@@ -296,53 +306,37 @@ items_at_complete (Plain i xs) (suc n) ts r lt s (m, h, l) =
     let k = reads_shorter i ts m h in
     begins_plain (items_at n) i ts m h ∙ rw (items_at_complete xs n m r (omega arith) s l) refl
 items_at_complete (Folded i ys xs) (suc n) ts r lt s (a, b, d, e, q, h, ly, lx) =
-    let k = reads_shorter i a b h in
-    let z = ap length e in
-    let y = (lists_between ys b (RParen ∷ d) ly).shorter in
-    rw e (begins_group (items_at n) i a b h ∙ rw (
-      q,
-      items_at_complete ys n b (RParen ∷ d) (omega arith) tt ly,
-      items_at_complete xs n d
-          r (omega arith) s lx,
-    ) refl)
+    let k = group_shorter i ys n ts a b _ d lt e h ly in
+    let y = items_at_complete ys n b (RParen ∷ d) k.0 tt ly in
+    let x = items_at_complete xs n d r k.1 s lx in
+    rw e (begins_group (items_at n) i a b h ∙ rw (q, y, x) refl)
 items_at_complete (Block i ys xs) (suc n) ts r lt s (a, b, d, e, q, h, ly, lx) =
-    let k = reads_shorter i a b h in
-    let z = ap length e in
-    let y = (lists_between ys b (RParen ∷ d) ly).shorter in
-    rw e (begins_group (items_at n) i a b h ∙ rw (
-      q,
-      items_at_complete ys n b (RParen ∷ d) (omega arith) tt ly,
-      items_at_complete xs n d
-          r (omega arith) s lx,
-    ) refl)
+    let k = group_shorter i ys n ts a b _ d lt e h ly in
+    let y = items_at_complete ys n b (RParen ∷ d) k.0 tt ly in
+    let x = items_at_complete xs n d r k.1 s lx in
+    rw e (begins_group (items_at n) i a b h ∙ rw (q, y, x) refl)
 items_at_complete (IfThen i ops th xs) (suc n) ts r lt s (a, b, d, e, q, k, h, g, lo, lh, lx) =
-    let z = ap length q in
-    let y0 = reads_shorter i a b h in
-    let y1 = (lists_between ops b _ lo).shorter in
-    let y2 = (lists_between th d _ lh).shorter in
+    let z = group_shorter i ops n ts a b _ _ lt q h lo in
+    let y = (lists_between th d _ lh).shorter in
     rw q (begins_group (items_at n) i a b h ∙ rw (
       k,
-      items_at_complete ops n b _ (omega arith) refl lo,
+      items_at_complete ops n b _ z.0 refl lo,
       so_are_groups ops g,
-      items_at_complete th n d _ (omega arith) tt lh,
-      items_at_complete xs n e r (omega arith) s
-          lx,
+      items_at_complete th n d _ (omega (arith, z.1)) tt lh,
+      items_at_complete xs n e r (omega (arith, z.1)) s lx,
     ) refl)
 items_at_complete (IfElse i ops th el xs) (suc n) ts r lt s
     (a, b, d, e, f, q, k, h, g, lo, lh, le, lx) =
-    let z = ap length q in
-    let y0 = reads_shorter i a b h in
-    let y1 = (lists_between ops b _ lo).shorter in
-    let y2 = (lists_between th d _ lh).shorter in
-    let y3 = (lists_between el e _ le).shorter in
+    let z = group_shorter i ops n ts a b _ _ lt q h lo in
+    let y = (lists_between th d _ lh).shorter in
+    let w = (lists_between el e _ le).shorter in
     rw q (begins_group (items_at n) i a b h ∙ rw (
       k,
-      items_at_complete ops n b _ (omega arith) refl lo,
+      items_at_complete ops n b _ z.0 refl lo,
       so_are_groups ops g,
-      items_at_complete th n d _ (omega arith) tt lh,
-      items_at_complete el n e _ (omega arith) tt
-          le,
-      items_at_complete xs n f r (omega arith) s lx,
+      items_at_complete th n d _ (omega (arith, z.1)) tt lh,
+      items_at_complete el n e _ (omega (arith, z.1)) tt le,
+      items_at_complete xs n f r (omega (arith, z.1)) s lx,
     ) refl)
 items_at_complete (Hinted v xs) (suc n) ts r lt s (d, e, less, g, l) =
     let z = ap length e in

@@ -1,9 +1,7 @@
-use Rattle.std.proofs.Common.{arith, ◌≡◌, ◌∙◌, ap, sym}
+use Rattle.std.proofs.Common.{◌∙◌, sym}
 use Rattle.wat_lexer.specs.Cut.{cutting}
-use Rattle.wat_lexer.specs.View.{placed}
 use Rattle.wat_lexer.proofs.Fronts as fronts
-use Rattle.wat_lexer.proofs.Closing.{placed_length}
-use Rattle.wat_lexer.proofs.Outcomes.{left_open, no_cut, closed_anyway, told_anyway, whole_back}
+use Rattle.wat_lexer.proofs.Outcomes.{left_open, no_cut, closed_anyway, told_anyway}
 use Rattle.wat_lexer.proofs.cut.cut.Goals as goal
 
 pub returns-in-Err-clause-fault : goal.returns-in-Err-clause-fault
@@ -14,21 +12,16 @@ returns-in-Err-clause-none c = λ no_memory ts cut. fronts.no_cut (c.in-Err.ensu
 
 pub returns-in-Some-clause-fault : goal.returns-in-Some-clause-fault
 returns-in-Some-clause-fault c = λ no_memory.
-    left_open c.fault_at.result c.in-Ok.ensures.found (rw c.deref_mut.ensures.value at (rw c.in-Some.is at c.in_ok-offset.ensures.first)) c.fault_at.ensures.fault c.fault_at.ensures.place
+    left_open c.fault_at-in-Some.result c.in-Ok.ensures.found (rw c.in-Some.is at c.in_ok-offset.ensures.first) c.fault_at-in-Some.ensures.fault c.fault_at-in-Some.ensures.place
 
 pub returns-in-Some-clause-none : goal.returns-in-Some-clause-none
 returns-in-Some-clause-none c = λ no_memory ts. no_cut c.args.text.now _ _ ts (returns-in-Some-clause-fault c no_memory)
 
 pub returns-in-None-clause-found : goal.returns-in-None-clause-found
-returns-in-None-clause-found c =
-    let old = c.in-Ok.parts.0.items in
-    let new = c.tell_leaps.new.tokens in
-    let same : placed new ≡ placed old = c.tell_leaps.ensures.same ∙ ap placed c.deref_mut.ensures.value in
-    rw (whole_back new old c.in-Ok.parts.0.len (omega (arith, c.in-Ok.parts.0.ok.0)) (placed_length new old same), same)
-    (c.in-Ok.ensures.found, rw c.deref_mut.ensures.value at (rw c.in-None.is at c.in_ok-offset.ensures.first))
+returns-in-None-clause-found c = rw c.tell_leaps.ensures.same (c.in-Ok.ensures.found, rw c.in-None.is at c.in_ok-offset.ensures.first)
 
 pub returns-clause-found : goal.returns-clause-found
-returns-clause-found c = (c.in-Ok.ensures.found, closed_anyway c.in-Ok.parts.0.items (sym c.in-Ok.ensures.noted ∙ c.if-noted.false))
+returns-clause-found c = (c.in-Ok.ensures.found, closed_anyway c.in-Ok.parts.0 (sym c.in-Ok.ensures.noted ∙ c.if-noted.false))
 
 pub returns-clause-leaps : goal.returns-clause-leaps
-returns-clause-leaps c = told_anyway c.in-Ok.parts.0.items (sym c.in-Ok.ensures.noted ∙ c.if-noted.false)
+returns-clause-leaps c = told_anyway c.in-Ok.parts.0 (sym c.in-Ok.ensures.noted ∙ c.if-noted.false)

@@ -1,12 +1,11 @@
-use Rattle.std.proofs.Common.{arith, ◌≡◌, ◌∙◌, ap, sym, drop, length}
+use Rattle.std.proofs.Common.{arith, ◌≡◌, ◌+◌, ◌-◌, ◌∙◌, ap, drop, length}
 use Rattle.std.specs.Prelude.{slice_range}
-use Rattle.wat_lexer.specs.Scan.{class, TokenTo}
-use Rattle.wat_lexer.specs.View.{view}
+use Rattle.wat_lexer.specs.Scan.{behind_run, run_front, class, TokenTo, Between, Ends}
 use Rattle.wat_lexer.proofs.Places.{run_first, run_token}
 use Rattle.wat_lexer.proofs.Steps.{run_quote}
-use Rattle.wat_lexer.proofs.Whole.{whole_here, class_more}
+use Rattle.wat_lexer.proofs.Whole.{whole_here, class_more, class_string}
 use Rattle.wat_lexer.proofs.cut.string_run.Goals as goal
-use Rattle.wat_lexer.proofs.cut.string_run.Goals.{then-end-after+in_ok-content, else-end-after}
+use Rattle.wat_lexer.proofs.cut.string_run.Goals.{then-end-after-2+in_ok-content, else-end-after-2}
 
 pub part-run-requires-clause-first : goal.part-run-requires-clause-first
 part-run-requires-clause-first c = run_first c.args.at c.args.quote c.args.text.now c.requires.order c.requires.quote c.requires.mark c.requires.plain
@@ -18,6 +17,23 @@ string_token-token-requires-clause-a_string c =
     let near = c.in-Some.ensures.within in
     rw c.part-run.ensures (whole_here c.args.at c.args.quote c.in-Ok.end c.in_ok-content.content.now c.args.text.now c.requires.order (omega arith) (omega (arith, ap length bytes)) c.requires.mark (rw bytes at c.in_ok-content.ensures))
 
+pub returns-then-end-after-clause-value : goal.returns-then-end-after-clause-value
+returns-then-end-after-clause-value c =
+    let text = c.args.text.now in
+    let bytes = c.as_bytes-bytes.ensures.value in
+    let end = c.in-Ok.end in
+    let far = c.in-Ok.ensures.within in
+    let near = c.in-Some.ensures.within in
+    let here : c.args.quote ≡ c.args.at = omega arith in
+    let after : c.in-Some.string.0 ≡ end = omega arith in
+    let rest = rw bytes at c.in-Some.ensures.rest in
+    let whole : behind_run Between (drop c.args.at text) ≡ Ends (drop end text) = c.requires.same ∙ rw (run_quote c.args.quote text c.requires.quote c.requires.mark, ← rest) (rw bytes at c.in-Ok.ensures.value) in
+    let content = rw (bytes, here, after) at (c.in-Some.ensures.content c.if-plain.true) in (
+      run_token c.args.behind c.args.at end text _ (omega arith) (omega (arith, ap length bytes)) whole
+          ∙ ap (λ t. TokenTo t (drop end text)) (class_string c.args.behind c.args.at end (slice_range text (c.args.at + 1) (end - 1)) text (omega arith) (omega (arith, ap length bytes)) (rw here at c.requires.mark) content),
+      (omega arith, omega (arith, ap length bytes)),
+    )
+
 pub returns-clause-value : goal.returns-clause-value
 returns-clause-value c =
     let text = c.args.text.now in
@@ -26,9 +42,9 @@ returns-clause-value c =
     let far = c.in-Ok.ensures.within in
     let near = c.in-Some.ensures.within in
     let rest = rw bytes at c.in-Some.ensures.rest in
-    let whole = c.requires.same ∙ rw (run_quote c.args.quote text c.requires.quote c.requires.mark, ← rest) (rw bytes at c.in-Ok.ensures.value) in
-    let token : view c.if-end-after.token ≡ class c.args.behind (slice_range text c.args.at end) = elim c.if-end-after.branch [
-      | then-end-after+in_ok-content w ↦ rw (w.token-is, w.string_token-token.ensures, c.part-run.ensures)
-      | else-end-after w ↦ rw (w.token-is, c.part-run.ensures) (sym (class_more c.args.behind c.args.at c.args.quote c.in-Some.string.0 end text c.requires.order (omega arith) (omega (arith, w.if-end-after.false)) (omega (arith, ap length bytes)) c.requires.mark c.requires.plain rest))
-    ] in
-    run_token c.args.behind c.args.at end text _ (omega (arith, c.requires.order)) (omega (arith, ap length bytes)) whole ∙ ap (λ t. TokenTo t (drop end text)) (sym token)
+    let whole : behind_run Between (drop c.args.at text) ≡ Ends (drop end text) = c.requires.same ∙ rw (run_quote c.args.quote text c.requires.quote c.requires.mark, ← rest) (rw bytes at c.in-Ok.ensures.value) in
+    let run : run_front c.args.behind (drop c.args.at text) (behind_run Between (drop c.args.at text)) ≡ TokenTo (class c.args.behind (slice_range text c.args.at end)) (drop end text) = run_token c.args.behind c.args.at end text _ (omega (arith, c.requires.order)) (omega (arith, ap length bytes)) whole in
+    elim c.if-end-after-2.branch [
+      | then-end-after-2+in_ok-content w ↦ (rw run (ap (λ t. TokenTo t (drop end text)) (rw (w.token-is, w.string_token-token.ensures.class, c.part-run.ensures))), rw w.token-is w.string_token-token.ensures.no_paren)
+      | else-end-after-2 w ↦ (rw run (ap (λ t. TokenTo t (drop end text)) (rw (w.token-is, c.part-run.ensures) (class_more c.args.behind c.args.at c.args.quote c.in-Some.string.0 end text c.requires.order (omega arith) (omega (arith, w.if-end-after-2.false)) (omega (arith, ap length bytes)) c.requires.mark c.requires.plain rest))), rw w.token-is)
+    ]

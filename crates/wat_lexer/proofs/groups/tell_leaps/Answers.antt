@@ -1,16 +1,16 @@
-use Rattle.std.proofs.Common.{arith, ◌≡◌, ◌-◌, refl, ap, is_ok}
+use Rattle.std.proofs.Common.{arith, ◌≡◌, ◌-◌, ◌∙◌, sym, refl, ap, is_ok}
 use Rattle.std.proofs.ResultArms.{chosen}
 use Rattle.wat_lexer.proofs.Closing.{popped, nothing_yet, pushed, passed_over, opened, ends_here, ends_never, hid_closed, hid_open, first_from}
 use Rattle.wat_lexer.proofs.groups.tell_leaps.Goals as goal
 
 pub loop-i-init : goal.loop-i-init
-loop-i-init c = rw c.new-ends.ensures.items (nothing_yet c.args.tokens.now)
+loop-i-init c = rw (c.new-ends.ensures.items, c.len-i.ensures.value) (nothing_yet c.args.tokens.now)
 
-pub loop-i-preserved-then-is_close : goal.loop-i-preserved-then-is_close
-loop-i-preserved-then-is_close c = rw (chosen _ _ _ _ c.push.ensures.items (ap is_ok c.in_ok-push.was)) (pushed _ c.loop-i.invariant (omega arith) (cc))
+pub loop-i-preserved-then-closes : goal.loop-i-preserved-then-closes
+loop-i-preserved-then-closes c = rw (chosen _ _ _ _ c.push.ensures.items (ap is_ok c.in_ok-push.was)) (pushed _ c.loop-i.invariant (omega arith) (sym c.closes.ensures ∙ c.if-closes.true))
 
-pub loop-i-preserved-then-not-is_open : goal.loop-i-preserved-then-not-is_open
-loop-i-preserved-then-not-is_open c = passed_over _ c.loop-i.invariant (omega arith) (cc) (cc)
+pub loop-i-preserved-then-not-opens : goal.loop-i-preserved-then-not-opens
+loop-i-preserved-then-not-opens c = passed_over _ c.loop-i.invariant (omega arith) (cc) (cc)
 
 pub loop-i-preserved-then-not-hides : goal.loop-i-preserved-then-not-hides
 loop-i-preserved-then-not-hides c = opened _ c.loop-i.invariant (omega arith) (popped c.pop-end.ensures.items c.pop-end.ensures.variant (omega (arith, c.loop-i.ends.ok.0)) refl) (cc) (cc)
@@ -28,10 +28,10 @@ pub loop-i-preserved-in-Some : goal.loop-i-preserved-in-Some
 loop-i-preserved-in-Some c = hid_closed _ c.loop-i.invariant (omega arith) _ (popped c.pop-end.ensures.items c.pop-end.ensures.variant (omega (arith, c.loop-i.ends.ok.0)) c.in-Some.is) (cc) c.tell_leap.ensures.same c.tell_leap.ensures.leaps
 
 pub tell_leap-requires-in-None-clause-counts : goal.tell_leap-requires-in-None-clause-counts
-tell_leap-requires-in-None-clause-counts c = ends_never _ c.loop-i.invariant (omega arith) (popped c.pop-end.ensures.items c.pop-end.ensures.variant (omega (arith, c.loop-i.ends.ok.0)) c.in-None.is)
+tell_leap-requires-in-None-clause-counts c = rw c.len-end.ensures.value (ends_never _ c.loop-i.invariant (omega arith) (popped c.pop-end.ensures.items c.pop-end.ensures.variant (omega (arith, c.loop-i.ends.ok.0)) c.in-None.is))
 
 pub loop-i-preserved : goal.loop-i-preserved
-loop-i-preserved c = hid_open _ c.loop-i.invariant (omega arith) _ (popped c.pop-end.ensures.items c.pop-end.ensures.variant (omega (arith, c.loop-i.ends.ok.0)) c.in-None.is) (cc) (cc) c.tell_leap-in-None.ensures.same c.tell_leap-in-None.ensures.leaps
+loop-i-preserved c = rw c.offset.ensures (hid_open _ c.loop-i.invariant (omega arith) _ (popped c.pop-end.ensures.items c.pop-end.ensures.variant (omega (arith, c.loop-i.ends.ok.0)) c.in-None.is) (cc) (cc) c.tell_leap-in-None.ensures.same c.tell_leap-in-None.ensures.leaps)
 
 pub returns-clause-leaps : goal.returns-clause-leaps
 returns-clause-leaps c = let start : c.loop-i.i ≡ 0 = omega arith in rw start at c.loop-i.invariant.leaps

@@ -53,7 +53,7 @@ pub returns : goal.returns
 unfolding func_groups
 returns c = record {
   reads = record {
-    exact = sym c.groups.invariant.exact ∙ adding_ends add group_follows (func_group c.args.labels) (func_group_eats c.args.labels) (seen_function c.groups.found) c.groups.parser.left (sym c.group_next.ensures ∙ c.groups-test.false);
+    exact = rw (c.shrink_to_fit.ensures.items, c.shrink_to_fit-2.ensures.items) (sym c.groups.invariant.exact ∙ adding_ends add group_follows (func_group c.args.labels) (func_group_eats c.args.labels) (seen_function c.groups.found) c.groups.parser.left (sym c.group_next.ensures ∙ c.groups-test.false));
     counts = search rules;
     quiet = search rules;
     names = search rules;

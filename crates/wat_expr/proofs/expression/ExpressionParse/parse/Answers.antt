@@ -1,4 +1,4 @@
-use Rattle.std.proofs.Common.{Ok}
+use Rattle.std.proofs.Common.{Ok, Some, None, true, false, length, subst, sym, ◌≡◌}
 use Rattle.std.proofs.lemmas.Result.{err_from_is_err_and}
 use Rattle.wat_expr.proofs.Whole.{goes_on, refused, refused_counts, left_pending, reads_nothing_listed, listed, found, accepted}
 use Rattle.wat_expr.proofs.expression.ExpressionParse.parse.Goals as goal
@@ -28,13 +28,27 @@ pub returns-in-Some-clause-only : goal.returns-in-Some-clause-only
 returns-in-Some-clause-only c = λ xs r l e. absurd (left_pending _ _ _ _ c.turns.invariant c.in-Some.is c.turns-test.ensures.1 xs r l e)
 
 pub returns-clause-listed : goal.returns-clause-listed
-returns-clause-listed c = (listed _ _ _ c.turns.invariant c.turns-test.ensures.0 c.in-None.is c.turns-test.ensures.1).0
+returns-clause-listed c =
+    let w = (listed _ _ _ c.turns.invariant c.turns-test.ensures.0 c.in-None.is c.turns-test.ensures.1).0 in
+    record {
+      items = w.items;
+      listed = w.listed;
+      ended = w.ended;
+      value = rw c.shrink_to_fit.ensures.items w.value;
+      turned = w.turned;
+      peak = w.peak;
+      held = w.held;
+    }
 
 pub returns-clause-exact : goal.returns-clause-exact
 returns-clause-exact c = found _ _ _ (returns-clause-listed c)
 
 pub returns-clause-only : goal.returns-clause-only
-returns-clause-only c = accepted (Ok c.turns.reader.out) _ c.turns.parser.left (returns-clause-exact c)
+returns-clause-only c =
+    let out = c.turns.reader.out in
+    accepted (Ok record { instrs = c.shrink_to_fit.new.self; branch_hints = out.branch_hints; instr_spans = out.instr_spans }) _ c.turns.parser.left (returns-clause-exact c)
 
 pub returns-clause-spans : goal.returns-clause-spans
-returns-clause-spans c = (listed _ _ _ c.turns.invariant c.turns-test.ensures.0 c.in-None.is c.turns-test.ensures.1).1
+returns-clause-spans c =
+    let tracks = c.args.parser.now.tracks in
+    subst {0, 0} (λ xs. elim c.turns.reader.out.instr_spans [ Some v ↦ (tracks ≡ true) × (length v.items ≡ length xs) | None ↦ tracks ≡ false ]) (sym c.shrink_to_fit.ensures.items) (listed _ _ _ c.turns.invariant c.turns-test.ensures.0 c.in-None.is c.turns-test.ensures.1).1

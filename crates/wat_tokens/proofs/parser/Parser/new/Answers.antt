@@ -6,5 +6,5 @@ use Rattle.wat_tokens.proofs.parser.Parser.new.Goals as goal
 
 pub returns-clause-fresh : goal.returns-clause-fresh
 returns-clause-fresh c =
-    let ls = c.in_ok-tokens.tokens.items in
+    let ls = c.in_ok-tokens.tokens in
     (placed ls, c.in_ok-tokens.ensures.found, c.over.ensures ∙ sym (ap begun (tokens_of-placed ls)))

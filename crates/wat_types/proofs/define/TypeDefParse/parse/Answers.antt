@@ -11,9 +11,8 @@ use Rattle.wat_types.proofs.define.TypeDefParse.parse.Goals as goal
 pub returns-in_err-def-clause-exact : goal.returns-in_err-def-clause-exact
 returns-in_err-def-clause-exact c =
     let t = c.args.parser.now.left in
-    let t4 = c.open.new.self.left in
     let ps = map seen_index c.while_begun.new.out.items in
     let k : begins_word (codes "sub") t ≡ true = search rules in
     let g : after_front [] (many_reads begins_index index c.flag-is_final.new.self.left) ≡ Some (ps, c.while_begun.new.parser.left) = rw c.new-parents.ensures.items at c.in_ok-while_begun.ensures.reads.exact in
     let p = err_from_is_err_and c.from_residual-in_err-def.result c.from_residual-in_err-def.ensures.1 in
-    rw (p.1, p.2) ((λ not. sub_fails c.flag-is_final.result ps t c.keyword.new.self.left c.flag-is_final.new.self.left c.while_begun.new.parser.left t4 k c.in_ok-keyword.ensures.reads.exact c.flag-is_final.ensures.reads.exact g c.in_ok-open.ensures.reads.exact (c.in_err-def.ensures.reads.exact.0 not)), (λ m. (refl, sub_not_bare c.flag-is_final.result ps t c.keyword.new.self.left c.flag-is_final.new.self.left c.while_begun.new.parser.left t4 k c.in_ok-keyword.ensures.reads.exact c.flag-is_final.ensures.reads.exact g c.in_ok-open.ensures.reads.exact (c.in_err-def.ensures.reads.exact.1 m).1)))
+    rw (p.1, p.2) ((λ not. sub_fails c.flag-is_final.result ps t c.keyword.new.self.left c.flag-is_final.new.self.left c.while_begun.new.parser.left k c.in_ok-keyword.ensures.reads.exact c.flag-is_final.ensures.reads.exact g (c.in_err-def.ensures.reads.exact.0 not)), (λ m. (refl, sub_not_bare c.flag-is_final.result ps t c.keyword.new.self.left c.flag-is_final.new.self.left c.while_begun.new.parser.left k c.in_ok-keyword.ensures.reads.exact c.flag-is_final.ensures.reads.exact g (c.in_err-def.ensures.reads.exact.1 m).1)))

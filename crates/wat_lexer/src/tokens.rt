@@ -1,0 +1,135 @@
+//! The tokens of a text.
+
+ghost use Rattle.std.specs.Prelude.{◌≡◌, ◌≤◌, ◌<◌, ◌+◌, length, slice_range};
+ghost use Rattle.std.proofs.Math.ListN.{get_or, set};
+ghost use Rattle.wat_lexer.specs.Token.{is_open, is_close};
+ghost use Rattle.wat_lexer.specs.View.{view, entries, entry_of, Fits, Word, AllFit, leaping, blank};
+
+use crate::class::part;
+use crate::lexeme::{Kind, Lexeme};
+use crate::number::Integer;
+use crate::token::Token;
+use std::marker::Model;
+
+/// The tokens of a text, each with its place and how far lookups go from there, in 16 bytes. What
+/// can be read out of the text is, whenever it is asked for; the rest lies aside.
+#[derive(Drop)]
+pub struct Tokens<'a> {
+    text: &'a str,
+    lexemes: Vec<Lexeme>,
+    aside: Vec<Token<'a>>,
+}
+
+impl<'a> Model for Tokens<'a> {
+    ghost use Rattle.std.specs.Prelude.{List, length, ◌≤◌};
+    ghost use Rattle.wat_lexer.specs.Token.{Entry};
+    ghost use Rattle.wat_lexer.specs.View.{entries, AllFit};
+
+    ghost Value = { List Entry };
+
+    ghost view = { λ t. entries t.text.now t.aside.items t.lexemes.items };
+
+    ghost invariant = { λ t. AllFit t.text.now t.aside.items t.lexemes.items × (length t.lexemes.items ≤ 4294967295) };
+}
+
+impl<'a> Tokens<'a> {
+    /// The tokens that were kept of a text.
+    pub fn of(text: &'a str, lexemes: Vec<Lexeme>, aside: Vec<Token<'a>>) -> Tokens<'a>
+        requires fit { AllFit text.now aside.items lexemes.items }
+        requires small { length lexemes.items ≤ 4294967295 }
+        ensures { result ≡ entries text.entry.now aside.entry.items lexemes.items }
+    {
+        Tokens {
+            text,
+            lexemes,
+            aside,
+        }
+    }
+
+    /// How many there are.
+    pub fn len(&self) -> usize
+        ensures value { result ≡ length self.now }
+        ensures small { result ≤ 4294967295 }
+    {
+        self.lexemes.len()
+    }
+
+    /// Whether the token is `(`.
+    pub fn opens(&self, at: usize) -> bool
+        requires { at < length self.now }
+        ensures { result ≡ is_open ((get_or self.now at blank).token) }
+    {
+        matches!(self.lexemes[at].kind, Kind::LParen)
+    }
+
+    /// Whether the token is `)`.
+    pub fn closes(&self, at: usize) -> bool
+        requires { at < length self.now }
+        ensures { result ≡ is_close ((get_or self.now at blank).token) }
+    {
+        matches!(self.lexemes[at].kind, Kind::RParen)
+    }
+
+    /// The token.
+    pub fn token(&self, at: usize) -> Token<'a>
+        requires { at < length self.now }
+        ensures { view result ≡ (get_or self.now at blank).token }
+    {
+        let lexeme = self.lexemes[at];
+        read(self.text, &self.aside, lexeme)
+    }
+
+    /// How many bytes of the text stand before it.
+    pub fn offset(&self, at: usize) -> usize
+        requires { at < length self.now }
+        ensures { result ≡ (get_or self.now at blank).offset }
+    {
+        self.lexemes[at].offset as usize
+    }
+
+    /// How far lookups go from there.
+    pub fn skip(&self, at: usize) -> usize
+        requires { at < length self.now }
+        ensures { result ≡ (get_or self.now at blank).skip }
+    {
+        self.lexemes[at].skip as usize
+    }
+
+    /// Tells how far lookups go from there.
+    pub fn set_skip(&mut self, at: usize, skip: usize)
+        requires place { at < length self.old }
+        requires small { skip ≤ 4294967295 }
+        ensures { self.new ≡ set self.old at (leaping self.old at skip) }
+    {
+        self.lexemes[at].skip = skip as u32;
+    }
+}
+
+/// The rest of a run of idchars behind so many bytes.
+#[tactic(auto, using(crate::proofs::Plain::plain_ascii))]
+fn word<'a>(text: &'a str, from: usize, front: usize, end: usize) -> &'a str
+    requires { Word front text.now from end }
+    ensures { result.now ≡ slice_range text.now (from + front) end }
+{
+    part(text, from + front, end)
+}
+
+/// A token that was kept.
+fn read<'a>(text: &'a str, aside: &[Token<'a>], lexeme: Lexeme) -> Token<'a>
+    requires { Fits text.now aside.now lexeme }
+    ensures { view result ≡ (entry_of text.now aside.now lexeme).token }
+{
+    let from = lexeme.offset as usize;
+    let size = lexeme.size as usize;
+    match lexeme.kind {
+        Kind::LParen => Token::LParen,
+        Kind::RParen => Token::RParen,
+        Kind::Keyword => Token::Keyword(word(text, from, 0, from + size)),
+        Kind::Id => Token::Id(word(text, from, 1, from + size)),
+        Kind::Annotation => Token::Annotation(word(text, from, 1, from + size)),
+        Kind::Integer => Token::Integer(Integer::over(word(text, from, 0, from + size))),
+        Kind::String => Token::String(&text.as_bytes()[from + 1..from + size - 1]),
+        Kind::Reserved => Token::Reserved(word(text, from, 0, from + size)),
+        Kind::Aside => aside[size],
+    }
+}
