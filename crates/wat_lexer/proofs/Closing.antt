@@ -9,7 +9,7 @@ use Rattle.std.proofs.Math.Seq.{map-set_same}
 use Rattle.wat_lexer.specs.Token.{Entry, Tok, LParen, RParen, Keyword, Id, Annotation, Integer, String, Reserved, Placed, tokens_of, is_open, is_close}
 use Rattle.wat_lexer.specs.Sight.{hides, annotated, is_standard, annotation_name, shuts, deeper, behind_group, hidden_at, hidden}
 use Rattle.wat_lexer.specs.Cut.{Unclosed, Closed, FirstUnclosed}
-use Rattle.wat_lexer.specs.View.{entry_tok, toks, placed_of, placed, leap, leaping, blank, AreLeaps}
+use Rattle.wat_lexer.specs.View.{entry_tok, toks, placed_of, placed, leap, leaping, no_entry, AreLeaps}
 use Rattle.wat_lexer.proofs.Leaps.{leaps_later}
 
 -- TOKENS AND THEIR PLACES
@@ -79,7 +79,7 @@ abbrev marked : List Entry → ℕ → ℕ → List Entry
 marked ls i leap = set ls i (leaping ls i leap)
 
 marked_same : (ls : List Entry) (i leap : ℕ) → placed (marked ls i leap) ≡ placed ls
-marked_same ls i leap = map-set_same placed_of ls i (leaping ls i leap) blank refl
+marked_same ls i leap = map-set_same placed_of ls i (leaping ls i leap) no_entry refl
 
 -- the list with leaps at two neighbouring places
 abbrev pub twice_marked : List Entry → ℕ → ℕ → ℕ → List Entry
@@ -97,7 +97,7 @@ twice_leaps ls at all unknown begins behind e f =
     let y = leaping (marked ls at all) (at + 1) unknown in
     let next : at + 1 + 1 ≡ at + 2 = omega arith in
     let new : drop at (twice_marked ls at all unknown) ≡ x ∷ y ∷ drop (at + 2) ls =
-    rw (drop-set-add at (marked ls at all) 1 y, drop-set ls at x (omega arith), drop_more ls (at + 1) blank lt, next) in
+    rw (drop-set-add at (marked ls at all) 1 y, drop-set ls at x (omega arith), drop_more ls (at + 1) no_entry lt, next) in
     let same : toks (x ∷ y ∷ drop (at + 2) ls) ≡ toks (drop at ls) =
     ap toks (sym new) ∙ toks_at (twice_marked ls at all unknown) ls at (twice_same ls at all unknown) ∙ sym (toks_at ls ls at refl) in
     rw new (told x y (drop (at + 2) ls) (leaps_later ls (at + 1) (at + 2) (omega arith) behind) (ap (hides false) same ∙ begins) (e ∙ ap (hidden false) (sym same)) (λ h. f (ap (hides true) (sym same) ∙ h) ∙ ap (hidden true) (sym same)))
@@ -207,7 +207,7 @@ module _ {before ls : List Entry} {j : ℕ} {stack : List ℕ} {first : Option �
   ts = tokens_of (placed before)
 
   abbrev tok : Tok
-  tok = entry_tok (get_or ls i blank)
+  tok = entry_tok (get_or ls i no_entry)
 
   now : LeapsSoFar before (i + 1) ls stack first
   now = rw (← back) so
@@ -216,13 +216,13 @@ module _ {before ls : List Entry} {j : ℕ} {stack : List ℕ} {first : Option �
   within = (omega (arith, now.within), placed_length ls before so.same)
 
   front : drop i ts ≡ tok ∷ drop (i + 1) ts
-  front = rw (← toks_at ls before i so.same, drop_more ls i blank within.0) (ap (λ l. tok ∷ l) (toks_at ls before (i + 1) so.same))
+  front = rw (← toks_at ls before i so.same, drop_more ls i no_entry within.0) (ap (λ l. tok ∷ l) (toks_at ls before (i + 1) so.same))
 
   -- where no group is hidden at a place, leaps and faults stay
   stays : hides false (drop i ts) ≡ false → AreLeaps (drop i ls) × FirstFrom (placed before) i first
   stays none =
-      let more = drop_more ls i blank within.0 in (
-        rw more (leaps_past (get_or ls i blank) (drop (i + 1) ls) now.leaps (rw more at (rw (← toks_at ls before i so.same) at none))),
+      let more = drop_more ls i no_entry within.0 in (
+        rw more (leaps_past (get_or ls i no_entry) (drop (i + 1) ls) now.leaps (rw more at (rw (← toks_at ls before i so.same) at none))),
         first_passed (placed before) i first (not_unclosed ts i none) now.unclosed,
       )
 
@@ -280,10 +280,10 @@ module _ {before ls : List Entry} {j : ℕ} {stack : List ℕ} {first : Option �
   pub hid_closed : {rest : List ℕ} {end : ℕ} (new : List Entry) → Popped stack rest (Some end) → is_open tok ≡ true → placed new ≡ placed ls → AreLeaps (drop i new) → LeapsSoFar before i new rest first
   hid_closed new pop opens same leaps = opening pop new opens same leaps (first_passed (placed before) i first (λ (n, r, e, none). let f = sym (behind pop).0 ∙ behind_name n r e ∙ none in cc) now.unclosed)
 
-  pub hid_open : {rest : List ℕ} (new : List Entry) → Popped stack rest None → is_open tok ≡ true → hides false (toks (drop i ls)) ≡ true → placed new ≡ placed ls → AreLeaps (drop i new) → LeapsSoFar before i new rest (Some ((get_or ls i blank).offset))
+  pub hid_open : {rest : List ℕ} (new : List Entry) → Popped stack rest None → is_open tok ≡ true → hides false (toks (drop i ls)) ≡ true → placed new ≡ placed ls → AreLeaps (drop i new) → LeapsSoFar before i new rest (Some ((get_or ls i no_entry).offset))
   hid_open new pop opens begins same leaps =
       let (n, r, e) = hides_is (drop i ts) (rw (toks_at ls before i so.same) at begins) in
-      opening pop new opens same leaps (i, placed_of (get_or ls i blank), omega arith, rw (← so.same, slice_get-map placed_of ls i, slice_get-get_or ls i blank within.0), refl, (n, r, e, sym (behind_name n r e) ∙ behind pop), λ k from less v. absurd (omega arith))
+      opening pop new opens same leaps (i, placed_of (get_or ls i no_entry), omega arith, rw (← so.same, slice_get-map placed_of ls i, slice_get-get_or ls i no_entry within.0), refl, (n, r, e, sym (behind_name n r e) ∙ behind pop), λ k from less v. absurd (omega arith))
 
 -- at the start the first group that isn't closed is found
 pub first_from : (ps : List Placed) (first : Option ℕ) → FirstFrom ps 0 first → MatchOption first (Closed (tokens_of ps)) (FirstUnclosed ps)

@@ -1,14 +1,18 @@
 -- The invariant of the cut: what was cut, and what the rest may still be.
-use Rattle.std.proofs.Common.{◌≡◌, ℕ, ◌-◌, List, [], ◌∷◌, ◌++◌, length, drop, refl, ap, ◌∙◌, arith, append_assoc, append-nil, length-drop}
-use Rattle.std.specs.Prelude.{Bool, false, ◌||◌}
-use Rattle.std.proofs.Math.Bool.{or_assoc, or-false}
+use Rattle.std.proofs.Common.{◌≡◌, ℕ, suc, ◌-◌, ◌≤◌, List, [], ◌∷◌, ◌++◌, length, drop, refl, ap, subst, ◌∙◌, arith, sym, inl, inr, append_assoc, append-nil, length-drop}
+use Rattle.std.specs.Prelude.{Bool, true, false, ◌||◌, ◌&&◌, ◌==◌}
+use Rattle.std.proofs.lemmas.Bool.{cases_Bool}
+use Rattle.std.proofs.lemmas.Bool.Decides.{nat_tests}
+use Rattle.std.proofs.Math.Bool.{or_assoc, or-false, and-true, and-false}
 use Rattle.wat_lexer.specs.Place.{offset_of}
 use Rattle.wat_lexer.specs.Token.{Entry, Tok, Placed, is_open, is_annotation, has_annotation}
 use Rattle.wat_lexer.specs.Cut.{Cuts, done, Fails}
-use Rattle.wat_lexer.specs.Scan.{BlankTo, TokenTo, front}
+use Rattle.wat_lexer.specs.Bytes.{is_space}
+use Rattle.wat_lexer.specs.Scan.{BlankTo, TokenTo, front, behind_spaces}
 use Rattle.wat_lexer.specs.View.{entry_tok, toks, IfFault, WrongIs, FailsAt}
 use Rattle.wat_lexer.specs.declared.fault.Error.{Error}
 use Rattle.wat_lexer.specs.declared.fault.Fault.{Fault}
+use Rattle.wat_lexer.proofs.Strings.{if_cases}
 use Rattle.wat_lexer.proofs.Fronts.{cut_front, front_cut, front_fails}
 
 -- the text's cuts are the tokens so far with the cuts of the rest, and where the rest fails the text fails
@@ -26,6 +30,32 @@ over_blank so e = record {
   complete = λ vs c. let (us, m, d) = so.complete vs c in (us, m, rw e at (cut_front d));
   fails = λ f at h. so.fails f at (front_fails (rw e h));
 }
+
+space_front : (behind : Bool) (b : ℕ) (t : List ℕ) → is_space b ≡ true → front behind (b ∷ t) ≡ BlankTo t
+unfolding front
+space_front behind b t e = rw e
+
+spaces_fewer : (t : List ℕ) → length (behind_spaces t) ≤ length t
+unfolding behind_spaces
+spaces_fewer [] = omega arith
+spaces_fewer (b ∷ t) = if_cases (λ s. length s ≤ suc (length t)) (is_space b) (behind_spaces t) (b ∷ t) (λ _. omega (arith, spaces_fewer t)) (λ _. omega arith)
+
+-- spaces in front are blanks, as many as stand there
+spaces : {text : List ℕ} {ts : List Placed} {behind : Bool} (rest : List ℕ) → CutSoFar text ts behind rest → CutSoFar text ts (behind && (length (behind_spaces rest) == length rest)) (behind_spaces rest)
+unfolding behind_spaces
+spaces {behind = behind} [] so = rw (and-true behind) so
+spaces {text} {ts} {behind} (b ∷ t) so = elim (cases_Bool (is_space b)) [
+  | inl e ↦ (let fewer : (length (behind_spaces t) == suc (length t)) ≡ false = grind (arith, nat_tests, spaces_fewer t) in
+      rw (e, fewer, and-false behind) (spaces t (over_blank so (space_front behind b t e))))
+  | inr e ↦ (let none : behind_spaces (b ∷ t) ≡ b ∷ t = rw e in
+      let same : (length (b ∷ t) == length (b ∷ t)) ≡ true = grind (arith, nat_tests) in
+      subst (λ s. CutSoFar text ts (behind && (length s == length (b ∷ t))) s) (sym none) (rw (same, and-true behind) so))
+]
+
+pub over_spaces : {text : List ℕ} {ts : List Placed} {behind : Bool} (end next : ℕ) → end ≤ next → next ≤ length text → drop next text ≡ behind_spaces (drop end text) → CutSoFar text ts behind (drop end text) → CutSoFar text ts (behind && (next == end)) (drop next text)
+over_spaces {text} {ts} {behind} end next h k e so =
+    let same : (next == end) ≡ (length (behind_spaces (drop end text)) == length (drop end text)) = grind (arith, nat_tests, length-drop end text, length-drop next text, sym e) in
+    rw (same, e) (spaces (drop end text) so)
 
 pub over_token : {text rest next : List ℕ} {ts : List Placed} {t : Tok} (offset : ℕ) {behind : Bool} → CutSoFar text ts behind rest → front behind rest ≡ TokenTo t next → offset ≡ length text - length rest → CutSoFar text (ts ++ record { token = t; offset = offset } ∷ []) (is_open t) next
 over_token {text} {rest} {next} {ts} {t} offset so e place = record {

@@ -7,8 +7,8 @@ use Rattle.std.proofs.lemmas.Bool.Decides.{nat_tests}
 use Rattle.std.proofs.lemmas.List.{take_more}
 use lib.Utf8.{scalar}
 use Rattle.wat_lexer.specs.Cut.{is_raw, is_hex, short_escape}
-use Rattle.wat_lexer.specs.Bytes.{is_idchar, is_line_end}
-use Rattle.wat_lexer.specs.Scan.{behind_line, behind_run, all_idchars, behind_comment, step, emitted, string_at, after_step, with_front, rest_at, closing, Step, Bad, Close, Into, Emit, Encode, Between, Ends, Mode, Raw, Escape, Byte, Brace, Digits}
+use Rattle.wat_lexer.specs.Bytes.{is_idchar, is_space, is_line_end}
+use Rattle.wat_lexer.specs.Scan.{behind_line, behind_spaces, behind_run, all_idchars, behind_comment, step, emitted, string_at, after_step, with_front, rest_at, closing, Step, Bad, Close, Into, Emit, Encode, Between, Ends, Mode, Raw, Escape, Byte, Brace, Digits}
 use Rattle.wat_lexer.proofs.Pieces.{excluded, run_cons, then_run, rest_front}
 
 -- the byte at i, and what follows it
@@ -125,6 +125,16 @@ unfolding behind_line
 line_over i s h = rw (drop_of_length-le s h)
 
 pub ruleset line_steps = (line_step, line_over, nat_tests)
+
+pub space_step : (i : ℕ) (s : List ℕ) → i < length s → behind_spaces (drop i s) ≡ (if is_space (get_or s i 0) then behind_spaces (drop (i + 1) s) else drop i s)
+unfolding behind_spaces
+space_step i s h = rw (at_front i s h)
+
+pub space_over : (i : ℕ) (s : List ℕ) → length s ≤ i → behind_spaces (drop i s) ≡ drop i s
+unfolding behind_spaces
+space_over i s h = rw (drop_of_length-le s h)
+
+pub ruleset space_steps = (space_step, space_over, nat_tests)
 
 pub run_step : (i : ℕ) (s : List ℕ) → i < length s → behind_run Between (drop i s) ≡ (if get_or s i 0 == 34 then then_run (drop i s) (rest_at (drop (i + 1) s)) else (if is_idchar (get_or s i 0) then behind_run Between (drop (i + 1) s) else Ends (drop i s)))
 run_step i s h = rw (at_front i s h) (run_cons (get_or s i 0) (drop (i + 1) s))

@@ -114,6 +114,11 @@ unfoldable pub behind_line : List ℕ → List ℕ
 behind_line [] = []
 behind_line (b ∷ t) = if is_line_end b then b ∷ t else behind_line t
 
+-- what follows spaces
+unfoldable pub behind_spaces : List ℕ → List ℕ
+behind_spaces [] = []
+behind_spaces (b ∷ t) = if is_space b then behind_spaces t else b ∷ t
+
 unfoldable pub all_idchars : List ℕ → Bool
 all_idchars [] = true
 all_idchars (b ∷ t) = is_idchar b && all_idchars t

@@ -85,22 +85,22 @@ entry_of text aside x = record {
   skip = x.skip;
 }
 
-abbrev pub entries : List ℕ → List Token → List Lexeme → List Entry
-entries text aside ls = map (entry_of text aside) ls
+abbrev pub entries_of : List ℕ → List Token → List Lexeme → List Entry
+entries_of text aside ls = map (entry_of text aside) ls
 
 -- it can be read
-abbrev pub Fits : List ℕ → List Token → Lexeme → Type 0
-Fits text aside x =
+abbrev pub CanBeRead : List ℕ → List Token → Lexeme → Type 0
+CanBeRead text aside x =
     Readable x.kind text x.offset (x.offset + x.size)
     ((x.size < length aside) × (is_paren (lies aside x.size) ≡ false))
 
-abbrev pub AllFit : List ℕ → List Token → List Lexeme → Type 0
-AllFit text aside ls = AllByRecursion (Fits text aside) ls
+abbrev pub AllCanBeRead : List ℕ → List Token → List Lexeme → Type 0
+AllCanBeRead text aside ls = AllByRecursion (CanBeRead text aside) ls
 
 -- what was found is kept, and nothing that lay aside moved
-pub record Kept (text : List ℕ) (old new : List Token) (at end : ℕ) (f : Found) (x : Lexeme) : Type 0 where
+pub record WasKept (text : List ℕ) (old new : List Token) (at end : ℕ) (f : Found) (x : Lexeme) : Type 0 where
   pub entry : entry_of text new x ≡ record { token = found_tok text at end f; offset = at; skip = 0 }
-  pub fits : Fits text new x
+  pub fits : CanBeRead text new x
   pub more : (m : List Token) × (new ≡ old ++ m) × (length m ≤ 1)
 
 abbrev pub entry_tok : Entry → Tok
@@ -118,12 +118,12 @@ abbrev pub placed : List Entry → List Placed
 placed ls = map placed_of ls
 
 -- what stands where there is no token
-abbrev pub blank : Entry
-blank = record { token = LParen; offset = 0; skip = 0 }
+abbrev pub no_entry : Entry
+no_entry = record { token = LParen; offset = 0; skip = 0 }
 
 -- the token at the place, with another leap
 abbrev pub leaping : List Entry → ℕ → ℕ → Entry
-leaping ls i leap = record (get_or ls i blank) { skip = leap }
+leaping ls i leap = record (get_or ls i no_entry) { skip = leap }
 
 -- How far the tokens tell to go from an annotation's group in front: its `(` tells it where no name
 -- is known, its annotation where the five are.

@@ -1,6 +1,6 @@
 //! Cuts a text into tokens.
 
-ghost use Rattle.std.specs.Prelude.{◌≡◌, ◌≢◌, ◌||◌, ◌+◌, ◌-◌, ◌≤◌, ◌<◌, IfOk, IfErr, ℕ, List, Bool};
+ghost use Rattle.std.specs.Prelude.{◌≡◌, ◌≢◌, ◌||◌, ◌&&◌, ◌==◌, ◌+◌, ◌-◌, ◌≤◌, ◌<◌, IfOk, IfErr, ℕ, List, Bool};
 ghost use Rattle.std.specs.Prelude.{true, false, length, drop, slice_range, slice_index};
 ghost use Rattle.wat_lexer.specs.Cut.{Cuts, Fails, FirstFault, IsCut};
 ghost use Rattle.wat_lexer.specs.Place.{offset_of};
@@ -13,7 +13,7 @@ use crate::class::{content, part, plain_kind, string_token};
 use crate::fault::{Error, Fault, fault_at};
 use crate::groups::tell_leaps;
 use crate::lexeme::{Found, Kind};
-use crate::scan::{comment_end, is_space, line_end, plain_end, run_end};
+use crate::scan::{comment_end, is_space, line_end, plain_end, run_end, spaces_end};
 use crate::string::string_end;
 use crate::token::Token;
 use crate::tokens::Tokens;
@@ -150,6 +150,13 @@ fn notes(noted: bool, found: Found) -> bool
     noted || found.is_annotation()
 }
 
+/// Whether a `(` that ends at a place stands directly before another.
+fn directly(opens: bool, end: usize, next: usize) -> bool
+    ensures { result ≡ (opens && (next == end)) }
+{
+    opens && next == end
+}
+
 /// Cuts a text into pieces. The flag says whether an annotation is among the tokens.
 fn cut_pieces<'a>(
     alloc: Global,
@@ -171,16 +178,17 @@ fn cut_pieces<'a>(
             Err(e) => return Err(e),
             Ok(piece) => piece,
         };
+        let next = spaces_end(text.as_bytes(), piece.end);
         match piece.found {
             None => {
                 behind = false;
-                at = piece.end;
+                at = next;
             }
             Some(found) => {
-                behind = found.is_open();
+                behind = directly(found.is_open(), piece.end, next);
                 noted = notes(noted, found);
                 tokens.push(found.keep(at, piece.end, &mut aside)?)?;
-                at = piece.end;
+                at = next;
             }
         }
     }

@@ -2,7 +2,7 @@
 
 ghost use Rattle.std.specs.Prelude.{◌≡◌, ◌≤◌, ◌<◌, List, ℕ, IfOk, length};
 ghost use Rattle.wat_lexer.specs.Token.{is_open, is_annotation};
-ghost use Rattle.wat_lexer.specs.View.{view, found_tok, FoundFits, Kept};
+ghost use Rattle.wat_lexer.specs.View.{view, found_tok, FoundFits, WasKept};
 
 use crate::token::{Token, is_annotation};
 use std::alloc::AllocError;
@@ -84,7 +84,7 @@ impl<'a> Found<'a> {
         requires order { at < end }
         requires small { end ≤ 4294967295 }
         requires room { length aside.old.items ≤ at }
-        ensures { IfOk result (λ x. (text : List ℕ) → FoundFits text at end self.entry → Kept text
+        ensures { IfOk result (λ x. (text : List ℕ) → FoundFits text at end self.entry → WasKept text
             aside.old.items aside.new.items at end self.entry x) }
     {
         let (kind, size) = match self {

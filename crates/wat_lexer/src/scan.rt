@@ -3,7 +3,7 @@
 ghost use Rattle.std.specs.Prelude.{◌≡◌, ◌+◌, ◌-◌, ◌≤◌, ◌<◌, ◌⊎◌, Bool, true, false, option_map};
 ghost use Rattle.std.specs.Prelude.{IfOk, IfSome, length, drop, slice_range, slice_index};
 ghost use Rattle.wat_lexer.specs.Bytes.{is_idchar, is_space, is_line_end};
-ghost use Rattle.wat_lexer.specs.Scan.{behind_comment, behind_line, behind_run, all_idchars};
+ghost use Rattle.wat_lexer.specs.Scan.{behind_comment, behind_line, behind_run, behind_spaces, all_idchars};
 ghost use Rattle.wat_lexer.specs.Scan.{Between, RunEndIs};
 
 use crate::string::string_end;
@@ -84,6 +84,20 @@ pub fn line_end(text: &[u8], from: usize) -> usize
 {
     let mut i = from;
     while i < text.len() && text[i] != b'\n' && text[i] != b'\r' {
+        i += 1;
+    }
+    i
+}
+
+/// Where the spaces end.
+#[tactic(auto, using(crate::proofs::Steps::space_steps))]
+pub fn spaces_end(text: &[u8], from: usize) -> usize
+    requires { from ≤ length text.now }
+    ensures within { (from ≤ result) × (result ≤ length text.now) }
+    ensures value { drop result text.now ≡ behind_spaces (drop from text.now) }
+{
+    let mut i = from;
+    while i < text.len() && is_space(text[i]) {
         i += 1;
     }
     i

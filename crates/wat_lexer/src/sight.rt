@@ -33,14 +33,14 @@ fn begins_hidden(first: Token, second: Token, known: bool) -> bool
 }
 
 /// Whether a group whose annotation isn't known stands at the place.
-#[tactic(auto, using(crate::proofs::Entries::hides_few, crate::proofs::Entries::hides_none))]
+#[tactic(auto, using(crate::proofs::Entries::hides_steps))]
 pub fn hides(tokens: &Tokens, at: usize, known: bool) -> bool
     requires { at ≤ length tokens.now }
     ensures value { result ≡ hides known (toks (drop at tokens.now)) }
     ensures small { length tokens.now ≤ 4294967295 }
 {
     let count = tokens.len();
-    if at + 1 < count && tokens.opens(at) {
+    if at + 1 < count && tokens.opens(at) && tokens.annotates(at + 1) {
         begins_hidden(tokens.token(at), tokens.token(at + 1), known)
     } else {
         false

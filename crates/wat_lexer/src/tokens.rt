@@ -2,13 +2,13 @@
 
 ghost use Rattle.std.specs.Prelude.{◌≡◌, ◌≤◌, ◌<◌, ◌+◌, length, slice_range};
 ghost use Rattle.std.proofs.Math.ListN.{get_or, set};
-ghost use Rattle.wat_lexer.specs.Token.{is_open, is_close};
-ghost use Rattle.wat_lexer.specs.View.{view, entries, entry_of, Fits, Word, AllFit, leaping, blank};
+ghost use Rattle.wat_lexer.specs.Token.{is_open, is_close, is_annotation};
+ghost use Rattle.wat_lexer.specs.View.{view, entries_of, entry_of, CanBeRead, Word, AllCanBeRead, leaping, no_entry};
 
 use crate::class::part;
 use crate::lexeme::{Kind, Lexeme};
 use crate::number::Integer;
-use crate::token::Token;
+use crate::token::{Token, is_annotation};
 use std::marker::Model;
 
 /// The tokens of a text, each with its place and how far lookups go from there, in 16 bytes. What
@@ -23,21 +23,21 @@ pub struct Tokens<'a> {
 impl<'a> Model for Tokens<'a> {
     ghost use Rattle.std.specs.Prelude.{List, length, ◌≤◌};
     ghost use Rattle.wat_lexer.specs.Token.{Entry};
-    ghost use Rattle.wat_lexer.specs.View.{entries, AllFit};
+    ghost use Rattle.wat_lexer.specs.View.{entries_of, AllCanBeRead};
 
     ghost Value = { List Entry };
 
-    ghost view = { λ t. entries t.text.now t.aside.items t.lexemes.items };
+    ghost view = { λ t. entries_of t.text.now t.aside.items t.lexemes.items };
 
-    ghost invariant = { λ t. AllFit t.text.now t.aside.items t.lexemes.items × (length t.lexemes.items ≤ 4294967295) };
+    ghost invariant = { λ t. AllCanBeRead t.text.now t.aside.items t.lexemes.items × (length t.lexemes.items ≤ 4294967295) };
 }
 
 impl<'a> Tokens<'a> {
     /// The tokens that were kept of a text.
     pub fn of(text: &'a str, lexemes: Vec<Lexeme>, aside: Vec<Token<'a>>) -> Tokens<'a>
-        requires fit { AllFit text.now aside.items lexemes.items }
+        requires fit { AllCanBeRead text.now aside.items lexemes.items }
         requires small { length lexemes.items ≤ 4294967295 }
-        ensures { result ≡ entries text.entry.now aside.entry.items lexemes.items }
+        ensures { result ≡ entries_of text.entry.now aside.entry.items lexemes.items }
     {
         Tokens {
             text,
@@ -57,7 +57,7 @@ impl<'a> Tokens<'a> {
     /// Whether the token is `(`.
     pub fn opens(&self, at: usize) -> bool
         requires { at < length self.now }
-        ensures { result ≡ is_open ((get_or self.now at blank).token) }
+        ensures { result ≡ is_open ((get_or self.now at no_entry).token) }
     {
         matches!(self.lexemes[at].kind, Kind::LParen)
     }
@@ -65,15 +65,27 @@ impl<'a> Tokens<'a> {
     /// Whether the token is `)`.
     pub fn closes(&self, at: usize) -> bool
         requires { at < length self.now }
-        ensures { result ≡ is_close ((get_or self.now at blank).token) }
+        ensures { result ≡ is_close ((get_or self.now at no_entry).token) }
     {
         matches!(self.lexemes[at].kind, Kind::RParen)
+    }
+
+    /// Whether the token is an annotation. What can be told by its kind is not read.
+    pub fn annotates(&self, at: usize) -> bool
+        requires { at < length self.now }
+        ensures { result ≡ is_annotation ((get_or self.now at no_entry).token) }
+    {
+        match self.lexemes[at].kind {
+            Kind::Annotation => true,
+            Kind::Aside => is_annotation(self.token(at)),
+            _ => false,
+        }
     }
 
     /// The token.
     pub fn token(&self, at: usize) -> Token<'a>
         requires { at < length self.now }
-        ensures { view result ≡ (get_or self.now at blank).token }
+        ensures { view result ≡ (get_or self.now at no_entry).token }
     {
         let lexeme = self.lexemes[at];
         read(self.text, &self.aside, lexeme)
@@ -82,7 +94,7 @@ impl<'a> Tokens<'a> {
     /// How many bytes of the text stand before it.
     pub fn offset(&self, at: usize) -> usize
         requires { at < length self.now }
-        ensures { result ≡ (get_or self.now at blank).offset }
+        ensures { result ≡ (get_or self.now at no_entry).offset }
     {
         self.lexemes[at].offset as usize
     }
@@ -90,7 +102,7 @@ impl<'a> Tokens<'a> {
     /// How far lookups go from there.
     pub fn skip(&self, at: usize) -> usize
         requires { at < length self.now }
-        ensures { result ≡ (get_or self.now at blank).skip }
+        ensures { result ≡ (get_or self.now at no_entry).skip }
     {
         self.lexemes[at].skip as usize
     }
@@ -116,7 +128,7 @@ fn word<'a>(text: &'a str, from: usize, front: usize, end: usize) -> &'a str
 
 /// A token that was kept.
 fn read<'a>(text: &'a str, aside: &[Token<'a>], lexeme: Lexeme) -> Token<'a>
-    requires { Fits text.now aside.now lexeme }
+    requires { CanBeRead text.now aside.now lexeme }
     ensures { view result ≡ (entry_of text.now aside.now lexeme).token }
 {
     let from = lexeme.offset as usize;
