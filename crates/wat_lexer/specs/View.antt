@@ -98,8 +98,13 @@ abbrev pub AllCanBeRead : List ℕ → List Token → List Lexeme → Type 0
 AllCanBeRead text aside ls = AllByRecursion (CanBeRead text aside) ls
 
 -- what was found is kept, and nothing that lay aside moved
-pub record WasKept (text : List ℕ) (old new : List Token) (at end : ℕ) (f : Found) (x : Lexeme) : Type 0 where
-  pub entry : entry_of text new x ≡ record { token = found_tok text at end f; offset = at; skip = 0 }
+pub record WasKept (text : List ℕ) (old new : List Token) (at end : ℕ) (f : Found) (x : Lexeme)
+    : Type 0 where
+  pub entry : entry_of text new x ≡ record {
+    token = found_tok text at end f;
+    offset = at;
+    skip = 0;
+  }
   pub fits : CanBeRead text new x
   pub more : (m : List Token) × (new ≡ old ++ m) × (length m ≤ 1)
 

@@ -1,12 +1,14 @@
 //! Cuts a text into tokens.
 
-ghost use Rattle.std.specs.Prelude.{◌≡◌, ◌≢◌, ◌||◌, ◌&&◌, ◌==◌, ◌+◌, ◌-◌, ◌≤◌, ◌<◌, IfOk, IfErr, ℕ, List, Bool};
+ghost use Rattle.std.specs.Prelude.{◌≡◌, ◌≢◌, ◌||◌, ◌&&◌, ◌==◌, ◌+◌, ◌-◌, ◌≤◌, ◌<◌, Bool};
+ghost use Rattle.std.specs.Prelude.{IfOk, IfErr, ℕ, List};
 ghost use Rattle.std.specs.Prelude.{true, false, length, drop, slice_range, slice_index};
 ghost use Rattle.wat_lexer.specs.Cut.{Cuts, Fails, FirstFault, IsCut};
 ghost use Rattle.wat_lexer.specs.Place.{offset_of};
 ghost use Rattle.wat_lexer.specs.Scan.{front, run_front, behind_run, all_idchars, Between};
 ghost use Rattle.wat_lexer.specs.Token.{Placed, has_annotation, is_annotation};
-ghost use Rattle.wat_lexer.specs.View.{toks, placed, found_tok, FoundFits, AreLeaps, FrontGives, IfFault, FailsAt};
+ghost use Rattle.wat_lexer.specs.View.{toks, placed, found_tok, FoundFits, AreLeaps};
+ghost use Rattle.wat_lexer.specs.View.{FrontGives, IfFault, FailsAt};
 ghost use Rattle.wat_lexer.specs.declared.fault.Fault.{Fault};
 
 use crate::class::{content, part, plain_kind, string_token};

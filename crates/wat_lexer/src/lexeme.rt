@@ -56,8 +56,8 @@ pub struct Lexeme {
 impl<'a> Found<'a> {
     /// Whether it is `(`.
     pub fn is_open(self) -> bool
-        ensures { (text : List ℕ) (at end : ℕ) → FoundFits text at end self.entry → result ≡ is_open
-            (found_tok text at end self.entry) }
+        ensures { (text : List ℕ) (at end : ℕ) → FoundFits text at end self.entry → result
+            ≡ is_open (found_tok text at end self.entry) }
     {
         matches!(self, Found::Plain(Kind::LParen))
     }
@@ -84,8 +84,8 @@ impl<'a> Found<'a> {
         requires order { at < end }
         requires small { end ≤ 4294967295 }
         requires room { length aside.old.items ≤ at }
-        ensures { IfOk result (λ x. (text : List ℕ) → FoundFits text at end self.entry → WasKept text
-            aside.old.items aside.new.items at end self.entry x) }
+        ensures { IfOk result (λ x. (text : List ℕ) → FoundFits text at end self.entry
+            → WasKept text aside.old.items aside.new.items at end self.entry x) }
     {
         let (kind, size) = match self {
             Found::Plain(kind) => (kind, end - at),

@@ -3,8 +3,8 @@
 ghost use Rattle.std.specs.Prelude.{◌≡◌, ◌+◌, ◌-◌, ◌≤◌, ◌<◌, ◌⊎◌, Bool, true, false, option_map};
 ghost use Rattle.std.specs.Prelude.{IfOk, IfSome, length, drop, slice_range, slice_index};
 ghost use Rattle.wat_lexer.specs.Bytes.{is_idchar, is_space, is_line_end};
-ghost use Rattle.wat_lexer.specs.Scan.{behind_comment, behind_line, behind_run, behind_spaces, all_idchars};
-ghost use Rattle.wat_lexer.specs.Scan.{Between, RunEndIs};
+ghost use Rattle.wat_lexer.specs.Scan.{behind_comment, behind_line, behind_run, behind_spaces};
+ghost use Rattle.wat_lexer.specs.Scan.{all_idchars, Between, RunEndIs};
 
 use crate::string::string_end;
 

@@ -3,7 +3,8 @@
 ghost use Rattle.std.specs.Prelude.{◌≡◌, ◌≤◌, ◌<◌, ◌+◌, length, slice_range};
 ghost use Rattle.std.proofs.Math.ListN.{get_or, set};
 ghost use Rattle.wat_lexer.specs.Token.{is_open, is_close, is_annotation};
-ghost use Rattle.wat_lexer.specs.View.{view, entries_of, entry_of, CanBeRead, Word, AllCanBeRead, leaping, no_entry};
+ghost use Rattle.wat_lexer.specs.View.{view, entries_of, entry_of, CanBeRead, Word, AllCanBeRead};
+ghost use Rattle.wat_lexer.specs.View.{leaping, no_entry};
 
 use crate::class::part;
 use crate::lexeme::{Kind, Lexeme};
