@@ -27,8 +27,8 @@ pub record ModuleTy : Type 0 where
   pub label : Label
   pub kind : ModuleKindTy
 
-abbrev pub module_of : Label → ModuleKindTy → ModuleTy
-module_of l k = record { label = l; kind = k }
+abbrev pub module_with : Label → ModuleKindTy → ModuleTy
+module_with l k = record { label = l; kind = k }
 
 -- a reference to the bytes of a piece
 abbrev pub Piece : Type 0
@@ -42,7 +42,7 @@ seen_module_kind (code.Text fs) = text (seen_fields fs.items)
 seen_module_kind (code.Binary ss) = binary (map (λ s. s.now) ss.items)
 
 abbrev pub seen_module : «Module» → ModuleTy
-seen_module m = module_of (seen_label m.id m.name) (seen_module_kind m.kind)
+seen_module m = module_with (seen_label m.id m.name) (seen_module_kind m.kind)
 
 -- no field and no piece
 abbrev pub bare_module_kind : ModuleKindTy → Bool
@@ -70,4 +70,4 @@ module_kind =
 
 -- `module id? name?`, and then its kind
 unfoldable pub module_ : Production ModuleTy
-module_ = after_word (codes "module") (made (λ v. module_of v.0 v.1) (seq label module_kind))
+module_ = after_word (codes "module") (made (λ v. module_with v.0 v.1) (seq label module_kind))

@@ -26,7 +26,7 @@ use Rattle.wat_expr.specs.Laws.Alone.{alone_read, grouped_read, folded_read}
 use Rattle.wat_expr.specs.FoldedProduction.{folded_instruction}
 use Rattle.wat_expr.specs.ExpressionProduction.{expression}
 use Rattle.wat_elems.specs.Elem.{elem_offset, table_number, in_some_table, declared_segment, active_segment, passive_segment, segment, elem}
-use Rattle.wat_elems.specs.Payload.{index_list, ref_func_of, item_list, typed_items, listed, payload, payload_or_indices}
+use Rattle.wat_elems.specs.Payload.{index_list, ref_func_of, item_list, typed_elems, listed, payload, payload_or_indices}
 use Rattle.wat_elems.specs.Item.{written_or_folded, item}
 use Rattle.wat_elems.specs.Rows.{zero_const, zero_alone, active_text, active_elem, null_func, null_text, nulls_text, nulls, items_text, two_items, Declared, OfExternref, Active, OfNulls, OfItems}
 use Rattle.wat_elems.specs.Table.{inline_table, normal_table, table_kind, table}
@@ -87,5 +87,5 @@ unfolding instruction operand read
 func_read = alone_read (instr_of (word.Indexed op.ref_func) (operands.one_index (number 0))) func_text behind_func (rw func_word refl) refl
 
 pub elem_of_items : OfItems
-unfolding elem segment passive_segment payload typed_items item_list item written_or_folded ref_type shorthand begins_shorthand label name_annotation many_at many_reads read
+unfolding elem segment passive_segment payload typed_elems item_list item written_or_folded ref_type shorthand begins_shorthand label name_annotation many_at many_reads read
 elem_of_items = spelled elem items_text two_items (rw (func_read, null_folded) refl)

@@ -81,16 +81,16 @@ listed = where_else begins_lparen (made by_item item_list) (made by_index index_
 -- ---- in a segment
 
 -- RefType items
-unfoldable pub typed_items : Production PayloadTy
-typed_items = made (λ v. exprs v.0 v.1) (seq ref_type item_list)
+unfoldable pub typed_elems : Production PayloadTy
+typed_elems = made (λ v. exprs v.0 v.1) (seq ref_type item_list)
 
 -- `func` indices, where `func` comes next; else RefType items
 unfoldable pub payload : Production PayloadTy
 payload = where_else (begins_word (codes "func"))
-    (made indices (after_word (codes "func") index_list)) typed_items
+    (made indices (after_word (codes "func") index_list)) typed_elems
 
 -- `func` indices, where `func` comes next; RefType items, where a type comes next; else indices
 unfoldable pub payload_or_indices : Production PayloadTy
 payload_or_indices =
     where_else (begins_word (codes "func")) (made indices (after_word (codes "func") index_list))
-    (where_else begins_ref typed_items (made indices index_list))
+    (where_else begins_ref typed_elems (made indices index_list))

@@ -64,8 +64,8 @@ begins_prefix t =
     begins_word (codes "shared") t || (begins_word (codes "i32") t || begins_word (codes "i64") t)
 
 -- a RefType, or one of the three words and then a RefType
-abbrev pub begins_inline : List Tok → Bool
-begins_inline t = begins_ref t || (begins_prefix t && second begins_ref t)
+abbrev pub begins_inline_elems : List Tok → Bool
+begins_inline_elems t = begins_ref t || (begins_prefix t && second begins_ref t)
 
 -- one of the three words, or an Integer
 abbrev pub begins_normal : List Tok → Bool
@@ -92,7 +92,8 @@ imported_table = made (λ v. imported v.0 v.1) (seq inline_import table_type)
 -- type where one of these words or an Integer comes next; else imported
 unfoldable pub table_kind : Production TableKindTy
 table_kind =
-    where_else begins_inline inline_table (where_else begins_normal normal_table imported_table)
+    where_else begins_inline_elems inline_table
+    (where_else begins_normal normal_table imported_table)
 
 -- `table` head, and then a kind
 unfoldable pub table : Production TableFieldTy

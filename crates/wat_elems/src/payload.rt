@@ -9,7 +9,7 @@ ghost use Rattle.wat_tokens.specs.Tests.{more};
 ghost use Rattle.wat_types.specs.Reference.{seen_ref};
 ghost use Rattle.wat_expr.specs.Expression.{Expr, seen_expression, bare_expression};
 ghost use Rattle.wat_elems.specs.Payload.{seen_payload, bare_payload, item_list, index_list};
-ghost use Rattle.wat_elems.specs.Payload.{ref_func_of, is_funcref, of_type, listed, typed_items};
+ghost use Rattle.wat_elems.specs.Payload.{ref_func_of, is_funcref, of_type, listed, typed_elems};
 ghost use Rattle.wat_elems.specs.Payload.{payload, payload_or_indices};
 ghost use Rattle.wat_elems.specs.Item.{written_or_folded, item};
 ghost use Rattle.wat_elems.specs.RefFuncs.{ref_funcs_of, plain_indices, indices_of};
@@ -196,10 +196,10 @@ pub(crate) fn read_listed<'a>(parser: &mut Parser<'a>, ty: RefType<'a>) -> Resul
 }
 
 /// A type, and items to the end.
-#[tactic(auto, unfolding(crate::specs::Payload::typed_items))]
+#[tactic(auto, unfolding(crate::specs::Payload::typed_elems))]
 fn read_typed_items<'a>(parser: &mut Parser<'a>) -> Result<ElemPayload<'a>>
     ensures reads { ReadsIf false false bare_payload seen_payload result
-        (typed_items.reads parser.old.left) parser.old parser.new }
+        (typed_elems.reads parser.old.left) parser.old parser.new }
 {
     let ty = RefType::parse(parser)?;
     let exprs = read_items(parser)?;

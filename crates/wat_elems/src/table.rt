@@ -3,7 +3,8 @@
 ghost use Rattle.std.specs.Prelude.{◌≡◌, true, false};
 ghost use Rattle.wat_tokens.specs.Reads.{ReadsLight, ReadsIf};
 ghost use Rattle.wat_elems.specs.Table.{seen_table_kind, bare_table_kind, begins_prefix};
-ghost use Rattle.wat_elems.specs.Table.{begins_inline, begins_normal, inline_table, normal_table};
+ghost use Rattle.wat_elems.specs.Table.{begins_inline_elems, begins_normal};
+ghost use Rattle.wat_elems.specs.Table.{inline_table, normal_table};
 ghost use Rattle.wat_elems.specs.Table.{imported_table, table_kind, TableFieldTy, seen_table};
 ghost use Rattle.wat_elems.specs.Table.{bare_table, table};
 
@@ -119,7 +120,7 @@ fn prefix_next(parser: &Parser<'_>) -> bool
 
 /// Whether a reference type stands in front, or one of the three words and then a reference type.
 fn inline_next(parser: &Parser<'_>) -> bool
-    ensures { result ≡ begins_inline parser.now.left }
+    ensures { result ≡ begins_inline_elems parser.now.left }
 {
     if parser.peek::<RefType>() {
         return true;

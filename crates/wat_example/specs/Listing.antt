@@ -26,8 +26,8 @@ counts_line export t =
 
 -- Of the use of a type: how many parameters and results it has, where it is written in line; else
 -- its index; and where no type is written, it has none of either.
-abbrev pub line : FuncUse → List ℕ → List ℕ
-line u export = typed u.inline u.index
+abbrev pub use_line : FuncUse → List ℕ → List ℕ
+use_line u export = typed u.inline u.index
   where
     typed : Option FuncTy → Option Idx → List ℕ
     typed (Some t) i = counts_line export t
@@ -36,7 +36,7 @@ line u export = typed u.inline u.index
 
 -- a line for each name under which the function is exported in line
 abbrev pub func_lines : FuncFieldTy → List ℕ
-func_lines f = flat_map (line f.ty) f.head.exports
+func_lines f = flat_map (use_line f.ty) f.head.exports
 
 -- of a function the index, of what else is exported nothing
 abbrev pub export_lines : ExportTy → List ℕ
@@ -53,8 +53,8 @@ field_lines (an_export e) = export_lines e
 field_lines _ = []
 
 -- the lines of its fields, in order; a module in binary form has none
-abbrev pub lines : ModuleTy → List ℕ
-lines m = of_kind m.kind
+abbrev pub module_lines : ModuleTy → List ℕ
+module_lines m = of_kind m.kind
   where
     of_kind : ModuleKindTy → List ℕ
     of_kind (text fs) = flat_map field_lines fs

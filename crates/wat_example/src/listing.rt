@@ -7,8 +7,8 @@ ghost use Rattle.wat_core.specs.Module.{seen_fields, seen_module};
 ghost use Rattle.wat_funcs.specs.Func.{seen_func, seen_func_use};
 ghost use Rattle.wat_links.specs.Export.{seen_export};
 ghost use Rattle.wat_tokens.specs.Index.{seen_index};
-ghost use Rattle.wat_example.specs.Listing.{indexed_line, line, func_lines, export_lines};
-ghost use Rattle.wat_example.specs.Listing.{field_lines, lines};
+ghost use Rattle.wat_example.specs.Listing.{indexed_line, use_line, func_lines, export_lines};
+ghost use Rattle.wat_example.specs.Listing.{field_lines, module_lines};
 
 use std::alloc::AllocError;
 use wat_core::{
@@ -28,7 +28,7 @@ fn add_indexed(out: &mut String, name: &str, word: &str, index: &Index) -> Resul
 
 /// Adds the line of a function that is exported under a name.
 fn add_line(out: &mut String, name: &str, ty: &TypeUse<FunctionType>) -> Result<(), AllocError>
-    ensures { OnOk result (string_bytes out.new ≡ string_bytes out.old ++ line
+    ensures { OnOk result (string_bytes out.new ≡ string_bytes out.old ++ use_line
         (seen_func_use ty.now) name.now) }
 {
     match (&ty.inline, &ty.index) {
@@ -89,7 +89,7 @@ fn add_fields(out: &mut String, fields: &[ModuleField]) -> Result<(), AllocError
 
 /// Adds the lines of a module.
 pub fn add_module(out: &mut String, module: &Module) -> Result<(), AllocError>
-    ensures { OnOk result (string_bytes out.new ≡ string_bytes out.old ++ lines
+    ensures { OnOk result (string_bytes out.new ≡ string_bytes out.old ++ module_lines
         (seen_module «module».now)) }
 {
     match &module.kind {

@@ -6,7 +6,7 @@
 ghost use Rattle.std.specs.Prelude.{◌≡◌, IfOk, MatchResult};
 ghost use Rattle.std.specs.String.{string_bytes};
 ghost use Rattle.wat_core.specs.Module.{ModuleTy};
-ghost use Rattle.wat_example.specs.Listing.{lines};
+ghost use Rattle.wat_example.specs.Listing.{module_lines};
 ghost use Rattle.wat_example.specs.Whole.{SpellsModule};
 ghost use Rattle.wat_tokens.specs.Error.{Memory};
 
@@ -26,10 +26,10 @@ use wat_core::{Error, Fault};
 pub fn exported(alloc: Global, text: &str) -> Result<String, Error>
     // What is answered is the lines of the module that the text spells.
     ensures found { IfOk result (λ out. (m : ModuleTy) × SpellsModule text.now m
-        × (string_bytes out ≡ lines m)) }
+        × (string_bytes out ≡ module_lines m)) }
     // Where the text spells a module, the answer is its lines, or memory ran out.
     ensures only { (m : ModuleTy) → SpellsModule text.now m
-        → MatchResult result (λ out. string_bytes out ≡ lines m) (λ e. e.fault ≡ Memory) }
+        → MatchResult result (λ out. string_bytes out ≡ module_lines m) (λ e. e.fault ≡ Memory) }
 {
     let arena = Bump::new(alloc);
     let module = whole::read(alloc, text, &arena)?;

@@ -14,15 +14,15 @@ pub record Flat : Type 0 where
   pub spans : Option ℕ
 
 -- how many spans are kept, where they are
-abbrev pub number_of : {S : Type 0} → Option (Vec S Global) → Option ℕ
-number_of (Some v) = Some (length v.items)
-number_of None = None
+abbrev pub span_count : {S : Type 0} → Option (Vec S Global) → Option ℕ
+span_count (Some v) = Some (length v.items)
+span_count None = None
 
 abbrev pub flat : Expression → Flat
 flat e = record {
   instrs = map seen_instruction e.instrs.items;
   hints = map seen_hint e.branch_hints.items;
-  spans = number_of e.instr_spans;
+  spans = span_count e.instr_spans;
 }
 
 -- nothing yet

@@ -4,7 +4,7 @@ ghost use Rattle.std.specs.Prelude.{◌≡◌, [], ◌∷◌, ◌++◌, List, Op
 ghost use Rattle.std.specs.Prelude.{IsTrue, IfOk, IfErr, MatchResult};
 ghost use Rattle.wat_expr.specs.Expression.{Expr, seen_hint, seen_expression, bare_expression};
 ghost use Rattle.wat_expr.specs.Expression.{value_of, SpansAre, kept_spans, and_span};
-ghost use Rattle.wat_expr.specs.Flat.{number_of, flat, no_output, one_more, push};
+ghost use Rattle.wat_expr.specs.Flat.{span_count, flat, no_output, one_more, push};
 ghost use Rattle.wat_expr.specs.Items.{Items, lists, mark};
 ghost use Rattle.wat_expr.specs.Listed.{IsListed};
 ghost use Rattle.wat_expr.specs.ExpressionProduction.{expression};
@@ -69,8 +69,8 @@ fn add_span(spans: &mut Option<Vec<Span>>, span: Span) -> Result<()>
     ensures kept { MatchResult result (λ _. kept_spans spans.new ≡ and_span span
         (kept_spans spans.old)) (λ e. (e.fault ≡ Fault.Memory)
         × (kept_spans spans.new ≡ kept_spans spans.old)) }
-    ensures number { MatchResult result (λ _. number_of spans.new ≡ one_more (number_of spans.old))
-        (λ e. e.fault ≡ Fault.Memory) }
+    ensures number { MatchResult result (λ _. span_count spans.new ≡ one_more
+        (span_count spans.old)) (λ e. e.fault ≡ Fault.Memory) }
 {
     match spans {
         Some(kept) => {

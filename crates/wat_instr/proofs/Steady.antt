@@ -8,7 +8,7 @@ use Rattle.wat_tokens.specs.Index.{begins_index}
 use Rattle.wat_types.specs.Value.{plain_words}
 use Rattle.wat_immediates.specs.Memory.{begins_with}
 use Rattle.wat_immediates.specs.Lanes.{goes_on, is_alone}
-use Rattle.wat_instr.specs.Laws.Rests.{Steady, Tested}
+use Rattle.wat_instr.specs.Laws.Rests.{Stable, Tested}
 use Rattle.wat_instr.specs.Laws.Sees.{Sees, begins_word_sees, begins_index_sees, begins_id_sees, begins_with_sees, one_of_sees, more_sees, begins_group_sees, begins_annotation_sees, second_sees, is_alone_sees}
 use Rattle.wat_instr.proofs.Rests.{Follows, Alike, following}
 
@@ -48,17 +48,17 @@ module _ (test : List Tok → Bool) where
   at_once stays fails (x ∷ e) r s le shut f k = stays (x ∷ e) r s (omega arith) shut f k
 
   -- tests of one token
-  steady_1_1 : Sees 1 test → Steady following 1 1 test
+  steady_1_1 : Sees 1 test → Stable following 1 1 test
   steady_1_1 sees = record { holds = seen_holds 1 sees; fails = false_fails 1 (seen_false 1 sees) }
 
-  steady_1_0 : Sees 1 test → FailsFirst test → Steady following 1 0 test
+  steady_1_0 : Sees 1 test → FailsFirst test → Stable following 1 0 test
   steady_1_0 sees fails = record { holds = seen_holds 1 sees; fails = false_fails 0 (at_once (seen_false 1 sees) fails) }
 
   -- tests of two tokens
-  steady_2_1 : Sees 2 test → FailsSecond test → Steady following 2 1 test
+  steady_2_1 : Sees 2 test → FailsSecond test → Stable following 2 1 test
   steady_2_1 sees fails = record { holds = seen_holds 2 sees; fails = false_fails 1 (behind_one sees fails) }
 
-  steady_2_0 : Sees 2 test → FailsSecond test → FailsFirst test → Steady following 2 0 test
+  steady_2_0 : Sees 2 test → FailsSecond test → FailsFirst test → Stable following 2 0 test
   steady_2_0 sees fails first = record { holds = seen_holds 2 sees; fails = false_fails 0 (at_once (behind_one sees fails) first) }
 
 -- ---- what it fails on
@@ -74,7 +74,7 @@ no_annotation n _ s shut f = refl
 -- ---- the second token, whatever the first is
 
 -- a test that fails on what may follow, and behind its first token too
-second_steady : (test : List Tok → Bool) → Sees 1 test → FailsFirst test → FailsFirst (second test) → Steady following 2 0 (second test)
+second_steady : (test : List Tok → Bool) → Sees 1 test → FailsFirst test → FailsFirst (second test) → Stable following 2 0 (second test)
 second_steady test sees first behind = steady_2_0 (second test) (second_sees test sees) (λ x s shut f. first s f) behind
 
 -- ---- an integer that stands alone

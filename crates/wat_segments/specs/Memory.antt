@@ -63,8 +63,8 @@ inline_memory =
     (seq is_64 (seq pagesize_or_none (group (codes "data") data_vals)))
 
 -- `(`, or `i32` or `i64` and then `(`
-abbrev pub begins_inline : List Tok → Bool
-begins_inline t =
+abbrev pub begins_inline_data : List Tok → Bool
+begins_inline_data t =
     begins_lparen t || ((begins_word (codes "i32") t || begins_word (codes "i64") t)
     && second begins_lparen t)
 
@@ -73,7 +73,7 @@ begins_inline t =
 unfoldable pub memory_kind : Production MemoryKindTy
 memory_kind =
     where_else begins_inline_import (made (λ v. imported v.0 v.1) (seq inline_import memory_type))
-    (where_else begins_inline inline_memory (made normal memory_type))
+    (where_else begins_inline_data inline_memory (made normal memory_type))
 
 -- `memory` head, and a kind
 unfoldable pub memory : Production MemoryTy

@@ -3,7 +3,8 @@
 ghost use Rattle.std.specs.Prelude.{◌≡◌, false};
 ghost use Rattle.wat_tokens.specs.Reads.{Reads};
 ghost use Rattle.wat_segments.specs.Memory.{MemoryTy, seen_memory_kind, bare_memory_kind};
-ghost use Rattle.wat_segments.specs.Memory.{inline_memory, memory_kind, begins_inline, seen_memory};
+ghost use Rattle.wat_segments.specs.Memory.{inline_memory, memory_kind};
+ghost use Rattle.wat_segments.specs.Memory.{begins_inline_data, seen_memory};
 ghost use Rattle.wat_segments.specs.Memory.{bare_memory, memory};
 
 use crate::data_val::{DataVal, read_vals};
@@ -53,7 +54,7 @@ pub enum MemoryKind<'a> {
 
 /// Whether `(` stands in front, or `i32` or `i64` and then `(`.
 fn inline_next(parser: &Parser<'_>) -> bool
-    ensures { result ≡ begins_inline parser.now.left }
+    ensures { result ≡ begins_inline_data parser.now.left }
 {
     let cursor = parser.cursor();
     if cursor.lparen().is_some() {

@@ -101,14 +101,14 @@ elem_word elems.declared = codes "elem declared "
 elem_word (elems.active t offset) = codes "elem active "
 
 -- the lines of its offset
-abbrev pub elem_offset : ElemKindTy → List ℕ
-elem_offset elems.passive = []
-elem_offset elems.declared = []
-elem_offset (elems.active t offset) = below offset
+abbrev pub offset_lines : ElemKindTy → List ℕ
+offset_lines elems.passive = []
+offset_lines elems.declared = []
+offset_lines (elems.active t offset) = below offset
 
 -- where it is put and what it holds; below that, first the offset
 abbrev pub elem_text : Segment → List ℕ
-elem_text s = elem_word s.0 ++ (payload_line s.1 ++ (elem_offset s.0 ++ payload_lines s.1))
+elem_text s = elem_word s.0 ++ (payload_line s.1 ++ (offset_lines s.0 ++ payload_lines s.1))
 
 -- ---- memories and data segments
 

@@ -16,8 +16,8 @@ ghost use Rattle.wat_segments.specs.Memory.{seen_memory_kind};
 ghost use Rattle.wat_tokens.specs.Index.{seen_index};
 ghost use Rattle.wat_show.specs.Fields.{import_text, export_text, func_text, global_text, tag_text};
 ghost use Rattle.wat_show.specs.Fields.{payload_line, payload_lines, table_text, elem_word};
-ghost use Rattle.wat_show.specs.Fields.{elem_offset, elem_text, start_text, memory_text, data_text};
-ghost use Rattle.wat_show.specs.Fields.{custom_text, field_text};
+ghost use Rattle.wat_show.specs.Fields.{offset_lines, elem_text, start_text, memory_text};
+ghost use Rattle.wat_show.specs.Fields.{data_text, custom_text, field_text};
 
 use crate::entries::add_entries;
 use crate::pieces::total;
@@ -148,7 +148,8 @@ fn add_elem_word(out: &mut Vec<u8>, kind: &ElemKind) -> Result<(), AllocError>
 
 /// Adds the lines of a segment's offset.
 fn add_elem_offset(out: &mut Vec<u8>, kind: &ElemKind) -> Result<(), AllocError>
-    ensures { OnOk result (out.new.items ≡ out.old.items ++ elem_offset (seen_elem_kind kind.now)) }
+    ensures { OnOk result (out.new.items ≡ out.old.items ++ offset_lines
+        (seen_elem_kind kind.now)) }
 {
     match kind {
         ElemKind::Passive | ElemKind::Declared => Ok(()),

@@ -14,7 +14,7 @@ use Rattle.wat_segments.specs.DataVals.{data_vals}
 use Rattle.wat_segments.specs.Offset.{head_last, offset_inside}
 use Rattle.wat_segments.specs.Data.{data_memory, data_active, data_kind, data_segment}
 use Rattle.wat_segments.specs.Memory.{inline_memory, memory_kind, memory}
-use Rattle.wat_elems.specs.Payload.{item_list, index_list, listed, typed_items, payload, payload_or_indices}
+use Rattle.wat_elems.specs.Payload.{item_list, index_list, listed, typed_elems, payload, payload_or_indices}
 use Rattle.wat_elems.specs.Item.{written_or_folded, item}
 use Rattle.wat_elems.specs.Elem.{elem_offset, in_table, table_number, in_some_table, declared_segment, passive_segment, active_segment, segment, elem}
 use Rattle.wat_elems.specs.Table.{begins_prefix, inline_table, normal_table, imported_table, table_kind, table}
@@ -76,8 +76,8 @@ indices_calm : Calm true index_list
 unfolding index_list
 indices_calm = search calm depth 40
 
-typed_items_calm : Calm true typed_items
-unfolding typed_items
+typed_items_calm : Calm true typed_elems
+unfolding typed_elems
 typed_items_calm = search (calm, ref_calm, items_calm) depth 40
 
 payload_calm : Calm true payload

@@ -7,7 +7,7 @@ use Rattle.wat_tokens.specs.Index.{begins_index}
 use Rattle.wat_immediates.specs.Memory.{begins_with}
 use Rattle.wat_immediates.specs.Lanes.{goes_on, is_alone}
 use Rattle.wat_types.specs.Value.{plain_words}
-use Rattle.wat_instr.specs.Laws.Rests.{Rests, Fronted, fronted, fronted_behind, Steady, Tested}
+use Rattle.wat_instr.specs.Laws.Rests.{Rests, Fronted, fronted, fronted_behind, Stable, Tested}
 use Rattle.wat_instr.specs.Laws.Sees.{Sees, begins_word_sees, begins_index_sees, begins_id_sees, begins_integer_sees, begins_with_sees, one_of_sees, fails_at_end}
 use Rattle.wat_customs.specs.Custom.{begins_annotated}
 use Rattle.wat_links.specs.Import.{opens_typed, typed, begins_inline_import}
@@ -58,7 +58,7 @@ ending i = record {
 pub record CalmTest (i : Bool) (test : List Tok → Bool) : Type 0 where
   pub same : (t u : List Tok) → Alike i t u → test t ≡ test u
 
-pub calm_steady : {i : Bool} {m n : ℕ} {test : List Tok → Bool} → CalmTest i test → Steady (ending i) m n test
+pub calm_steady : {i : Bool} {m n : ℕ} {test : List Tok → Bool} → CalmTest i test → Stable (ending i) m n test
 calm_steady k = record { holds = λ t u a h. sym (k.same t u a) ∙ h; fails = λ t u a h. sym (k.same t u a) ∙ h }
 
 -- behind any front it answers the same of all ends

@@ -20,8 +20,8 @@ use Rattle.wat_immediates.specs.Ordering.{ordering, begins_ordering, ordered}
 use Rattle.wat_immediates.specs.Tables.{index_or_0, index_pair, init, copy}
 use Rattle.wat_immediates.specs.Vector.{two, four, eight, sixteen, float_const, wide_const}
 use Rattle.wat_immediates.specs.Vector.{v128_const, shuffle}
-use Rattle.wat_instr.specs.Laws.Rests.{Rests, Steady, Tested, either_steady}
-use Rattle.wat_instr.specs.Laws.Stands.{Stands, Takes, one_stands, none_stands, made_stands}
+use Rattle.wat_instr.specs.Laws.Rests.{Rests, Stable, Tested, either_steady}
+use Rattle.wat_instr.specs.Laws.Stands.{Stands, AtLeast, one_stands, none_stands, made_stands}
 use Rattle.wat_instr.specs.Laws.Stands.{both_stand, restated_stands, choice_stands, where_stands}
 use Rattle.wat_instr.specs.Laws.Stands.{opt_stands, many_stands, group_stands}
 
@@ -56,7 +56,7 @@ lane_takes a v (Integer text) n d t e s = mem_arg_takes a v d t text s
 lane_takes a v _ n d t e s = absurd cc
 
 -- an access and a lane take two tokens or more
-lane_access_takes : (a : ℕ) → Takes 2 is_alone false (made access_of (seq (mem_arg a) lane_arg))
+lane_access_takes : (a : ℕ) → AtLeast 2 is_alone false (made access_of (seq (mem_arg a) lane_arg))
 unfolding lane_arg
 lane_access_takes a v c t k s =
     let q = s.1 in
@@ -123,7 +123,7 @@ module _ {R : Rests} (s : Tested R) where
       where_stands s.seqcst (lit≤ tt) (lit≤ tt) (made_stands (one_stands (refl, refl)))
       (made_stands (one_stands (refl, refl)))
 
-  pub ordering_steady : Steady R 1 0 begins_ordering
+  pub ordering_steady : Stable R 1 0 begins_ordering
   ordering_steady = either_steady s.seqcst s.acqrel
 
   pub fence_stands : Stands R 0 (opt begins_ordering ordering)

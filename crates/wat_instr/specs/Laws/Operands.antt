@@ -20,7 +20,7 @@ use Rattle.wat_mnemonics.specs.declared.head.Head.{Head}
 use Rattle.wat_mnemonics.specs.declared.head.Head.TheVariants as head
 use Rattle.wat_instr.specs.Operand.{operand}
 use Rattle.wat_instr.specs.Instruction.{instruction}
-use Rattle.wat_instr.specs.Laws.Rests.{Rests, Steady, Tested, either_steady}
+use Rattle.wat_instr.specs.Laws.Rests.{Rests, Stable, Tested, either_steady}
 use Rattle.wat_instr.specs.Laws.Stands.{Stands, one_stands, none_stands, made_stands, seq_stands}
 use Rattle.wat_instr.specs.Laws.Stands.{both_stand, where_stands, opt_stands, many_stands}
 use Rattle.wat_instr.specs.Laws.Stands.{some_many_stands, paren_stands, group_stands, behind_stands}
@@ -79,7 +79,7 @@ module _ {R : Rests} (s : Tested R) where
   catch_stands =
       paren_stands (made_stands (seq_stands (lit≤ tt) catch_kind_stands (one_stands (refl, refl))))
 
-  catch_steady : Steady R 2 0 begins_catch
+  catch_steady : Stable R 2 0 begins_catch
   catch_steady =
       either_steady (either_steady (s.group (codes "catch")) (s.group (codes "catch_ref")))
       (either_steady (s.group (codes "catch_all")) (s.group (codes "catch_all_ref")))

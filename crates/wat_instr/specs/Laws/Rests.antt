@@ -52,21 +52,21 @@ fronted t u f =
 
 -- the test answers the same before a rest that is alike: where it holds, at a front of i tokens or
 -- more; where it fails, of j or more
-pub record Steady (R : Rests) (i j : ℕ) (test : List Tok → Bool) : Type 0 where
+pub record Stable (R : Rests) (i j : ℕ) (test : List Tok → Bool) : Type 0 where
   pub holds : (t u : List Tok) → R.Alike i t u → test t ≡ true → test u ≡ true
   pub fails : (t u : List Tok) → R.Alike j t u → test t ≡ false → test u ≡ false
 
 -- a test that needs fewer
 pub steady_sooner : {R : Rests} {test : List Tok → Bool} {i j k l : ℕ} → i ≤ k → j ≤ l
-    → Steady R i j test → Steady R k l test
+    → Stable R i j test → Stable R k l test
 steady_sooner {R = R} {i = i} {j = j} {k = k} {l = l} p q s = record {
   holds = λ t u a. s.holds t u (R.fewer i k t u p a);
   fails = λ t u a. s.fails t u (R.fewer j l t u q a);
 }
 
 -- one of two tests
-pub either_steady : {R : Rests} {i j : ℕ} {a b : List Tok → Bool} → Steady R i j a → Steady R i j b
-    → Steady R i j (λ t. a t || b t)
+pub either_steady : {R : Rests} {i j : ℕ} {a b : List Tok → Bool} → Stable R i j a → Stable R i j b
+    → Stable R i j (λ t. a t || b t)
 either_steady {a = a} {b = b} p q = record {
   holds = λ t u l k. by_test (a t)
       (λ x. or_left (a u) (b u) (p.holds t u l x))
@@ -76,24 +76,24 @@ either_steady {a = a} {b = b} p q = record {
 }
 
 -- no test at all
-pub never_steady : {R : Rests} (i j : ℕ) → Steady R i j (λ t. false)
+pub never_steady : {R : Rests} (i j : ℕ) → Stable R i j (λ t. false)
 never_steady i j = record { holds = λ t u l k. k; fails = λ t u l k. k }
 
 -- the tests by which parts of an instruction are told apart
 pub record Tested (R : Rests) : Type 0 where
-  pub word : (w : List ℕ) → Steady R 1 1 (begins_word w)
-  pub seqcst : Steady R 1 0 (begins_word (codes "seqcst"))
-  pub acqrel : Steady R 1 0 (begins_word (codes "acqrel"))
-  pub index : Steady R 1 0 begins_index
-  pub id : Steady R 1 0 begins_id
-  pub offset : Steady R 1 0 (begins_with (codes "offset="))
-  pub align : Steady R 1 0 (begins_with (codes "align="))
-  pub plain : Steady R 1 1 (begins_one_of (word_in plain_words))
-  pub more : Steady R 1 1 more
-  pub group : (w : List ℕ) → Steady R 2 0 (begins_group w)
-  pub annotation : (n : List ℕ) → Steady R 2 0 (begins_annotation n)
-  pub second_type : Steady R 2 0 (second (begins_word (codes "type")))
-  pub second_param : Steady R 2 0 (second (begins_word (codes "param")))
-  pub second_result : Steady R 2 0 (second (begins_word (codes "result")))
-  pub second_index : Steady R 2 1 (second begins_index)
-  pub alone : Steady R 1 2 is_alone
+  pub word : (w : List ℕ) → Stable R 1 1 (begins_word w)
+  pub seqcst : Stable R 1 0 (begins_word (codes "seqcst"))
+  pub acqrel : Stable R 1 0 (begins_word (codes "acqrel"))
+  pub index : Stable R 1 0 begins_index
+  pub id : Stable R 1 0 begins_id
+  pub offset : Stable R 1 0 (begins_with (codes "offset="))
+  pub align : Stable R 1 0 (begins_with (codes "align="))
+  pub plain : Stable R 1 1 (begins_one_of (word_in plain_words))
+  pub more : Stable R 1 1 more
+  pub group : (w : List ℕ) → Stable R 2 0 (begins_group w)
+  pub annotation : (n : List ℕ) → Stable R 2 0 (begins_annotation n)
+  pub second_type : Stable R 2 0 (second (begins_word (codes "type")))
+  pub second_param : Stable R 2 0 (second (begins_word (codes "param")))
+  pub second_result : Stable R 2 0 (second (begins_word (codes "result")))
+  pub second_index : Stable R 2 1 (second begins_index)
+  pub alone : Stable R 1 2 is_alone

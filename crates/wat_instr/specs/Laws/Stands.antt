@@ -15,7 +15,7 @@ use Rattle.wat_tokens.specs.Groups.{paren, group, annotation_group}
 use Rattle.wat_tokens.specs.Restated.{restated}
 use Rattle.wat_tokens.specs.Floats.{none}
 use Rattle.wat_tokens.specs.Followed.{followed, blank}
-use Rattle.wat_instr.specs.Laws.Rests.{Rests, Steady}
+use Rattle.wat_instr.specs.Laws.Rests.{Rests, Stable}
 
 -- what is spelled before t is spelled before u, where t and u are alike at a front of n tokens
 pub record Stands {A : Type 0} (R : Rests) (n : ℕ) (g : Production A) : Type 0 where
@@ -69,12 +69,13 @@ module _ {R : Rests} {A : Type 0} {n : ℕ} where
 -- ---- choices
 
 -- a part takes k tokens or more, where the test of the tokens in front answers so
-abbrev pub Takes : {A : Type 0} → ℕ → (List Tok → Bool) → Bool → Production A → Type 0
-Takes {A} k test b g = (v : A) (c t : List Tok) → test (c ++ t) ≡ b → g.spells v c t → k ≤ length c
+abbrev pub AtLeast : {A : Type 0} → ℕ → (List Tok → Bool) → Bool → Production A → Type 0
+AtLeast {A} k test b g =
+    (v : A) (c t : List Tok) → test (c ++ t) ≡ b → g.spells v c t → k ≤ length c
 
 module _ {R : Rests} {A : Type 0} {test : List Tok → Bool} {g h : Production A} {i j n : ℕ} where
   -- where each branch takes enough tokens to settle the test
-  pub choice_stands : (k l : ℕ) → Steady R i j test → Takes k test true g → Takes l test false h
+  pub choice_stands : (k l : ℕ) → Stable R i j test → AtLeast k test true g → AtLeast l test false h
       → i ≤ k + n → j ≤ l + n → Stands R n g → Stands R n h → Stands R n (where_else test g h)
   choice_stands k l steady more less some others p q = record { moves = moves }
     where
@@ -87,7 +88,7 @@ module _ {R : Rests} {A : Type 0} {test : List Tok → Bool} {g h : Production A
           let b = behind_part R h v c t u j l n s.1 (less v c t s.0 s.1) others a in
           inr (steady.fails (c ++ t) (c ++ u) b s.0, q.moves v c t u a s.1)
 
-  pub where_stands : Steady R i j test → i ≤ g.least + n → j ≤ h.least + n → Stands R n g
+  pub where_stands : Stable R i j test → i ≤ g.least + n → j ≤ h.least + n → Stands R n g
       → Stands R n h → Stands R n (where_else test g h)
   where_stands steady some others p q =
       choice_stands g.least h.least steady (λ v c t k s. g.takes v c t s)
@@ -95,7 +96,7 @@ module _ {R : Rests} {A : Type 0} {test : List Tok → Bool} {g h : Production A
 
 module _ {R : Rests} {A : Type 0} {begins : List Tok → Bool} {g : Production A} {i j n : ℕ} where
   -- where the part takes enough tokens, once it has begun
-  pub begun_stands : (k : ℕ) → Steady R i j begins → Takes k begins true g → i ≤ k + n → j ≤ n
+  pub begun_stands : (k : ℕ) → Stable R i j begins → AtLeast k begins true g → i ≤ k + n → j ≤ n
       → Stands R n g → Stands R n (opt begins g)
   begun_stands k steady takes some others p = record { moves = moves }
     where
@@ -106,12 +107,12 @@ module _ {R : Rests} {A : Type 0} {begins : List Tok → Bool} {g : Production A
           (steady.holds (c ++ t) (c ++ u) b s.0, p.moves v c t u a s.1)
       moves None c t u a s = (s.0, steady.fails t u (R.fewer j n t u others a) s.1)
 
-  pub opt_stands : Steady R i j begins → i ≤ g.least + n → j ≤ n → Stands R n g
+  pub opt_stands : Stable R i j begins → i ≤ g.least + n → j ≤ n → Stands R n g
       → Stands R n (opt begins g)
   opt_stands steady some others p =
       begun_stands g.least steady (λ v c t k s. g.takes v c t s) some others p
 
-  pub many_stands : (eats : 1 ≤ g.least) → Steady R i j begins → i ≤ g.least + n → j ≤ n
+  pub many_stands : (eats : 1 ≤ g.least) → Stable R i j begins → i ≤ g.least + n → j ≤ n
       → Stands R n g → Stands R n (many begins g eats)
   many_stands eats steady some others p = record { moves = moves }
     where
@@ -134,7 +135,7 @@ module _ {R : Rests} {A : Type 0} {begins : List Tok → Bool} {g : Production A
 
 -- parts as long as one follows, there where one does
 module _ {R : Rests} {A B : Type 0} {begins : List Tok → Bool} {g : Production A} where
-  pub some_many_stands : {f : List A → B} {i j n : ℕ} (eats : 1 ≤ g.least) → Steady R i j begins
+  pub some_many_stands : {f : List A → B} {i j n : ℕ} (eats : 1 ≤ g.least) → Stable R i j begins
       → i ≤ g.least + n → j ≤ n → Stands R n g
       → Stands R n (opt begins (made f (many begins g eats)))
   some_many_stands {f = f} eats steady some others p =
@@ -176,7 +177,7 @@ module _ {R : Rests} {A : Type 0} {g : Production A} {n : ℕ} where
   behind_stands p = made_stands (both_stand (one_stands (refl, refl)) p)
 
 -- word?, where more of the group follows
-pub flag_stands : {R : Rests} {w : List ℕ} → Steady R 1 1 (begins_word w) → Stands R 1 (flag w)
+pub flag_stands : {R : Rests} {w : List ℕ} → Stable R 1 1 (begins_word w) → Stands R 1 (flag w)
 flag_stands s = made_stands (opt_stands s (omega arith) (omega arith) (one_stands (refl, refl)))
 
 -- ---- a part that decides what follows it, and no tokens

@@ -20,17 +20,17 @@ use Rattle.wat_types.specs.FunctionNoNames.{function_type_no_names}
 use Rattle.wat_types.specs.Laws.Function.{unnamed_to, unnamed_from}
 use Rattle.wat_types.specs.Use.{type_use}
 use Rattle.wat_operands.specs.Block.{signature}
-use Rattle.wat_instr.specs.Laws.Rests.{Rests, Steady, Tested, steady_sooner, either_steady}
+use Rattle.wat_instr.specs.Laws.Rests.{Rests, Stable, Tested, steady_sooner, either_steady}
 use Rattle.wat_instr.specs.Laws.Rests.{never_steady}
-use Rattle.wat_instr.specs.Laws.Stands.{Stands, Takes, stands_sooner, one_stands, made_stands}
+use Rattle.wat_instr.specs.Laws.Stands.{Stands, AtLeast, stands_sooner, one_stands, made_stands}
 use Rattle.wat_instr.specs.Laws.Stands.{seq_stands, both_stand, restated_stands, where_stands}
 use Rattle.wat_instr.specs.Laws.Stands.{opt_stands, begun_stands, many_stands, group_stands}
 use Rattle.wat_instr.specs.Laws.Stands.{annotation_stands, flag_stands}
 
 -- ---- labels
 
-pub label_stands : {R : Rests} → Steady R 1 0 begins_id
-    → Steady R 2 0 (begins_annotation (codes "name")) → Stands R 0 label
+pub label_stands : {R : Rests} → Stable R 1 0 begins_id
+    → Stable R 2 0 (begins_annotation (codes "name")) → Stands R 0 label
 unfolding label name_annotation
 label_stands id name =
     made_stands (both_stand (opt_stands id (lit≤ tt) (lit≤ tt) (one_stands (refl, refl)))
@@ -71,7 +71,7 @@ module _ {R : Rests} (s : Tested R) where
   val_types_stand =
       many_stands val_type_eats s.more (lit≤ tt) (lit≤ tt) (stands_sooner (lit≤ tt) val_stands)
 
-  label_steady : (labels : Bool) → Steady R 2 0 (λ t. labels && begins_label t)
+  label_steady : (labels : Bool) → Stable R 2 0 (λ t. labels && begins_label t)
   label_steady true =
       either_steady (steady_sooner (lit≤ tt) (lit≤ tt) s.id) (s.annotation (codes "name"))
   label_steady false = never_steady 2 0
@@ -119,7 +119,7 @@ groups_take [] c t k s = absurd (
 groups_take (g ∷ gs) c t k s =
     rw (s.2) (omega (arith, length-append s.0 s.1, (func_group true).takes g s.0 (s.1 ++ t) s.4))
 
-function_takes : Takes 2 begins_func true function_type_no_names
+function_takes : AtLeast 2 begins_func true function_type_no_names
 function_takes v c t k s = groups_take s.0.0 c t k s.0.1
 
 pub signature_stands : {R : Rests} → Tested R → Stands R 0 signature
