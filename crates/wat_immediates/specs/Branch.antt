@@ -7,7 +7,8 @@ use Rattle.wat_tokens.specs.Parts.{seq, made}
 use Rattle.wat_tokens.specs.Many.{many}
 use Rattle.wat_tokens.specs.Index.{Idx, seen_index, index, begins_index}
 use Rattle.wat_tokens.specs.Parses.{no_items}
-use Rattle.wat_immediates.specs.declared.branch.BrTableIndices.{BrTableIndices}
+use Rattle.wat_tokens.specs.declared.index.Index.{Index}
+use Rattle.wat_immediates.specs.declared.branch.BrTableIndicesOf.{BrTableIndicesOf}
 
 -- the labels and the default, without their places
 pub record BrTableTy : Type 0 where
@@ -17,7 +18,7 @@ pub record BrTableTy : Type 0 where
 abbrev pub br_table_of : List Idx → Idx → BrTableTy
 br_table_of ls d = record { labels = ls; default = d }
 
-abbrev pub seen_br_table : BrTableIndices → BrTableTy
+abbrev pub seen_br_table : BrTableIndicesOf Index → BrTableTy
 seen_br_table b = br_table_of (map seen_index b.labels.items) (seen_index b.default)
 
 -- no labels

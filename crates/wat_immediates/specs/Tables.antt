@@ -4,12 +4,13 @@ use Rattle.wat_tokens.specs.Tests.{second}
 use Rattle.wat_tokens.specs.Production.{Production}
 use Rattle.wat_tokens.specs.Parts.{seq, made, where_else, opt}
 use Rattle.wat_tokens.specs.Index.{Idx, number, seen_index, index, begins_index}
-use Rattle.wat_immediates.specs.declared.tables.MemoryArg.{MemoryArg}
-use Rattle.wat_immediates.specs.declared.tables.MemoryCopy.{MemoryCopy}
-use Rattle.wat_immediates.specs.declared.tables.MemoryInit.{MemoryInit}
-use Rattle.wat_immediates.specs.declared.tables.TableArg.{TableArg}
-use Rattle.wat_immediates.specs.declared.tables.TableCopy.{TableCopy}
-use Rattle.wat_immediates.specs.declared.tables.TableInit.{TableInit}
+use Rattle.wat_tokens.specs.declared.index.Index.{Index}
+use Rattle.wat_immediates.specs.declared.tables.MemoryArgOf.{MemoryArgOf}
+use Rattle.wat_immediates.specs.declared.tables.MemoryCopyOf.{MemoryCopyOf}
+use Rattle.wat_immediates.specs.declared.tables.MemoryInitOf.{MemoryInitOf}
+use Rattle.wat_immediates.specs.declared.tables.TableArgOf.{TableArgOf}
+use Rattle.wat_immediates.specs.declared.tables.TableCopyOf.{TableCopyOf}
+use Rattle.wat_immediates.specs.declared.tables.TableInitOf.{TableInitOf}
 
 -- ---- one index, or none
 
@@ -17,10 +18,10 @@ use Rattle.wat_immediates.specs.declared.tables.TableInit.{TableInit}
 unfoldable pub index_or_0 : Production Idx
 index_or_0 = made (λ o. unwrap_or o (number 0)) (opt begins_index index)
 
-abbrev pub seen_table_arg : TableArg → Idx
+abbrev pub seen_table_arg : TableArgOf Index → Idx
 seen_table_arg a = seen_index a.dst
 
-abbrev pub seen_memory_arg : MemoryArg → Idx
+abbrev pub seen_memory_arg : MemoryArgOf Index → Idx
 seen_memory_arg a = seen_index a.mem
 
 -- ---- two indices
@@ -32,11 +33,11 @@ index_pair = seq index index
 -- ---- a target and a segment
 
 -- the table, and the element segment
-abbrev pub seen_table_init : TableInit → Idx × Idx
+abbrev pub seen_table_init : TableInitOf Index → Idx × Idx
 seen_table_init i = (seen_index i.table, seen_index i.elem)
 
 -- the memory, and the data segment
-abbrev pub seen_memory_init : MemoryInit → Idx × Idx
+abbrev pub seen_memory_init : MemoryInitOf Index → Idx × Idx
 seen_memory_init i = (seen_index i.mem, seen_index i.«data»)
 
 -- the target that is meant where none is written, and the segment
@@ -51,10 +52,10 @@ init = where_else (second begins_index) index_pair (made into_0 index)
 -- ---- a destination and a source
 
 -- the destination, and the source
-abbrev pub seen_table_copy : TableCopy → Idx × Idx
+abbrev pub seen_table_copy : TableCopyOf Index → Idx × Idx
 seen_table_copy c = (seen_index c.dst, seen_index c.src)
 
-abbrev pub seen_memory_copy : MemoryCopy → Idx × Idx
+abbrev pub seen_memory_copy : MemoryCopyOf Index → Idx × Idx
 seen_memory_copy c = (seen_index c.dst, seen_index c.src)
 
 -- idx (destination) idx (source), or nothing: 0 and 0

@@ -11,93 +11,120 @@ ghost use Rattle.wat_immediates.specs.Tables.{index_pair};
 
 use wat_tokens::{Index, Parse, Parser, Result};
 
-/// The operands of `struct.get`, `struct.set` and the like (WebAssembly Core Specification, Text
-/// Format, Instructions, "Aggregate Instructions").
+/// The operands of `struct.get`, `struct.set` and the like, with each index as an `I` (WebAssembly
+/// Core Specification, Text Format, Instructions, "Aggregate Instructions").
 #[derive(Clone, Debug, Drop)]
-pub struct StructAccess<'a> {
+pub struct StructAccessOf<I> {
     /// The structure type.
-    pub struct_: Index<'a>,
+    pub struct_: I,
     /// Which of its fields.
-    pub field: Index<'a>,
+    pub field: I,
 }
 
-/// The operands of `cont.bind` (WebAssembly Core Specification, Text Format, Instructions, "Control
-/// Instructions", with the proposal on stack switching).
+/// The operands of `struct.get`, `struct.set` and the like.
+pub type StructAccess<'a> = StructAccessOf<Index<'a>>;
+
+/// The operands of `cont.bind`, with each index as an `I` (WebAssembly Core Specification, Text
+/// Format, Instructions, "Control Instructions", with the proposal on stack switching).
 #[derive(Clone, Debug, Drop)]
-pub struct ContBind<'a> {
+pub struct ContBindOf<I> {
     /// The continuation type that is taken.
-    pub argument_index: Index<'a>,
+    pub argument_index: I,
     /// The continuation type that is made.
-    pub result_index: Index<'a>,
+    pub result_index: I,
 }
 
-/// The operands of `switch` (WebAssembly Core Specification, Text Format, Instructions, "Control
-/// Instructions", with the proposal on stack switching).
+/// The operands of `cont.bind`.
+pub type ContBind<'a> = ContBindOf<Index<'a>>;
+
+/// The operands of `switch`, with each index as an `I` (WebAssembly Core Specification, Text
+/// Format, Instructions, "Control Instructions", with the proposal on stack switching).
 #[derive(Clone, Debug, Drop)]
-pub struct Switch<'a> {
+pub struct SwitchOf<I> {
     /// The continuation type.
-    pub type_index: Index<'a>,
+    pub type_index: I,
     /// The tag.
-    pub tag_index: Index<'a>,
+    pub tag_index: I,
 }
 
-/// The operand of `array.fill` (WebAssembly Core Specification, Text Format, Instructions,
-/// "Aggregate Instructions").
-#[derive(Clone, Debug, Drop)]
-pub struct ArrayFill<'a> {
-    /// The array type.
-    pub array: Index<'a>,
-}
+/// The operands of `switch`.
+pub type Switch<'a> = SwitchOf<Index<'a>>;
 
-/// The operands of `array.copy` (WebAssembly Core Specification, Text Format, Instructions,
-/// "Aggregate Instructions").
-#[derive(Clone, Debug, Drop)]
-pub struct ArrayCopy<'a> {
-    /// The type of the array that is written.
-    pub dest_array: Index<'a>,
-    /// The type of the array that is read.
-    pub src_array: Index<'a>,
-}
-
-/// The operands of `array.init_data` and `array.init_elem` (WebAssembly Core Specification, Text
+/// The operand of `array.fill`, with its index as an `I` (WebAssembly Core Specification, Text
 /// Format, Instructions, "Aggregate Instructions").
 #[derive(Clone, Debug, Drop)]
-pub struct ArrayInit<'a> {
+pub struct ArrayFillOf<I> {
     /// The array type.
-    pub array: Index<'a>,
-    /// The segment that is read.
-    pub segment: Index<'a>,
+    pub array: I,
 }
 
-/// The operands of `array.new_fixed` (WebAssembly Core Specification, Text Format, Instructions,
-/// "Aggregate Instructions").
+/// The operand of `array.fill`.
+pub type ArrayFill<'a> = ArrayFillOf<Index<'a>>;
+
+/// The operands of `array.copy`, with each index as an `I` (WebAssembly Core Specification, Text
+/// Format, Instructions, "Aggregate Instructions").
 #[derive(Clone, Debug, Drop)]
-pub struct ArrayNewFixed<'a> {
+pub struct ArrayCopyOf<I> {
+    /// The type of the array that is written.
+    pub dest_array: I,
+    /// The type of the array that is read.
+    pub src_array: I,
+}
+
+/// The operands of `array.copy`.
+pub type ArrayCopy<'a> = ArrayCopyOf<Index<'a>>;
+
+/// The operands of `array.init_data` and `array.init_elem`, with each index as an `I` (WebAssembly
+/// Core Specification, Text Format, Instructions, "Aggregate Instructions").
+#[derive(Clone, Debug, Drop)]
+pub struct ArrayInitOf<I> {
     /// The array type.
-    pub array: Index<'a>,
+    pub array: I,
+    /// The segment that is read.
+    pub segment: I,
+}
+
+/// The operands of `array.init_data` and `array.init_elem`.
+pub type ArrayInit<'a> = ArrayInitOf<Index<'a>>;
+
+/// The operands of `array.new_fixed`, with its index as an `I` (WebAssembly Core Specification,
+/// Text Format, Instructions, "Aggregate Instructions").
+#[derive(Clone, Debug, Drop)]
+pub struct ArrayNewFixedOf<I> {
+    /// The array type.
+    pub array: I,
     /// How many elements the array has.
     pub length: u32,
 }
 
-/// The operands of `array.new_data` (WebAssembly Core Specification, Text Format, Instructions,
-/// "Aggregate Instructions").
+/// The operands of `array.new_fixed`.
+pub type ArrayNewFixed<'a> = ArrayNewFixedOf<Index<'a>>;
+
+/// The operands of `array.new_data`, with each index as an `I` (WebAssembly Core Specification,
+/// Text Format, Instructions, "Aggregate Instructions").
 #[derive(Clone, Debug, Drop)]
-pub struct ArrayNewData<'a> {
+pub struct ArrayNewDataOf<I> {
     /// The array type.
-    pub array: Index<'a>,
+    pub array: I,
     /// The data segment that is read.
-    pub data_idx: Index<'a>,
+    pub data_idx: I,
 }
 
-/// The operands of `array.new_elem` (WebAssembly Core Specification, Text Format, Instructions,
-/// "Aggregate Instructions").
+/// The operands of `array.new_data`.
+pub type ArrayNewData<'a> = ArrayNewDataOf<Index<'a>>;
+
+/// The operands of `array.new_elem`, with each index as an `I` (WebAssembly Core Specification,
+/// Text Format, Instructions, "Aggregate Instructions").
 #[derive(Clone, Debug, Drop)]
-pub struct ArrayNewElem<'a> {
+pub struct ArrayNewElemOf<I> {
     /// The array type.
-    pub array: Index<'a>,
+    pub array: I,
     /// The element segment that is read.
-    pub elem_idx: Index<'a>,
+    pub elem_idx: I,
 }
+
+/// The operands of `array.new_elem`.
+pub type ArrayNewElem<'a> = ArrayNewElemOf<Index<'a>>;
 
 /// A structure type, and a field.
 impl<'a> Parse<'a> for StructAccess<'a> {

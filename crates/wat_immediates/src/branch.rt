@@ -8,15 +8,18 @@ ghost use Rattle.wat_immediates.specs.BranchTable.{br_table};
 use wat_tokens::repeat::while_begun;
 use wat_tokens::{Fault, Index, Parse, Parser, Result};
 
-/// The labels that `br_table` may branch to (WebAssembly Core Specification, Text Format,
-/// Instructions, "Control Instructions").
+/// The labels that `br_table` may branch to, with each index as an `I` (WebAssembly Core
+/// Specification, Text Format, Instructions, "Control Instructions").
 #[derive(Debug, Drop)]
-pub struct BrTableIndices<'a> {
+pub struct BrTableIndicesOf<I> {
     /// The labels that a number chooses from.
-    pub labels: Vec<Index<'a>>,
+    pub labels: Vec<I>,
     /// The label for any greater number.
-    pub default: Index<'a>,
+    pub default: I,
 }
+
+/// The labels that `br_table` may branch to.
+pub type BrTableIndices<'a> = BrTableIndicesOf<Index<'a>>;
 
 impl<'a> BrTableIndices<'a> {
     /// The same labels once more. Memory may be answered where there is one beside the default.

@@ -15,12 +15,16 @@ pub mod tables;
 pub mod vector;
 
 pub use aggregates::{
-    ArrayCopy, ArrayFill, ArrayInit, ArrayNewData, ArrayNewElem, ArrayNewFixed, ContBind,
-    StructAccess, Switch,
+    ArrayCopy, ArrayCopyOf, ArrayFill, ArrayFillOf, ArrayInit, ArrayInitOf, ArrayNewData,
+    ArrayNewDataOf, ArrayNewElem, ArrayNewElemOf, ArrayNewFixed, ArrayNewFixedOf, ContBind,
+    ContBindOf, StructAccess, StructAccessOf, Switch, SwitchOf,
 };
-pub use branch::BrTableIndices;
+pub use branch::{BrTableIndices, BrTableIndicesOf};
 pub use lanes::{LaneArg, LaneOf, LoadOrStoreLane};
 pub use memory::{MemArg, MemArgOrdering, MemArgTarget};
 pub use ordering::{Ordered, Ordering};
-pub use tables::{MemoryArg, MemoryCopy, MemoryInit, TableArg, TableCopy, TableInit};
+pub use tables::{
+    MemoryArg, MemoryArgOf, MemoryCopy, MemoryCopyOf, MemoryInit, MemoryInitOf, TableArg,
+    TableArgOf, TableCopy, TableCopyOf, TableInit, TableInitOf,
+};
 pub use vector::{I8x16Shuffle, V128Const};

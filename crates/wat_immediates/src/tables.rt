@@ -9,61 +9,79 @@ ghost use Rattle.wat_immediates.specs.Tables.{seen_table_copy, seen_memory_copy}
 
 use wat_tokens::{Index, Parse, Parser, Result};
 
-/// The table of an instruction that names one (WebAssembly Core Specification, Text Format,
-/// Instructions, "Table Instructions").
+/// The table of an instruction that names one, with its index as an `I` (WebAssembly Core
+/// Specification, Text Format, Instructions, "Table Instructions").
 #[derive(Clone, Debug, Drop)]
-pub struct TableArg<'a> {
+pub struct TableArgOf<I> {
     /// The table.
-    pub dst: Index<'a>,
+    pub dst: I,
 }
 
-/// The memory of an instruction that names one (WebAssembly Core Specification, Text Format,
-/// Instructions, "Memory Instructions").
+/// The table of an instruction that names one.
+pub type TableArg<'a> = TableArgOf<Index<'a>>;
+
+/// The memory of an instruction that names one, with its index as an `I` (WebAssembly Core
+/// Specification, Text Format, Instructions, "Memory Instructions").
 #[derive(Clone, Debug, Drop)]
-pub struct MemoryArg<'a> {
+pub struct MemoryArgOf<I> {
     /// The memory.
-    pub mem: Index<'a>,
+    pub mem: I,
 }
 
-/// The operands of `table.init` (WebAssembly Core Specification, Text Format, Instructions, "Table
-/// Instructions").
+/// The memory of an instruction that names one.
+pub type MemoryArg<'a> = MemoryArgOf<Index<'a>>;
+
+/// The operands of `table.init`, with each index as an `I` (WebAssembly Core Specification, Text
+/// Format, Instructions, "Table Instructions").
 #[derive(Clone, Debug, Drop)]
-pub struct TableInit<'a> {
+pub struct TableInitOf<I> {
     /// The table that is written.
-    pub table: Index<'a>,
+    pub table: I,
     /// The element segment that is read.
-    pub elem: Index<'a>,
+    pub elem: I,
 }
 
-/// The operands of `memory.init` (WebAssembly Core Specification, Text Format, Instructions,
-/// "Memory Instructions").
+/// The operands of `table.init`.
+pub type TableInit<'a> = TableInitOf<Index<'a>>;
+
+/// The operands of `memory.init`, with each index as an `I` (WebAssembly Core Specification, Text
+/// Format, Instructions, "Memory Instructions").
 #[derive(Clone, Debug, Drop)]
-pub struct MemoryInit<'a> {
+pub struct MemoryInitOf<I> {
     /// The data segment that is read.
-    pub data: Index<'a>,
+    pub data: I,
     /// The memory that is written.
-    pub mem: Index<'a>,
+    pub mem: I,
 }
 
-/// The operands of `table.copy` (WebAssembly Core Specification, Text Format, Instructions, "Table
-/// Instructions").
+/// The operands of `memory.init`.
+pub type MemoryInit<'a> = MemoryInitOf<Index<'a>>;
+
+/// The operands of `table.copy`, with each index as an `I` (WebAssembly Core Specification, Text
+/// Format, Instructions, "Table Instructions").
 #[derive(Clone, Debug, Drop)]
-pub struct TableCopy<'a> {
+pub struct TableCopyOf<I> {
     /// The table that is written.
-    pub dst: Index<'a>,
+    pub dst: I,
     /// The table that is read.
-    pub src: Index<'a>,
+    pub src: I,
 }
 
-/// The operands of `memory.copy` (WebAssembly Core Specification, Text Format, Instructions,
-/// "Memory Instructions").
+/// The operands of `table.copy`.
+pub type TableCopy<'a> = TableCopyOf<Index<'a>>;
+
+/// The operands of `memory.copy`, with each index as an `I` (WebAssembly Core Specification, Text
+/// Format, Instructions, "Memory Instructions").
 #[derive(Clone, Debug, Drop)]
-pub struct MemoryCopy<'a> {
+pub struct MemoryCopyOf<I> {
     /// The memory that is read.
-    pub src: Index<'a>,
+    pub src: I,
     /// The memory that is written.
-    pub dst: Index<'a>,
+    pub dst: I,
 }
+
+/// The operands of `memory.copy`.
+pub type MemoryCopy<'a> = MemoryCopyOf<Index<'a>>;
 
 /// The index 0 that is meant where none is written. It stands at the token that was taken last.
 pub(crate) fn zero<'a>(parser: &Parser<'a>) -> Index<'a>

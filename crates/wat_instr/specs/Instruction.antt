@@ -39,33 +39,14 @@ use Rattle.wat_operands.specs.declared.block.BlockType.{BlockType}
 use Rattle.wat_tokens.specs.declared.index.Id.{Id}
 use Rattle.wat_tokens.specs.declared.index.Index.{Index}
 use Rattle.wat_operands.specs.declared.call.CallIndirect.{CallIndirect}
-use Rattle.wat_immediates.specs.declared.tables.TableArg.{TableArg}
 use Rattle.wat_immediates.specs.declared.memory.MemArg.{MemArg}
-use Rattle.wat_immediates.specs.declared.tables.MemoryArg.{MemoryArg}
-use Rattle.wat_immediates.specs.declared.aggregates.StructAccess.{StructAccess}
-use Rattle.wat_immediates.specs.declared.aggregates.ArrayInit.{ArrayInit}
-use Rattle.wat_immediates.specs.declared.branch.BrTableIndices.{BrTableIndices}
 use Rattle.wat_operands.specs.declared.select.SelectTypes.{SelectTypes}
-use Rattle.wat_immediates.specs.declared.tables.MemoryInit.{MemoryInit}
-use Rattle.wat_immediates.specs.declared.tables.MemoryCopy.{MemoryCopy}
-use Rattle.wat_immediates.specs.declared.tables.TableInit.{TableInit}
-use Rattle.wat_immediates.specs.declared.tables.TableCopy.{TableCopy}
 use Rattle.wat_types.specs.declared.heap.HeapType.{HeapType}
-use Rattle.wat_immediates.specs.declared.aggregates.ArrayNewFixed.{ArrayNewFixed}
-use Rattle.wat_immediates.specs.declared.aggregates.ArrayNewData.{ArrayNewData}
-use Rattle.wat_immediates.specs.declared.aggregates.ArrayNewElem.{ArrayNewElem}
-use Rattle.wat_immediates.specs.declared.aggregates.ArrayFill.{ArrayFill}
-use Rattle.wat_immediates.specs.declared.aggregates.ArrayCopy.{ArrayCopy}
 use Rattle.wat_operands.specs.declared.casts.RefTest.{RefTest}
 use Rattle.wat_operands.specs.declared.casts.RefCast.{RefCast}
 use Rattle.wat_operands.specs.declared.casts.BrOnCast.{BrOnCast}
 use Rattle.wat_operands.specs.declared.casts.BrOnCastFail.{BrOnCastFail}
 use Rattle.wat_operands.specs.declared.catches.TryTable.{TryTable}
-use Rattle.wat_immediates.specs.declared.aggregates.ContBind.{ContBind}
-use Rattle.wat_operands.specs.declared.handlers.Resume.{Resume}
-use Rattle.wat_operands.specs.declared.handlers.ResumeThrow.{ResumeThrow}
-use Rattle.wat_operands.specs.declared.handlers.ResumeThrowRef.{ResumeThrowRef}
-use Rattle.wat_immediates.specs.declared.aggregates.Switch.{Switch}
 use Rattle.wat_operands.specs.declared.casts.RefCastDescEq.{RefCastDescEq}
 use Rattle.wat_operands.specs.declared.casts.BrOnCastDescEq.{BrOnCastDescEq}
 use Rattle.wat_operands.specs.declared.casts.BrOnCastDescEqFail.{BrOnCastDescEqFail}
@@ -73,25 +54,16 @@ use Rattle.wat_operands.specs.declared.casts.BrOnCastDescEqFail.{BrOnCastDescEqF
 -- the instruction of a text
 abbrev pub Instruction : Type 0
 Instruction =
-    InstructionOf BlockType Id Index CallIndirect TableArg MemArg MemoryArg StructAccess ArrayInit
-    BrTableIndices SelectTypes MemoryInit MemoryCopy TableInit TableCopy HeapType ArrayNewFixed
-    ArrayNewData ArrayNewElem ArrayFill ArrayCopy RefTest RefCast BrOnCast BrOnCastFail TryTable
-    ContBind Resume ResumeThrow ResumeThrowRef Switch RefCastDescEq BrOnCastDescEq
-    BrOnCastDescEqFail
+    InstructionOf BlockType Id Index CallIndirect MemArg SelectTypes HeapType RefTest RefCast
+    BrOnCast BrOnCastFail TryTable RefCastDescEq BrOnCastDescEq BrOnCastDescEqFail
 
 -- ---- what contracts see
 
 -- the instruction without its operand
-abbrev pub head_in : {BlockType Id Index CallIndirect TableArg MemArg MemoryArg StructAccess
-    ArrayInit BrTableIndices SelectTypes MemoryInit MemoryCopy TableInit TableCopy HeapType
-    ArrayNewFixed ArrayNewData ArrayNewElem ArrayFill ArrayCopy RefTest RefCast BrOnCast
-    BrOnCastFail TryTable ContBind Resume ResumeThrow ResumeThrowRef Switch RefCastDescEq
-    BrOnCastDescEq BrOnCastDescEqFail : Type 0}
-    → InstructionOf BlockType Id Index CallIndirect TableArg MemArg MemoryArg StructAccess ArrayInit
-    BrTableIndices SelectTypes MemoryInit MemoryCopy TableInit TableCopy HeapType ArrayNewFixed
-    ArrayNewData ArrayNewElem ArrayFill ArrayCopy RefTest RefCast BrOnCast BrOnCastFail TryTable
-    ContBind Resume ResumeThrow ResumeThrowRef Switch RefCastDescEq BrOnCastDescEq
-    BrOnCastDescEqFail → Head
+abbrev pub head_in : {BlockType Id Index CallIndirect MemArg SelectTypes HeapType RefTest RefCast
+    BrOnCast BrOnCastFail TryTable RefCastDescEq BrOnCastDescEq BrOnCastDescEqFail : Type 0}
+    → InstructionOf BlockType Id Index CallIndirect MemArg SelectTypes HeapType RefTest RefCast
+    BrOnCast BrOnCastFail TryTable RefCastDescEq BrOnCastDescEq BrOnCastDescEqFail → Head
 head_in (code.Block op x) = head.Block op
 head_in (code.Label op x) = head.Label op
 head_in (code.Scalar op) = head.Scalar op

@@ -6,16 +6,10 @@ use Rattle.wat_instr.specs.declared.instruction.InstructionOf.{InstructionOf}
 use Rattle.wat_instr.specs.declared.instruction.InstructionOf.TheVariants as code
 
 -- the operand of an access to a memory, atomic or not, or the access of one to a lane
-abbrev pub access_in : {BlockType Id Index CallIndirect TableArg MemArg MemoryArg StructAccess
-    ArrayInit BrTableIndices SelectTypes MemoryInit MemoryCopy TableInit TableCopy HeapType
-    ArrayNewFixed ArrayNewData ArrayNewElem ArrayFill ArrayCopy RefTest RefCast BrOnCast
-    BrOnCastFail TryTable ContBind Resume ResumeThrow ResumeThrowRef Switch RefCastDescEq
-    BrOnCastDescEq BrOnCastDescEqFail : Type 0}
-    → InstructionOf BlockType Id Index CallIndirect TableArg MemArg MemoryArg StructAccess ArrayInit
-    BrTableIndices SelectTypes MemoryInit MemoryCopy TableInit TableCopy HeapType ArrayNewFixed
-    ArrayNewData ArrayNewElem ArrayFill ArrayCopy RefTest RefCast BrOnCast BrOnCastFail TryTable
-    ContBind Resume ResumeThrow ResumeThrowRef Switch RefCastDescEq BrOnCastDescEq
-    BrOnCastDescEqFail → Option MemArg
+abbrev pub access_in : {BlockType Id Index CallIndirect MemArg SelectTypes HeapType RefTest RefCast
+    BrOnCast BrOnCastFail TryTable RefCastDescEq BrOnCastDescEq BrOnCastDescEqFail : Type 0}
+    → InstructionOf BlockType Id Index CallIndirect MemArg SelectTypes HeapType RefTest RefCast
+    BrOnCast BrOnCastFail TryTable RefCastDescEq BrOnCastDescEq BrOnCastDescEqFail → Option MemArg
 access_in (code.Block op x) = None
 access_in (code.Label op x) = None
 access_in (code.Scalar op) = None
@@ -68,20 +62,12 @@ access_in (code.br_on_cast_desc_eq x) = None
 access_in (code.br_on_cast_desc_eq_fail x) = None
 
 -- the same instruction with another access, where it has one
-abbrev pub with_access : {BlockType Id Index CallIndirect TableArg MemArg MemoryArg StructAccess
-    ArrayInit BrTableIndices SelectTypes MemoryInit MemoryCopy TableInit TableCopy HeapType
-    ArrayNewFixed ArrayNewData ArrayNewElem ArrayFill ArrayCopy RefTest RefCast BrOnCast
-    BrOnCastFail TryTable ContBind Resume ResumeThrow ResumeThrowRef Switch RefCastDescEq
-    BrOnCastDescEq BrOnCastDescEqFail : Type 0}
-    → InstructionOf BlockType Id Index CallIndirect TableArg MemArg MemoryArg StructAccess ArrayInit
-    BrTableIndices SelectTypes MemoryInit MemoryCopy TableInit TableCopy HeapType ArrayNewFixed
-    ArrayNewData ArrayNewElem ArrayFill ArrayCopy RefTest RefCast BrOnCast BrOnCastFail TryTable
-    ContBind Resume ResumeThrow ResumeThrowRef Switch RefCastDescEq BrOnCastDescEq
-    BrOnCastDescEqFail → MemArg → InstructionOf BlockType Id Index CallIndirect TableArg MemArg
-    MemoryArg StructAccess ArrayInit BrTableIndices SelectTypes MemoryInit MemoryCopy TableInit
-    TableCopy HeapType ArrayNewFixed ArrayNewData ArrayNewElem ArrayFill ArrayCopy RefTest RefCast
-    BrOnCast BrOnCastFail TryTable ContBind Resume ResumeThrow ResumeThrowRef Switch RefCastDescEq
-    BrOnCastDescEq BrOnCastDescEqFail
+abbrev pub with_access : {BlockType Id Index CallIndirect MemArg SelectTypes HeapType RefTest
+    RefCast BrOnCast BrOnCastFail TryTable RefCastDescEq BrOnCastDescEq BrOnCastDescEqFail : Type 0}
+    → InstructionOf BlockType Id Index CallIndirect MemArg SelectTypes HeapType RefTest RefCast
+    BrOnCast BrOnCastFail TryTable RefCastDescEq BrOnCastDescEq BrOnCastDescEqFail → MemArg →
+    InstructionOf BlockType Id Index CallIndirect MemArg SelectTypes HeapType RefTest RefCast
+    BrOnCast BrOnCastFail TryTable RefCastDescEq BrOnCastDescEq BrOnCastDescEqFail
 with_access (code.Block op x) w = code.Block op x
 with_access (code.Label op x) w = code.Label op x
 with_access (code.Scalar op) w = code.Scalar op
@@ -134,26 +120,15 @@ with_access (code.br_on_cast_desc_eq x) w = code.br_on_cast_desc_eq x
 with_access (code.br_on_cast_desc_eq_fail x) w = code.br_on_cast_desc_eq_fail x
 
 -- what is written through the result becomes the access, and nothing else changes
-abbrev pub LendsAccess : (BlockType Id Index CallIndirect TableArg MemArg MemoryArg StructAccess
-    ArrayInit BrTableIndices SelectTypes MemoryInit MemoryCopy TableInit TableCopy HeapType
-    ArrayNewFixed ArrayNewData ArrayNewElem ArrayFill ArrayCopy RefTest RefCast BrOnCast
-    BrOnCastFail TryTable ContBind Resume ResumeThrow ResumeThrowRef Switch RefCastDescEq
-    BrOnCastDescEq BrOnCastDescEqFail : RattleType)
-    → MutBor (InstructionOf BlockType.Denot Id.Denot Index.Denot CallIndirect.Denot TableArg.Denot
-    MemArg.Denot MemoryArg.Denot StructAccess.Denot ArrayInit.Denot BrTableIndices.Denot
-    SelectTypes.Denot MemoryInit.Denot MemoryCopy.Denot TableInit.Denot TableCopy.Denot
-    HeapType.Denot ArrayNewFixed.Denot ArrayNewData.Denot ArrayNewElem.Denot ArrayFill.Denot
-    ArrayCopy.Denot RefTest.Denot RefCast.Denot BrOnCast.Denot BrOnCastFail.Denot TryTable.Denot
-    ContBind.Denot Resume.Denot ResumeThrow.Denot ResumeThrowRef.Denot Switch.Denot
-    RefCastDescEq.Denot BrOnCastDescEq.Denot BrOnCastDescEqFail.Denot)
+abbrev pub LendsAccess : (BlockType Id Index CallIndirect MemArg SelectTypes HeapType RefTest
+    RefCast BrOnCast BrOnCastFail TryTable RefCastDescEq BrOnCastDescEq BrOnCastDescEqFail :
+    RattleType)
+    → MutBor (InstructionOf BlockType.Denot Id.Denot Index.Denot CallIndirect.Denot MemArg.Denot
+    SelectTypes.Denot HeapType.Denot RefTest.Denot RefCast.Denot BrOnCast.Denot BrOnCastFail.Denot
+    TryTable.Denot RefCastDescEq.Denot BrOnCastDescEq.Denot BrOnCastDescEqFail.Denot)
     → Option (MutBor MemArg.Denot) → Fml
-LendsAccess BlockType Id Index CallIndirect TableArg MemArg MemoryArg StructAccess ArrayInit
-    BrTableIndices SelectTypes MemoryInit MemoryCopy TableInit TableCopy HeapType ArrayNewFixed
-    ArrayNewData ArrayNewElem ArrayFill ArrayCopy RefTest RefCast BrOnCast BrOnCastFail TryTable
-    ContBind Resume ResumeThrow ResumeThrowRef Switch RefCastDescEq BrOnCastDescEq
-    BrOnCastDescEqFail s r =
-    LendsIf (instructions.the_row BlockType Id Index CallIndirect TableArg MemArg MemoryArg
-    StructAccess ArrayInit BrTableIndices SelectTypes MemoryInit MemoryCopy TableInit TableCopy
-    HeapType ArrayNewFixed ArrayNewData ArrayNewElem ArrayFill ArrayCopy RefTest RefCast BrOnCast
-    BrOnCastFail TryTable ContBind Resume ResumeThrow ResumeThrowRef Switch RefCastDescEq
-    BrOnCastDescEq BrOnCastDescEqFail) MemArg s r (with_access s.now) s.now
+LendsAccess BlockType Id Index CallIndirect MemArg SelectTypes HeapType RefTest RefCast BrOnCast
+    BrOnCastFail TryTable RefCastDescEq BrOnCastDescEq BrOnCastDescEqFail s r =
+    LendsIf (instructions.the_row BlockType Id Index CallIndirect MemArg SelectTypes HeapType
+    RefTest RefCast BrOnCast BrOnCastFail TryTable RefCastDescEq BrOnCastDescEq BrOnCastDescEqFail)
+    MemArg s r (with_access s.now) s.now

@@ -16,7 +16,8 @@ use wat_types::HeapType;
 /// and the operand; one that is alone in its kind has its own variant. Words are written with `_`
 /// for `.`.
 ///
-/// It is generic in the types of the operands that hold a part of a text; [`Instruction`] is that
+/// It is generic in the types that hold a part of a text: an index's, in which the operands of
+/// indices and numbers alone are generic too, and those of other operands. [`Instruction`] is that
 /// of a text.
 #[derive(Drop)]
 #[allow(non_camel_case_types)]
@@ -25,33 +26,14 @@ pub enum InstructionOf<
     Id,
     Index,
     CallIndirect,
-    TableArg,
     MemArg,
-    MemoryArg,
-    StructAccess,
-    ArrayInit,
-    BrTableIndices,
     SelectTypes,
-    MemoryInit,
-    MemoryCopy,
-    TableInit,
-    TableCopy,
     HeapType,
-    ArrayNewFixed,
-    ArrayNewData,
-    ArrayNewElem,
-    ArrayFill,
-    ArrayCopy,
     RefTest,
     RefCast,
     BrOnCast,
     BrOnCastFail,
     TryTable,
-    ContBind,
-    Resume,
-    ResumeThrow,
-    ResumeThrowRef,
-    Switch,
     RefCastDescEq,
     BrOnCastDescEq,
     BrOnCastDescEqFail,
@@ -67,15 +49,15 @@ pub enum InstructionOf<
     /// An indirect call.
     CallIndirect(CallIndirectOp, Box<CallIndirect>),
     /// An instruction with a table.
-    Table(TableOp, TableArg),
+    Table(TableOp, TableArgOf<Index>),
     /// A load, a store or a wait.
     Access(AccessOp, MemArg),
     /// An instruction with a memory.
-    Memory(MemoryOp, MemoryArg),
+    Memory(MemoryOp, MemoryArgOf<Index>),
     /// A field of a structure.
-    Struct(StructOp, StructAccess),
+    Struct(StructOp, StructAccessOf<Index>),
     /// An array, and the segment that it is filled from.
-    ArrayInit(ArrayInitOp, ArrayInit),
+    ArrayInit(ArrayInitOp, ArrayInitOf<Index>),
     /// An atomic load or store.
     AtomicAccess(AtomicAccessOp, MemArg),
     /// An atomic read, change and write.
@@ -83,9 +65,9 @@ pub enum InstructionOf<
     /// An atomic access to what an index names.
     OrderedIndex(OrderedIndexOp, Ordered<Index>),
     /// An atomic access to a table.
-    OrderedTable(OrderedTableOp, Ordered<TableArg>),
+    OrderedTable(OrderedTableOp, Ordered<TableArgOf<Index>>),
     /// An atomic access to a field of a structure.
-    OrderedStruct(OrderedStructOp, Ordered<StructAccess>),
+    OrderedStruct(OrderedStructOp, Ordered<StructAccessOf<Index>>),
     /// A load or store of one lane.
     LaneAccess(LaneAccessOp, LaneOf<MemArg>),
     /// A lane that is taken out or replaced.
@@ -93,29 +75,29 @@ pub enum InstructionOf<
     /// An instruction of vectors without an operand.
     Vector(VectorOp),
     /// `br_table`.
-    br_table(BrTableIndices),
+    br_table(BrTableIndicesOf<Index>),
     /// `select`.
     select(SelectTypes),
     /// `memory.init`.
-    memory_init(MemoryInit),
+    memory_init(MemoryInitOf<Index>),
     /// `memory.copy`.
-    memory_copy(MemoryCopy),
+    memory_copy(MemoryCopyOf<Index>),
     /// `table.init`.
-    table_init(TableInit),
+    table_init(TableInitOf<Index>),
     /// `table.copy`.
-    table_copy(TableCopy),
+    table_copy(TableCopyOf<Index>),
     /// `ref.null`.
     ref_null(HeapType),
     /// `array.new_fixed`.
-    array_new_fixed(ArrayNewFixed),
+    array_new_fixed(ArrayNewFixedOf<Index>),
     /// `array.new_data`.
-    array_new_data(ArrayNewData),
+    array_new_data(ArrayNewDataOf<Index>),
     /// `array.new_elem`.
-    array_new_elem(ArrayNewElem),
+    array_new_elem(ArrayNewElemOf<Index>),
     /// `array.fill`.
-    array_fill(ArrayFill),
+    array_fill(ArrayFillOf<Index>),
     /// `array.copy`.
-    array_copy(ArrayCopy),
+    array_copy(ArrayCopyOf<Index>),
     /// `ref.test`.
     ref_test(RefTest),
     /// `ref.cast`.
@@ -141,15 +123,15 @@ pub enum InstructionOf<
     /// `try_table`.
     try_table(TryTable),
     /// `cont.bind`.
-    cont_bind(ContBind),
+    cont_bind(ContBindOf<Index>),
     /// `resume`.
-    resume(Resume),
+    resume(ResumeOf<Index>),
     /// `resume_throw`.
-    resume_throw(ResumeThrow),
+    resume_throw(ResumeThrowOf<Index>),
     /// `resume_throw_ref`.
-    resume_throw_ref(ResumeThrowRef),
+    resume_throw_ref(ResumeThrowRefOf<Index>),
     /// `switch`.
-    switch(Switch),
+    switch(SwitchOf<Index>),
     /// `ref.cast_desc_eq`.
     ref_cast_desc_eq(RefCastDescEq),
     /// `br_on_cast_desc_eq`.
@@ -165,33 +147,14 @@ pub type Instruction<'a> = InstructionOf<
     Id<'a>,
     Index<'a>,
     CallIndirect<'a>,
-    TableArg<'a>,
     MemArg<'a>,
-    MemoryArg<'a>,
-    StructAccess<'a>,
-    ArrayInit<'a>,
-    BrTableIndices<'a>,
     SelectTypes<'a>,
-    MemoryInit<'a>,
-    MemoryCopy<'a>,
-    TableInit<'a>,
-    TableCopy<'a>,
     HeapType<'a>,
-    ArrayNewFixed<'a>,
-    ArrayNewData<'a>,
-    ArrayNewElem<'a>,
-    ArrayFill<'a>,
-    ArrayCopy<'a>,
     RefTest<'a>,
     RefCast<'a>,
     BrOnCast<'a>,
     BrOnCastFail<'a>,
     TryTable<'a>,
-    ContBind<'a>,
-    Resume<'a>,
-    ResumeThrow<'a>,
-    ResumeThrowRef<'a>,
-    Switch<'a>,
     RefCastDescEq<'a>,
     BrOnCastDescEq<'a>,
     BrOnCastDescEqFail<'a>,
@@ -202,33 +165,14 @@ impl<
     Id,
     Index,
     CallIndirect,
-    TableArg,
     MemArg,
-    MemoryArg,
-    StructAccess,
-    ArrayInit,
-    BrTableIndices,
     SelectTypes,
-    MemoryInit,
-    MemoryCopy,
-    TableInit,
-    TableCopy,
     HeapType,
-    ArrayNewFixed,
-    ArrayNewData,
-    ArrayNewElem,
-    ArrayFill,
-    ArrayCopy,
     RefTest,
     RefCast,
     BrOnCast,
     BrOnCastFail,
     TryTable,
-    ContBind,
-    Resume,
-    ResumeThrow,
-    ResumeThrowRef,
-    Switch,
     RefCastDescEq,
     BrOnCastDescEq,
     BrOnCastDescEqFail,
@@ -237,33 +181,14 @@ impl<
     Id,
     Index,
     CallIndirect,
-    TableArg,
     MemArg,
-    MemoryArg,
-    StructAccess,
-    ArrayInit,
-    BrTableIndices,
     SelectTypes,
-    MemoryInit,
-    MemoryCopy,
-    TableInit,
-    TableCopy,
     HeapType,
-    ArrayNewFixed,
-    ArrayNewData,
-    ArrayNewElem,
-    ArrayFill,
-    ArrayCopy,
     RefTest,
     RefCast,
     BrOnCast,
     BrOnCastFail,
     TryTable,
-    ContBind,
-    Resume,
-    ResumeThrow,
-    ResumeThrowRef,
-    Switch,
     RefCastDescEq,
     BrOnCastDescEq,
     BrOnCastDescEqFail,
@@ -272,12 +197,9 @@ impl<
     /// What is written through it changes the access alone.
     pub fn memarg_mut(&mut self) -> Option<&mut MemArg>
         ensures* writes_back { sem 𝓛 (LendsAccess BlockType.row Id.row Index.row CallIndirect.row
-            TableArg.row MemArg.row MemoryArg.row StructAccess.row ArrayInit.row
-            BrTableIndices.row SelectTypes.row MemoryInit.row MemoryCopy.row TableInit.row
-            TableCopy.row HeapType.row ArrayNewFixed.row ArrayNewData.row ArrayNewElem.row
-            ArrayFill.row ArrayCopy.row RefTest.row RefCast.row BrOnCast.row BrOnCastFail.row
-            TryTable.row ContBind.row Resume.row ResumeThrow.row ResumeThrowRef.row Switch.row
-            RefCastDescEq.row BrOnCastDescEq.row BrOnCastDescEqFail.row self.entry result) }
+            MemArg.row SelectTypes.row HeapType.row RefTest.row RefCast.row BrOnCast.row
+            BrOnCastFail.row TryTable.row RefCastDescEq.row BrOnCastDescEq.row
+            BrOnCastDescEqFail.row self.entry result) }
         ensures value { access_in self.old ≡ option_map (λ r. r.now) result }
     {
         match self {

@@ -7,18 +7,19 @@ use Rattle.wat_tokens.specs.Parts.{seq, made}
 use Rattle.wat_tokens.specs.Many.{many}
 use Rattle.wat_tokens.specs.Parses.{no_items}
 use Rattle.wat_tokens.specs.Index.{Idx, seen_index, index}
-use Rattle.wat_operands.specs.declared.handlers.Handle.{Handle}
-use Rattle.wat_operands.specs.declared.handlers.Handle.TheVariants as code
-use Rattle.wat_operands.specs.declared.handlers.Resume.{Resume}
-use Rattle.wat_operands.specs.declared.handlers.ResumeTable.{ResumeTable}
-use Rattle.wat_operands.specs.declared.handlers.ResumeThrow.{ResumeThrow}
-use Rattle.wat_operands.specs.declared.handlers.ResumeThrowRef.{ResumeThrowRef}
+use Rattle.wat_tokens.specs.declared.index.Index.{Index}
+use Rattle.wat_operands.specs.declared.handlers.HandleOf.{HandleOf}
+use Rattle.wat_operands.specs.declared.handlers.HandleOf.TheVariants as code
+use Rattle.wat_operands.specs.declared.handlers.ResumeOf.{ResumeOf}
+use Rattle.wat_operands.specs.declared.handlers.ResumeTableOf.{ResumeTableOf}
+use Rattle.wat_operands.specs.declared.handlers.ResumeThrowOf.{ResumeThrowOf}
+use Rattle.wat_operands.specs.declared.handlers.ResumeThrowRefOf.{ResumeThrowRefOf}
 use Rattle.wat_operands.specs.Handler.{HandleTy, on_label, on_switch, handler}
 use Rattle.wat_operands.specs.Laws.Handlers.{handler_eats}
 
 -- ---- handlers
 
-abbrev pub seen_handle : Handle → HandleTy
+abbrev pub seen_handle : HandleOf Index → HandleTy
 seen_handle (code.OnLabel tag label) = on_label (seen_index tag) (seen_index label)
 seen_handle (code.OnSwitch tag) = on_switch (seen_index tag)
 
@@ -28,7 +29,7 @@ begins_handler t = begins_group (codes "on") t
 
 -- ---- tables of them
 
-abbrev pub seen_table : ResumeTable → List HandleTy
+abbrev pub seen_table : ResumeTableOf Index → List HandleTy
 seen_table t = map seen_handle t.handlers.items
 
 -- a handler wherever a group begins with `on`
@@ -45,10 +46,10 @@ pub record ResumeTy : Type 0 where
 abbrev pub resume_of : Idx → List HandleTy → ResumeTy
 resume_of i t = record { type_index = i; table = t }
 
-abbrev pub seen_resume : Resume → ResumeTy
+abbrev pub seen_resume : ResumeOf Index → ResumeTy
 seen_resume r = resume_of (seen_index r.type_index) (seen_table r.table)
 
-abbrev pub seen_resume_throw_ref : ResumeThrowRef → ResumeTy
+abbrev pub seen_resume_throw_ref : ResumeThrowRefOf Index → ResumeTy
 seen_resume_throw_ref r = resume_of (seen_index r.type_index) (seen_table r.table)
 
 -- no handler
@@ -68,7 +69,7 @@ pub record ThrowTy : Type 0 where
 abbrev pub throw_of : Idx → Idx → List HandleTy → ThrowTy
 throw_of i j t = record { type_index = i; tag_index = j; table = t }
 
-abbrev pub seen_resume_throw : ResumeThrow → ThrowTy
+abbrev pub seen_resume_throw : ResumeThrowOf Index → ThrowTy
 seen_resume_throw r =
     throw_of (seen_index r.type_index) (seen_index r.tag_index) (seen_table r.table)
 

@@ -13,59 +13,78 @@ ghost use Rattle.wat_tokens.specs.Parses.{no_items};
 use wat_tokens::repeat::while_begun;
 use wat_tokens::{Cursor, Fault, Index, Parse, Parser, Peek, Result};
 
-/// What is done at a suspension (stack switching, Text Format, "Instructions").
+/// What is done at a suspension, with each index as an `I` (stack switching, Text Format,
+/// "Instructions").
 #[derive(Clone, Debug, Drop)]
-pub enum Handle<'a> {
+pub enum HandleOf<I> {
     /// It branches to the label.
     OnLabel {
         /// The tag of the suspension.
-        tag: Index<'a>,
+        tag: I,
         /// The label.
-        label: Index<'a>,
+        label: I,
     },
     /// It switches to another continuation.
     OnSwitch {
         /// The tag of the suspension.
-        tag: Index<'a>,
+        tag: I,
     },
 }
 
-/// The handlers that an instruction resumes a continuation under (stack switching, Text Format,
+/// What is done at a suspension.
+pub type Handle<'a> = HandleOf<Index<'a>>;
+
+/// The handlers that an instruction resumes a continuation under, with each index as an `I` (stack
+/// switching, Text Format, "Instructions").
+#[derive(Debug, Drop)]
+pub struct ResumeTableOf<I> {
+    /// The handlers, in order.
+    pub handlers: Vec<HandleOf<I>>,
+}
+
+/// The handlers that an instruction resumes a continuation under.
+pub type ResumeTable<'a> = ResumeTableOf<Index<'a>>;
+
+/// The operand of `resume`, with each index as an `I` (stack switching, Text Format,
 /// "Instructions").
 #[derive(Debug, Drop)]
-pub struct ResumeTable<'a> {
-    /// The handlers, in order.
-    pub handlers: Vec<Handle<'a>>,
-}
-
-/// The operand of `resume` (stack switching, Text Format, "Instructions").
-#[derive(Debug, Drop)]
-pub struct Resume<'a> {
+pub struct ResumeOf<I> {
     /// The continuation's type.
-    pub type_index: Index<'a>,
+    pub type_index: I,
     /// The handlers.
-    pub table: ResumeTable<'a>,
+    pub table: ResumeTableOf<I>,
 }
 
-/// The operand of `resume_throw` (stack switching, Text Format, "Instructions").
+/// The operand of `resume`.
+pub type Resume<'a> = ResumeOf<Index<'a>>;
+
+/// The operand of `resume_throw`, with each index as an `I` (stack switching, Text Format,
+/// "Instructions").
 #[derive(Debug, Drop)]
-pub struct ResumeThrow<'a> {
+pub struct ResumeThrowOf<I> {
     /// The continuation's type.
-    pub type_index: Index<'a>,
+    pub type_index: I,
     /// The tag of the exception that is thrown in it.
-    pub tag_index: Index<'a>,
+    pub tag_index: I,
     /// The handlers.
-    pub table: ResumeTable<'a>,
+    pub table: ResumeTableOf<I>,
 }
 
-/// The operand of `resume_throw_ref` (stack switching, Text Format, "Instructions").
+/// The operand of `resume_throw`.
+pub type ResumeThrow<'a> = ResumeThrowOf<Index<'a>>;
+
+/// The operand of `resume_throw_ref`, with each index as an `I` (stack switching, Text Format,
+/// "Instructions").
 #[derive(Debug, Drop)]
-pub struct ResumeThrowRef<'a> {
+pub struct ResumeThrowRefOf<I> {
     /// The continuation's type.
-    pub type_index: Index<'a>,
+    pub type_index: I,
     /// The handlers.
-    pub table: ResumeTable<'a>,
+    pub table: ResumeTableOf<I>,
 }
+
+/// The operand of `resume_throw_ref`.
+pub type ResumeThrowRef<'a> = ResumeThrowRefOf<Index<'a>>;
 
 /// `( on idx switch )` or `( on idx idx )`, with its parentheses: the tag first, the label last.
 impl<'a> Parse<'a> for Handle<'a> {

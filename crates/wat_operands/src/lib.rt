@@ -19,11 +19,16 @@ pub use casts::{
     BrOnCast, BrOnCastDescEq, BrOnCastDescEqFail, BrOnCastFail, RefCast, RefCastDescEq, RefTest,
 };
 pub use catches::{CatchKind, TryTable, TryTableCatch, TryTableCatchKind};
-pub use handlers::{Handle, Resume, ResumeTable, ResumeThrow, ResumeThrowRef};
+pub use handlers::{
+    Handle, HandleOf, Resume, ResumeOf, ResumeTable, ResumeTableOf, ResumeThrow, ResumeThrowOf,
+    ResumeThrowRef, ResumeThrowRefOf,
+};
 pub use select::SelectTypes;
 pub use wat_immediates::{
-    ArrayCopy, ArrayFill, ArrayInit, ArrayNewData, ArrayNewElem, ArrayNewFixed, BrTableIndices,
-    ContBind, I8x16Shuffle, LaneArg, LaneOf, LoadOrStoreLane, MemArg, MemArgOrdering, MemArgTarget,
-    MemoryArg, MemoryCopy, MemoryInit, Ordered, Ordering, StructAccess, Switch, TableArg,
-    TableCopy, TableInit, V128Const,
+    ArrayCopy, ArrayCopyOf, ArrayFill, ArrayFillOf, ArrayInit, ArrayInitOf, ArrayNewData,
+    ArrayNewDataOf, ArrayNewElem, ArrayNewElemOf, ArrayNewFixed, ArrayNewFixedOf, BrTableIndices,
+    BrTableIndicesOf, ContBind, ContBindOf, I8x16Shuffle, LaneArg, LaneOf, LoadOrStoreLane, MemArg,
+    MemArgOrdering, MemArgTarget, MemoryArg, MemoryArgOf, MemoryCopy, MemoryCopyOf, MemoryInit,
+    MemoryInitOf, Ordered, Ordering, StructAccess, StructAccessOf, Switch, SwitchOf, TableArg,
+    TableArgOf, TableCopy, TableCopyOf, TableInit, TableInitOf, V128Const,
 };
