@@ -10,7 +10,7 @@ use Rattle.wat_types.specs.Recursion.{seen_rec, rec}
 use Rattle.wat_customs.specs.Custom.{CustomTy, seen_custom, bare_custom, custom}
 use Rattle.wat_links.specs.Export.{ExportTy, seen_export, export_}
 use Rattle.wat_links.specs.Forms.{imports}
-use Rattle.wat_links.specs.Import.{Name, ImportsTy, seen_imports, bare_imports}
+use Rattle.wat_links.specs.Import.{HeldName, ImportsTy, seen_imports, bare_imports}
 use Rattle.wat_funcs.specs.Func.{FuncFieldTy, seen_func, bare_func, func}
 use Rattle.wat_funcs.specs.Global.{GlobalFieldTy, seen_global, bare_global, global}
 use Rattle.wat_funcs.specs.Tag.{TagTy, seen_tag, bare_tag, tag}
@@ -56,7 +56,7 @@ pub data ModuleFieldTy : Type 0 where
 -- a field as the code has it
 abbrev pub ModuleField : Type 0
 ModuleField =
-    ModuleFieldOf «Type» Rec (ImportsOf Name ItemSig) Func Table Memory Global Export Index Elem
+    ModuleFieldOf «Type» Rec (ImportsOf HeldName ItemSig) Func Table Memory Global Export Index Elem
     Data Tag Custom
 
 abbrev pub seen_field : ModuleField → ModuleFieldTy

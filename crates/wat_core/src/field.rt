@@ -78,7 +78,8 @@ pub type ModuleField<'a> = ModuleFieldOf<
 /// `start`, and an index.
 #[tactic(auto, unfolding(crate::specs::Field::start))]
 fn read_start<'a>(parser: &mut Parser<'a>) -> Result<Index<'a>>
-    ensures reads { ReadsLight seen_index result (start.reads parser.old.left) parser.old parser.new }
+    ensures reads { ReadsLight seen_index result
+        (start.reads parser.old.left) parser.old parser.new }
 {
     parser.keyword("start")?;
     Index::parse(parser)

@@ -7,7 +7,7 @@ use Rattle.wat_tokens.specs.Parts.{made, where_else}
 use Rattle.wat_tokens.specs.Parses.{no_items}
 use Rattle.wat_customs.specs.Raw.{RawTy, seen_raw, bare_raw, raw_custom}
 use Rattle.wat_customs.specs.Producers.{seen_producers, producers}
-use Rattle.wat_customs.specs.ProducerEntry.{Named}
+use Rattle.wat_customs.specs.ProducerEntry.{Versioned}
 use Rattle.wat_customs.specs.Dylink.{SubsectionTy, seen_dylink}
 use Rattle.wat_customs.specs.Cutting.{dylink}
 use Rattle.wat_customs.specs.declared.place.CustomPlace.{CustomPlace}
@@ -19,7 +19,7 @@ use Rattle.wat_customs.specs.declared.custom.Custom.TheVariants as code
 -- `dylink.0` section
 pub data CustomTy : Type 0 where
   raw : RawTy → CustomTy
-  produced : List (List ℕ × List Named) → CustomTy
+  produced : List (List ℕ × List Versioned) → CustomTy
   linked : List SubsectionTy → CustomTy
 
 abbrev pub seen_custom : Custom → CustomTy

@@ -27,17 +27,17 @@ pub data SubsectionTy : Type 0 where
   runtime_path : List (List ℕ) → SubsectionTy
   target_arch : List ℕ → SubsectionTy
 
-abbrev pub seen_export : Bor (List ℕ) × ℕ → List ℕ × ℕ
-seen_export e = (e.0.now, e.1)
+abbrev pub seen_dylink_export : Bor (List ℕ) × ℕ → List ℕ × ℕ
+seen_dylink_export e = (e.0.now, e.1)
 
-abbrev pub seen_import : Bor (List ℕ) × Bor (List ℕ) × ℕ → List ℕ × List ℕ × ℕ
-seen_import e = (e.0.now, e.1.now, e.2)
+abbrev pub seen_dylink_import : Bor (List ℕ) × Bor (List ℕ) × ℕ → List ℕ × List ℕ × ℕ
+seen_dylink_import e = (e.0.now, e.1.now, e.2)
 
 abbrev pub seen_subsection : Dylink0Subsection → SubsectionTy
 seen_subsection (code.MemInfo ms ma ts ta) = mem_info ms ma ts ta
 seen_subsection (code.Needed xs) = needed (map (λ x. x.now) xs.items)
-seen_subsection (code.ExportInfo es) = export_info (map seen_export es.items)
-seen_subsection (code.ImportInfo es) = import_info (map seen_import es.items)
+seen_subsection (code.ExportInfo es) = export_info (map seen_dylink_export es.items)
+seen_subsection (code.ImportInfo es) = import_info (map seen_dylink_import es.items)
 seen_subsection (code.RuntimePath xs) = runtime_path (map (λ x. x.now) xs.items)
 seen_subsection (code.TargetArch x) = target_arch x.now
 

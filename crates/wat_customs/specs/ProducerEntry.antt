@@ -16,17 +16,17 @@ field_words =
     (codes "language", Language) ∷ (codes "sdk", Sdk) ∷ (codes "processed-by", ProcessedBy) ∷ []
 
 -- a name and a version
-abbrev pub Named : Type 0
-Named = List ℕ × List ℕ
+abbrev pub Versioned : Type 0
+Versioned = List ℕ × List ℕ
 
 -- the field that it is of, its name and its version
-abbrev pub EntryTy : Type 0
-EntryTy = Field × Named
+abbrev pub ProducerTy : Type 0
+ProducerTy = Field × Versioned
 
 -- the word of a field
 unfoldable pub field_word : Production Field
 field_word = one (word_in field_words) (refl, refl)
 
 -- ( `language` | `sdk` | `processed-by` , name version )
-unfoldable pub producer_entry : Production EntryTy
+unfoldable pub producer_entry : Production ProducerTy
 producer_entry = paren (seq field_word (seq text text))

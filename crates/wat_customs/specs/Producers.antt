@@ -9,7 +9,7 @@ use Rattle.wat_customs.specs.declared.producers.Field.{Field}
 use Rattle.wat_customs.specs.declared.producers.Field.TheVariants.{Language, Sdk, ProcessedBy}
 use Rattle.wat_customs.specs.declared.producers.ProducerEntry.{ProducerEntry}
 use Rattle.wat_customs.specs.declared.producers.Producers.{Producers}
-use Rattle.wat_customs.specs.ProducerEntry.{EntryTy, producer_entry, Named}
+use Rattle.wat_customs.specs.ProducerEntry.{ProducerTy, producer_entry, Versioned}
 use Rattle.wat_customs.specs.Laws.Producers.{producer_entry_eats}
 
 -- ---- entries
@@ -25,41 +25,43 @@ same_field Sdk Sdk = true
 same_field ProcessedBy ProcessedBy = true
 same_field _ _ = false
 
-abbrev pub seen_entry : ProducerEntry → EntryTy
+abbrev pub seen_entry : ProducerEntry → ProducerTy
 seen_entry e = (e.field, (e.name.now, e.version.now))
 
 -- entries, to the end
-unfoldable pub producer_entries : Production (List EntryTy)
+unfoldable pub producer_entries : Production (List ProducerTy)
 producer_entries = many more producer_entry producer_entry_eats
 
 -- ---- fields
 
 -- the entries of the field, in order
-abbrev pub entries_of : Field → List EntryTy → List Named
-entries_of f es = map (λ e. e.1) (filter (λ e. same_field e.0 f) es)
+abbrev pub field_entries : Field → List ProducerTy → List Versioned
+field_entries f es = map (λ e. e.1) (filter (λ e. same_field e.0 f) es)
 
 -- a field with its entries, where it has any
-abbrev pub with_entries : List ℕ → List Named → List (List ℕ × List Named)
+abbrev pub with_entries : List ℕ → List Versioned → List (List ℕ × List Versioned)
 with_entries w [] = []
 with_entries w (x ∷ xs) = (w, x ∷ xs) ∷ []
 
-abbrev pub field_of : Field → List EntryTy → List (List ℕ × List Named)
-field_of f es = with_entries (word_of f) (entries_of f es)
+abbrev pub field_with_entries : Field → List ProducerTy → List (List ℕ × List Versioned)
+field_with_entries f es = with_entries (word_of f) (field_entries f es)
 
 -- the three fields in this order, each with its entries; those without any are left out
-abbrev pub fields_of : List EntryTy → List (List ℕ × List Named)
-fields_of es = (field_of Language es ++ field_of Sdk es) ++ field_of ProcessedBy es
+abbrev pub fields_of : List ProducerTy → List (List ℕ × List Versioned)
+fields_of es =
+    (field_with_entries Language es ++ field_with_entries Sdk es)
+    ++ field_with_entries ProcessedBy es
 
 -- what contracts see of names with versions
-abbrev pub seen_names : List (Bor (List ℕ) × Bor (List ℕ)) → List Named
+abbrev pub seen_names : List (Bor (List ℕ) × Bor (List ℕ)) → List Versioned
 seen_names xs = map (λ x. (x.0.now, x.1.now)) xs
 
-abbrev pub seen_entries : List ProducerEntry → List EntryTy
+abbrev pub seen_entries : List ProducerEntry → List ProducerTy
 seen_entries es = map seen_entry es
 
-abbrev pub seen_producers : Producers → List (List ℕ × List Named)
+abbrev pub seen_producers : Producers → List (List ℕ × List Versioned)
 seen_producers p = map (λ f. (f.0.now, seen_names f.1.items)) p.fields.items
 
 -- @producers entries
-unfoldable pub producers : Production (List (List ℕ × List Named))
+unfoldable pub producers : Production (List (List ℕ × List Versioned))
 producers = annotation (codes "producers") (made fields_of producer_entries)

@@ -4,7 +4,8 @@ ghost use Rattle.std.specs.Prelude.{◌≡◌, ℕ, codes, true, false, List, ma
 ghost use Rattle.wat_tokens.specs.Parses.{no_items};
 ghost use Rattle.wat_tokens.specs.Reads.{Reads, ReadsLight};
 ghost use Rattle.wat_tokens.specs.Tests.{more};
-ghost use Rattle.wat_customs.specs.Dylink.{SubsectionTy, seen_export, seen_import, seen_subsection};
+ghost use Rattle.wat_customs.specs.Dylink.{SubsectionTy, seen_dylink_export, seen_dylink_import};
+ghost use Rattle.wat_customs.specs.Dylink.{seen_subsection};
 ghost use Rattle.wat_customs.specs.Dylink.{seen_dylink, bare_subsection, id_of, sizes};
 ghost use Rattle.wat_customs.specs.Dylink.{mem_info_entry, names_entry, lone_entry, begins_export};
 ghost use Rattle.wat_customs.specs.Dylink.{begins_import, run, subsection};
@@ -146,7 +147,7 @@ struct ExportEntry;
 impl<'a> Part<'a, (&'a str, u32)> for ExportEntry {
     ghost Seen = { List ℕ × ℕ };
 
-    ghost seen = { seen_export };
+    ghost seen = { seen_dylink_export };
 
     ghost bare = { λ _. true };
 
@@ -175,7 +176,7 @@ struct ImportEntry;
 impl<'a> Part<'a, (&'a str, &'a str, u32)> for ImportEntry {
     ghost Seen = { List ℕ × List ℕ × ℕ };
 
-    ghost seen = { seen_import };
+    ghost seen = { seen_dylink_import };
 
     ghost bare = { λ _. true };
 
@@ -202,7 +203,7 @@ impl<'a> Part<'a, (&'a str, &'a str, u32)> for ImportEntry {
 /// An export entry, and all that stand behind it.
 #[tactic(auto, using(crate::specs::Laws::DylinkEntries::export_entry_eats, crate::proofs::Runs::run_not_bare))]
 fn read_exports<'a>(parser: &mut Parser<'a>) -> Result<Vec<(&'a str, u32)>>
-    ensures reads { Reads no_items (λ v. map seen_export v.items) result
+    ensures reads { Reads no_items (λ v. map seen_dylink_export v.items) result
         ((run begins_export export_entry export_entry_eats).reads parser.old.left) parser.old
         parser.new }
 {
@@ -215,7 +216,7 @@ fn read_exports<'a>(parser: &mut Parser<'a>) -> Result<Vec<(&'a str, u32)>>
 /// An import entry, and all that stand behind it.
 #[tactic(auto, using(crate::specs::Laws::DylinkEntries::import_entry_eats, crate::proofs::Runs::run_not_bare))]
 fn read_imports<'a>(parser: &mut Parser<'a>) -> Result<Vec<(&'a str, &'a str, u32)>>
-    ensures reads { Reads no_items (λ v. map seen_import v.items) result
+    ensures reads { Reads no_items (λ v. map seen_dylink_import v.items) result
         ((run begins_import import_entry import_entry_eats).reads parser.old.left) parser.old
         parser.new }
 {

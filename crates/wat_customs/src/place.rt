@@ -1,11 +1,11 @@
 //! Where a custom section stands.
 
-ghost use Rattle.std.specs.Prelude.{◌≡◌, true};
+ghost use Rattle.std.specs.Prelude.{true};
 ghost use Rattle.wat_tokens.specs.Reads.{ReadsLight};
-ghost use Rattle.wat_tokens.specs.Tests.{look_up};
 ghost use Rattle.wat_customs.specs.Place.{anchor_words, before, after};
 
-use wat_tokens::{Error, Fault, Parse, Parser, Result};
+use wat_tokens::words::{Named, take_named};
+use wat_tokens::{Parse, Parser, Result};
 
 /// Where among the sections of a binary module a custom section stands (WebAssembly Core
 /// Specification, Text Format, "Custom Annotation").
@@ -52,23 +52,25 @@ pub enum CustomPlaceAnchor {
 }
 
 /// The section that a word names.
-fn anchor_of(word: &str) -> Option<CustomPlaceAnchor>
-    ensures { result ≡ look_up anchor_words word.now }
-{
-    match word {
-        "type" => Some(CustomPlaceAnchor::Type),
-        "import" => Some(CustomPlaceAnchor::Import),
-        "func" => Some(CustomPlaceAnchor::Func),
-        "table" => Some(CustomPlaceAnchor::Table),
-        "memory" => Some(CustomPlaceAnchor::Memory),
-        "global" => Some(CustomPlaceAnchor::Global),
-        "export" => Some(CustomPlaceAnchor::Export),
-        "start" => Some(CustomPlaceAnchor::Start),
-        "elem" => Some(CustomPlaceAnchor::Elem),
-        "code" => Some(CustomPlaceAnchor::Code),
-        "data" => Some(CustomPlaceAnchor::Data),
-        "tag" => Some(CustomPlaceAnchor::Tag),
-        _ => None,
+impl Named for CustomPlaceAnchor {
+    ghost words = { anchor_words };
+
+    fn named(word: &str) -> Option<Self> {
+        match word {
+            "type" => Some(CustomPlaceAnchor::Type),
+            "import" => Some(CustomPlaceAnchor::Import),
+            "func" => Some(CustomPlaceAnchor::Func),
+            "table" => Some(CustomPlaceAnchor::Table),
+            "memory" => Some(CustomPlaceAnchor::Memory),
+            "global" => Some(CustomPlaceAnchor::Global),
+            "export" => Some(CustomPlaceAnchor::Export),
+            "start" => Some(CustomPlaceAnchor::Start),
+            "elem" => Some(CustomPlaceAnchor::Elem),
+            "code" => Some(CustomPlaceAnchor::Code),
+            "data" => Some(CustomPlaceAnchor::Data),
+            "tag" => Some(CustomPlaceAnchor::Tag),
+            _ => None,
+        }
     }
 }
 
@@ -85,20 +87,17 @@ impl<'a> Parse<'a> for CustomPlaceAnchor {
 
     ghost grammar = { section };
 
-    #[tactic(auto, using(wat_tokens::specs::Laws::Begin::reads_table, wat_tokens::specs::Laws::Begin::reads_no_table), unfolding(crate::specs::Place::section))]
+    #[tactic(auto, unfolding(crate::specs::Place::section))]
     fn parse(parser: &mut Parser<'a>) -> Result<Self> {
-        let span = parser.cur_span();
-        match anchor_of(parser.take_keyword()?) {
-            Some(anchor) => Ok(anchor),
-            None => Err(Error::at(Fault::Unexpected, span)),
-        }
+        take_named(parser)
     }
 }
 
 /// `before first` or `before` and a section.
 #[tactic(auto, unfolding(crate::specs::Place::before))]
 fn read_before<'a>(parser: &mut Parser<'a>) -> Result<CustomPlace>
-    ensures reads { ReadsLight (λ p. p) result (before.reads parser.old.left) parser.old parser.new }
+    ensures reads { ReadsLight (λ p. p) result
+        (before.reads parser.old.left) parser.old parser.new }
 {
     parser.keyword("before")?;
     if parser.next_is("first") {

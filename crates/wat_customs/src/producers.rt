@@ -2,15 +2,16 @@
 
 ghost use Rattle.std.specs.Prelude.{◌≡◌, ◌++◌, ℕ, true, false, List, map, IfOk, IfErr};
 ghost use Rattle.wat_tokens.specs.Parses.{no_items};
-ghost use Rattle.wat_tokens.specs.Tests.{look_up};
 ghost use Rattle.wat_customs.specs.Producers.{word_of, same_field, seen_entry, seen_entries};
-ghost use Rattle.wat_customs.specs.Producers.{seen_names, seen_producers, entries_of, field_of};
+ghost use Rattle.wat_customs.specs.Producers.{seen_names, seen_producers, field_entries};
+ghost use Rattle.wat_customs.specs.Producers.{field_with_entries};
 ghost use Rattle.wat_customs.specs.Producers.{fields_of, producers};
-ghost use Rattle.wat_customs.specs.ProducerEntry.{field_words, Named, EntryTy, field_word};
+ghost use Rattle.wat_customs.specs.ProducerEntry.{field_words, Versioned, ProducerTy, field_word};
 ghost use Rattle.wat_customs.specs.ProducerEntry.{producer_entry};
 
 use std::alloc::Global;
 use wat_tokens::repeat::rest_of_group;
+use wat_tokens::words::{Named, take_named};
 use wat_tokens::{Error, Fault, Parse, Parser, Result};
 
 /// The `producers` section: by which languages and tools a module was made (WebAssembly Core
@@ -42,14 +43,16 @@ struct ProducerEntry<'a> {
 }
 
 /// The field that a word names.
-fn field_named(word: &str) -> Option<Field>
-    ensures { result ≡ look_up field_words word.now }
-{
-    match word {
-        "language" => Some(Field::Language),
-        "sdk" => Some(Field::Sdk),
-        "processed-by" => Some(Field::ProcessedBy),
-        _ => None,
+impl Named for Field {
+    ghost words = { field_words };
+
+    fn named(word: &str) -> Option<Self> {
+        match word {
+            "language" => Some(Field::Language),
+            "sdk" => Some(Field::Sdk),
+            "processed-by" => Some(Field::ProcessedBy),
+            _ => None,
+        }
     }
 }
 
@@ -90,19 +93,15 @@ impl<'a> Parse<'a> for Field {
 
     ghost grammar = { field_word };
 
-    #[tactic(auto, using(wat_tokens::specs::Laws::Begin::reads_table, wat_tokens::specs::Laws::Begin::reads_no_table), unfolding(crate::specs::ProducerEntry::field_word))]
+    #[tactic(auto, unfolding(crate::specs::ProducerEntry::field_word))]
     fn parse(parser: &mut Parser<'a>) -> Result<Self> {
-        let span = parser.cur_span();
-        match field_named(parser.take_keyword()?) {
-            Some(field) => Ok(field),
-            None => Err(Error::at(Fault::Unexpected, span)),
-        }
+        take_named(parser)
     }
 }
 
 /// A field's word, a name and a version, in parentheses.
 impl<'a> Parse<'a> for ProducerEntry<'a> {
-    ghost Seen = { EntryTy };
+    ghost Seen = { ProducerTy };
 
     ghost seen = { seen_entry };
 
@@ -126,12 +125,12 @@ impl<'a> Parse<'a> for ProducerEntry<'a> {
 }
 
 /// The entries of the field.
-fn entries_of<'a>(
+fn field_entries<'a>(
     alloc: Global,
     entries: &[ProducerEntry<'a>],
     field: Field,
 ) -> Result<Vec<(&'a str, &'a str)>>
-    ensures ok { IfOk result (λ v. seen_names v.items ≡ entries_of field
+    ensures ok { IfOk result (λ v. seen_names v.items ≡ field_entries field
         (seen_entries entries.now)) }
     ensures memory { IfErr result (λ e. e.fault ≡ Fault.Memory) }
 {
@@ -151,11 +150,11 @@ fn add_field<'a>(
     field: Field,
 ) -> Result<()>
     ensures ok { IfOk result (λ _. map (λ f. (f.0.now, seen_names f.1.items)) fields.new.items ≡ map
-        (λ f. (f.0.now, seen_names f.1.items)) fields.old.items ++ field_of field
+        (λ f. (f.0.now, seen_names f.1.items)) fields.old.items ++ field_with_entries field
         (seen_entries entries.now)) }
     ensures memory { IfErr result (λ e. e.fault ≡ Fault.Memory) }
 {
-    let found = entries_of(*fields.allocator(), entries, field)?;
+    let found = field_entries(*fields.allocator(), entries, field)?;
     if !found.is_empty() {
         fields.push((field.word(), found))?;
     }
@@ -185,7 +184,7 @@ fn fields_of<'a>(
 /// `@producers`, and entries up to the end of the group. Each is the word of a field, a name and a
 /// version, in parentheses.
 impl<'a> Parse<'a> for Producers<'a> {
-    ghost Seen = { List (List ℕ × List Named) };
+    ghost Seen = { List (List ℕ × List Versioned) };
 
     ghost seen = { seen_producers };
 

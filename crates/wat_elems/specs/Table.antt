@@ -7,10 +7,10 @@ use Rattle.wat_tokens.specs.Parts.{seq, made, where_else, opt, flag, after_word}
 use Rattle.wat_tokens.specs.Groups.{group}
 use Rattle.wat_tokens.specs.Parses.{seen_option, bare_option}
 use Rattle.wat_types.specs.Label.{seen_label}
-use Rattle.wat_types.specs.Limits.{is_64, TableTy, seen_table as seen_table_type, table_type}
+use Rattle.wat_types.specs.Limits.{is_64, TableTy, seen_table_type, table_type}
 use Rattle.wat_types.specs.Reference.{RefTy, seen_ref, ref_type, begins_ref}
 use Rattle.wat_links.specs.Export.{seen_inline_export}
-use Rattle.wat_links.specs.Head.{HeadTy, head_of, bare_head, head}
+use Rattle.wat_links.specs.Head.{HeadTy, field_head, bare_head, head}
 use Rattle.wat_links.specs.Import.{seen_inline_import, inline_import}
 use Rattle.wat_expr.specs.Expression.{Expr, seen_expression, bare_expression}
 use Rattle.wat_expr.specs.ExpressionProduction.{expression}
@@ -44,7 +44,7 @@ seen_table_kind (code.Inline t is64 shared p) = inline (seen_ref t) is64 shared 
 
 abbrev pub seen_table : Table → TableFieldTy
 seen_table t =
-    table_of (head_of (seen_label t.id t.name) (seen_inline_export t.exports))
+    table_of (field_head (seen_label t.id t.name) (seen_inline_export t.exports))
     (seen_table_kind t.kind)
 
 -- no instruction, and no element in line

@@ -5,7 +5,7 @@ use Rattle.wat_tokens.specs.Production.{Read, bind, some_of}
 use Rattle.wat_instr.specs.Instruction.{Instr, instruction}
 use Rattle.wat_expr.specs.Items.{reads}
 use Rattle.wat_expr.specs.Expression.{Expr}
-use Rattle.wat_expr.specs.Reading.{shut}
+use Rattle.wat_expr.specs.Reading.{closed}
 
 -- A list of groups: the first one's instruction and groups, and the groups after it.
 pub data Groups : Type 0 where
@@ -46,13 +46,13 @@ unfoldable pub groups_at : ℕ → List Tok → Read Groups
 groups_at zero t = None
 groups_at (suc n) (LParen ∷ t) =
     bind (instruction.reads t) (λ i b. bind (groups_at n b)
-    (λ gs u. bind (shut u) (λ _ d. bind (groups_at n d) (λ hs r. some_of (Group i gs hs, r)))))
+    (λ gs u. bind (closed u) (λ _ d. bind (groups_at n d) (λ hs r. some_of (Group i gs hs, r)))))
 groups_at (suc n) t = Some (NoGroup, t)
 
 abbrev pub folded_reads : List Tok → Read Expr
 folded_reads (LParen ∷ t) =
     bind (instruction.reads t) (λ i b. bind (groups_at (suc (length b)) b)
-    (λ gs u. bind (shut u) (λ _ r. some_of (folded_value i gs, r))))
+    (λ gs u. bind (closed u) (λ _ r. some_of (folded_value i gs, r))))
 folded_reads _ = None
 
 -- ---- the production

@@ -13,9 +13,9 @@ use Rattle.wat_expr.specs.Expression.{Expr, value_of}
 -- ---- the reader, where rec reads the lists of items further on
 
 -- `)`
-abbrev pub shut : List Tok → Read (Unit {0})
-shut (RParen ∷ r) = Some (tt, r)
-shut _ = None
+abbrev pub closed : List Tok → Read (Unit {0})
+closed (RParen ∷ r) = Some (tt, r)
+closed _ = None
 
 -- `(` and the word
 abbrev pub opened : List ℕ → List Tok → Read (Unit {0})
@@ -45,21 +45,21 @@ module _ (rec : List Tok → Read Items) where
 
   -- the items of a group and its `)`, and the items after it
   abbrev pub group_by : (Items → Items → Items) → List Tok → Read Items
-  group_by f t = bind (rec t) (λ ys u. bind (shut u) (λ _ d. more_by (f ys) d))
+  group_by f t = bind (rec t) (λ ys u. bind (closed u) (λ _ d. more_by (f ys) d))
 
   -- what follows the `)` of `(then ..)`
   abbrev pub arms_by : Instr → Items → Items → List Tok → Read Items
   arms_by i ops th (RParen ∷ e) = more_by (IfThen i ops th) e
   arms_by i ops th t =
       bind (opened (codes "else") t)
-      (λ _ e. bind (rec e) (λ el u. bind (shut u)
-      (λ _ v. bind (shut v) (λ _ d. more_by (IfElse i ops th el) d))))
+      (λ _ e. bind (rec e) (λ el u. bind (closed u)
+      (λ _ v. bind (closed v) (λ _ d. more_by (IfElse i ops th el) d))))
 
   -- what follows the instruction of an `if`
   abbrev pub if_by : Instr → List Tok → Read Items
   if_by i t =
       bind (rec t) (λ ops u. if are_groups ops then bind (opened (codes "then") u)
-      (λ _ d. bind (rec d) (λ th v. bind (shut v) (λ _ w. arms_by i ops th w))) else None)
+      (λ _ d. bind (rec d) (λ th v. bind (closed v) (λ _ w. arms_by i ops th w))) else None)
 
   -- what follows the instruction of a group
   abbrev pub sort_by : Sort → Instr → List Tok → Read Items

@@ -143,7 +143,8 @@ impl<'a> Reader<'a> {
     /// A turn at a closing parenthesis, which was taken; `span` is where it stands.
     fn close(&mut self, span: Span) -> Result<()>
         requires { self.old.levels ≡ [] → ⊥ }
-        ensures { (m : List Tok) → TurnAnswers result (stand self.old (RParen ∷ m)) (stand self.new m) }
+        ensures { (m : List Tok) → TurnAnswers result
+            (stand self.old (RParen ∷ m)) (stand self.new m) }
     {
         if let Some(_) = self.pending {
             return Err(Error::at(Fault::HintPlace, span));
@@ -185,8 +186,8 @@ impl<'a> Reader<'a> {
     fn open_then(&mut self, span: Span) -> Result<()>
         requires { (i : Instr) × (h : Option ℕ) × (s : List Open)
             × (self.old.levels ≡ InIf i h ∷ s) }
-        ensures { (m : List Tok) → TurnAnswers result (stand self.old (LParen ∷ keyword (codes "then") ∷ m))
-            (stand self.new m) }
+        ensures { (m : List Tok) → TurnAnswers result
+            (stand self.old (LParen ∷ keyword (codes "then") ∷ m)) (stand self.new m) }
     {
         if let Some(_) = self.pending {
             return Err(Error::at(Fault::HintPlace, span));

@@ -12,7 +12,7 @@ use Rattle.wat_types.specs.Use.{UseTy, seen_use, bare_use}
 use Rattle.wat_types.specs.declared.function.FunctionType.{FunctionType}
 use Rattle.wat_types.specs.declared.type_use.TypeUse.{TypeUse}
 use Rattle.wat_links.specs.Export.{seen_inline_export}
-use Rattle.wat_links.specs.Head.{HeadTy, head_of, bare_head, head}
+use Rattle.wat_links.specs.Head.{HeadTy, field_head, bare_head, head}
 use Rattle.wat_links.specs.Import.{seen_inline_import, inline_import, begins_inline_import}
 use Rattle.wat_links.specs.Item.{func_use}
 use Rattle.wat_expr.specs.Expression.{Expr, seen_expression, bare_expression}
@@ -35,15 +35,15 @@ abbrev pub FuncUse : Type 0
 FuncUse = UseTy FuncTy
 
 -- a type, and how a function of it is defined
-abbrev pub Defined : Type 0
-Defined = FuncUse × FuncKindTy
+abbrev pub DefinedFunc : Type 0
+DefinedFunc = FuncUse × FuncKindTy
 
 pub record FuncFieldTy : Type 0 where
   pub head : HeadTy
   pub ty : FuncUse
   pub kind : FuncKindTy
 
-abbrev pub func_of : HeadTy → Defined → FuncFieldTy
+abbrev pub func_of : HeadTy → DefinedFunc → FuncFieldTy
 func_of h d = record { head = h; ty = d.0; kind = d.1 }
 
 abbrev pub seen_func_use : TypeUse FunctionType → FuncUse
@@ -53,12 +53,12 @@ abbrev pub seen_func_kind : FuncKind → FuncKindTy
 seen_func_kind (code.Import i b) = imported (seen_inline_import i) b
 seen_func_kind (code.Inline ls e) = inline (seen_locals ls.items) (seen_expression e)
 
-abbrev pub seen_defined : TypeUse FunctionType × FuncKind → Defined
-seen_defined d = (seen_func_use d.0, seen_func_kind d.1)
+abbrev pub seen_defined_func : TypeUse FunctionType × FuncKind → DefinedFunc
+seen_defined_func d = (seen_func_use d.0, seen_func_kind d.1)
 
 abbrev pub seen_func : Func → FuncFieldTy
 seen_func f =
-    func_of (head_of (seen_label f.id f.name) (seen_inline_export f.exports))
+    func_of (field_head (seen_label f.id f.name) (seen_inline_export f.exports))
     (seen_func_use f.ty, seen_func_kind f.kind)
 
 -- no parameter and no result in line
@@ -70,11 +70,11 @@ abbrev pub bare_func_kind : FuncKindTy → Bool
 bare_func_kind (imported i b) = true
 bare_func_kind (inline ls e) = no_items ls && bare_expression e
 
-abbrev pub bare_defined : Defined → Bool
-bare_defined d = bare_func_use d.0 && bare_func_kind d.1
+abbrev pub bare_defined_func : DefinedFunc → Bool
+bare_defined_func d = bare_func_use d.0 && bare_func_kind d.1
 
 abbrev pub bare_func : FuncFieldTy → Bool
-bare_func f = bare_head f.head && bare_defined (f.ty, f.kind)
+bare_func f = bare_head f.head && bare_defined_func (f.ty, f.kind)
 
 -- ---- the grammar
 
@@ -86,15 +86,15 @@ exact_use =
     (made (λ u. (u, false)) func_use)
 
 -- InlineImport, and a type use, exact or not
-unfoldable pub func_import : Production Defined
+unfoldable pub func_import : Production DefinedFunc
 func_import = made (λ v. (v.1.0, imported v.0 v.1.1)) (seq inline_import exact_use)
 
 -- TypeUse ( LocalParser )* Expression
-unfoldable pub func_inline : Production Defined
+unfoldable pub func_inline : Production DefinedFunc
 func_inline = made (λ v. (v.0, inline v.1.0 v.1.1)) (seq func_use (seq locals expression))
 
 -- where an import in line begins, that; else a type use, locals and a body
-unfoldable pub func_defined : Production Defined
+unfoldable pub func_defined : Production DefinedFunc
 func_defined = where_else begins_inline_import func_import func_inline
 
 -- `func` head, and then a type and how the function is defined

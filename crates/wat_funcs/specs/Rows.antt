@@ -7,7 +7,7 @@ use Rattle.wat_types.specs.Label.{label_of, no_label}
 use Rattle.wat_types.specs.Storage.{plain_global}
 use Rattle.wat_types.specs.Use.{use_of}
 use Rattle.wat_types.specs.Value.{i32, i64, f32}
-use Rattle.wat_links.specs.Head.{no_head, head_of}
+use Rattle.wat_links.specs.Head.{no_head, field_head}
 use Rattle.wat_expr.specs.Alone.{alone, nop}
 use Rattle.wat_funcs.specs.Func.{inline, func_of, func}
 use Rattle.wat_funcs.specs.Global.{global_of, global}
@@ -41,7 +41,7 @@ ImportedGlobal =
     (Keyword (codes "global") ∷ Id (codes "g")
     ∷ (in_parens (Keyword (codes "import") ∷ String (codes "a") ∷ String (codes "b") ∷ [])
     ++ Keyword (codes "i32") ∷ []))
-    (global_of (head_of (label_of (Some (codes "g")) None) [])
+    (global_of (field_head (label_of (Some (codes "g")) None) [])
     (plain_global i32, globals.imported (codes "a", codes "b")))
 
 -- `tag (param i32)`

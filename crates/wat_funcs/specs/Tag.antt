@@ -5,10 +5,10 @@ use Rattle.wat_tokens.specs.Parts.{seq, made, opt, after_word}
 use Rattle.wat_types.specs.Label.{seen_label}
 use Rattle.wat_types.specs.Function.{bare_function}
 use Rattle.wat_types.specs.Group.{FuncTy}
-use Rattle.wat_types.specs.Tag.{seen_tag as seen_tag_type, tag_type}
+use Rattle.wat_types.specs.Tag.{seen_tag_type, tag_type}
 use Rattle.wat_types.specs.Use.{UseTy, bare_use}
 use Rattle.wat_links.specs.Export.{seen_inline_export}
-use Rattle.wat_links.specs.Head.{HeadTy, head_of, bare_head, head}
+use Rattle.wat_links.specs.Head.{HeadTy, field_head, bare_head, head}
 use Rattle.wat_links.specs.Import.{seen_inline_import, inline_import, begins_inline_import}
 use Rattle.wat_funcs.specs.declared.tag.Tag.{Tag}
 use Rattle.wat_funcs.specs.declared.tag.TagKind.{TagKind}
@@ -31,8 +31,8 @@ seen_tag_kind code.Inline = None
 
 abbrev pub seen_tag : Tag → TagTy
 seen_tag t =
-    tag_of (head_of (seen_label t.id t.name) (seen_inline_export t.exports)) (seen_tag_kind t.kind)
-    (seen_tag_type t.ty)
+    tag_of (field_head (seen_label t.id t.name) (seen_inline_export t.exports))
+    (seen_tag_kind t.kind) (seen_tag_type t.ty)
 
 -- no export, and no parameter and no result in line
 abbrev pub bare_tag : TagTy → Bool

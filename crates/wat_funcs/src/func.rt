@@ -3,7 +3,8 @@
 ghost use Rattle.std.specs.Prelude.{◌≡◌, false};
 ghost use Rattle.wat_tokens.specs.Reads.{Reads, ReadsIf};
 ghost use Rattle.wat_funcs.specs.Func.{FuncFieldTy, seen_func_use, bare_func_use, exact_use};
-ghost use Rattle.wat_funcs.specs.Func.{seen_defined, bare_defined, func_import, func_inline};
+ghost use Rattle.wat_funcs.specs.Func.{seen_defined_func, bare_defined_func, func_import};
+ghost use Rattle.wat_funcs.specs.Func.{func_inline};
 ghost use Rattle.wat_funcs.specs.Func.{func_defined, seen_func, bare_func, func};
 
 use crate::local::Local;
@@ -66,7 +67,7 @@ fn read_exact_use<'a>(parser: &mut Parser<'a>) -> Result<(TypeUse<'a, FunctionTy
 /// An import in line, and a type use, exact or not.
 #[tactic(auto, unfolding(crate::specs::Func::func_import))]
 fn read_import<'a>(parser: &mut Parser<'a>) -> Result<Defined<'a>>
-    ensures reads { Reads bare_defined seen_defined result
+    ensures reads { Reads bare_defined_func seen_defined_func result
         (func_import.reads parser.old.left) parser.old parser.new }
 {
     let import = InlineImport::parse(parser)?;
@@ -77,7 +78,7 @@ fn read_import<'a>(parser: &mut Parser<'a>) -> Result<Defined<'a>>
 /// A type use, locals and a body.
 #[tactic(auto, unfolding(crate::specs::Func::func_inline))]
 fn read_inline<'a>(parser: &mut Parser<'a>) -> Result<Defined<'a>>
-    ensures reads { ReadsIf false false bare_defined seen_defined result
+    ensures reads { ReadsIf false false bare_defined_func seen_defined_func result
         (func_inline.reads parser.old.left) parser.old parser.new }
 {
     let ty = TypeUse::parse(parser)?;
@@ -89,7 +90,7 @@ fn read_inline<'a>(parser: &mut Parser<'a>) -> Result<Defined<'a>>
 /// What stands behind the head.
 #[tactic(auto, unfolding(crate::specs::Func::func_defined))]
 fn read_defined<'a>(parser: &mut Parser<'a>) -> Result<Defined<'a>>
-    ensures reads { ReadsIf false false bare_defined seen_defined result
+    ensures reads { ReadsIf false false bare_defined_func seen_defined_func result
         (func_defined.reads parser.old.left) parser.old parser.new }
 {
     if parser.peek::<InlineImport>() {

@@ -2,7 +2,8 @@
 
 ghost use Rattle.std.specs.Prelude.{◌≡◌, false};
 ghost use Rattle.wat_tokens.specs.Reads.{ReadsIf};
-ghost use Rattle.wat_funcs.specs.Global.{GlobalFieldTy, seen_defined, bare_defined, global_defined};
+ghost use Rattle.wat_funcs.specs.Global.{GlobalFieldTy, seen_defined_global, bare_defined_global};
+ghost use Rattle.wat_funcs.specs.Global.{global_defined};
 ghost use Rattle.wat_funcs.specs.Global.{seen_global, bare_global, global};
 
 use wat_expr::Expression;
@@ -39,7 +40,7 @@ pub enum GlobalKind<'a> {
 /// What stands behind the head: the type, and how the global is defined.
 #[tactic(auto, unfolding(crate::specs::Global::global_defined))]
 fn read_defined<'a>(parser: &mut Parser<'a>) -> Result<(GlobalType<'a>, GlobalKind<'a>)>
-    ensures reads { ReadsIf false false bare_defined seen_defined result
+    ensures reads { ReadsIf false false bare_defined_global seen_defined_global result
         (global_defined.reads parser.old.left) parser.old parser.new }
 {
     if parser.peek::<InlineImport>() {

@@ -2,6 +2,7 @@ pub mod Bytes
 pub mod Cut
 pub mod Faults
 pub mod Integer
+pub mod Laws
 pub mod Number
 pub mod Place
 pub mod Scan

@@ -5,8 +5,8 @@ ghost use Rattle.std.specs.Prelude.{OnOk};
 ghost use Rattle.std.specs.Prelude.{IsTrue, Some, length, drop, take, slice_range, slice_index};
 ghost use Rattle.wat_lexer.specs.Scan.{all_idchars, string_at, rest_at, spelled, string_of, class};
 ghost use Rattle.wat_lexer.specs.Scan.{text_name, Raw};
-ghost use Rattle.wat_lexer.specs.Token.{LParen};
-ghost use Rattle.wat_lexer.specs.View.{view, tok_at, Readable, is_paren};
+ghost use Rattle.wat_lexer.specs.Token.{Annotation};
+ghost use Rattle.wat_lexer.specs.View.{view, tok_at, Readable, Word, is_paren};
 
 use crate::lexeme::Kind;
 use crate::number::Integer;
@@ -27,15 +27,16 @@ pub fn part(text: &str, from: usize, end: usize) -> &str
     &text[from..end]
 }
 
-/// The kind of a run of idchars.
+/// The kind of a run of idchars; an annotation is to be put aside.
 #[tactic(auto, using(crate::proofs::Plain::plain_here, crate::proofs::Plain::plain_name, crate::proofs::Plain::plain_bare, crate::proofs::Plain::plain_ascii))]
 pub fn plain_kind(text: &str, from: usize, end: usize, behind: bool) -> Kind
     requires order { from < end }
     requires within { end ≤ length text.now }
     requires all { all_idchars (slice_range text.now from end) ≡ true }
-    ensures class { tok_at result text.now from end LParen ≡ class behind
-        (slice_range text.now from end) }
-    ensures fits { Readable result text.now from end ⊥ }
+    ensures class { tok_at result text.now from end (Annotation
+        (slice_range text.now (from + 1) end)) ≡ class behind (slice_range text.now from end) }
+    ensures fits { Readable result text.now from end (Word 1 text.now from end) (Annotation
+        (slice_range text.now (from + 1) end)) }
 {
     let first = text.as_bytes()[from];
     if first == b'$' {

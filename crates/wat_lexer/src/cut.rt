@@ -5,50 +5,99 @@ ghost use Rattle.std.specs.Prelude.{IfOk, IfErr, ℕ, List};
 ghost use Rattle.std.specs.Prelude.{true, false, length, drop, slice_range, slice_index};
 ghost use Rattle.wat_lexer.specs.Cut.{Cuts, Fails, FirstFault, IsCut};
 ghost use Rattle.wat_lexer.specs.Place.{offset_of};
-ghost use Rattle.wat_lexer.specs.Scan.{front, run_front, behind_run, all_idchars, Between};
+ghost use Rattle.wat_lexer.specs.Scan.{front, run_front, behind_run, all_idchars, Between, Ends};
 ghost use Rattle.wat_lexer.specs.Token.{Placed, has_annotation, is_annotation};
-ghost use Rattle.wat_lexer.specs.View.{toks, placed, found_tok, FoundFits, AreLeaps};
+ghost use Rattle.wat_lexer.specs.View.{view, toks, placed, is_paren, any_note, AreLeaps, IsPut};
 ghost use Rattle.wat_lexer.specs.View.{FrontGives, IfFault, FailsAt};
 ghost use Rattle.wat_lexer.specs.declared.fault.Fault.{Fault};
+ghost use Rattle.wat_lexer.specs.declared.lexeme.Aside.{Aside};
 
 use crate::class::{content, part, plain_kind, string_token};
 use crate::fault::{Error, Fault, fault_at};
 use crate::groups::tell_leaps;
-use crate::lexeme::{Found, Kind};
+use crate::lexeme::{Aside, Kind, is_note, is_open, kept};
 use crate::scan::{comment_end, is_space, line_end, plain_end, run_end, spaces_end};
 use crate::string::string_end;
-use crate::token::Token;
+use crate::token::{Token, is_annotation};
 use crate::tokens::Tokens;
 use bumpalo::Bump;
-use std::alloc::Global;
+use std::alloc::{AllocError, Global};
 
-/// What stands in front, a token or a blank, and where it ends.
+/// What stands in front, a token of the kind or a blank, and where it ends.
 #[derive(Clone, Copy, Debug)]
-pub struct Piece<'a> {
-    pub found: Option<Found<'a>>,
+pub struct Piece {
+    pub kind: Option<Kind>,
     pub end: usize,
 }
 
-/// The run in front.
+/// Puts a token aside that begins at a place. Answers its kind.
+// Few tokens lie aside.
+#[inline(never)]
+fn put<'a>(token: Token<'a>, at: usize, aside: &mut Vec<Aside<'a>>) -> Result<Kind, AllocError>
+    requires { is_paren (view token) ≡ false }
+    ensures { IfOk result (λ k. IsPut aside.old.items aside.new.items at (view token.entry) k) }
+{
+    aside.push(Aside { token, offset: at })?;
+    if is_annotation(token) {
+        Ok(Kind::Annotation)
+    } else {
+        Ok(Kind::Aside)
+    }
+}
+
+/// The run in front. What can't be read out of the text is put aside.
 #[tactic(auto, using(crate::proofs::Places::run_steps))]
-fn run<'a>(text: &'a str, at: usize, behind: bool, arena: &'a Bump) -> Result<Piece<'a>, Error>
+fn run<'a>(
+    text: &'a str,
+    at: usize,
+    behind: bool,
+    arena: &'a Bump,
+    aside: &mut Vec<Aside<'a>>,
+) -> Result<Piece, Error>
     requires { at < length text.now }
     ensures within { IfOk result (λ p. (at < p.end) × (p.end ≤ length text.now)) }
-    ensures value { FrontGives text.now at result (run_front behind (drop at text.now)
-        (behind_run Between (drop at text.now))) }
+    ensures value { FrontGives text.now aside.old.items aside.new.items at result (run_front behind
+        (drop at text.now) (behind_run Between (drop at text.now))) }
 {
     let bytes = text.as_bytes();
     let plain = plain_end(bytes, at);
     if plain < bytes.len() && bytes[plain] == b'"' {
-        return string_run(text, at, plain, behind, arena);
+        return string_run(text, at, plain, behind, arena, aside);
     }
     if plain == at {
         return Err(fault_at(Fault::LexChar, at));
     }
-    let kind = plain_kind(text, at, plain, behind);
+    plain_run(text, at, plain, behind, aside)
+}
+
+/// A run of idchars. An annotation is put aside.
+#[tactic(auto, using(crate::proofs::Plain::plain_ascii))]
+fn plain_run<'a>(
+    text: &'a str,
+    at: usize,
+    end: usize,
+    behind: bool,
+    aside: &mut Vec<Aside<'a>>,
+) -> Result<Piece, Error>
+    requires order { at < end }
+    requires within { end ≤ length text.now }
+    requires all { all_idchars (slice_range text.now at end) ≡ true }
+    requires ends { behind_run Between (drop at text.now) ≡ Ends (drop end text.now) }
+    ensures within { IfOk result (λ p. (at < p.end) × (p.end ≤ length text.now)) }
+    ensures value { FrontGives text.now aside.old.items aside.new.items at result (run_front behind
+        (drop at text.now) (behind_run Between (drop at text.now))) }
+{
+    let kind = plain_kind(text, at, end, behind);
+    if is_note(kind) {
+        let kind = put(Token::Annotation(part(text, at + 1, end)), at, aside)?;
+        return Ok(Piece {
+            kind: Some(kind),
+            end,
+        });
+    }
     Ok(Piece {
-        found: Some(Found::Plain(kind)),
-        end: plain,
+        kind: Some(kind),
+        end,
     })
 }
 
@@ -60,7 +109,8 @@ fn string_run<'a>(
     quote: usize,
     behind: bool,
     arena: &'a Bump,
-) -> Result<Piece<'a>, Error>
+    aside: &mut Vec<Aside<'a>>,
+) -> Result<Piece, Error>
     requires order { at ≤ quote }
     requires quote { quote < length text.now }
     requires mark { slice_index text.now quote ≡ 34 }
@@ -68,8 +118,8 @@ fn string_run<'a>(
     requires same { behind_run Between (drop at text.now) ≡ behind_run Between
         (drop quote text.now) }
     ensures within { IfOk result (λ p. (at < p.end) × (p.end ≤ length text.now)) }
-    ensures value { FrontGives text.now at result (run_front behind (drop at text.now)
-        (behind_run Between (drop at text.now))) }
+    ensures value { FrontGives text.now aside.old.items aside.new.items at result (run_front behind
+        (drop at text.now) (behind_run Between (drop at text.now))) }
 {
     let bytes = text.as_bytes();
     let (after, plain) = match string_end(bytes, quote + 1) {
@@ -82,7 +132,7 @@ fn string_run<'a>(
     };
     if plain && at == quote && end == after {
         return Ok(Piece {
-            found: Some(Found::Plain(Kind::String)),
+            kind: Some(Kind::String),
             end,
         });
     }
@@ -93,63 +143,76 @@ fn string_run<'a>(
     } else {
         Token::Reserved(run)
     };
+    let kind = put(token, at, aside)?;
     Ok(Piece {
-        found: Some(Found::Aside(token)),
+        kind: Some(kind),
         end,
     })
 }
 
-/// What stands in front.
+/// What stands in front. What can't be read out of the text is put aside.
 #[tactic(auto, using(crate::proofs::Places::front_steps))]
-fn front<'a>(text: &'a str, at: usize, behind: bool, arena: &'a Bump) -> Result<Piece<'a>, Error>
+fn front<'a>(
+    text: &'a str,
+    at: usize,
+    behind: bool,
+    arena: &'a Bump,
+    aside: &mut Vec<Aside<'a>>,
+) -> Result<Piece, Error>
     requires { at < length text.now }
     ensures within { IfOk result (λ p. (at < p.end) × (p.end ≤ length text.now)) }
-    ensures value { FrontGives text.now at result (front behind (drop at text.now)) }
+    ensures value { FrontGives text.now aside.old.items aside.new.items at result (front behind
+        (drop at text.now)) }
 {
     let bytes = text.as_bytes();
     let b = bytes[at];
     if is_space(b) {
         Ok(Piece {
-            found: None,
+            kind: None,
             end: at + 1,
         })
     } else if b == b'(' {
         if at + 1 < bytes.len() && bytes[at + 1] == b';' {
             match comment_end(bytes, at + 2) {
-                Some(end) => Ok(Piece { found: None, end }),
+                Some(end) => Ok(Piece { kind: None, end }),
                 None => Err(fault_at(Fault::LexComment, at)),
             }
         } else {
             Ok(Piece {
-                found: Some(Found::Plain(Kind::LParen)),
+                kind: Some(Kind::LParen),
                 end: at + 1,
             })
         }
     } else if b == b')' {
         Ok(Piece {
-            found: Some(Found::Plain(Kind::RParen)),
+            kind: Some(Kind::RParen),
             end: at + 1,
         })
     } else if b == b';' {
         if at + 1 < bytes.len() && bytes[at + 1] == b';' {
             Ok(Piece {
-                found: None,
+                kind: None,
                 end: line_end(bytes, at + 2),
             })
         } else {
             Err(fault_at(Fault::LexChar, at))
         }
     } else {
-        run(text, at, behind, arena)
+        run(text, at, behind, arena, aside)
     }
 }
 
-/// Whether an annotation was among the tokens or this is one.
-fn notes(noted: bool, found: Found) -> bool
-    ensures { (text : List ℕ) (at end : ℕ) → FoundFits text at end found.entry
-        → result ≡ (noted || is_annotation (found_tok text at end found.entry)) }
+/// Whether an annotation lies aside.
+#[tactic(auto, using(crate::proofs::Entries::note_steps))]
+fn any_note(aside: &[Aside]) -> bool
+    ensures { result ≡ any_note aside.now }
 {
-    noted || found.is_annotation()
+    for one in aside {
+        if is_annotation(one.token) {
+            return true;
+        }
+    }
+    false
 }
 
 /// Whether a `(` that ends at a place stands directly before another.
@@ -172,28 +235,27 @@ fn cut_pieces<'a>(
 {
     let mut tokens = Vec::with_capacity(alloc, text.len() / 4)?;
     let mut aside = Vec::new(alloc);
-    let mut noted = false;
     let mut behind = false;
     let mut at = 0;
     while at < text.len() {
-        let piece = match front(text, at, behind, arena) {
+        let piece = match front(text, at, behind, arena, &mut aside) {
             Err(e) => return Err(e),
             Ok(piece) => piece,
         };
         let next = spaces_end(text.as_bytes(), piece.end);
-        match piece.found {
+        match piece.kind {
             None => {
                 behind = false;
                 at = next;
             }
-            Some(found) => {
-                behind = directly(found.is_open(), piece.end, next);
-                noted = notes(noted, found);
-                tokens.push(found.keep(at, piece.end, &mut aside)?)?;
+            Some(kind) => {
+                behind = directly(is_open(kind), piece.end, next);
+                tokens.push(kept(kind, at, piece.end, aside.len()))?;
                 at = next;
             }
         }
     }
+    let noted = any_note(&aside);
     Ok((Tokens::of(text, tokens, aside), noted))
 }
 

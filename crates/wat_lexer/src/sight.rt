@@ -1,6 +1,6 @@
 //! Which tokens are visible: groups of annotations that aren't known are left out.
 
-ghost use Rattle.std.specs.Prelude.{◌≡◌, ◌≤◌, ◌+◌, ◌∷◌, [], length, drop, IfSome, MatchOption};
+ghost use Rattle.std.specs.Prelude.{◌≡◌, ◌≤◌, ◌+◌, ◌∷◌, [], length, drop};
 ghost use Rattle.wat_lexer.specs.Sight.{is_standard, hides, hidden, as_shown};
 ghost use Rattle.wat_lexer.specs.View.{view, toks, leap, AreLeaps, Shown};
 
@@ -94,22 +94,4 @@ pub fn shown(tokens: &Tokens, at: usize, known: bool) -> usize
         (drop at tokens.now))) }
 {
     at + hidden(tokens, at, known)
-}
-
-/// The first token from a place on that is visible, and the place behind it.
-#[tactic(auto, using(crate::proofs::Entries::next_some, crate::proofs::Entries::next_none))]
-pub fn next<'a>(tokens: &Tokens<'a>, at: usize, known: bool) -> Option<(Token<'a>, usize)>
-    requires within { at ≤ length tokens.now }
-    requires leaps { AreLeaps tokens.now }
-    ensures within { IfSome result (λ r. r.1 ≤ length tokens.now) }
-    ensures value { MatchOption result (as_shown known (toks (drop at tokens.now)) ≡ [])
-        (λ r. as_shown known (toks (drop at tokens.now)) ≡ view r.0 ∷ as_shown known
-        (toks (drop r.1 tokens.now))) }
-{
-    let place = shown(tokens, at, known);
-    if place < tokens.len() {
-        Some((tokens.token(place), place + 1))
-    } else {
-        None
-    }
 }

@@ -1,24 +1,24 @@
 //! The tokens of a text.
 
-ghost use Rattle.std.specs.Prelude.{◌≡◌, ◌≤◌, ◌<◌, ◌+◌, length, slice_range};
+ghost use Rattle.std.specs.Prelude.{◌≡◌, ◌≤◌, ◌<◌, ◌+◌, true, length, slice_range};
 ghost use Rattle.std.proofs.Math.ListN.{get_or, set};
 ghost use Rattle.wat_lexer.specs.Token.{is_open, is_close, is_annotation};
 ghost use Rattle.wat_lexer.specs.View.{view, entries_of, entry_of, CanBeRead, Word, AllCanBeRead};
-ghost use Rattle.wat_lexer.specs.View.{leaping, no_entry};
+ghost use Rattle.wat_lexer.specs.View.{can_leap, leaping, no_entry};
 
 use crate::class::part;
-use crate::lexeme::{Kind, Lexeme};
+use crate::lexeme::{Aside, Kind, Lexeme};
 use crate::number::Integer;
-use crate::token::{Token, is_annotation};
+use crate::token::Token;
 use std::marker::Model;
 
-/// The tokens of a text, each with its place and how far lookups go from there, in 16 bytes. What
+/// The tokens of a text, each with its place and how far lookups go from there, in 12 bytes. What
 /// can be read out of the text is, whenever it is asked for; the rest lies aside.
 #[derive(Drop)]
 pub struct Tokens<'a> {
     text: &'a str,
     lexemes: Vec<Lexeme>,
-    aside: Vec<Token<'a>>,
+    aside: Vec<Aside<'a>>,
 }
 
 impl<'a> Model for Tokens<'a> {
@@ -35,7 +35,7 @@ impl<'a> Model for Tokens<'a> {
 
 impl<'a> Tokens<'a> {
     /// The tokens that were kept of a text.
-    pub fn of(text: &'a str, lexemes: Vec<Lexeme>, aside: Vec<Token<'a>>) -> Tokens<'a>
+    pub fn of(text: &'a str, lexemes: Vec<Lexeme>, aside: Vec<Aside<'a>>) -> Tokens<'a>
         requires fit { AllCanBeRead text.now aside.items lexemes.items }
         requires small { length lexemes.items ≤ 4294967295 }
         ensures { result ≡ entries_of text.entry.now aside.entry.items lexemes.items }
@@ -71,16 +71,12 @@ impl<'a> Tokens<'a> {
         matches!(self.lexemes[at].kind, Kind::RParen)
     }
 
-    /// Whether the token is an annotation. What can be told by its kind is not read.
+    /// Whether the token is an annotation.
     pub fn annotates(&self, at: usize) -> bool
         requires { at < length self.now }
         ensures { result ≡ is_annotation ((get_or self.now at no_entry).token) }
     {
-        match self.lexemes[at].kind {
-            Kind::Annotation => true,
-            Kind::Aside => is_annotation(self.token(at)),
-            _ => false,
-        }
+        matches!(self.lexemes[at].kind, Kind::Annotation)
     }
 
     /// The token.
@@ -97,7 +93,12 @@ impl<'a> Tokens<'a> {
         requires { at < length self.now }
         ensures { result ≡ (get_or self.now at no_entry).offset }
     {
-        self.lexemes[at].offset as usize
+        let lexeme = self.lexemes[at];
+        let offset = lexeme.offset as usize;
+        match lexeme.kind {
+            Kind::Annotation | Kind::Aside => self.aside[offset].offset,
+            _ => offset,
+        }
     }
 
     /// How far lookups go from there.
@@ -105,16 +106,21 @@ impl<'a> Tokens<'a> {
         requires { at < length self.now }
         ensures { result ≡ (get_or self.now at no_entry).skip }
     {
-        self.lexemes[at].skip as usize
+        let lexeme = self.lexemes[at];
+        match lexeme.kind {
+            Kind::LParen | Kind::Annotation => lexeme.size as usize,
+            _ => 0,
+        }
     }
 
-    /// Tells how far lookups go from there.
-    pub fn set_skip(&mut self, at: usize, skip: usize)
+    /// Tells how far lookups go from there, a `(` or an annotation.
+    pub(crate) fn set_skip(&mut self, at: usize, skip: usize)
         requires place { at < length self.old }
         requires small { skip ≤ 4294967295 }
+        requires leaps { can_leap ((get_or self.old at no_entry).token) ≡ true }
         ensures { self.new ≡ set self.old at (leaping self.old at skip) }
     {
-        self.lexemes[at].skip = skip as u32;
+        self.lexemes[at].size = skip as u32;
     }
 }
 
@@ -128,7 +134,7 @@ fn word<'a>(text: &'a str, from: usize, front: usize, end: usize) -> &'a str
 }
 
 /// A token that was kept.
-fn read<'a>(text: &'a str, aside: &[Token<'a>], lexeme: Lexeme) -> Token<'a>
+fn read<'a>(text: &'a str, aside: &[Aside<'a>], lexeme: Lexeme) -> Token<'a>
     requires { CanBeRead text.now aside.now lexeme }
     ensures { view result ≡ (entry_of text.now aside.now lexeme).token }
 {
@@ -139,10 +145,9 @@ fn read<'a>(text: &'a str, aside: &[Token<'a>], lexeme: Lexeme) -> Token<'a>
         Kind::RParen => Token::RParen,
         Kind::Keyword => Token::Keyword(word(text, from, 0, from + size)),
         Kind::Id => Token::Id(word(text, from, 1, from + size)),
-        Kind::Annotation => Token::Annotation(word(text, from, 1, from + size)),
         Kind::Integer => Token::Integer(Integer::over(word(text, from, 0, from + size))),
         Kind::String => Token::String(&text.as_bytes()[from + 1..from + size - 1]),
         Kind::Reserved => Token::Reserved(word(text, from, 0, from + size)),
-        Kind::Aside => aside[size],
+        Kind::Annotation | Kind::Aside => aside[from].token,
     }
 }

@@ -6,10 +6,10 @@ use Rattle.std.proofs.lemmas.List.{map_push}
 use Rattle.wat_tokens.specs.Parses.{no_items}
 use Rattle.wat_links.specs.declared.item.ItemSig.{ItemSig}
 use Rattle.wat_links.specs.declared.import.ImportGroup1ItemOf.{ImportGroup1ItemOf}
-use Rattle.wat_links.specs.Import.{Name, seen_typed, SameTyped, SameAll}
+use Rattle.wat_links.specs.Import.{HeldName, seen_typed, SameTyped, SameAll}
 
 abbrev Typed : Type 0
-Typed = ImportGroup1ItemOf Name ItemSig
+Typed = ImportGroup1ItemOf HeldName ItemSig
 
 same_push : (xs ys : List Typed) (x y : Typed) → SameAll xs ys → SameTyped x y → SameAll (xs ++ x ∷ []) (ys ++ y ∷ [])
 same_push [] [] x y p q = (q, tt)

@@ -12,15 +12,15 @@ pub record HeadTy : Type 0 where
   pub label : Label
   pub exports : List (List ℕ)
 
-abbrev pub head_of : Label → List (List ℕ) → HeadTy
-head_of l e = record { label = l; exports = e }
+abbrev pub field_head : Label → List (List ℕ) → HeadTy
+field_head l e = record { label = l; exports = e }
 
 abbrev pub seen_head : Head → HeadTy
-seen_head h = head_of (seen_label h.id h.name) (seen_inline_export h.exports)
+seen_head h = field_head (seen_label h.id h.name) (seen_inline_export h.exports)
 
 -- nothing names the field, and it has no export in line
 abbrev pub no_head : HeadTy
-no_head = head_of no_label []
+no_head = field_head no_label []
 
 -- no export in line
 abbrev pub bare_head : HeadTy → Bool
@@ -28,4 +28,4 @@ bare_head h = no_items h.exports
 
 -- id? name? InlineExport
 unfoldable pub head : Production HeadTy
-head = made (λ v. head_of v.0 v.1) (seq label inline_export)
+head = made (λ v. field_head v.0 v.1) (seq label inline_export)

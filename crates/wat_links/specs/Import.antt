@@ -39,26 +39,26 @@ abbrev pub imports_of : List ℕ → ItemsTy → ImportsTy
 imports_of m i = record { from = m; items = i }
 
 -- a name, and what holds it
-abbrev pub Name : Type 0
-Name = Bor (List ℕ)
+abbrev pub HeldName : Type 0
+HeldName = Bor (List ℕ)
 
 abbrev pub module_of : {N S : Type 0} → ImportItemsOf N S → N
 module_of (Single m n s) = m
 module_of (Group1 m xs) = m
 module_of (Group2 m s xs) = m
 
-abbrev pub seen_typed : ImportGroup1ItemOf Name ItemSig → List ℕ × SigTy
+abbrev pub seen_typed : ImportGroup1ItemOf HeldName ItemSig → List ℕ × SigTy
 seen_typed x = (x.name.now, seen_sig x.sig)
 
-abbrev pub seen_named : ImportGroup2ItemOf Name → List ℕ
+abbrev pub seen_named : ImportGroup2ItemOf HeldName → List ℕ
 seen_named x = x.name.now
 
-abbrev pub seen_items : ImportItemsOf Name ItemSig → ItemsTy
+abbrev pub seen_items : ImportItemsOf HeldName ItemSig → ItemsTy
 seen_items (Single m n s) = single n.now (seen_sig s)
 seen_items (Group1 m xs) = group1 (map seen_typed xs.items)
 seen_items (Group2 m s xs) = group2 (seen_sig s) (map seen_named xs.items)
 
-abbrev pub seen_imports : ImportsOf Name ItemSig → ImportsTy
+abbrev pub seen_imports : ImportsOf HeldName ItemSig → ImportsTy
 seen_imports i = imports_of (module_of i.items).now (seen_items i.items)
 
 -- no item in a group, and no parameter and no result in line
@@ -136,17 +136,19 @@ own_sigs (Group2 m s xs) = s ∷ []
 -- ---- imports and their clone
 
 -- the same in each part, places too
-abbrev pub SameTyped : ImportGroup1ItemOf Name ItemSig → ImportGroup1ItemOf Name ItemSig → Type 0
+abbrev pub SameTyped
+    : ImportGroup1ItemOf HeldName ItemSig → ImportGroup1ItemOf HeldName ItemSig → Type 0
 SameTyped x y = (x.span ≡ y.span) × (x.name ≡ y.name) × SameSig x.sig y.sig
 
 -- the same items, one by one
-abbrev pub SameAll : List (ImportGroup1ItemOf Name ItemSig) → List (ImportGroup1ItemOf Name ItemSig)
+abbrev pub SameAll
+    : List (ImportGroup1ItemOf HeldName ItemSig) → List (ImportGroup1ItemOf HeldName ItemSig)
     → Type 0
 SameAll [] [] = ⊤
 SameAll (x ∷ xs) (y ∷ ys) = SameTyped x y × SameAll xs ys
 SameAll _ _ = ⊥
 
-abbrev pub SameItems : ImportItemsOf Name ItemSig → ImportItemsOf Name ItemSig → Type 0
+abbrev pub SameItems : ImportItemsOf HeldName ItemSig → ImportItemsOf HeldName ItemSig → Type 0
 SameItems (Single m n s) (Single m' n' s') = (m ≡ m') × (n ≡ n') × SameSig s s'
 SameItems (Group1 m xs) (Group1 m' xs') = (m ≡ m') × SameAll xs.items xs'.items
 SameItems (Group2 m s xs) (Group2 m' s' xs') = (m ≡ m') × SameSig s s' × (xs.items ≡ xs'.items)

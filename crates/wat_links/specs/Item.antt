@@ -7,9 +7,9 @@ use Rattle.wat_tokens.specs.Groups.{group}
 use Rattle.wat_types.specs.Function.{seen_function, bare_function, function_type}
 use Rattle.wat_types.specs.Group.{FuncTy, begins_func}
 use Rattle.wat_types.specs.Label.{Label, seen_label, label}
-use Rattle.wat_types.specs.Limits.{TableTy, seen_table, table_type, memory_type}
-use Rattle.wat_types.specs.Storage.{GlobalTy, seen_global, global_type}
-use Rattle.wat_types.specs.Tag.{seen_tag, tag_type, SameTag}
+use Rattle.wat_types.specs.Limits.{TableTy, seen_table_type, table_type, memory_type}
+use Rattle.wat_types.specs.Storage.{GlobalTy, seen_global_type, global_type}
+use Rattle.wat_types.specs.Tag.{seen_tag_type, tag_type, SameTag}
 use Rattle.wat_types.specs.Use.{UseTy, seen_use, bare_use, type_use, SameFunction, SameUse}
 use Rattle.wat_types.specs.declared.limits.MemoryType.{MemoryType}
 use Rattle.wat_links.specs.declared.item.ItemKind.{ItemKind}
@@ -18,44 +18,44 @@ use Rattle.wat_links.specs.declared.item.ItemSig.{ItemSig}
 
 -- ---- what contracts see
 
-pub data KindTy : Type 0 where
-  func : UseTy FuncTy → KindTy
-  table : TableTy → KindTy
-  memory : MemoryType → KindTy
-  global : GlobalTy → KindTy
-  tag : UseTy FuncTy → KindTy
-  exact_func : UseTy FuncTy → KindTy
+pub data ItemKindTy : Type 0 where
+  func : UseTy FuncTy → ItemKindTy
+  table : TableTy → ItemKindTy
+  memory : MemoryType → ItemKindTy
+  global : GlobalTy → ItemKindTy
+  tag : UseTy FuncTy → ItemKindTy
+  exact_func : UseTy FuncTy → ItemKindTy
 
 -- a signature, and what names the item
 pub record SigTy : Type 0 where
   pub label : Label
-  pub kind : KindTy
+  pub kind : ItemKindTy
 
-abbrev pub sig_of : Label → KindTy → SigTy
+abbrev pub sig_of : Label → ItemKindTy → SigTy
 sig_of l k = record { label = l; kind = k }
 
-abbrev pub seen_kind : ItemKind → KindTy
-seen_kind (code.Func u) = func (seen_use seen_function u)
-seen_kind (code.Table t) = table (seen_table t)
-seen_kind (code.Memory m) = memory m
-seen_kind (code.Global g) = global (seen_global g)
-seen_kind (code.Tag t) = tag (seen_tag t)
-seen_kind (code.FuncExact u) = exact_func (seen_use seen_function u)
+abbrev pub seen_item_kind : ItemKind → ItemKindTy
+seen_item_kind (code.Func u) = func (seen_use seen_function u)
+seen_item_kind (code.Table t) = table (seen_table_type t)
+seen_item_kind (code.Memory m) = memory m
+seen_item_kind (code.Global g) = global (seen_global_type g)
+seen_item_kind (code.Tag t) = tag (seen_tag_type t)
+seen_item_kind (code.FuncExact u) = exact_func (seen_use seen_function u)
 
 abbrev pub seen_sig : ItemSig → SigTy
-seen_sig s = sig_of (seen_label s.id s.name) (seen_kind s.kind)
+seen_sig s = sig_of (seen_label s.id s.name) (seen_item_kind s.kind)
 
 -- no parameter and no result in line
-abbrev pub bare_kind : KindTy → Bool
-bare_kind (func u) = bare_use bare_function u
-bare_kind (table t) = true
-bare_kind (memory m) = true
-bare_kind (global g) = true
-bare_kind (tag u) = bare_use bare_function u
-bare_kind (exact_func u) = bare_use bare_function u
+abbrev pub bare_item_kind : ItemKindTy → Bool
+bare_item_kind (func u) = bare_use bare_function u
+bare_item_kind (table t) = true
+bare_item_kind (memory m) = true
+bare_item_kind (global g) = true
+bare_item_kind (tag u) = bare_use bare_function u
+bare_item_kind (exact_func u) = bare_use bare_function u
 
 abbrev pub bare_sig : SigTy → Bool
-bare_sig s = bare_kind s.kind
+bare_sig s = bare_item_kind s.kind
 
 -- ---- the grammar
 
@@ -64,28 +64,28 @@ abbrev pub func_use : Production (UseTy FuncTy)
 func_use = type_use begins_func function_type
 
 -- where the second token is `exact`, ( exact TypeUse ); else TypeUse
-unfoldable pub func_kind : Production KindTy
+unfoldable pub func_kind : Production ItemKindTy
 func_kind =
     where_else (second (begins_word (codes "exact")))
     (made exact_func (group (codes "exact") func_use)) (made func func_use)
 
 -- the word, id? name?, and then k
-abbrev pub labelled : List ℕ → Production KindTy → Production SigTy
-labelled w k = made (λ v. sig_of v.0 v.1) (after_word w (seq label k))
+abbrev pub item_of : List ℕ → Production ItemKindTy → Production SigTy
+item_of w k = made (λ v. sig_of v.0 v.1) (after_word w (seq label k))
 
 -- `global id? name?` GlobalType | `tag id? name?` TagType
 unfoldable pub global_or_tag : Production SigTy
 global_or_tag =
-    where_else (begins_word (codes "global")) (labelled (codes "global") (made global global_type))
-    (labelled (codes "tag") (made tag tag_type))
+    where_else (begins_word (codes "global")) (item_of (codes "global") (made global global_type))
+    (item_of (codes "tag") (made tag tag_type))
 
 -- `func id? name?`, and a function by func_kind | `table id? name?` TableType | `memory id? name?`
 -- MemoryType | global or tag
 unfoldable pub item_sig : Production SigTy
 item_sig =
-    where_else (begins_word (codes "func")) (labelled (codes "func") func_kind)
-    (where_else (begins_word (codes "table")) (labelled (codes "table") (made table table_type))
-    (where_else (begins_word (codes "memory")) (labelled (codes "memory") (made memory memory_type))
+    where_else (begins_word (codes "func")) (item_of (codes "func") func_kind)
+    (where_else (begins_word (codes "table")) (item_of (codes "table") (made table table_type))
+    (where_else (begins_word (codes "memory")) (item_of (codes "memory") (made memory memory_type))
     global_or_tag))
 
 -- ---- one signature and its clone

@@ -11,8 +11,8 @@ use Rattle.wat_links.specs.Import.{imports_of, group1, group2}
 use Rattle.wat_links.specs.Item.{SigTy, sig_of, func}
 
 -- `(func)`
-abbrev bare_func : List Tok
-bare_func = in_parens (Keyword (codes "func") ∷ [])
+abbrev lone_func : List Tok
+lone_func = in_parens (Keyword (codes "func") ∷ [])
 
 abbrev any_func : SigTy
 any_func = sig_of no_label (func (use_of None None))
@@ -23,11 +23,11 @@ abbrev pub Imports : Type 0
 Imports =
     Spelled imports (Keyword (codes "import") ∷ String (codes "m") ∷ [])
     (imports_of (codes "m") (group1 []))
-    × Spelled imports (Keyword (codes "import") ∷ String (codes "m") ∷ bare_func)
+    × Spelled imports (Keyword (codes "import") ∷ String (codes "m") ∷ lone_func)
     (imports_of (codes "m") (group2 any_func []))
     × Spelled imports (Keyword (codes "import") ∷ String (codes "m")
     ∷ (in_parens (Keyword (codes "item") ∷ String (codes "a") ∷ [])
-    ++ (in_parens (Keyword (codes "item") ∷ String (codes "b") ∷ []) ++ bare_func)))
+    ++ (in_parens (Keyword (codes "item") ∷ String (codes "b") ∷ []) ++ lone_func)))
     (imports_of (codes "m") (group2 any_func (codes "a" ∷ codes "b" ∷ [])))
 
 abbrev no_name : List Tok

@@ -4,7 +4,6 @@ ghost use Rattle.std.specs.Prelude.{◌≡◌, ℕ, [], true, false, List};
 ghost use Rattle.wat_tokens.specs.Copies.{Copies};
 ghost use Rattle.wat_tokens.specs.Lookup.{in_front};
 ghost use Rattle.wat_tokens.specs.Parses.{no_items};
-ghost use Rattle.wat_tokens.specs.Tests.{look_up};
 ghost use Rattle.wat_links.specs.Item.{SameSig};
 ghost use Rattle.wat_links.specs.Export.{kind_words, export_kind, begins_kind, ExportTy};
 ghost use Rattle.wat_links.specs.Export.{seen_export, export_, ExportTypeTy, seen_export_type};
@@ -15,7 +14,8 @@ ghost use Rattle.wat_links.specs.InlineName.{inline_name};
 use crate::item::ItemSig;
 use std::alloc::Global;
 use wat_tokens::repeat::{Part, parts};
-use wat_tokens::{Cursor, Error, Fault, Index, Parse, Parser, Peek, Result, Span, kw};
+use wat_tokens::words::{Named, begins_named, take_named};
+use wat_tokens::{Cursor, Index, Parse, Parser, Peek, Result, Span, kw};
 
 /// An export of a module (WebAssembly Core Specification, Text Format, Modules, "Exports").
 #[derive(Debug, Drop)]
@@ -66,16 +66,18 @@ pub struct InlineExport<'a> {
 }
 
 /// The kind that a word names.
-fn kind_of(word: &str) -> Option<ExportKind>
-    ensures { result ≡ look_up kind_words word.now }
-{
-    match word {
-        "func" => Some(ExportKind::Func),
-        "table" => Some(ExportKind::Table),
-        "memory" => Some(ExportKind::Memory),
-        "global" => Some(ExportKind::Global),
-        "tag" => Some(ExportKind::Tag),
-        _ => None,
+impl Named for ExportKind {
+    ghost words = { kind_words };
+
+    fn named(word: &str) -> Option<Self> {
+        match word {
+            "func" => Some(ExportKind::Func),
+            "table" => Some(ExportKind::Table),
+            "memory" => Some(ExportKind::Memory),
+            "global" => Some(ExportKind::Global),
+            "tag" => Some(ExportKind::Tag),
+            _ => None,
+        }
     }
 }
 
@@ -92,13 +94,9 @@ impl<'a> Parse<'a> for ExportKind {
 
     ghost grammar = { export_kind };
 
-    #[tactic(auto, using(wat_tokens::specs::Laws::Begin::reads_table, wat_tokens::specs::Laws::Begin::reads_no_table), unfolding(crate::specs::Export::export_kind))]
+    #[tactic(auto, unfolding(crate::specs::Export::export_kind))]
     fn parse(parser: &mut Parser<'a>) -> Result<Self> {
-        let span = parser.cur_span();
-        match kind_of(parser.take_keyword()?) {
-            Some(kind) => Ok(kind),
-            None => Err(Error::at(Fault::Unexpected, span)),
-        }
+        take_named(parser)
     }
 }
 
@@ -106,12 +104,9 @@ impl<'a> Parse<'a> for ExportKind {
 impl Peek for ExportKind {
     ghost begins = { begins_kind };
 
-    #[tactic(auto, using(wat_tokens::specs::Laws::Begin::begins_table, wat_tokens::specs::Laws::Begin::begins_no_table), unfolding(crate::specs::Export::begins_kind))]
+    #[tactic(auto, unfolding(crate::specs::Export::begins_kind))]
     fn peek(cursor: Cursor<'_>) -> bool {
-        match cursor.keyword() {
-            Some((word, _)) => kind_of(word).is_some(),
-            None => false,
-        }
+        begins_named::<Self>(cursor)
     }
 
     fn display() -> &'static str {

@@ -4,7 +4,8 @@ ghost use Rattle.std.specs.Prelude.{◌≡◌, false};
 ghost use Rattle.wat_tokens.specs.Copies.{Copies};
 ghost use Rattle.wat_tokens.specs.Reads.{Reads, ReadsLight};
 ghost use Rattle.wat_types.specs.Label.{seen_label, label};
-ghost use Rattle.wat_links.specs.Item.{seen_kind, bare_kind, SigTy, seen_sig, bare_sig, func_kind};
+ghost use Rattle.wat_links.specs.Item.{seen_item_kind, bare_item_kind, SigTy, seen_sig, bare_sig};
+ghost use Rattle.wat_links.specs.Item.{func_kind};
 ghost use Rattle.wat_links.specs.Item.{global_or_tag, item_sig, SameKind, SameSig};
 
 use wat_tokens::{Fault, Id, NameAnnotation, Parse, Parser, Result, Span};
@@ -46,7 +47,7 @@ impl<'a> ItemKind<'a> {
     /// The same once more. Memory may be answered where a type in it has a parameter or a result in
     /// line.
     pub fn clone(&self) -> Result<ItemKind<'a>>
-        ensures copies { Copies SameKind seen_kind bare_kind result self.now }
+        ensures copies { Copies SameKind seen_item_kind bare_item_kind result self.now }
     {
         match self {
             ItemKind::Func(ty) => Ok(ItemKind::Func(ty.clone()?)),
@@ -88,8 +89,8 @@ fn read_label<'a>(parser: &mut Parser<'a>) -> Result<(Option<Id<'a>>, Option<Nam
 /// Where the second token is `exact`, a type use in `( exact .. )`, else a type use.
 #[tactic(auto, unfolding(crate::specs::Item::func_kind))]
 fn read_func_kind<'a>(parser: &mut Parser<'a>) -> Result<ItemKind<'a>>
-    ensures reads { Reads bare_kind seen_kind result (func_kind.reads parser.old.left) parser.old
-        parser.new }
+    ensures reads { Reads bare_item_kind seen_item_kind result
+        (func_kind.reads parser.old.left) parser.old parser.new }
 {
     if !parser.second_is("exact") {
         return Ok(ItemKind::Func(TypeUse::parse(parser)?));

@@ -19,11 +19,11 @@ use Rattle.wat_operands.specs.Laws.Catches.{catch_clause_eats}
 
 -- ---- the tag of what is caught
 
-abbrev pub tag_of : {I : Type 0} → CatchKind I → Option I
-tag_of (Catch x) = Some x
-tag_of (CatchRef x) = Some x
-tag_of CatchAll = None
-tag_of CatchAllRef = None
+abbrev pub caught_tag : {I : Type 0} → CatchKind I → Option I
+caught_tag (Catch x) = Some x
+caught_tag (CatchRef x) = Some x
+caught_tag CatchAll = None
+caught_tag CatchAllRef = None
 
 -- the same with another tag, where it has one
 abbrev pub with_tag : {I : Type 0} → CatchKind I → I → CatchKind I
@@ -39,14 +39,14 @@ LendsTag I s r = LendsIf (kinds.the_row I) I s r (with_tag s.now) s.now
 -- ---- what contracts see
 
 -- its tag seen by view
-abbrev pub seen_kind : {I A : Type 0} → (I → A) → CatchKind I → CatchKind A
-seen_kind view (Catch x) = Catch (view x)
-seen_kind view (CatchRef x) = CatchRef (view x)
-seen_kind view CatchAll = CatchAll
-seen_kind view CatchAllRef = CatchAllRef
+abbrev pub seen_catch_kind : {I A : Type 0} → (I → A) → CatchKind I → CatchKind A
+seen_catch_kind view (Catch x) = Catch (view x)
+seen_catch_kind view (CatchRef x) = CatchRef (view x)
+seen_catch_kind view CatchAll = CatchAll
+seen_catch_kind view CatchAllRef = CatchAllRef
 
 abbrev pub seen_catch : TryTableCatch → CatchTy
-seen_catch c = catch_of (seen_kind seen_index c.kind) (seen_index c.label)
+seen_catch c = catch_of (seen_catch_kind seen_index c.kind) (seen_index c.label)
 
 -- a try_table, without places
 pub record TryTy : Type 0 where

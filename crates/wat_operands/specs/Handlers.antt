@@ -29,8 +29,8 @@ begins_handler t = begins_group (codes "on") t
 
 -- ---- tables of them
 
-abbrev pub seen_table : ResumeTableOf Index → List HandleTy
-seen_table t = map seen_handle t.handlers.items
+abbrev pub seen_resume_table : ResumeTableOf Index → List HandleTy
+seen_resume_table t = map seen_handle t.handlers.items
 
 -- a handler wherever a group begins with `on`
 unfoldable pub resume_table : Production (List HandleTy)
@@ -47,10 +47,10 @@ abbrev pub resume_of : Idx → List HandleTy → ResumeTy
 resume_of i t = record { type_index = i; table = t }
 
 abbrev pub seen_resume : ResumeOf Index → ResumeTy
-seen_resume r = resume_of (seen_index r.type_index) (seen_table r.table)
+seen_resume r = resume_of (seen_index r.type_index) (seen_resume_table r.table)
 
 abbrev pub seen_resume_throw_ref : ResumeThrowRefOf Index → ResumeTy
-seen_resume_throw_ref r = resume_of (seen_index r.type_index) (seen_table r.table)
+seen_resume_throw_ref r = resume_of (seen_index r.type_index) (seen_resume_table r.table)
 
 -- no handler
 abbrev pub bare_resume : ResumeTy → Bool
@@ -71,7 +71,7 @@ throw_of i j t = record { type_index = i; tag_index = j; table = t }
 
 abbrev pub seen_resume_throw : ResumeThrowOf Index → ThrowTy
 seen_resume_throw r =
-    throw_of (seen_index r.type_index) (seen_index r.tag_index) (seen_table r.table)
+    throw_of (seen_index r.type_index) (seen_index r.tag_index) (seen_resume_table r.table)
 
 -- no handler
 abbrev pub bare_throw : ThrowTy → Bool

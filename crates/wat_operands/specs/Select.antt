@@ -16,11 +16,11 @@ use Rattle.wat_operands.specs.Laws.Select.{result_group_eats}
 
 -- ---- what contracts see
 
-abbrev pub seen_types : Option (Vec ValType Global) → Option (List ValTy)
-seen_types ts = seen_option (λ v. map seen_val v.items) ts
+abbrev pub seen_select_types : Option (Vec ValType Global) → Option (List ValTy)
+seen_select_types ts = seen_option (λ v. map seen_val v.items) ts
 
 abbrev pub seen_select : SelectTypes → Option (List ValTy)
-seen_select s = seen_types s.tys
+seen_select s = seen_select_types s.tys
 
 -- no type is written, in a group or without one
 abbrev pub bare_select : Option (List ValTy) → Bool

@@ -3,7 +3,8 @@
 ghost use Rattle.std.specs.Borrow.{sem};
 ghost use Rattle.std.specs.Option.{option_map};
 ghost use Rattle.std.specs.Prelude.{◌≡◌, true, false};
-ghost use Rattle.wat_operands.specs.Catches.{tag_of, LendsTag, seen_kind, seen_catch, begins_catch};
+ghost use Rattle.wat_operands.specs.Catches.{caught_tag, LendsTag, seen_catch_kind, seen_catch};
+ghost use Rattle.wat_operands.specs.Catches.{begins_catch};
 ghost use Rattle.wat_operands.specs.Catches.{TryTy, seen_try, try_table, SameTry};
 ghost use Rattle.wat_operands.specs.CatchClause.{CatchTy, catch_kind, catch_clause};
 ghost use Rattle.wat_tokens.specs.Copies.{Copies};
@@ -37,7 +38,7 @@ impl<I> CatchKind<I> {
     /// alone.
     pub fn tag_index_mut(&mut self) -> Option<&mut I>
         ensures* writes_back { sem 𝓛 (LendsTag I.row self.entry result) }
-        ensures value { tag_of self.old ≡ option_map (λ r. r.now) result }
+        ensures value { caught_tag self.old ≡ option_map (λ r. r.now) result }
     {
         match self {
             CatchKind::Catch(tag) => Some(tag),
@@ -71,7 +72,7 @@ pub struct TryTable<'a> {
 /// The word of a clause, and the tag where it has one.
 #[tactic(auto, unfolding(crate::specs::CatchClause::catch_kind))]
 fn read_kind<'a>(parser: &mut Parser<'a>) -> Result<TryTableCatchKind<'a>>
-    ensures reads { ReadsLight (seen_kind seen_index) result
+    ensures reads { ReadsLight (seen_catch_kind seen_index) result
         (catch_kind.reads parser.old.left) parser.old parser.new }
 {
     if parser.next_is("catch") {

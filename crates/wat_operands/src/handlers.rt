@@ -1,7 +1,7 @@
 //! Tables of handlers, and the operands that have one.
 
 ghost use Rattle.std.specs.Prelude.{◌≡◌, true, false, List};
-ghost use Rattle.wat_operands.specs.Handlers.{seen_handle, begins_handler, seen_table};
+ghost use Rattle.wat_operands.specs.Handlers.{seen_handle, begins_handler, seen_resume_table};
 ghost use Rattle.wat_operands.specs.Handlers.{resume_table, ResumeTy, seen_resume};
 ghost use Rattle.wat_operands.specs.Handlers.{seen_resume_throw_ref, bare_resume, resume, ThrowTy};
 ghost use Rattle.wat_operands.specs.Handlers.{seen_resume_throw, bare_throw, resume_throw};
@@ -133,7 +133,7 @@ impl<'a> ResumeTable<'a> {
     #[tactic(auto, using(std::proofs::lemmas::List::Elements::same_from_all_zip))]
     pub fn clone(&self) -> Result<ResumeTable<'a>>
         ensures copies { Copies (λ x y. y.handlers.items
-            ≡ x.handlers.items) seen_table no_items result self.now }
+            ≡ x.handlers.items) seen_resume_table no_items result self.now }
     {
         let mut handlers = Vec::new(*self.handlers.allocator());
         if self.handlers.is_empty() {
@@ -149,7 +149,7 @@ impl<'a> ResumeTable<'a> {
 impl<'a> Parse<'a> for ResumeTable<'a> {
     ghost Seen = { List HandleTy };
 
-    ghost seen = { seen_table };
+    ghost seen = { seen_resume_table };
 
     ghost light = { false };
 

@@ -11,7 +11,7 @@ use Rattle.wat_tokens.specs.Parses.{no_items}
 use Rattle.wat_types.specs.Label.{Label, seen_label, label}
 use Rattle.wat_expr.specs.Expression.{Expr, seen_expression, bare_expression}
 use Rattle.wat_segments.specs.Numbers.{begins_numbers}
-use Rattle.wat_segments.specs.DataVal.{DataValTy, seen_vals}
+use Rattle.wat_segments.specs.DataVal.{DataValTy, seen_data_vals}
 use Rattle.wat_segments.specs.DataVals.{data_vals}
 use Rattle.wat_segments.specs.Offset.{offset_inside}
 use Rattle.wat_segments.specs.declared.data.Data.{Data}
@@ -38,7 +38,7 @@ seen_data_kind code.Passive = passive
 seen_data_kind (code.Active i e) = active (seen_index i) (seen_expression e)
 
 abbrev pub seen_data : Data → DataTy
-seen_data d = data_of (seen_label d.id d.name) (seen_data_kind d.kind) (seen_vals d.data.items)
+seen_data d = data_of (seen_label d.id d.name) (seen_data_kind d.kind) (seen_data_vals d.data.items)
 
 -- no instruction
 abbrev pub bare_data_kind : DataKindTy → Bool

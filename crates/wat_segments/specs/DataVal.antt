@@ -22,12 +22,12 @@ abbrev pub bytes_in : DataValTy → List ℕ
 bytes_in (written bs) = bs
 bytes_in (numbers bs) = bs
 
-abbrev pub seen_val : DataVal → DataValTy
-seen_val (code.String s) = written s.now
-seen_val (code.Integral v) = numbers v.items
+abbrev pub seen_data_val : DataVal → DataValTy
+seen_data_val (code.String s) = written s.now
+seen_data_val (code.Integral v) = numbers v.items
 
-abbrev pub seen_vals : List DataVal → List DataValTy
-seen_vals vs = map seen_val vs
+abbrev pub seen_data_vals : List DataVal → List DataValTy
+seen_data_vals vs = map seen_data_val vs
 
 -- no number
 abbrev pub bare_val : DataValTy → Bool

@@ -10,9 +10,9 @@ use Rattle.wat_types.specs.Label.{seen_label}
 use Rattle.wat_types.specs.Limits.{is_64, pagesize_or_none, memory_type}
 use Rattle.wat_types.specs.declared.limits.MemoryType.{MemoryType}
 use Rattle.wat_links.specs.Export.{seen_inline_export}
-use Rattle.wat_links.specs.Head.{HeadTy, head_of, bare_head, head}
+use Rattle.wat_links.specs.Head.{HeadTy, field_head, bare_head, head}
 use Rattle.wat_links.specs.Import.{seen_inline_import, inline_import, begins_inline_import}
-use Rattle.wat_segments.specs.DataVal.{DataValTy, seen_vals}
+use Rattle.wat_segments.specs.DataVal.{DataValTy, seen_data_vals}
 use Rattle.wat_segments.specs.DataVals.{data_vals}
 use Rattle.wat_segments.specs.declared.memory.Memory.{Memory}
 use Rattle.wat_segments.specs.declared.memory.MemoryKind.{MemoryKind}
@@ -37,11 +37,11 @@ memory_of h k = record { head = h; kind = k }
 abbrev pub seen_memory_kind : MemoryKind → MemoryKindTy
 seen_memory_kind (code.Import i t) = imported (seen_inline_import i) t
 seen_memory_kind (code.Normal t) = normal t
-seen_memory_kind (code.Inline b d p) = inline b p (seen_vals d.items)
+seen_memory_kind (code.Inline b d p) = inline b p (seen_data_vals d.items)
 
 abbrev pub seen_memory : Memory → MemoryTy
 seen_memory m =
-    memory_of (head_of (seen_label m.id m.name) (seen_inline_export m.exports))
+    memory_of (field_head (seen_label m.id m.name) (seen_inline_export m.exports))
     (seen_memory_kind m.kind)
 
 -- no data in line

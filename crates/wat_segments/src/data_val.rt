@@ -4,7 +4,8 @@ ghost use Rattle.std.specs.Prelude.{◌≡◌, ◌+◌, ◌++◌, length, false,
 ghost use Rattle.wat_tokens.specs.Tests.{begins_lparen};
 ghost use Rattle.wat_tokens.specs.Parses.{no_items};
 ghost use Rattle.wat_tokens.specs.Reads.{Reads};
-ghost use Rattle.wat_segments.specs.DataVal.{DataValTy, bytes_in, seen_val, seen_vals, bare_val};
+ghost use Rattle.wat_segments.specs.DataVal.{DataValTy, bytes_in, seen_data_val, seen_data_vals};
+ghost use Rattle.wat_segments.specs.DataVal.{bare_val};
 ghost use Rattle.wat_segments.specs.DataVal.{data_val};
 ghost use Rattle.wat_segments.specs.DataVals.{data_vals};
 
@@ -25,7 +26,7 @@ pub enum DataVal<'a> {
 impl<'a> DataVal<'a> {
     /// How many bytes it has.
     pub fn len(&self) -> usize
-        ensures { result ≡ length (bytes_in (seen_val self.now)) }
+        ensures { result ≡ length (bytes_in (seen_data_val self.now)) }
     {
         match self {
             DataVal::String(bytes) => bytes.len(),
@@ -35,7 +36,7 @@ impl<'a> DataVal<'a> {
 
     /// Whether it has no bytes.
     pub fn is_empty(&self) -> bool
-        ensures { result ≡ no_items (bytes_in (seen_val self.now)) }
+        ensures { result ≡ no_items (bytes_in (seen_data_val self.now)) }
     {
         match self {
             DataVal::String(bytes) => bytes.is_empty(),
@@ -47,12 +48,12 @@ impl<'a> DataVal<'a> {
     /// list is as it was.
     pub fn push_onto(&self, dst: &mut Vec<u8>) -> Result<()>
         ensures put { MatchResult result (λ _. dst.new.items ≡ dst.old.items ++ bytes_in
-            (seen_val self.now)) (λ e. (e.fault ≡ Fault.Memory)
+            (seen_data_val self.now)) (λ e. (e.fault ≡ Fault.Memory)
             × (dst.new.items ≡ dst.old.items)) }
         // The list grows by as many bytes as `len` answers.
         ensures grows { IfOk result (λ _. length dst.new.items ≡ length dst.old.items + length
-            (bytes_in (seen_val self.now))) }
-        ensures some { IfErr result (λ _. no_items (bytes_in (seen_val self.now)) ≡ false) }
+            (bytes_in (seen_data_val self.now))) }
+        ensures some { IfErr result (λ _. no_items (bytes_in (seen_data_val self.now)) ≡ false) }
     {
         match self {
             DataVal::String(bytes) => append(dst, bytes),
@@ -78,7 +79,7 @@ fn lparen_next(parser: &Parser<'_>) -> bool
 impl<'a> Parse<'a> for DataVal<'a> {
     ghost Seen = { DataValTy };
 
-    ghost seen = { seen_val };
+    ghost seen = { seen_data_val };
 
     ghost light = { false };
 
@@ -101,7 +102,7 @@ impl<'a> Parse<'a> for DataVal<'a> {
 /// Values, to the end.
 #[tactic(auto, using(crate::specs::Laws::DataVal::data_val_eats), unfolding(crate::specs::DataVals::data_vals))]
 pub(crate) fn read_vals<'a>(parser: &mut Parser<'a>) -> Result<Vec<DataVal<'a>>>
-    ensures reads { Reads no_items (λ v. seen_vals v.items) result
+    ensures reads { Reads no_items (λ v. seen_data_vals v.items) result
         (data_vals.reads parser.old.left) parser.old parser.new }
 {
     all_to_end::<DataVal>(parser)

@@ -11,7 +11,7 @@ ghost use Rattle.wat_funcs.specs.Global.{seen_global_kind};
 ghost use Rattle.wat_funcs.specs.Tag.{seen_tag_kind};
 ghost use Rattle.wat_links.specs.Import.{seen_items};
 ghost use Rattle.wat_segments.specs.Data.{seen_data_kind};
-ghost use Rattle.wat_segments.specs.DataVal.{seen_vals};
+ghost use Rattle.wat_segments.specs.DataVal.{seen_data_vals};
 ghost use Rattle.wat_segments.specs.Memory.{seen_memory_kind};
 ghost use Rattle.wat_tokens.specs.Index.{seen_index};
 ghost use Rattle.wat_show.specs.Fields.{import_text, export_text, func_text, global_text, tag_text};
@@ -180,7 +180,7 @@ fn add_memory(out: &mut Vec<u8>, kind: &MemoryKind) -> Result<(), AllocError>
 
 fn add_data(out: &mut Vec<u8>, kind: &DataKind, values: &[DataVal]) -> Result<(), AllocError>
     ensures { OnOk result (out.new.items ≡ out.old.items ++ data_text (seen_data_kind kind.now)
-        (seen_vals values.now)) }
+        (seen_data_vals values.now)) }
 {
     match kind {
         DataKind::Passive => add_counted(out, "data passive ", total(values)),

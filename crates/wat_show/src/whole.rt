@@ -18,8 +18,8 @@ pub fn read_whole<'a, T: Parse<'a> + Drop>(
     arena: &'a Bump,
 ) -> Result<T, Error>
     ensures found { IfOk result (λ v. TextSpells T.grammar text.now (T.seen v)) }
-    ensures none { IfErr result (λ e. e.fault ≢ Memory → (v : T.Seen) → TextSpells T.grammar text.now v
-        → ⊥) }
+    ensures none { IfErr result (λ e. e.fault ≢ Memory → (v : T.Seen)
+        → TextSpells T.grammar text.now v → ⊥) }
 {
     one_cut();
     let mut parser = Parser::new(alloc, text, arena)?;

@@ -1,28 +1,56 @@
 -- What stands in front, and what stands behind it.
 use Rattle.std.proofs.Common.{refl, ◌≡◌, ◌≢◌, ℕ, ◌+◌, ◌<◌, ◌≤◌, Bool, List, [], ◌∷◌, length, get_or, drop, sym, ap, ◌∙◌, arith, subst, length-drop, drop-drop}
 use Rattle.std.proofs.lemmas.List.{drop_more, drop-map}
-use Rattle.wat_lexer.specs.Token.{Tok, Entry, tokens_of}
+use Rattle.std.specs.Prelude.{true, false, None}
+use Rattle.wat_lexer.specs.Token.{Tok, Entry, LParen, RParen, Annotation, tokens_of, is_open, is_close, is_annotation}
+use Rattle.wat_lexer.specs.Laws.Shown.{shown_some}
 use Rattle.wat_lexer.specs.Sight.{as_shown}
 use Rattle.wat_lexer.specs.View.{entry_tok, toks, placed, Shown}
+use Rattle.wat_tokens.specs.Tests.{ends, as_lparen, as_rparen, as_annotation}
 
 some_shown : (known : Bool) (ls : List Entry) (left : List Tok) → Shown known ls left → left ≢ [] → 1 ≤ length ls
 some_shown known [] left s some = absurd (some s)
 some_shown known (x ∷ ls) left s some = omega arith
 
--- a token stands behind what is hidden, where one is visible
-pub stands_before : (known : Bool) (ls : List Entry) (i n : ℕ) (left : List Tok) → Shown known (drop n (drop i ls)) left → left ≢ [] → i + n < length ls
-stands_before known ls i n left s some = omega (arith, some_shown known (drop n (drop i ls)) left s some, length-drop n (drop i ls), length-drop i ls)
+-- a token stands at the place, where one is visible from there
+pub stands_before : (known : Bool) (ls : List Entry) (i : ℕ) (left : List Tok) → Shown known (drop i ls) left → left ≢ [] → i < length ls
+stands_before known ls i left s some = omega (arith, some_shown known (drop i ls) left s some, length-drop i ls)
 
 -- and behind it stands what is visible behind it
-pub steps_to : (known : Bool) (ls : List Entry) (i n : ℕ) (d : Entry) (left : List Tok) → Shown known (drop n (drop i ls)) left → i + n < length ls → as_shown known (toks (drop (i + n + 1) ls)) ≡ drop 1 left
-steps_to known ls i n d left s lt =
-    let c : drop n (drop i ls) ≡ get_or ls (i + n) d ∷ drop (i + n + 1) ls = drop-drop n i ls ∙ drop_more ls (i + n) d lt in
-    let e : left ≡ entry_tok (get_or ls (i + n) d) ∷ as_shown known (toks (drop (i + n + 1) ls)) = subst (λ (l : List Entry). Shown known l left) c s in
-    ap (drop 1) (sym e)
+pub steps_to : (known : Bool) (ls : List Entry) (i : ℕ) (left : List Tok) → Shown known (drop i ls) left → i < length ls → as_shown known (toks (drop (i + 1) ls)) ≡ drop 1 left
+steps_to known ls i left s lt = ap (drop 1) (sym (shown_some known ls i left s lt))
 
 -- the tokens behind the one in front are those behind its place
 pub rest_behind : (ls : List Entry) (i n : ℕ) → toks (drop (i + n + 1) ls) ≡ drop (n + 1) (toks (drop i ls))
 rest_behind ls i n = ap (λ (l : List Entry). toks l) (ap (λ (k : ℕ). drop k ls) {x = i + n + 1} {y = i + (n + 1)} (omega arith) ∙ sym (drop-drop (n + 1) i ls)) ∙ sym (drop-map entry_tok (n + 1) (drop i ls))
+
+-- WHAT A TOKEN'S KIND TELLS
+
+pub ends_first : (t : Tok) (r : List Tok) → ends (t ∷ r) ≡ is_close t
+ends_first RParen r = refl
+ends_first _ r = refl
+
+pub open_is : (t : Tok) → is_open t ≡ true → t ≡ LParen
+open_is LParen e = refl
+open_is _ e = absurd cc
+
+pub close_is : (t : Tok) → is_close t ≡ true → t ≡ RParen
+close_is RParen e = refl
+close_is _ e = absurd cc
+
+pub open_none : (t : Tok) → is_open t ≡ false → as_lparen t ≡ None
+open_none LParen e = absurd cc
+open_none _ e = refl
+
+pub close_none : (t : Tok) → is_close t ≡ false → as_rparen t ≡ None
+close_none RParen e = absurd cc
+close_none _ e = refl
+
+pub annotation_none : (t : Tok) → is_annotation t ≡ false → as_annotation t ≡ None
+annotation_none (Annotation n) e = absurd cc
+annotation_none _ e = refl
+
+pub ruleset paren_steps = (ends_first, open_is, close_is, open_none, close_none)
 
 -- the code's tokens are those of their places
 pub tokens_of-placed : (ls : List Entry) → tokens_of (placed ls) ≡ toks ls

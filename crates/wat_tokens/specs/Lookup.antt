@@ -1,8 +1,9 @@
 -- What lookups answer.
-use Rattle.std.specs.Prelude.{◌≡◌, ◌∷◌, [], List, drop, Option, Some, None}
-use Rattle.wat_lexer.specs.Token.{Tok}
-use Rattle.wat_lexer.specs.Sight.{as_shown}
-use Rattle.wat_lexer.specs.View.{view, toks}
+use Rattle.std.specs.Prelude.{◌≡◌, ◌≤◌, ◌+◌, ◌∷◌, [], ℕ, Bool, List, length, drop, Option, Some}
+use Rattle.std.specs.Prelude.{None}
+use Rattle.wat_lexer.specs.Token.{Tok, Entry}
+use Rattle.wat_lexer.specs.Sight.{as_shown, hidden}
+use Rattle.wat_lexer.specs.View.{view, toks, Shown}
 use Rattle.wat_lexer.specs.declared.token.Token.{Token}
 use Rattle.wat_tokens.specs.PartSpells.{one_reads}
 use Rattle.wat_tokens.specs.declared.cursor.Cursor.{Cursor}
@@ -10,6 +11,13 @@ use Rattle.wat_tokens.specs.declared.cursor.Cursor.{Cursor}
 -- the tokens that a lookup sees
 abbrev pub in_front : Cursor → List Tok
 in_front c = as_shown c.known (toks (drop c.at c.tokens.now))
+
+-- the first of the tokens from a place on that is visible stands at `front`, which is their end
+-- where none is
+pub record IsFront (known : Bool) (at front : ℕ) (ls : List Entry) : Type 0 where
+  pub behind : front ≡ at + hidden known (toks (drop at ls))
+  pub within : front ≤ length ls
+  pub shows : Shown known (drop front ls) (as_shown known (toks (drop at ls)))
 
 -- the token in front, where there is one
 abbrev pub FirstIs : Option Token → List Tok → Type 0

@@ -95,12 +95,12 @@ abbrev pub flag : List ℕ → Production Bool
 flag w = made (λ o. is_some o) (opt (begins_word w) (word w))
 
 -- @name
-abbrev pub annotated : List ℕ → Production (Unit {0})
-annotated name = one (annotation_only name) (refl, refl)
+abbrev pub annotation_token : List ℕ → Production (Unit {0})
+annotation_token name = one (annotation_only name) (refl, refl)
 
 -- @name g, the value of g
 abbrev pub annotation : {A : Type 0} → List ℕ → Production A → Production A
-annotation name g = made (λ v. v.1) (seq (annotated name) g)
+annotation name g = made (λ v. v.1) (seq (annotation_token name) g)
 
 -- w g, the value of g
 abbrev pub after_word : {A : Type 0} → List ℕ → Production A → Production A

@@ -4,7 +4,7 @@ ghost use Rattle.std.specs.Prelude.{◌≡◌, ◌≤◌, length, drop};
 ghost use Rattle.wat_lexer.specs.View.{AreLeaps};
 
 use wat_lexer::number::Integer;
-use wat_lexer::sight::next;
+use wat_lexer::sight::shown;
 use wat_lexer::token::Token;
 use wat_lexer::tokens::Tokens;
 
@@ -26,7 +26,7 @@ pub struct Cursor<'p> {
 impl<'p> Cursor<'p> {
     ghost use Rattle.wat_lexer.specs.Integer.{text_of};
     ghost use Rattle.wat_lexer.specs.Sight.{as_shown};
-    ghost use Rattle.wat_lexer.specs.View.{toks};
+    ghost use Rattle.wat_lexer.specs.View.{toks, Shown};
     ghost use Rattle.wat_tokens.specs.Lookup.{in_front, NextIs, GivesRest, GivesContent};
     ghost use Rattle.wat_tokens.specs.Tests.{as_any, as_lparen, as_rparen, as_keyword, as_id};
     ghost use Rattle.wat_tokens.specs.Tests.{as_annotation, as_integer, as_string, begins_group};
@@ -41,42 +41,74 @@ impl<'p> Cursor<'p> {
         Cursor { tokens, at, known }
     }
 
+    /// The place of the token in front: the first one that is visible.
+    fn place(self) -> usize
+        ensures within { result ≤ length self.entry.tokens.now }
+        ensures first { Shown self.entry.known (drop result self.entry.tokens.now)
+            (in_front self.entry) }
+    {
+        shown(self.tokens, self.at, self.known)
+    }
+
+    /// The same lookups at another place.
+    fn moved_to(self, place: usize) -> Cursor<'p>
+        requires { place ≤ length self.tokens.now }
+        ensures { in_front result ≡ as_shown self.entry.known
+            (toks (drop place self.entry.tokens.now)) }
+    {
+        Cursor::new(self.tokens, place, self.known)
+    }
+
     /// The token in front, and the place behind it.
+    #[tactic(auto, using(wat_lexer::specs::Laws::Shown::shown_some, wat_lexer::specs::Laws::Shown::shown_none))]
     fn next(self) -> Option<(Token<'p>, Cursor<'p>)>
         ensures { NextIs result (in_front self.entry) }
     {
-        let (token, behind) = next(self.tokens, self.at, self.known)?;
-        Some((token, Cursor::new(self.tokens, behind, self.known)))
-    }
-
-    /// Behind a `(`.
-    pub fn lparen(self) -> Option<Cursor<'p>>
-        ensures { GivesRest as_lparen (in_front self.entry) result }
-    {
-        let (token, rest) = self.next()?;
-        match token {
-            Token::LParen => Some(rest),
-            _ => None,
+        let place = self.place();
+        if place < self.tokens.len() {
+            Some((self.tokens.token(place), self.moved_to(place + 1)))
+        } else {
+            None
         }
     }
 
-    /// Behind a `)`.
+    /// Behind a `(`. No more is read of the token than its kind.
+    #[tactic(auto, using(crate::proofs::Steps::paren_steps, wat_lexer::specs::Laws::Shown::shown_some, wat_lexer::specs::Laws::Shown::shown_none))]
+    pub fn lparen(self) -> Option<Cursor<'p>>
+        ensures { GivesRest as_lparen (in_front self.entry) result }
+    {
+        let place = self.place();
+        if place < self.tokens.len() && self.tokens.opens(place) {
+            Some(self.moved_to(place + 1))
+        } else {
+            None
+        }
+    }
+
+    /// Behind a `)`. No more is read of the token than its kind.
+    #[tactic(auto, using(crate::proofs::Steps::paren_steps, wat_lexer::specs::Laws::Shown::shown_some, wat_lexer::specs::Laws::Shown::shown_none))]
     pub fn rparen(self) -> Option<Cursor<'p>>
         ensures { GivesRest as_rparen (in_front self.entry) result }
     {
-        let (token, rest) = self.next()?;
-        match token {
-            Token::RParen => Some(rest),
-            _ => None,
+        let place = self.place();
+        if place < self.tokens.len() && self.tokens.closes(place) {
+            Some(self.moved_to(place + 1))
+        } else {
+            None
         }
     }
 
     /// Behind one token, whatever it is.
+    #[tactic(auto, using(wat_lexer::specs::Laws::Shown::shown_some, wat_lexer::specs::Laws::Shown::shown_none))]
     pub fn any(self) -> Option<Cursor<'p>>
         ensures { GivesRest as_any (in_front self.entry) result }
     {
-        let (_, rest) = self.next()?;
-        Some(rest)
+        let place = self.place();
+        if place < self.tokens.len() {
+            Some(self.moved_to(place + 1))
+        } else {
+            None
+        }
     }
 
     /// Behind a keyword, with the word.
@@ -101,13 +133,18 @@ impl<'p> Cursor<'p> {
         }
     }
 
-    /// Behind an annotation, with the name, without its `@`.
+    /// Behind an annotation, with the name, without its `@`. Of another token no more is read than
+    /// its kind.
+    #[tactic(auto, using(crate::proofs::Steps::annotation_none, wat_lexer::specs::Laws::Shown::shown_some, wat_lexer::specs::Laws::Shown::shown_none))]
     pub fn annotation(self) -> Option<(&'p str, Cursor<'p>)>
         ensures { GivesContent (λ n. n.now) as_annotation (in_front self.entry) result }
     {
-        let (token, rest) = self.next()?;
-        match token {
-            Token::Annotation(content) => Some((content, rest)),
+        let place = self.place();
+        if place >= self.tokens.len() || !self.tokens.annotates(place) {
+            return None;
+        }
+        match self.tokens.token(place) {
+            Token::Annotation(content) => Some((content, self.moved_to(place + 1))),
             _ => None,
         }
     }

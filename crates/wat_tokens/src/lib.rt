@@ -18,6 +18,7 @@ pub mod strings;
 pub mod tally;
 pub mod traits;
 pub mod whole;
+pub mod words;
 pub mod wrapped;
 
 pub use cursor::Cursor;

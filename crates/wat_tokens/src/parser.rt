@@ -1,12 +1,12 @@
 //! The parser: a place in the tokens, and what was counted.
 
-ghost use Rattle.std.specs.Prelude.{◌≡◌, ◌≢◌, ◌+◌, ◌≤◌, List, [], length, drop, max, IfOk, IfErr};
-ghost use Rattle.std.specs.Prelude.{false};
+ghost use Rattle.std.specs.Prelude.{◌≡◌, ◌≢◌, ◌+◌, ◌≤◌, List, [], ◌∷◌, length, drop, max, IfOk};
+ghost use Rattle.std.specs.Prelude.{false, None, IfErr, MatchBool};
 ghost use Rattle.wat_lexer.specs.Cut.{IsCut, FirstFault};
 ghost use Rattle.wat_lexer.specs.Integer.{text_of};
 ghost use Rattle.wat_lexer.specs.Place.{offset_of};
 ghost use Rattle.wat_lexer.specs.Sight.{as_shown, hidden};
-ghost use Rattle.wat_lexer.specs.Token.{Placed};
+ghost use Rattle.wat_lexer.specs.Token.{Placed, LParen, RParen};
 ghost use Rattle.wat_lexer.specs.View.{toks, AreLeaps};
 ghost use Rattle.wat_tokens.specs.Counts.{Carries, Counted, Quiet, Kept};
 ghost use Rattle.wat_tokens.specs.Lookup.{in_front, FirstIs};
@@ -27,7 +27,7 @@ use std::marker::Model;
 use wat_lexer::cut::cut;
 use wat_lexer::fault::{Error, Fault};
 use wat_lexer::number::Integer;
-use wat_lexer::sight::{next, shown};
+use wat_lexer::sight::shown;
 use wat_lexer::span::Span;
 use wat_lexer::token::Token;
 use wat_lexer::tokens::Tokens;
@@ -48,6 +48,8 @@ use wat_lexer::tokens::Tokens;
 pub struct Parser<'a> {
     tokens: Tokens<'a>,
     at: usize,
+    /// The place of the token in front: the first one from `at` on that is visible.
+    front: usize,
     /// How many bytes the text has.
     end: usize,
     /// How many bytes stand before the last token that was taken.
@@ -70,10 +72,11 @@ impl<'a> Model for Parser<'a> {
 
     ghost use Rattle.wat_lexer.specs.Sight.{as_shown};
     ghost use Rattle.wat_lexer.specs.View.{toks, AreLeaps};
+    ghost use Rattle.wat_tokens.specs.Lookup.{IsFront};
 
     ghost view = { λ p. record { rest = toks (drop p.at p.tokens); left = as_shown p.known (toks (drop p.at p.tokens)); known = p.known; tracks = p.tracks; taken = p.taken.count; turns = p.turns.count; probes = p.probes.count; peak = p.peak; held = p.held } };
 
-    ghost invariant = { λ p. (p.at ≤ length p.tokens) × AreLeaps p.tokens };
+    ghost invariant = { λ p. (p.at ≤ length p.tokens) × AreLeaps p.tokens × IsFront p.known p.at p.front p.tokens };
 }
 
 impl<'a> Parser<'a> {
@@ -99,9 +102,11 @@ impl<'a> Parser<'a> {
         requires { AreLeaps tokens }
         ensures { result ≡ begun (toks tokens.entry) }
     {
+        let front = shown(&tokens, 0, false);
         Parser {
             tokens,
             at: 0,
+            front,
             end,
             prev: 0,
             known: false,
@@ -118,10 +123,14 @@ impl<'a> Parser<'a> {
     /// Makes the five standard annotations known or unknown: `custom`, `producers`, `name`,
     /// `dylink.0` and `metadata.code.branch_hint`. The parser stays where it is.
     pub fn with_standard_annotations(&mut self, on: bool)
-        ensures value { self.new ≡ record self.old { known = on; left = as_shown on self.old.rest } }
+        ensures value { self.new ≡ record self.old {
+          known = on;
+          left = as_shown on self.old.rest;
+        } }
         ensures was { self.old.left ≡ as_shown self.old.known self.old.rest }
     {
         self.known = on;
+        self.front = shown(&self.tokens, self.at, on);
     }
 
     /// Whether the five standard annotations are known.
@@ -195,9 +204,8 @@ impl<'a> Parser<'a> {
     /// Where the token in front begins, or the end of the text where none is left. No clause says
     /// which offset it is.
     pub fn cur_span(&self) -> Span {
-        let place = shown(&self.tokens, self.at, self.known);
-        if place < self.tokens.len() {
-            Span::from_offset(self.tokens.offset(place))
+        if self.front < self.tokens.len() {
+            Span::from_offset(self.tokens.offset(self.front))
         } else {
             Span::from_offset(self.end)
         }
@@ -223,13 +231,11 @@ impl<'a> Parser<'a> {
     }
 
     /// Whether nothing is left, or what closes a group stands in front.
+    #[tactic(auto, using(crate::proofs::Steps::paren_steps, wat_lexer::specs::Laws::Shown::shown_some, wat_lexer::specs::Laws::Shown::shown_none))]
     pub fn is_empty(&self) -> bool
         ensures { result ≡ ends self.now.left }
     {
-        match self.first() {
-            None | Some(Token::RParen) => true,
-            Some(_) => false,
-        }
+        self.front >= self.tokens.len() || self.tokens.closes(self.front)
     }
 
     /// Whether the keyword stands in front.
@@ -277,11 +283,33 @@ impl<'a> Parser<'a> {
     }
 
     /// The token in front.
+    #[tactic(auto, using(wat_lexer::specs::Laws::Shown::shown_some, wat_lexer::specs::Laws::Shown::shown_none))]
     fn first(&self) -> Option<Token<'a>>
         ensures { FirstIs result self.now.left }
     {
-        let (token, _) = next(&self.tokens, self.at, self.known)?;
-        Some(token)
+        if self.front < self.tokens.len() {
+            Some(self.tokens.token(self.front))
+        } else {
+            None
+        }
+    }
+
+    /// Whether a `(` stands in front. No more is read of the token than its kind.
+    #[tactic(auto, using(crate::proofs::Steps::paren_steps, wat_lexer::specs::Laws::Shown::shown_some, wat_lexer::specs::Laws::Shown::shown_none))]
+    fn opens(&self) -> bool
+        ensures { MatchBool result (self.now.left ≡ LParen ∷ drop 1 self.now.left)
+            (one_reads as_lparen self.now.left ≡ None) }
+    {
+        self.front < self.tokens.len() && self.tokens.opens(self.front)
+    }
+
+    /// Whether a `)` stands in front. No more is read of the token than its kind.
+    #[tactic(auto, using(crate::proofs::Steps::paren_steps, wat_lexer::specs::Laws::Shown::shown_some, wat_lexer::specs::Laws::Shown::shown_none))]
+    fn closes(&self) -> bool
+        ensures { MatchBool result (self.now.left ≡ RParen ∷ drop 1 self.now.left)
+            (one_reads as_rparen self.now.left ≡ None) }
+    {
+        self.front < self.tokens.len() && self.tokens.closes(self.front)
     }
 
     /// Takes the token in front.
@@ -295,10 +323,10 @@ impl<'a> Parser<'a> {
         ensures quiet { Quiet self.old self.new }
         ensures names { Kept self.old self.new }
     {
-        let at = shown(&self.tokens, self.at, self.known);
-        prove!(at < self.tokens.len());
-        self.prev = self.tokens.offset(at);
-        self.at = at + 1;
+        prove!(self.front < self.tokens.len());
+        self.prev = self.tokens.offset(self.front);
+        self.at = self.front + 1;
+        self.front = shown(&self.tokens, self.at, self.known);
         self.taken.tick();
     }
 
@@ -323,13 +351,11 @@ impl<'a> Parser<'a> {
         ensures refused { Unmoved result self.old self.new }
         ensures stands { BehindOne result self.old self.new }
     {
-        match self.first() {
-            Some(Token::LParen) => {
-                self.step();
-                Ok(())
-            }
-            _ => Err(self.unexpected()),
+        if !self.opens() {
+            return Err(self.unexpected());
         }
+        self.step();
+        Ok(())
     }
 
     /// Takes a `)`, or refuses with Unexpected.
@@ -339,13 +365,11 @@ impl<'a> Parser<'a> {
         ensures refused { Unmoved result self.old self.new }
         ensures stands { BehindOne result self.old self.new }
     {
-        match self.first() {
-            Some(Token::RParen) => {
-                self.step();
-                Ok(())
-            }
-            _ => Err(self.unexpected()),
+        if !self.closes() {
+            return Err(self.unexpected());
         }
+        self.step();
+        Ok(())
     }
 
     /// Takes the one keyword (Text Format, "Tokens") and answers where it begins, or refuses with

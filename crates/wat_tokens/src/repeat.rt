@@ -43,7 +43,8 @@ pub trait Part<'a, V> {
 
     /// Takes the part that stands in front, or refuses as [`Parse::parse`] does.
     fn take(parser: &mut Parser<'a>) -> Result<V, Error>
-        ensures exact { Gives light bare seen result (grammar.reads parser.old.left) parser.new.left }
+        ensures exact { Gives light bare seen result
+            (grammar.reads parser.old.left) parser.new.left }
         ensures counts { Counted result parser.old parser.new }
         ensures quiet { IsTrue quiet → Quiet parser.old parser.new }
         ensures names { Kept parser.old parser.new };

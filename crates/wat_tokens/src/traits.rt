@@ -43,7 +43,8 @@ pub trait Parse<'a>: Sized {
     /// Where none does, it is refused with the first fault that is met, and the parser then has
     /// some end of its tokens left. Memory may be answered where the value isn't bare.
     fn parse(parser: &mut Parser<'a>) -> Result<Self, Error>
-        ensures exact { Gives light bare seen result (grammar.reads parser.old.left) parser.new.left }
+        ensures exact { Gives light bare seen result
+            (grammar.reads parser.old.left) parser.new.left }
         ensures counts { Counted result parser.old parser.new }
         ensures quiet { IsTrue quiet → Quiet parser.old parser.new }
         ensures stays { IsTrue stays → Stays parser.old parser.new }

@@ -12,7 +12,7 @@ use Rattle.wat_tokens.specs.Many.{after_front}
 use Rattle.wat_tokens.specs.ManySpells.{many_reads}
 use Rattle.wat_tokens.specs.Index.{Idx, index, begins_index}
 use Rattle.wat_tokens.specs.Parses.{NotBare, no_items}
-use Rattle.wat_types.specs.Define.{DefTy, bare_kind, bare_def, described, maybe_shared, type_def}
+use Rattle.wat_types.specs.Define.{DefTy, bare_inner_kind, bare_def, described, maybe_shared, type_def}
 
 described_alone : (d : DefTy) (c r : List Tok) → described.spells d c r → d.parents ≡ []
 unfolding described
@@ -43,6 +43,6 @@ module _ (b : Bool) (ps : List Idx) (t t1 t2 t3 : List Tok) (k : begins_word (co
   sub_not_bare n = rw (k, e, f, front_is (many_reads begins_index index t2) (ps, t3) g) (by_read ((paren maybe_shared).reads t3)
       (λ y m. (let s = (paren maybe_shared).sound t3 y m in
       let bare : bare_def y.0 ≡ false = rw m at n in
-      let left : bare_kind y.0.kind ≡ false = bare_left y.0.parents (bare_kind y.0.kind) (alone y.0 s.2.0 (RParen ∷ y.1) s.2.2) bare in
-      rw m (and_right (no_items ps) (bare_kind y.0.kind) left)))
+      let left : bare_inner_kind y.0.kind ≡ false = bare_left y.0.parents (bare_inner_kind y.0.kind) (alone y.0 s.2.0 (RParen ∷ y.1) s.2.2) bare in
+      rw m (and_right (no_items ps) (bare_inner_kind y.0.kind) left)))
       (λ m. rw m tt))

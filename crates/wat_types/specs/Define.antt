@@ -23,27 +23,27 @@ use Rattle.wat_types.specs.StructType.{struct_type}
 -- ---- what is defined
 
 -- a function type, a structure type, an array type or a continuation type
-pub data KindTy : Type 0 where
-  func : FuncTy → KindTy
-  struct_ : List MemberTy → KindTy
-  array : FieldTy → KindTy
-  cont : Idx → KindTy
+pub data InnerKindTy : Type 0 where
+  func : FuncTy → InnerKindTy
+  struct_ : List MemberTy → InnerKindTy
+  array : FieldTy → InnerKindTy
+  cont : Idx → InnerKindTy
 
-abbrev pub seen_kind : InnerTypeKind → KindTy
-seen_kind (code.Func f) = func (seen_function f)
-seen_kind (code.Struct s) = struct_ (seen_struct s)
-seen_kind (code.Array a) = array (seen_array a)
-seen_kind (code.Cont c) = cont (seen_index c.0)
+abbrev pub seen_inner_kind : InnerTypeKind → InnerKindTy
+seen_inner_kind (code.Func f) = func (seen_function f)
+seen_inner_kind (code.Struct s) = struct_ (seen_struct s)
+seen_inner_kind (code.Array a) = array (seen_array a)
+seen_inner_kind (code.Cont c) = cont (seen_index c.0)
 
 -- no parameter, no result and no field
-abbrev pub bare_kind : KindTy → Bool
-bare_kind (func f) = bare_function f
-bare_kind (struct_ ms) = no_items ms
-bare_kind (array f) = true
-bare_kind (cont i) = true
+abbrev pub bare_inner_kind : InnerKindTy → Bool
+bare_inner_kind (func f) = bare_function f
+bare_inner_kind (struct_ ms) = no_items ms
+bare_inner_kind (array f) = true
+bare_inner_kind (cont i) = true
 
 -- `func` FunctionType | `struct` StructType | `array` ArrayType | `cont` ContType
-unfoldable pub kind : Production KindTy
+unfoldable pub kind : Production InnerKindTy
 kind =
     where_else (begins_word (codes "func")) (made func (after_word (codes "func") function_type))
     (where_else (begins_word (codes "struct"))
@@ -55,7 +55,7 @@ kind =
 
 -- a definition of a type, without places
 pub record DefTy : Type 0 where
-  pub kind : KindTy
+  pub kind : InnerKindTy
   pub shared : Bool
   pub parents : List Idx
   pub descriptor : Option Idx
@@ -65,7 +65,7 @@ pub record DefTy : Type 0 where
 abbrev pub seen_def : TypeDef → DefTy
 seen_def d =
     record {
-      kind = seen_kind d.kind;
+      kind = seen_inner_kind d.kind;
       shared = d.shared;
       parents = map seen_index d.parents.items;
       descriptor =
@@ -77,13 +77,13 @@ seen_def d =
 
 -- no parent, no parameter, no result and no field
 abbrev pub bare_def : DefTy → Bool
-bare_def d = no_items d.parents && bare_kind d.kind
+bare_def d = no_items d.parents && bare_inner_kind d.kind
 
 -- the word, an index, and then `) (`; or nothing, where the word doesn't stand
 unfoldable pub linked : List ℕ → Production (Option Idx)
 linked w = opt (begins_word w) (after_word w (made (λ v. v.0) (seq index turn)))
 
-abbrev pub plain_def : Option Idx × (Option Idx × KindTy) → DefTy
+abbrev pub plain_def : Option Idx × (Option Idx × InnerKindTy) → DefTy
 plain_def v =
     record {
       kind = v.1.1;

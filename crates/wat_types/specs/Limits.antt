@@ -49,21 +49,21 @@ pub record TableTy : Type 0 where
   pub elem : RefTy
   pub shared : Bool
 
-abbrev pub seen_table : TableType → TableTy
-seen_table t = record { limits = t.limits; elem = seen_ref t.elem; shared = t.shared }
+abbrev pub seen_table_type : TableType → TableTy
+seen_table_type t = record { limits = t.limits; elem = seen_ref t.elem; shared = t.shared }
 
-abbrev pub table_of : Bool × (Limits × RefTy) → TableTy
-table_of v = record { shared = v.0; limits = v.1.0; elem = v.1.1 }
+abbrev pub table_type_of : Bool × (Limits × RefTy) → TableTy
+table_type_of v = record { shared = v.0; limits = v.1.0; elem = v.1.1 }
 
 -- shared? Limits RefType
 unfoldable pub table_type : Production TableTy
-table_type = made table_of (seq (flag (codes "shared")) (seq limits_type ref_type))
+table_type = made table_type_of (seq (flag (codes "shared")) (seq limits_type ref_type))
 
 -- ---- memory types
 
-abbrev pub memory_of : Limits × (Bool × Option ℕ) → MemoryType
-memory_of v = record { limits = v.0; shared = v.1.0; page_size_log2 = v.1.1 }
+abbrev pub memory_type_of : Limits × (Bool × Option ℕ) → MemoryType
+memory_type_of v = record { limits = v.0; shared = v.1.0; page_size_log2 = v.1.1 }
 
 -- Limits shared? pagesize?
 unfoldable pub memory_type : Production MemoryType
-memory_type = made memory_of (seq limits_type (seq (flag (codes "shared")) pagesize_or_none))
+memory_type = made memory_type_of (seq limits_type (seq (flag (codes "shared")) pagesize_or_none))

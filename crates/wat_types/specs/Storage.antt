@@ -38,15 +38,15 @@ pub record GlobalTy : Type 0 where
   pub mutable : Bool
   pub shared : Bool
 
-abbrev pub seen_global : GlobalType → GlobalTy
-seen_global t = record { ty = seen_val t.ty; mutable = t.mutable; shared = t.shared }
+abbrev pub seen_global_type : GlobalType → GlobalTy
+seen_global_type t = record { ty = seen_val t.ty; mutable = t.mutable; shared = t.shared }
 
 -- the second token is `shared` or `mut`, whatever the first is
 abbrev pub long_global : List Tok → Bool
 long_global t = second (begins_word (codes "shared")) t || second (begins_word (codes "mut")) t
 
-abbrev pub global_of : Bool × (Bool × ValTy) → GlobalTy
-global_of v = record { shared = v.0; mutable = v.1.0; ty = v.1.1 }
+abbrev pub global_type_of : Bool × (Bool × ValTy) → GlobalTy
+global_type_of v = record { shared = v.0; mutable = v.1.0; ty = v.1.1 }
 
 -- neither mutable nor shared
 abbrev pub plain_global : ValTy → GlobalTy
@@ -55,6 +55,6 @@ plain_global t = record { ty = t; mutable = false; shared = false }
 -- where the second token is `shared` or `mut`, ( shared? mut? ValType ); else ValType
 unfoldable pub global_type : Production GlobalTy
 global_type =
-    where_else long_global (made global_of
+    where_else long_global (made global_type_of
     (paren (seq (flag (codes "shared")) (seq (flag (codes "mut")) val_type))))
     (made plain_global val_type)

@@ -7,8 +7,8 @@ use Rattle.wat_types.specs.declared.tag.TagType.{TagType}
 use Rattle.wat_types.specs.declared.tag.TagType.TheVariants as code
 
 -- the use of a function type that it is
-abbrev pub seen_tag : TagType → UseTy FuncTy
-seen_tag (code.Exception u) = seen_use seen_function u
+abbrev pub seen_tag_type : TagType → UseTy FuncTy
+seen_tag_type (code.Exception u) = seen_use seen_function u
 
 -- a type use of a FunctionType
 abbrev pub tag_type : Production (UseTy FuncTy)

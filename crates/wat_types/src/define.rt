@@ -7,7 +7,8 @@ ghost use Rattle.wat_tokens.specs.Many.{after_front};
 ghost use Rattle.wat_tokens.specs.Parses.{no_items, seen_option};
 ghost use Rattle.wat_tokens.specs.Reads.{ReadsLight};
 ghost use Rattle.wat_tokens.specs.Tests.{second};
-ghost use Rattle.wat_types.specs.Define.{KindTy, seen_kind, bare_kind, kind, linked, DefTy};
+ghost use Rattle.wat_types.specs.Define.{InnerKindTy, seen_inner_kind, bare_inner_kind, kind};
+ghost use Rattle.wat_types.specs.Define.{linked, DefTy};
 ghost use Rattle.wat_types.specs.Define.{seen_def, bare_def, type_def};
 ghost use Rattle.wat_types.specs.Define.{TypeTy, seen_type, bare_type, type_, begins_type};
 ghost use Rattle.wat_types.specs.Define.{grouped_type, seen_types};
@@ -95,13 +96,13 @@ impl<'a> Parse<'a> for ContType<'a> {
 
 /// `func` FunctionType, `struct` StructType, `array` ArrayType, or `cont` ContType.
 impl<'a> Parse<'a> for InnerTypeKind<'a> {
-    ghost Seen = { KindTy };
+    ghost Seen = { InnerKindTy };
 
-    ghost seen = { seen_kind };
+    ghost seen = { seen_inner_kind };
 
     ghost light = { false };
 
-    ghost bare = { bare_kind };
+    ghost bare = { bare_inner_kind };
 
     ghost grammar = { kind };
 

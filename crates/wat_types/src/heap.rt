@@ -2,12 +2,12 @@
 
 ghost use Rattle.std.specs.Prelude.{◌≡◌, true};
 ghost use Rattle.wat_tokens.specs.Lookup.{in_front};
-ghost use Rattle.wat_tokens.specs.Tests.{look_up};
 ghost use Rattle.wat_types.specs.Heap.{abstract_words, abstract_heap_type, begins_abstract};
 ghost use Rattle.wat_types.specs.Heap.{heap_type, HeapTy, seen_heap, begins_heap};
 
 use crate::hand::{in_group, opens};
-use wat_tokens::{Cursor, Error, Fault, Index, Parse, Parser, Peek, Result};
+use wat_tokens::words::{Named, begins_named, take_named};
+use wat_tokens::{Cursor, Index, Parse, Parser, Peek, Result};
 
 /// An abstract heap type (Text Format, Types, "Heap Types"). Each variant has the name of its word.
 #[derive(Clone, Copy, Debug, PartialEq, Eq, Hash)]
@@ -59,25 +59,27 @@ pub enum HeapType<'a> {
 }
 
 /// The type that a word names.
-fn abstract_of(word: &str) -> Option<AbstractHeapType>
-    ensures { result ≡ look_up abstract_words word.now }
-{
-    match word {
-        "func" => Some(AbstractHeapType::Func),
-        "extern" => Some(AbstractHeapType::Extern),
-        "exn" => Some(AbstractHeapType::Exn),
-        "cont" => Some(AbstractHeapType::Cont),
-        "any" => Some(AbstractHeapType::Any),
-        "eq" => Some(AbstractHeapType::Eq),
-        "struct" => Some(AbstractHeapType::Struct),
-        "array" => Some(AbstractHeapType::Array),
-        "i31" => Some(AbstractHeapType::I31),
-        "nofunc" => Some(AbstractHeapType::NoFunc),
-        "noextern" => Some(AbstractHeapType::NoExtern),
-        "noexn" => Some(AbstractHeapType::NoExn),
-        "nocont" => Some(AbstractHeapType::NoCont),
-        "none" => Some(AbstractHeapType::None),
-        _ => None,
+impl Named for AbstractHeapType {
+    ghost words = { abstract_words };
+
+    fn named(word: &str) -> Option<Self> {
+        match word {
+            "func" => Some(AbstractHeapType::Func),
+            "extern" => Some(AbstractHeapType::Extern),
+            "exn" => Some(AbstractHeapType::Exn),
+            "cont" => Some(AbstractHeapType::Cont),
+            "any" => Some(AbstractHeapType::Any),
+            "eq" => Some(AbstractHeapType::Eq),
+            "struct" => Some(AbstractHeapType::Struct),
+            "array" => Some(AbstractHeapType::Array),
+            "i31" => Some(AbstractHeapType::I31),
+            "nofunc" => Some(AbstractHeapType::NoFunc),
+            "noextern" => Some(AbstractHeapType::NoExtern),
+            "noexn" => Some(AbstractHeapType::NoExn),
+            "nocont" => Some(AbstractHeapType::NoCont),
+            "none" => Some(AbstractHeapType::None),
+            _ => None,
+        }
     }
 }
 
@@ -94,25 +96,18 @@ impl<'a> Parse<'a> for AbstractHeapType {
 
     ghost grammar = { abstract_heap_type };
 
-    #[tactic(auto, using(wat_tokens::specs::Laws::Begin::reads_table, wat_tokens::specs::Laws::Begin::reads_no_table), unfolding(crate::specs::Heap::abstract_heap_type))]
+    #[tactic(auto, unfolding(crate::specs::Heap::abstract_heap_type))]
     fn parse(parser: &mut Parser<'a>) -> Result<Self> {
-        let span = parser.cur_span();
-        match abstract_of(parser.take_keyword()?) {
-            Some(ty) => Ok(ty),
-            None => Err(Error::at(Fault::Unexpected, span)),
-        }
+        take_named(parser)
     }
 }
 
 impl Peek for AbstractHeapType {
     ghost begins = { begins_abstract };
 
-    #[tactic(auto, using(wat_tokens::specs::Laws::Begin::begins_table, wat_tokens::specs::Laws::Begin::begins_no_table), unfolding(crate::specs::Heap::begins_abstract))]
+    #[tactic(auto, unfolding(crate::specs::Heap::begins_abstract))]
     fn peek(cursor: Cursor<'_>) -> bool {
-        match cursor.keyword() {
-            Some((word, _)) => abstract_of(word).is_some(),
-            None => false,
-        }
+        begins_named::<Self>(cursor)
     }
 
     fn display() -> &'static str {

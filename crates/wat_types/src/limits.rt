@@ -4,7 +4,7 @@ ghost use Rattle.std.specs.Prelude.{◌≡◌, true};
 ghost use Rattle.wat_tokens.specs.Reads.{ReadsLight};
 ghost use Rattle.wat_types.specs.Exponent.{exponent};
 ghost use Rattle.wat_types.specs.Limits.{is_64, page_exponent, pagesize_or_none, TableTy};
-ghost use Rattle.wat_types.specs.Limits.{seen_table, table_type};
+ghost use Rattle.wat_types.specs.Limits.{seen_table_type, table_type};
 
 use crate::reference::RefType;
 use wat_tokens::{Error, Fault, Parse, Parser, Result};
@@ -135,7 +135,7 @@ pub fn page_size<'a>(parser: &mut Parser<'a>) -> Result<Option<u32>>
 impl<'a> Parse<'a> for TableType<'a> {
     ghost Seen = { TableTy };
 
-    ghost seen = { seen_table };
+    ghost seen = { seen_table_type };
 
     ghost bare = { λ _. true };
 

@@ -2,7 +2,7 @@
 
 ghost use Rattle.std.specs.Prelude.{◌≡◌, true};
 ghost use Rattle.wat_types.specs.Storage.{StorageTy, seen_storage, storage_type, GlobalTy};
-ghost use Rattle.wat_types.specs.Storage.{seen_global, global_type, long_global};
+ghost use Rattle.wat_types.specs.Storage.{seen_global_type, global_type, long_global};
 
 use crate::value::ValType;
 use wat_tokens::{Parse, Parser, Result};
@@ -71,7 +71,7 @@ fn long_global_next(parser: &Parser<'_>) -> bool
 impl<'a> Parse<'a> for GlobalType<'a> {
     ghost Seen = { GlobalTy };
 
-    ghost seen = { seen_global };
+    ghost seen = { seen_global_type };
 
     ghost bare = { λ _. true };
 

@@ -4,7 +4,7 @@ ghost use Rattle.std.specs.Prelude.{◌≡◌, false};
 ghost use Rattle.wat_tokens.specs.Copies.{Copies};
 ghost use Rattle.wat_types.specs.Function.{bare_function};
 ghost use Rattle.wat_types.specs.Group.{FuncTy};
-ghost use Rattle.wat_types.specs.Tag.{SameTag, seen_tag, tag_type};
+ghost use Rattle.wat_types.specs.Tag.{SameTag, seen_tag_type, tag_type};
 ghost use Rattle.wat_types.specs.Use.{UseTy, bare_use};
 
 use crate::function::FunctionType;
@@ -22,7 +22,7 @@ impl<'a> TagType<'a> {
     /// The same type once more. Memory may be answered where its inline type has a parameter or a
     /// result.
     pub fn clone(&self) -> Result<TagType<'a>>
-        ensures copies { Copies SameTag seen_tag (bare_use bare_function) result self.now }
+        ensures copies { Copies SameTag seen_tag_type (bare_use bare_function) result self.now }
     {
         match self {
             TagType::Exception(ty) => Ok(TagType::Exception(ty.clone()?)),
@@ -34,7 +34,7 @@ impl<'a> TagType<'a> {
 impl<'a> Parse<'a> for TagType<'a> {
     ghost Seen = { UseTy FuncTy };
 
-    ghost seen = { seen_tag };
+    ghost seen = { seen_tag_type };
 
     ghost light = { false };
 

@@ -13,7 +13,7 @@ use Rattle.wat_customs.specs.Dylink.{sizes, mem_info_entry, names_entry, lone_en
 use Rattle.wat_customs.specs.DylinkEntries.{export_entry, import_entry}
 use Rattle.wat_customs.specs.Subsections.{subsections}
 use Rattle.wat_customs.specs.Cutting.{cut_subsections, dylink}
-use Rattle.wat_links.specs.Item.{KindTy, func_use, func_kind, labelled, global_or_tag, item_sig}
+use Rattle.wat_links.specs.Item.{ItemKindTy, func_use, func_kind, item_of, global_or_tag, item_sig}
 use Rattle.wat_links.specs.Import.{shared_sig, single_item, typed_list, named_list, typed_items, named_items, import_choice, inline_import}
 use Rattle.wat_links.specs.ImportItem.{typed_item, named_item}
 use Rattle.wat_links.specs.Forms.{import_items, imports}
@@ -29,12 +29,12 @@ use Rattle.wat_core.proofs.Calm.Types.{label_calm, tag_calm, table_calm, memory_
 pub func_use_calm : Calm true func_use
 func_use_calm = tag_calm
 
-labelled_calm : {w : List ℕ} {k : Production KindTy} → Calm true k → Calm true (labelled w k)
-labelled_calm p = made_stands (behind_stands (both_stand label_calm p))
+item_of_calm : {w : List ℕ} {k : Production ItemKindTy} → Calm true k → Calm true (item_of w k)
+item_of_calm p = made_stands (behind_stands (both_stand label_calm p))
 
 item_calm : Calm true item_sig
 unfolding item_sig global_or_tag func_kind
-item_calm = search (calm, labelled_calm, func_use_calm, table_calm, memory_calm, global_calm) depth 40
+item_calm = search (calm, item_of_calm, func_use_calm, table_calm, memory_calm, global_calm) depth 40
 
 -- ---- imports
 

@@ -8,7 +8,7 @@ use Rattle.wat_tokens.specs.Laws.Production.{some_is, bind_some, none_is_not}
 use Rattle.wat_tokens.specs.Laws.Parens.{opens-append, closes-append}
 use Rattle.wat_instr.specs.Instruction.{Instr, instruction}
 use Rattle.wat_expr.specs.Expression.{Expr}
-use Rattle.wat_expr.specs.Reading.{shut}
+use Rattle.wat_expr.specs.Reading.{closed}
 use Rattle.wat_expr.specs.Folded.{Groups, NoGroup, groups, Group, groups_at, is_folded}
 use Rattle.wat_expr.specs.Folded.{folded_value, folded_reads, folded_spells}
 use Rattle.wat_expr.specs.Laws.Facts.{reads_of, reads_front, reads_level, Between, is_between}
@@ -28,12 +28,12 @@ unfolding groups_at
 groups_at_sound zero t x e = none_is_not x e
 groups_at_sound (suc n) (LParen ∷ t) x e =
     let p = bind_some (instruction.reads t)
-    (λ i b. bind (groups_at n b) (λ gs u. bind (shut u)
+    (λ i b. bind (groups_at n b) (λ gs u. bind (closed u)
     (λ _ d. bind (groups_at n d) (λ hs r. some_of (Group i gs hs, r))))) x e in
     let q = bind_some (groups_at n p.0.1)
-    (λ gs u. bind (shut u) (λ _ d. bind (groups_at n d)
+    (λ gs u. bind (closed u) (λ _ d. bind (groups_at n d)
     (λ hs r. some_of (Group p.0.0 gs hs, r)))) x p.2 in
-    let s = bind_some (shut q.0.1)
+    let s = bind_some (closed q.0.1)
     (λ _ d. bind (groups_at n d) (λ hs r. some_of (Group p.0.0 q.0.0 hs, r))) x q.2 in
     let z = bind_some (groups_at n s.0.1) (λ hs r. some_of (Group p.0.0 q.0.0 hs, r)) x s.2 in
     subst (λ (u : Groups × List Tok). groups u.0 (LParen ∷ t) u.1)
@@ -92,10 +92,10 @@ folded_sound [] x e = none_is_not x e
 folded_sound (LParen ∷ t) x e =
     let p = bind_some (instruction.reads t)
     (λ i b. bind (groups_at (suc (length b)) b)
-    (λ gs u. bind (shut u) (λ _ r. some_of (folded_value i gs, r)))) x e in
+    (λ gs u. bind (closed u) (λ _ r. some_of (folded_value i gs, r)))) x e in
     let q = bind_some (groups_at (suc (length p.0.1)) p.0.1)
-    (λ gs u. bind (shut u) (λ _ r. some_of (folded_value p.0.0 gs, r))) x p.2 in
-    let s = bind_some (shut q.0.1) (λ _ r. some_of (folded_value p.0.0 q.0.0, r)) x q.2 in
+    (λ gs u. bind (closed u) (λ _ r. some_of (folded_value p.0.0 gs, r))) x p.2 in
+    let s = bind_some (closed q.0.1) (λ _ r. some_of (folded_value p.0.0 q.0.0, r)) x q.2 in
     let l : is_folded p.0.0 q.0.0 (LParen ∷ t) s.0.1 = (
       t,
       p.0.1,

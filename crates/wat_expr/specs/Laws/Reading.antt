@@ -17,7 +17,7 @@ use Rattle.wat_expr.specs.Items.{Items, Nil, Plain, Folded, Block, IfThen, IfEls
 use Rattle.wat_expr.specs.Items.{AreGroups, BeginsWithBranch, lists}
 use Rattle.wat_expr.specs.Facts.{Stops}
 use Rattle.wat_expr.specs.Expression.{Expr, value_of, expression_spells}
-use Rattle.wat_expr.specs.Reading.{are_groups, begins_branch, shut, opened, more_by, group_by}
+use Rattle.wat_expr.specs.Reading.{are_groups, begins_branch, closed, opened, more_by, group_by}
 use Rattle.wat_expr.specs.Reading.{arms_by, if_by, sort_by, hint_by, paren_by, items_by, items_at}
 use Rattle.wat_expr.specs.Reading.{to_the_end, expression_reads}
 use Rattle.wat_expr.specs.Laws.Facts.{reads_of, reads_not_then, read_of, word_front, reads_nothing}
@@ -43,12 +43,12 @@ begins_branch_so (IfThen i ops th xs) e = tt
 begins_branch_so (IfElse i ops th el xs) e = tt
 begins_branch_so (Hinted v xs) e = absurd cc
 
-pub shut_is : (t : List Tok) (x : Unit {0} × List Tok) → shut t ≡ Some x → t ≡ RParen ∷ x.1
+pub shut_is : (t : List Tok) (x : Unit {0} × List Tok) → closed t ≡ Some x → t ≡ RParen ∷ x.1
 shut_is [] x e = none_is_not x e
 shut_is (RParen ∷ t) x e = ap (λ (u : Unit {0} × List Tok). RParen ∷ u.1) (some_is (tt, t) x e)
 shut_is (_ ∷ t) x e = none_is_not x e
 
-shut_twice : (t : List Tok) (x y : Unit {0} × List Tok) → shut t ≡ Some x → shut x.1 ≡ Some y
+shut_twice : (t : List Tok) (x y : Unit {0} × List Tok) → closed t ≡ Some x → closed x.1 ≡ Some y
     → t ≡ RParen ∷ RParen ∷ y.1
 shut_twice t x y e f = shut_is t x e ∙ ap (λ (u : List Tok). RParen ∷ u) (shut_is x.1 y f)
 
@@ -87,8 +87,8 @@ module _ (rec : List Tok → Read Items) (good : Sound rec) where
       → group_by rec f t ≡ Some x → (ys xs : Items) × (d r : List Tok) × lists ys t (RParen ∷ d)
       × lists xs d r × Is (f ys xs) r x
   group_sound f t x e =
-      let p = bind_some (rec t) (λ ys u. bind (shut u) (λ _ d. more_by rec (f ys) d)) x e in
-      let q = bind_some (shut p.0.1) (λ _ d. more_by rec (f p.0.0) d) x p.2 in
+      let p = bind_some (rec t) (λ ys u. bind (closed u) (λ _ d. more_by rec (f ys) d)) x e in
+      let q = bind_some (closed p.0.1) (λ _ d. more_by rec (f p.0.0) d) x p.2 in
       let m = more_sound (f p.0.0) q.0.1 x q.2 in (
         p.0.0,
         m.0,
@@ -104,18 +104,18 @@ module _ (rec : List Tok → Read Items) (good : Sound rec) where
       (g : AreGroups ops) (lo : lists ops b (LParen ∷ keyword (codes "then") ∷ d)) where
     else_sound : (t : List Tok) (x : Items × List Tok) → lists th d (RParen ∷ t)
         → bind (opened (codes "else") t)
-        (λ _ e. bind (rec e) (λ el u. bind (shut u)
-        (λ _ v. bind (shut v) (λ _ d. more_by rec (IfElse i ops th el) d)))) ≡ Some x
+        (λ _ e. bind (rec e) (λ el u. bind (closed u)
+        (λ _ v. bind (closed v) (λ _ d. more_by rec (IfElse i ops th el) d)))) ≡ Some x
         → lists x.0 (LParen ∷ a) x.1
     else_sound t x lt e =
         let p = bind_some (opened (codes "else") t)
-        (λ _ e. bind (rec e) (λ el u. bind (shut u)
-        (λ _ v. bind (shut v) (λ _ d. more_by rec (IfElse i ops th el) d)))) x e in
-        let q = bind_some (rec p.0.1) (λ el u. bind (shut u)
-        (λ _ v. bind (shut v) (λ _ d. more_by rec (IfElse i ops th el) d))) x p.2 in
-        let s = bind_some (shut q.0.1)
-        (λ _ v. bind (shut v) (λ _ d. more_by rec (IfElse i ops th q.0.0) d)) x q.2 in
-        let z = bind_some (shut s.0.1) (λ _ d. more_by rec (IfElse i ops th q.0.0) d) x s.2 in
+        (λ _ e. bind (rec e) (λ el u. bind (closed u)
+        (λ _ v. bind (closed v) (λ _ d. more_by rec (IfElse i ops th el) d)))) x e in
+        let q = bind_some (rec p.0.1) (λ el u. bind (closed u)
+        (λ _ v. bind (closed v) (λ _ d. more_by rec (IfElse i ops th el) d))) x p.2 in
+        let s = bind_some (closed q.0.1)
+        (λ _ v. bind (closed v) (λ _ d. more_by rec (IfElse i ops th q.0.0) d)) x q.2 in
+        let z = bind_some (closed s.0.1) (λ _ d. more_by rec (IfElse i ops th q.0.0) d) x s.2 in
         let m = more_sound (IfElse i ops th q.0.0) z.0.1 x z.2 in
         let o = opened_is (codes "else") t p.0 p.1 in
         let c : q.0.1 ≡ RParen ∷ RParen ∷ z.0.1 = shut_twice q.0.1 s.0 z.0 s.1 z.1 in
@@ -149,17 +149,17 @@ module _ (rec : List Tok → Read Items) (good : Sound rec) where
       → if_by rec i b ≡ Some x → lists x.0 (LParen ∷ a) x.1
   if_sound i a b x k h e =
       let p = bind_some (rec b) (λ ops u. if are_groups ops then bind (opened (codes "then") u)
-      (λ _ d. bind (rec d) (λ th v. bind (shut v) (λ _ w. arms_by rec i ops th w))) else None) x
+      (λ _ d. bind (rec d) (λ th v. bind (closed v) (λ _ w. arms_by rec i ops th w))) else None) x
       e in
       by_test (are_groups p.0.0)
       (λ g. (let e2 : bind (opened (codes "then") p.0.1)
-      (λ _ d. bind (rec d) (λ th v. bind (shut v) (λ _ w. arms_by rec i p.0.0 th w))) ≡ Some x =
+      (λ _ d. bind (rec d) (λ th v. bind (closed v) (λ _ w. arms_by rec i p.0.0 th w))) ≡ Some x =
       rw g at p.2 in
       let q = bind_some (opened (codes "then") p.0.1)
-      (λ _ d. bind (rec d) (λ th v. bind (shut v) (λ _ w. arms_by rec i p.0.0 th w))) x e2 in
-      let s = bind_some (rec q.0.1) (λ th v. bind (shut v) (λ _ w. arms_by rec i p.0.0 th w)) x q.2
-      in
-      let z = bind_some (shut s.0.1) (λ _ w. arms_by rec i p.0.0 s.0.0 w) x s.2 in
+      (λ _ d. bind (rec d) (λ th v. bind (closed v) (λ _ w. arms_by rec i p.0.0 th w))) x e2 in
+      let s = bind_some (rec q.0.1)
+      (λ th v. bind (closed v) (λ _ w. arms_by rec i p.0.0 th w)) x q.2 in
+      let z = bind_some (closed s.0.1) (λ _ w. arms_by rec i p.0.0 s.0.0 w) x s.2 in
       arms_sound i p.0.0 s.0.0 a b q.0.1 k h (are_groups_so p.0.0 g)
       (subst (λ (u : List Tok). lists p.0.0 b u) (opened_is (codes "then") p.0.1 q.0 q.1)
       (good b p.0 p.1))

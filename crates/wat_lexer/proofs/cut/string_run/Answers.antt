@@ -1,6 +1,7 @@
-use Rattle.std.proofs.Common.{arith, ◌≡◌, ◌+◌, ◌-◌, ◌∙◌, ap, drop, length}
-use Rattle.std.specs.Prelude.{slice_range}
+use Rattle.std.proofs.Common.{arith, ◌≡◌, ◌+◌, ◌-◌, ◌∙◌, ap, drop, length, refl}
+use Rattle.std.specs.Prelude.{false, slice_range}
 use Rattle.wat_lexer.specs.Scan.{behind_run, run_front, class, TokenTo, Between, Ends}
+use Rattle.wat_lexer.specs.View.{view, is_paren}
 use Rattle.wat_lexer.proofs.Places.{run_first, run_token}
 use Rattle.wat_lexer.proofs.Steps.{run_quote}
 use Rattle.wat_lexer.proofs.Whole.{whole_here, class_more, class_string}
@@ -32,6 +33,7 @@ returns-then-end-after-clause-value c =
       run_token c.args.behind c.args.at end text _ (omega arith) (omega (arith, ap length bytes)) whole
           ∙ ap (λ t. TokenTo t (drop end text)) (class_string c.args.behind c.args.at end (slice_range text (c.args.at + 1) (end - 1)) text (omega arith) (omega (arith, ap length bytes)) (rw here at c.requires.mark) content),
       (omega arith, omega (arith, ap length bytes)),
+      refl,
     )
 
 pub returns-clause-value : goal.returns-clause-value
@@ -44,7 +46,9 @@ returns-clause-value c =
     let rest = rw bytes at c.in-Some.ensures.rest in
     let whole : behind_run Between (drop c.args.at text) ≡ Ends (drop end text) = c.requires.same ∙ rw (run_quote c.args.quote text c.requires.quote c.requires.mark, ← rest) (rw bytes at c.in-Ok.ensures.value) in
     let run : run_front c.args.behind (drop c.args.at text) (behind_run Between (drop c.args.at text)) ≡ TokenTo (class c.args.behind (slice_range text c.args.at end)) (drop end text) = run_token c.args.behind c.args.at end text _ (omega (arith, c.requires.order)) (omega (arith, ap length bytes)) whole in
-    elim c.if-end-after-2.branch [
-      | then-end-after-2+in_ok-content w ↦ (rw run (ap (λ t. TokenTo t (drop end text)) (rw (w.token-is, w.string_token-token.ensures.class, c.part-run.ensures))), rw w.token-is w.string_token-token.ensures.no_paren)
-      | else-end-after-2 w ↦ (rw run (ap (λ t. TokenTo t (drop end text)) (rw (w.token-is, c.part-run.ensures) (class_more c.args.behind c.args.at c.args.quote c.in-Some.string.0 end text c.requires.order (omega arith) (omega (arith, w.if-end-after-2.false)) (omega (arith, ap length bytes)) c.requires.mark c.requires.plain rest))), rw w.token-is)
-    ]
+    let token : (class c.args.behind (slice_range text c.args.at end) ≡ view c.if-end-after-2.token) × (is_paren (view c.if-end-after-2.token) ≡ false) = elim c.if-end-after-2.branch [
+      | then-end-after-2+in_ok-content w ↦ (rw (w.token-is, w.string_token-token.ensures.class, c.part-run.ensures), rw w.token-is w.string_token-token.ensures.no_paren)
+      | else-end-after-2 w ↦ (rw (w.token-is, c.part-run.ensures) (class_more c.args.behind c.args.at c.args.quote c.in-Some.string.0 end text c.requires.order (omega arith) (omega (arith, w.if-end-after-2.false)) (omega (arith, ap length bytes)) c.requires.mark c.requires.plain rest), rw w.token-is)
+    ] in
+    let (same, fits, put) = c.in_ok-kind.ensures text end in
+    (run ∙ ap (λ t. TokenTo t (drop end text)) (token.0 ∙ same), fits, put)

@@ -10,5 +10,5 @@ returns c =
     let text = c.self.inside.text.now in
     let aside = c.self.inside.aside.items in
     let ls = c.self.inside.lexemes.items in
-    leap_told text aside ls c.args.at c.args.skip c.index_mut.result.now _ (omega (arith, ap length c.self.view_is, length-map ls (entry_of text aside), c.requires.place)) (sym c.index_mut.ensures.value)
+    leap_told text aside ls c.args.at c.args.skip c.index_mut.result.now _ (omega (arith, ap length c.self.view_is, length-map ls (entry_of text aside), c.requires.place)) (sym c.index_mut.ensures.value) c.self.invariant.0 (rw c.self.view_is c.requires.leaps)
     ∙ ap (λ l. set l c.args.at (leaping l c.args.at c.args.skip)) c.self.view_is

@@ -1,0 +1,2 @@
+-- Laws of the definitions: lemmas that other crates rest on.
+pub mod Shown

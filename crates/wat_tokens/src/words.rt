@@ -1,0 +1,47 @@
+//! Values that keywords name.
+
+ghost use Rattle.std.specs.Prelude.{◌≡◌, ℕ, List};
+ghost use Rattle.wat_tokens.specs.Begin.{begins_one_of};
+ghost use Rattle.wat_tokens.specs.Lookup.{in_front};
+ghost use Rattle.wat_tokens.specs.PartSpells.{one_reads};
+ghost use Rattle.wat_tokens.specs.Reads.{ReadsLight};
+ghost use Rattle.wat_tokens.specs.Tests.{look_up, word_in};
+
+use crate::cursor::Cursor;
+use crate::parser::Parser;
+use wat_lexer::fault::{Error, Fault};
+
+/// A type whose values are named by one keyword each (Text Format, "Tokens").
+pub trait Named: Copy {
+    /// The keywords, each with the value that it names.
+    ghost words: { List (List ℕ × Self) };
+
+    /// The value that the keyword names.
+    fn named(word: &str) -> Option<Self>
+        ensures { result ≡ look_up words word.now };
+}
+
+/// Takes the keyword in front and answers the value that it names. A keyword that names none, and
+/// what is no keyword, is refused with Unexpected, at the token in front.
+#[tactic(auto, using(crate::specs::Laws::Begin::reads_table, crate::specs::Laws::Begin::reads_no_table))]
+pub fn take_named<'a, T: Named>(parser: &mut Parser<'a>) -> Result<T, Error>
+    ensures reads { ReadsLight (λ v. v) result (one_reads (word_in T.words) parser.old.left)
+        parser.old parser.new }
+{
+    let span = parser.cur_span();
+    match T::named(parser.take_keyword()?) {
+        Some(value) => Ok(value),
+        None => Err(Error::at(Fault::Unexpected, span)),
+    }
+}
+
+/// Whether a keyword that names a value stands at the place.
+#[tactic(auto, using(crate::specs::Laws::Begin::begins_table, crate::specs::Laws::Begin::begins_no_table))]
+pub fn begins_named<T: Named>(cursor: Cursor<'_>) -> bool
+    ensures { result ≡ begins_one_of (word_in T.words) (in_front cursor.entry) }
+{
+    match cursor.keyword() {
+        Some((word, _)) => T::named(word).is_some(),
+        None => false,
+    }
+}
