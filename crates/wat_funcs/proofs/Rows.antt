@@ -1,12 +1,12 @@
 -- Texts as tokens, and the fields that they spell: what is read of them.
-use Rattle.std.proofs.Common.{◌≡◌, List, [], ◌∷◌, Some, None, refl}
+use Rattle.std.proofs.Common.{[], ◌∷◌, Some, None, refl}
 use Rattle.std.specs.Char.{encode_utf8}
 use Rattle.std.specs.Prelude.{codes}
 use Rattle.std.specs.Str.{chars, is_utf8}
 use Rattle.wat_tokens.specs.ManySpells.{many_at, many_reads}
 use Rattle.wat_tokens.specs.NameAnnotation.{name_annotation}
 use Rattle.wat_tokens.specs.Laws.Spelled.{spelled}
-use Rattle.wat_tokens.specs.Token.{Tok, Keyword}
+use Rattle.wat_tokens.specs.Token.{Keyword}
 use Rattle.wat_types.specs.Function.{function_groups}
 use Rattle.wat_types.specs.FunctionSpells.{func_groups}
 use Rattle.wat_types.specs.Group.{func_group, params, plain_params}

@@ -10,13 +10,8 @@ use Rattle.wat_lexer.specs.Token.{Entry, Tok, LParen, RParen, Keyword, Id, Annot
 use Rattle.wat_lexer.specs.Sight.{hides, annotated, is_standard, annotation_name, shuts, deeper, behind_group, hidden_at, hidden}
 use Rattle.wat_lexer.specs.Cut.{Unclosed, Closed, FirstUnclosed}
 use Rattle.wat_lexer.specs.View.{entry_tok, toks, placed_of, placed, leap, leaping, no_entry, AreLeaps}
+use Rattle.wat_lexer.specs.Laws.Kinds.{open_is, close_is, tokens_of-placed}
 use Rattle.wat_lexer.proofs.Leaps.{leaps_later}
-
--- TOKENS AND THEIR PLACES
-
-pub tokens_of-placed : (ls : List Entry) → tokens_of (placed ls) ≡ toks ls
-tokens_of-placed [] = refl
-tokens_of-placed (x ∷ ls) = ap (λ l. entry_tok x ∷ l) (tokens_of-placed ls)
 
 -- where only leaps were told, the tokens are the same
 toks_at : (ls before : List Entry) (i : ℕ) → placed ls ≡ placed before → toks (drop i ls) ≡ drop i (tokens_of (placed before))
@@ -164,14 +159,6 @@ group_other k (Annotation n) ts h e = refl
 group_other k (Integer n) ts h e = refl
 group_other k (String n) ts h e = refl
 group_other k (Reserved n) ts h e = refl
-
-open_is : (t : Tok) → is_open t ≡ true → t ≡ LParen
-open_is LParen h = refl
-open_is _ h = cc
-
-close_is : (t : Tok) → is_close t ≡ true → t ≡ RParen
-close_is RParen h = refl
-close_is _ h = cc
 
 not_hidden : (t : Tok) (r : List Tok) → is_open t ≡ false → hides false (t ∷ r) ≡ false
 not_hidden LParen r h = cc

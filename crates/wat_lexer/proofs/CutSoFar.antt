@@ -2,8 +2,9 @@
 use Rattle.std.proofs.Common.{◌≡◌, ℕ, suc, ◌-◌, ◌≤◌, List, [], ◌∷◌, ◌++◌, length, drop, refl, ap, subst, ◌∙◌, arith, sym, inl, inr, append_assoc, append-nil, length-drop}
 use Rattle.std.specs.Prelude.{Bool, true, false, ◌||◌, ◌&&◌, ◌==◌}
 use Rattle.std.proofs.lemmas.Bool.{cases_Bool}
+use Rattle.std.proofs.lemmas.List.{map-append}
 use Rattle.std.proofs.lemmas.Bool.Decides.{nat_tests}
-use Rattle.std.proofs.Math.Bool.{or_assoc, or-false, and-true, and-false}
+use Rattle.std.proofs.Math.Bool.{and-true, and-false}
 use Rattle.wat_lexer.specs.Place.{offset_of}
 use Rattle.wat_lexer.specs.Token.{Entry, Tok, Placed, is_open, is_annotation, has_annotation}
 use Rattle.wat_lexer.specs.Cut.{Cuts, done, Fails}
@@ -12,6 +13,7 @@ use Rattle.wat_lexer.specs.Scan.{BlankTo, TokenTo, front, behind_spaces}
 use Rattle.wat_lexer.specs.View.{entry_tok, toks, IfFault, WrongIs, FailsAt}
 use Rattle.wat_lexer.specs.declared.fault.Error.{Error}
 use Rattle.wat_lexer.specs.declared.fault.Fault.{Fault}
+use Rattle.wat_lexer.proofs.Entries.{has_more}
 use Rattle.wat_lexer.proofs.Strings.{if_cases}
 use Rattle.wat_lexer.proofs.Fronts.{cut_front, front_cut, front_fails}
 
@@ -74,9 +76,5 @@ fault_here text at ts behind e so h = λ no_memory.
     let o = offset_of e.span in
     (drop o text, so.fails e.fault (drop o text) (front_fails (rw wrong (refl, refl))), omega (arith, length-drop o text))
 
-has_more : (ls : List Entry) (x : Entry) → has_annotation (toks (ls ++ x ∷ [])) ≡ has_annotation (toks ls) || is_annotation (entry_tok x)
-has_more [] x = or-false (is_annotation (entry_tok x))
-has_more (y ∷ ls) x = rw (has_more ls x, or_assoc)
-
 pub noted_more : (ls : List Entry) (x : Entry) (noted more : Bool) → noted ≡ has_annotation (toks ls) → more ≡ (noted || is_annotation (entry_tok x)) → more ≡ has_annotation (toks (ls ++ x ∷ []))
-noted_more ls x noted more e f = rw (f, e, has_more ls x)
+noted_more ls x noted more e f = rw (f, e, map-append entry_tok ls (x ∷ []), has_more (toks ls) (entry_tok x))

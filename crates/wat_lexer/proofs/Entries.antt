@@ -1,15 +1,16 @@
 -- What is kept of the tokens, as lookups see them.
-use Rattle.std.proofs.Common.{◌≡◌, ℕ, ◌+◌, ◌<◌, ◌≤◌, List, [], ◌∷◌, ◌++◌, length, zero, suc, refl, ap, sym, subst, ◌∙◌, append-nil, ◌-◌, arith, drop}
+use Rattle.std.proofs.Common.{◌≡◌, ℕ, ◌+◌, ◌<◌, ◌≤◌, List, [], ◌∷◌, ◌++◌, length, refl, ap, sym, subst, ◌∙◌, append-nil, ◌-◌, arith, drop}
 use Rattle.std.specs.Prelude.{Bool, true, false, ◌||◌}
 use Rattle.std.proofs.Math.Bool.{or_assoc, or-false}
 use Rattle.std.proofs.Math.ListN.{get_or, set, drop_of_length-le}
 use Rattle.std.proofs.Math.Seq.{get_or-append_seam}
 use Rattle.std.proofs.lemmas.List.{map-set, get_or-map, map-append, length-append, get_or_append_left}
 use Rattle.wat_lexer.specs.Token.{Entry, Tok, LParen, Annotation}
-use Rattle.wat_lexer.specs.Token.{is_open, is_annotation}
+use Rattle.wat_lexer.specs.Token.{is_open, is_annotation, has_annotation}
 use Rattle.wat_lexer.specs.Sight.{hides}
 use Rattle.std.proofs.lemmas.List.{drop_more, length-drop}
-use Rattle.wat_lexer.specs.View.{view, is_paren, any_note, is_note_kind, no_aside, lies_from, stands_at, skip_of, can_leap, tok_at, Readable, lies, last_aside, CanBeRead, AllCanBeRead, WasKept, PutAside, FoundFits, found_tok, entry_of, entries_of, toks, entry_tok, leap, leaping, no_entry}
+use Rattle.std.proofs.lemmas.List.Elements.{All-get_or, All-from_recursion}
+use Rattle.wat_lexer.specs.View.{view, is_paren, lying, is_annotation_kind, no_aside, lies_from, stands_at, skip_of, can_leap, tok_at, Readable, lies, last_aside, CanBeRead, AllCanBeRead, WasKept, PutAside, FoundFits, found_tok, entry_of, entries_of, toks, entry_tok, leap, leaping, no_entry}
 use Rattle.wat_lexer.specs.declared.lexeme.Kind.{Kind}
 use Rattle.wat_lexer.specs.declared.lexeme.Kind.TheVariants as kinds
 use Rattle.wat_lexer.specs.declared.lexeme.Lexeme.{Lexeme}
@@ -37,16 +38,11 @@ paren_open : (t : Tok) → is_paren t ≡ false → is_open t ≡ false
 paren_open LParen h = cc
 paren_open _ h = refl
 
-all_at : (text : List ℕ) (aside : List Aside) (ls : List Lexeme) (i : ℕ) (d : Lexeme) → i < length ls → AllCanBeRead text aside ls → CanBeRead text aside (get_or ls i d)
-all_at text aside [] i d lt h = absurd (omega arith)
-all_at text aside (x ∷ ls) zero d lt h = h.0
-all_at text aside (x ∷ ls) (suc i) d lt h = all_at text aside ls i d (omega arith) h.1
-
 -- another leap is told at the place of a token that has one
 pub leap_told : (text : List ℕ) (aside : List Aside) (ls : List Lexeme) (i skip : ℕ) (x d : Lexeme) → i < length ls → get_or ls i d ≡ x → AllCanBeRead text aside ls → can_leap (entry_tok (get_or (entries_of text aside ls) i no_entry)) ≡ true
     → entries_of text aside (set ls i (record x { size = skip })) ≡ set (entries_of text aside ls) i (leaping (entries_of text aside ls) i skip)
 leap_told text aside ls i skip x d lt e all can =
-    let fit : CanBeRead text aside x = subst (CanBeRead text aside) e (all_at text aside ls i d lt all) in
+    let fit : CanBeRead text aside x = subst (CanBeRead text aside) e (All-get_or (CanBeRead text aside) ls i d lt (All-from_recursion (CanBeRead text aside) ls all)) in
     let here : get_or (entries_of text aside ls) i no_entry ≡ entry_of text aside x = rw (get_or-map (entry_of text aside) ls i d no_entry lt, e) in
     let leaps : leaps_kind x.kind ≡ true = kind_leaps x.kind text x.offset (x.offset + x.size) (lies aside x.offset) (λ p. paren_open (lies aside x.offset) p.1) fit (rw here at can) in
     let told = told_entry x.kind text aside x.offset x.size skip leaps in
@@ -92,42 +88,26 @@ pub ruleset hides_steps = (hides_few, hides_none, hides_other)
 
 -- WHAT WAS KEPT STAYS
 
-still_readable : (kind : Kind) (text : List ℕ) (from end : ℕ) {P Q : Type 0} (s t : Tok) → (P → Q × (s ≡ t)) → Readable kind text from end P t → Readable kind text from end Q s
-still_readable kinds.Annotation text from end s t more (h, note) = let (there, same) = more h in (there, rw same note)
-still_readable kinds.Aside text from end s t more (h, none) = let (there, same) = more h in (there, rw same none)
-still_readable _ text from end s t more h = h
+-- what a kind reads of what lies aside, where that is the same
+still : (kind : Kind) (text : List ℕ) (from end own : ℕ) {P Q : Type 0} (s t : Tok) (i j : ℕ) → (P → Q × (s ≡ t) × (i ≡ j)) → Readable kind text from end P t
+    → Readable kind text from end Q s × (tok_at kind text from end s ≡ tok_at kind text from end t) × (stands_at kind own i ≡ stands_at kind own j)
+still kinds.Annotation text from end own s t i j more (h, note) = let (there, same, place) = more h in ((there, rw same note), same, place)
+still kinds.Aside text from end own s t i j more (h, none) = let (there, same, place) = more h in ((there, rw same none), same, place)
+still _ text from end own s t i j more h = (h, refl, refl)
 
-still_read : (kind : Kind) (text : List ℕ) (from end : ℕ) {P : Type 0} (s t : Tok) → (P → s ≡ t) → Readable kind text from end P t → tok_at kind text from end s ≡ tok_at kind text from end t
-still_read kinds.Annotation text from end s t same h = same h.0
-still_read kinds.Aside text from end s t same h = same h.0
-still_read _ text from end s t same h = refl
-
-still_stands : (kind : Kind) (text : List ℕ) (from end own : ℕ) {P : Type 0} (t : Tok) (i j : ℕ) → (P → i ≡ j) → Readable kind text from end P t → stands_at kind own i ≡ stands_at kind own j
-still_stands kinds.Annotation text from end own t i j same h = same h.0
-still_stands kinds.Aside text from end own t i j same h = same h.0
-still_stands _ text from end own t i j same h = refl
-
-still_lies : (old m : List Aside) (i : ℕ) → i < length old → lies (old ++ m) i ≡ lies old i
-still_lies old m i lt = rw (get_or_append_left old m no_aside i lt)
-
-still_from : (old m : List Aside) (i : ℕ) → i < length old → lies_from (old ++ m) i ≡ lies_from old i
-still_from old m i lt = ap (λ (a : Aside). a.offset) (get_or_append_left old m no_aside i lt)
-
-still_fits : (text : List ℕ) (old m : List Aside) (x : Lexeme) → CanBeRead text old x → CanBeRead text (old ++ m) x
-still_fits text old m x = still_readable x.kind text x.offset (x.offset + x.size) (lies (old ++ m) x.offset) (lies old x.offset) (λ (lt, none). let same = still_lies old m x.offset lt in ((omega (arith, length-append old m), rw same none), same))
-
-still_entry : (text : List ℕ) (old m : List Aside) (x : Lexeme) → CanBeRead text old x → entry_of text (old ++ m) x ≡ entry_of text old x
-still_entry text old m x h = λ i. record {
-  token = still_read x.kind text x.offset (x.offset + x.size) (lies (old ++ m) x.offset) (lies old x.offset) (λ p. still_lies old m x.offset p.0) h i;
-  offset = still_stands x.kind text x.offset (x.offset + x.size) x.offset (lies old x.offset) (lies_from (old ++ m) x.offset) (lies_from old x.offset) (λ p. still_from old m x.offset p.0) h i;
-  skip = skip_of x.kind x.size;
-}
+still_fits : (text : List ℕ) (old m : List Aside) (x : Lexeme) → CanBeRead text old x → CanBeRead text (old ++ m) x × (entry_of text (old ++ m) x ≡ entry_of text old x)
+still_fits text old m x h =
+    let (fits, token, place) = still x.kind text x.offset (x.offset + x.size) x.offset (lies (old ++ m) x.offset) (lies old x.offset) (lies_from (old ++ m) x.offset) (lies_from old x.offset) (λ (lt, none).
+    let same : get_or (old ++ m) x.offset no_aside ≡ get_or old x.offset no_aside = get_or_append_left old m no_aside x.offset lt in
+    ((omega (arith, length-append old m), rw same none), ap (λ (a : Aside). view a.token) same, ap (λ (a : Aside). a.offset) same)) h
+    in (fits, λ i. record { token = token i; offset = place i; skip = skip_of x.kind x.size })
 
 pub still_all : (text : List ℕ) (old m : List Aside) (ls : List Lexeme) → AllCanBeRead text old ls → AllCanBeRead text (old ++ m) ls × (entries_of text (old ++ m) ls ≡ entries_of text old ls)
 still_all text old m [] h = (tt, refl)
 still_all text old m (x ∷ ls) (h, t) =
+    let (first, kept) = still_fits text old m x h in
     let (fit, same) = still_all text old m ls t in
-    ((still_fits text old m x h, fit), (λ i. still_entry text old m x h i ∷ same i))
+    ((first, fit), (λ i. kept i ∷ same i))
 
 all_more : (text : List ℕ) (aside : List Aside) (ls : List Lexeme) (x : Lexeme) → AllCanBeRead text aside ls → CanBeRead text aside x → AllCanBeRead text aside (ls ++ x ∷ [])
 all_more text aside [] x h f = (f, tt)
@@ -166,31 +146,35 @@ last_put old new t e =
     let here : get_or new (length new - 1) no_aside ≡ t = rw (place, e, get_or-append_seam) in
     (omega arith, ap (λ (a : Aside). view a.token) here, ap (λ (a : Aside). a.offset) here)
 
-any_more : (old : List Aside) (t : Aside) → any_note (old ++ t ∷ []) ≡ any_note old || is_annotation (view t.token)
-any_more [] t = or-false (is_annotation (view t.token))
-any_more (x ∷ old) t = rw (any_more old t, or_assoc)
+-- one token more is an annotation, or one was among those before
+pub has_more : (ts : List Tok) (t : Tok) → has_annotation (ts ++ t ∷ []) ≡ has_annotation ts || is_annotation t
+has_more [] t = or-false (is_annotation t)
+has_more (x ∷ ts) t = rw (has_more ts t, or_assoc)
+
+lying_more : (old new : List Aside) (t : Aside) → new ≡ old ++ t ∷ [] → has_annotation (lying new) ≡ has_annotation (lying old) || is_annotation (last_aside new)
+lying_more old new t e = rw ((last_put old new t e).1, e, map-append (λ (a : Aside). view a.token) old (t ∷ [])) (has_more (lying old) (view t.token))
 
 -- only what is put aside can be an annotation
-pub any_put : (kind : Kind) (text : List ℕ) (old new : List Aside) (at end : ℕ) → PutAside kind old new → any_note new ≡ any_note old || is_annotation (found_tok text new at end kind)
-any_put kinds.Annotation text old new at end (t, e) = ap any_note e ∙ any_more old t ∙ ap (λ u. any_note old || is_annotation u) (sym (last_put old new t e).1)
-any_put kinds.Aside text old new at end (t, e) = ap any_note e ∙ any_more old t ∙ ap (λ u. any_note old || is_annotation u) (sym (last_put old new t e).1)
-any_put _ text old new at end e = ap any_note e ∙ sym (or-false (any_note old))
+pub any_put : (kind : Kind) (text : List ℕ) (old new : List Aside) (at end : ℕ) → PutAside kind old new → has_annotation (lying new) ≡ has_annotation (lying old) || is_annotation (found_tok text new at end kind)
+any_put kinds.Annotation text old new at end (t, e) = lying_more old new t e
+any_put kinds.Aside text old new at end (t, e) = lying_more old new t e
+any_put _ text old new at end e = rw e (sym (or-false (has_annotation (lying old))))
 
-pub any_step : (s : List Aside) (i : ℕ) (d : Aside) → i < length s → any_note (drop i s) ≡ is_annotation (view (get_or s i d).token) || any_note (drop (i + 1) s)
+pub any_step : (s : List Aside) (i : ℕ) (d : Aside) → i < length s → has_annotation (lying (drop i s)) ≡ is_annotation (view (get_or s i d).token) || has_annotation (lying (drop (i + 1) s))
 any_step s i d lt = rw (drop_more s i d lt)
 
-pub any_over : (s : List Aside) (i : ℕ) → length s ≤ i → any_note (drop i s) ≡ false
+pub any_over : (s : List Aside) (i : ℕ) → length s ≤ i → has_annotation (lying (drop i s)) ≡ false
 any_over s i le = rw (drop_of_length-le s le)
 
-pub ruleset note_steps = (any_step, any_over)
+pub ruleset annotation_steps = (any_step, any_over)
 
 -- a token that is read out of the text is put nowhere
-pub plain_found : (kind : Kind) (text : List ℕ) (aside : List Aside) (at end : ℕ) (P : Type 0) (n : List ℕ) (t : Tok) → is_note_kind kind ≡ false → Readable kind text at end P (Annotation n) → tok_at kind text at end (Annotation n) ≡ t → (t ≡ found_tok text aside at end kind) × FoundFits text aside at end kind × PutAside kind aside aside
+pub plain_found : (kind : Kind) (text : List ℕ) (aside : List Aside) (at end : ℕ) (P : Type 0) (n : List ℕ) (t : Tok) → is_annotation_kind kind ≡ false → Readable kind text at end P (Annotation n) → tok_at kind text at end (Annotation n) ≡ t → (t ≡ found_tok text aside at end kind) × FoundFits text aside at end kind × PutAside kind aside aside
 plain_found kinds.Annotation text aside at end P n t plain h e = cc
 plain_found kinds.Aside text aside at end P n t plain (there, note) e = cc
 plain_found _ text aside at end P n t plain h e = (sym e, h, refl)
 
 -- an annotation is found by its kind
-pub note_found : (kind : Kind) (text : List ℕ) (at end : ℕ) (P : Type 0) (n : List ℕ) → is_note_kind kind ≡ true → Readable kind text at end P (Annotation n) → P × (tok_at kind text at end (Annotation n) ≡ Annotation n)
-note_found kinds.Annotation text at end P n note h = (h.0, refl)
-note_found _ text at end P n note h = cc
+pub annotation_found : (kind : Kind) (text : List ℕ) (at end : ℕ) (P : Type 0) (n : List ℕ) → is_annotation_kind kind ≡ true → Readable kind text at end P (Annotation n) → P × (tok_at kind text at end (Annotation n) ≡ Annotation n)
+annotation_found kinds.Annotation text at end P n note h = (h.0, refl)
+annotation_found _ text at end P n note h = cc

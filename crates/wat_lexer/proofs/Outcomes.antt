@@ -9,7 +9,7 @@ use Rattle.wat_lexer.specs.Token.{Entry, Tok, LParen, Annotation, Placed, tokens
 use Rattle.wat_lexer.specs.View.{entry_tok, toks, placed, AreLeaps}
 use Rattle.wat_lexer.specs.declared.fault.Error.{Error}
 use Rattle.wat_lexer.specs.declared.fault.Fault.TheVariants.{LexAnnotation}
-use Rattle.wat_lexer.proofs.Closing.{tokens_of-placed}
+use Rattle.wat_lexer.specs.Laws.Kinds.{tokens_of-placed}
 use Rattle.wat_lexer.specs.Cut.{Cuts, IsCut, Closed, Unclosed, FirstUnclosed, FirstFault, cutting, closing}
 use Rattle.wat_lexer.specs.declared.fault.Fault.{Fault}
 use Rattle.wat_lexer.proofs.Fronts as fronts

@@ -1,5 +1,5 @@
 -- One step of each scan, at a place of the text.
-use Rattle.std.proofs.Common.{◌≡◌, ℕ, ◌+◌, ◌-◌, ◌<◌, ◌≤◌, List, [], ◌∷◌, length, drop, take, get_or, refl, ap, sym, add-one, arith, append_assoc, append-nil, drop-cons, get_or-drop, length-drop}
+use Rattle.std.proofs.Common.{◌≡◌, ℕ, ◌+◌, ◌-◌, ◌<◌, ◌≤◌, List, [], ◌∷◌, length, drop, get_or, refl, add-one, arith, append_assoc, append-nil, drop-cons, get_or-drop, length-drop}
 use Rattle.std.specs.Prelude.{◌==◌, ◌&&◌, ◌*◌, ◌++◌, if◌then◌else◌, true, false, Option, None, Some, nat_lt, option_map, slice_range}
 use Rattle.std.specs.Char.{digit_value}
 use Rattle.std.proofs.Math.ListN.{drop_of_length-le}

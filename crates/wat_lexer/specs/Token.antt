@@ -18,9 +18,9 @@ pub record Placed : Type 0 where
   pub token : Tok
   pub offset : ℕ
 
--- A token, how many bytes of the text stand before it, and how far lookups go from there: at the `(`
--- of an annotation's group, how many tokens from it on are left out where no annotation is known;
--- at the annotation behind it, how many from that `(` on where the five standard names are.
+-- A token, how many bytes of the text stand before it, and how far lookups go from there: at the
+-- `(` of an annotation's group, how many tokens from it on are left out where no annotation is
+-- known; at the annotation behind it, how many from that `(` on where the five standard names are.
 pub record Entry : Type 0 where
   pub token : Tok
   pub offset : ℕ

@@ -76,10 +76,9 @@ lies aside i = view (get_or aside i no_aside).token
 abbrev pub lies_from : List Aside → ℕ → ℕ
 lies_from aside i = (get_or aside i no_aside).offset
 
--- an annotation lies aside
-abbrev pub any_note : List Aside → Bool
-any_note [] = false
-any_note (x ∷ r) = is_annotation (view x.token) || any_note r
+-- the tokens that lie aside
+abbrev pub lying : List Aside → List Tok
+lying aside = map (λ x. view x.token) aside
 
 -- the last token that lies aside
 abbrev pub last_aside : List Aside → Tok
@@ -103,9 +102,9 @@ PutAside kinds.Aside old new = (t : Aside) × (new ≡ old ++ t ∷ [])
 PutAside _ old new = new ≡ old
 
 -- tokens of the kind are annotations
-abbrev pub is_note_kind : Kind → Bool
-is_note_kind kinds.Annotation = true
-is_note_kind _ = false
+abbrev pub is_annotation_kind : Kind → Bool
+is_annotation_kind kinds.Annotation = true
+is_annotation_kind _ = false
 
 -- where a token of the kind stands, by its own number and by that which lies aside
 abbrev pub stands_at : Kind → ℕ → ℕ → ℕ

@@ -1,13 +1,13 @@
 //! Cuts a text into tokens.
 
-ghost use Rattle.std.specs.Prelude.{◌≡◌, ◌≢◌, ◌||◌, ◌&&◌, ◌==◌, ◌+◌, ◌-◌, ◌≤◌, ◌<◌, Bool};
+ghost use Rattle.std.specs.Prelude.{◌≡◌, ◌&&◌, ◌==◌, ◌+◌, ◌-◌, ◌≤◌, ◌<◌};
 ghost use Rattle.std.specs.Prelude.{IfOk, IfErr, ℕ, List};
 ghost use Rattle.std.specs.Prelude.{true, false, length, drop, slice_range, slice_index};
-ghost use Rattle.wat_lexer.specs.Cut.{Cuts, Fails, FirstFault, IsCut};
+ghost use Rattle.wat_lexer.specs.Cut.{Cuts, FirstFault, IsCut};
 ghost use Rattle.wat_lexer.specs.Place.{offset_of};
 ghost use Rattle.wat_lexer.specs.Scan.{front, run_front, behind_run, all_idchars, Between, Ends};
 ghost use Rattle.wat_lexer.specs.Token.{Placed, has_annotation, is_annotation};
-ghost use Rattle.wat_lexer.specs.View.{view, toks, placed, is_paren, any_note, AreLeaps, IsPut};
+ghost use Rattle.wat_lexer.specs.View.{view, toks, placed, is_paren, lying, AreLeaps, IsPut};
 ghost use Rattle.wat_lexer.specs.View.{FrontGives, IfFault, FailsAt};
 ghost use Rattle.wat_lexer.specs.declared.fault.Fault.{Fault};
 ghost use Rattle.wat_lexer.specs.declared.lexeme.Aside.{Aside};
@@ -15,7 +15,7 @@ ghost use Rattle.wat_lexer.specs.declared.lexeme.Aside.{Aside};
 use crate::class::{content, part, plain_kind, string_token};
 use crate::fault::{Error, Fault, fault_at};
 use crate::groups::tell_leaps;
-use crate::lexeme::{Aside, Kind, is_note, is_open, kept};
+use crate::lexeme::{Aside, Kind, is_annotation_kind, is_open, kept};
 use crate::scan::{comment_end, is_space, line_end, plain_end, run_end, spaces_end};
 use crate::string::string_end;
 use crate::token::{Token, is_annotation};
@@ -88,7 +88,7 @@ fn plain_run<'a>(
         (drop at text.now) (behind_run Between (drop at text.now))) }
 {
     let kind = plain_kind(text, at, end, behind);
-    if is_note(kind) {
+    if is_annotation_kind(kind) {
         let kind = put(Token::Annotation(part(text, at + 1, end)), at, aside)?;
         return Ok(Piece {
             kind: Some(kind),
@@ -203,9 +203,9 @@ fn front<'a>(
 }
 
 /// Whether an annotation lies aside.
-#[tactic(auto, using(crate::proofs::Entries::note_steps))]
-fn any_note(aside: &[Aside]) -> bool
-    ensures { result ≡ any_note aside.now }
+#[tactic(auto, using(crate::proofs::Entries::annotation_steps))]
+fn any_annotation(aside: &[Aside]) -> bool
+    ensures { result ≡ has_annotation (lying aside.now) }
 {
     for one in aside {
         if is_annotation(one.token) {
@@ -255,7 +255,7 @@ fn cut_pieces<'a>(
             }
         }
     }
-    let noted = any_note(&aside);
+    let noted = any_annotation(&aside);
     Ok((Tokens::of(text, tokens, aside), noted))
 }
 

@@ -2,7 +2,7 @@
 
 ghost use Rattle.std.specs.Prelude.{◌≡◌, ◌≤◌, ◌<◌, List, ℕ, length};
 ghost use Rattle.wat_lexer.specs.Token.{is_open};
-ghost use Rattle.wat_lexer.specs.View.{found_tok, is_note_kind, FoundFits, WasKept};
+ghost use Rattle.wat_lexer.specs.View.{found_tok, is_annotation_kind, FoundFits, WasKept};
 ghost use Rattle.wat_lexer.specs.declared.lexeme.Aside.{Aside};
 
 use crate::token::Token;
@@ -58,8 +58,8 @@ pub fn is_open(kind: Kind) -> bool
 }
 
 /// Whether a token of the kind is an annotation.
-pub fn is_note(kind: Kind) -> bool
-    ensures { result ≡ is_note_kind kind }
+pub fn is_annotation_kind(kind: Kind) -> bool
+    ensures { result ≡ is_annotation_kind kind }
 {
     matches!(kind, Kind::Annotation)
 }

@@ -1,11 +1,11 @@
 -- Texts as tokens, and the fields that they spell: what is read of them.
-use Rattle.std.proofs.Common.{◌≡◌, List, [], ◌∷◌, Some, None, refl}
+use Rattle.std.proofs.Common.{◌≡◌, List, [], ◌∷◌, Some, refl}
 use Rattle.std.specs.Prelude.{codes}
 use Rattle.wat_tokens.specs.ManySpells.{many_at, many_reads}
 use Rattle.wat_tokens.specs.NameAnnotation.{name_annotation}
 use Rattle.wat_tokens.specs.Number.{read}
 use Rattle.wat_tokens.specs.Laws.Spelled.{spelled}
-use Rattle.wat_tokens.specs.Token.{Tok, Keyword, RParen}
+use Rattle.wat_tokens.specs.Token.{Tok, RParen}
 use Rattle.wat_types.specs.Exponent.{exponent}
 use Rattle.wat_types.specs.Function.{function_groups}
 use Rattle.wat_types.specs.FunctionSpells.{func_groups}

@@ -1,6 +1,6 @@
 -- How the fields of a module are listed.
 use Rattle.std.specs.Prelude.{ℕ, List, [], ◌++◌, Option, Some, None, length, map, flat_map, sum_by}
-use Rattle.std.specs.Prelude.{codes, decimal}
+use Rattle.std.specs.Prelude.{codes}
 use Rattle.wat_core.specs.Field.{ModuleFieldTy, a_type, a_rec, an_import, a_func, a_table, a_memory}
 use Rattle.wat_core.specs.Field.{a_global, an_export, a_start, an_elem, a_data, a_tag, a_custom}
 use Rattle.wat_customs.specs.Custom.{CustomTy, raw, produced, linked}
@@ -17,7 +17,7 @@ use Rattle.wat_funcs.specs.Global as globals
 use Rattle.wat_links.specs.Import.{ItemsTy, single, group1, group2}
 use Rattle.wat_links.specs.declared.export.ExportKind.{ExportKind}
 use Rattle.wat_links.specs.declared.export.ExportKind.TheVariants as kind
-use Rattle.wat_segments.specs.Data.{DataKindTy, DataTy}
+use Rattle.wat_segments.specs.Data.{DataKindTy}
 use Rattle.wat_segments.specs.Data as segments
 use Rattle.wat_segments.specs.DataVal.{DataValTy, bytes_in}
 use Rattle.wat_segments.specs.Memory.{MemoryKindTy}

@@ -1,20 +1,22 @@
 -- What stands in front, and what stands behind it.
-use Rattle.std.proofs.Common.{refl, ◌≡◌, ◌≢◌, ℕ, ◌+◌, ◌<◌, ◌≤◌, Bool, List, [], ◌∷◌, length, get_or, drop, sym, ap, ◌∙◌, arith, subst, length-drop, drop-drop}
-use Rattle.std.proofs.lemmas.List.{drop_more, drop-map}
-use Rattle.std.specs.Prelude.{true, false, None}
-use Rattle.wat_lexer.specs.Token.{Tok, Entry, LParen, RParen, Annotation, tokens_of, is_open, is_close, is_annotation}
-use Rattle.wat_lexer.specs.Laws.Shown.{shown_some}
+use Rattle.std.proofs.Common.{inl, inr, refl, ◌≡◌, ◌≢◌, ℕ, ◌+◌, ◌<◌, Bool, List, [], ◌∷◌, length, drop, sym, ap, ◌∙◌, arith, drop-drop}
+use Rattle.std.proofs.lemmas.Bool.{cases_lt}
+use Rattle.std.proofs.lemmas.List.{drop-map}
+use Rattle.std.specs.Prelude.{false, None}
+use Rattle.wat_lexer.specs.Token.{Tok, Entry, LParen, RParen, Annotation, is_open, is_close, is_annotation}
+use Rattle.wat_lexer.specs.Laws.Kinds.{open_is, close_is}
+use Rattle.wat_lexer.specs.Laws.Shown.{shown_some, shown_none}
 use Rattle.wat_lexer.specs.Sight.{as_shown}
-use Rattle.wat_lexer.specs.View.{entry_tok, toks, placed, Shown}
+use Rattle.wat_lexer.specs.View.{entry_tok, toks, Shown}
 use Rattle.wat_tokens.specs.Tests.{ends, as_lparen, as_rparen, as_annotation}
-
-some_shown : (known : Bool) (ls : List Entry) (left : List Tok) → Shown known ls left → left ≢ [] → 1 ≤ length ls
-some_shown known [] left s some = absurd (some s)
-some_shown known (x ∷ ls) left s some = omega arith
 
 -- a token stands at the place, where one is visible from there
 pub stands_before : (known : Bool) (ls : List Entry) (i : ℕ) (left : List Tok) → Shown known (drop i ls) left → left ≢ [] → i < length ls
-stands_before known ls i left s some = omega (arith, some_shown known (drop i ls) left s some, length-drop i ls)
+stands_before known ls i left s some =
+    elim (cases_lt i (length ls)) [
+      | inl lt ↦ lt
+      | inr le ↦ absurd (some (shown_none known ls i left s le))
+    ]
 
 -- and behind it stands what is visible behind it
 pub steps_to : (known : Bool) (ls : List Entry) (i : ℕ) (left : List Tok) → Shown known (drop i ls) left → i < length ls → as_shown known (toks (drop (i + 1) ls)) ≡ drop 1 left
@@ -30,14 +32,6 @@ pub ends_first : (t : Tok) (r : List Tok) → ends (t ∷ r) ≡ is_close t
 ends_first RParen r = refl
 ends_first _ r = refl
 
-pub open_is : (t : Tok) → is_open t ≡ true → t ≡ LParen
-open_is LParen e = refl
-open_is _ e = absurd cc
-
-pub close_is : (t : Tok) → is_close t ≡ true → t ≡ RParen
-close_is RParen e = refl
-close_is _ e = absurd cc
-
 pub open_none : (t : Tok) → is_open t ≡ false → as_lparen t ≡ None
 open_none LParen e = absurd cc
 open_none _ e = refl
@@ -51,8 +45,3 @@ annotation_none (Annotation n) e = absurd cc
 annotation_none _ e = refl
 
 pub ruleset paren_steps = (ends_first, open_is, close_is, open_none, close_none)
-
--- the code's tokens are those of their places
-pub tokens_of-placed : (ls : List Entry) → tokens_of (placed ls) ≡ toks ls
-tokens_of-placed [] = refl
-tokens_of-placed (x ∷ ls) = ap (λ l. entry_tok x ∷ l) (tokens_of-placed ls)

@@ -2,8 +2,8 @@ use Rattle.std.proofs.Common.{arith, ◌≡◌, ap, is_ok, length, length-drop}
 use Rattle.std.specs.Prelude.{◌∷◌, [], ◌++◌}
 use Rattle.std.proofs.ResultArms.{chosen}
 use Rattle.std.proofs.lemmas.List.{map-append, length-append}
-use Rattle.wat_lexer.specs.Token.{Entry}
-use Rattle.wat_lexer.specs.View.{any_note, entries_of, found_tok, placed_of}
+use Rattle.wat_lexer.specs.Token.{Entry, has_annotation}
+use Rattle.wat_lexer.specs.View.{lying, entries_of, found_tok, placed_of}
 use Rattle.wat_lexer.proofs.Entries.{any_put, kept_more}
 use Rattle.std.proofs.Math.ListN.{drop_of_length-le}
 use Rattle.wat_lexer.proofs.CutSoFar.{over_blank, over_spaces, over_token, at_end, fault_here, noted_more}
@@ -43,7 +43,7 @@ loop-at-preserved c =
     let e : Entry = record { token = found_tok text aside at end c.in-Some.kind; offset = at; skip = 0 } in
     record {
       cuts = rw (c.directly-behind.ensures, c.is_open.ensures text aside at end fits, more.entries, map-append placed_of before (e ∷ [])) (over_spaces end c.spaces_end-next.result c.spaces_end-next.ensures.within.0 (rw c.as_bytes.ensures.value at c.spaces_end-next.ensures.within.1) (rw c.as_bytes.ensures.value at c.spaces_end-next.ensures.value) (over_token at c.loop-at.invariant.cuts front (omega (arith, length-drop at text, c.loop-at-test.true))));
-      noted = rw more.entries (noted_more before e (any_note c.loop-at.aside.items) (any_note aside) c.loop-at.invariant.noted (any_put c.in-Some.kind text c.loop-at.aside.items aside at end put));
+      noted = rw more.entries (noted_more before e (has_annotation (lying c.loop-at.aside.items)) (has_annotation (lying aside)) c.loop-at.invariant.noted (any_put c.in-Some.kind text c.loop-at.aside.items aside at end put));
       fits = more.fit;
       few = rw items (omega (arith, length-append ls (c.kept.result ∷ []), c.loop-at.invariant.few, c.in-Ok.ensures.within));
       room = omega (arith, more.room, c.loop-at.invariant.room, c.in-Ok.ensures.within, c.spaces_end-next.ensures.within);
