@@ -6,7 +6,7 @@ use Rattle.wat_tokens.specs.ManySpells.{many_at, many_reads}
 use Rattle.wat_tokens.specs.NameAnnotation.{name_annotation}
 use Rattle.wat_tokens.specs.Number.{read}
 use Rattle.wat_tokens.specs.Spelled.{in_parens}
-use Rattle.wat_tokens.specs.Laws.Spelled.{spelled}
+use Rattle.wat_tokens.specs.Laws.Spelled.{spelled_whole}
 use Rattle.wat_tokens.specs.Token.{Tok, Keyword, Integer, RParen}
 use Rattle.wat_types.specs.Label.{label}
 use Rattle.wat_types.specs.Heap.{abstract_heap_type, heap_type}
@@ -33,11 +33,11 @@ use Rattle.wat_elems.specs.Table.{inline_table, normal_table, table_kind, table}
 
 pub declared_func : Declared
 unfolding elem segment declared_segment payload index_list label name_annotation many_at many_reads read
-declared_func = spelled elem _ _ refl
+declared_func = spelled_whole elem _ _ refl
 
 pub of_externref : OfExternref
 unfolding table table_kind inline_table listed index_list head inline_export label name_annotation is_64 ref_type shorthand begins_shorthand many_at many_reads read
-of_externref = spelled table _ _ refl
+of_externref = spelled_whole table _ _ refl
 
 const_word : head_of (codes "i32.const") ≡ Some word.i32_const
 const_word = head_of_word word.i32_const (codes "i32.const") refl
@@ -54,7 +54,7 @@ const_folded = folded_read zero_const const_text behind_const (rw const_word ref
 
 pub active_functions : Active
 unfolding elem segment active_segment in_some_table table_number elem_offset written_or_folded payload_or_indices begins_shorthand index_list label name_annotation many_at many_reads read
-active_functions = spelled elem active_text active_elem (rw const_folded refl)
+active_functions = spelled_whole elem active_text active_elem (rw const_folded refl)
 
 null_word : head_of (codes "ref.null") ≡ Some word.ref_null
 null_word = head_of_word word.ref_null (codes "ref.null") refl
@@ -71,7 +71,7 @@ null_folded = folded_read null_func null_text [] null_front
 
 pub table_of_nulls : OfNulls
 unfolding table table_kind normal_table table_type limits_type is_64 ref_type shorthand begins_shorthand head inline_export label name_annotation many_at many_reads read
-table_of_nulls = spelled table nulls_text nulls (rw null_read refl)
+table_of_nulls = spelled_whole table nulls_text nulls (rw null_read refl)
 
 func_word : head_of (codes "ref.func") ≡ Some (word.Indexed op.ref_func)
 func_word = head_of_word (word.Indexed op.ref_func) (codes "ref.func") refl
@@ -88,4 +88,4 @@ func_read = alone_read (instr_of (word.Indexed op.ref_func) (operands.one_index 
 
 pub elem_of_items : OfItems
 unfolding elem segment passive_segment payload typed_elems item_list item written_or_folded ref_type shorthand begins_shorthand label name_annotation many_at many_reads read
-elem_of_items = spelled elem items_text two_items (rw (func_read, null_folded) refl)
+elem_of_items = spelled_whole elem items_text two_items (rw (func_read, null_folded) refl)

@@ -5,7 +5,7 @@ use Rattle.std.specs.Prelude.{codes}
 use Rattle.std.specs.Str.{chars, is_utf8}
 use Rattle.wat_tokens.specs.ManySpells.{many_at, many_reads}
 use Rattle.wat_tokens.specs.NameAnnotation.{name_annotation}
-use Rattle.wat_tokens.specs.Laws.Spelled.{spelled}
+use Rattle.wat_tokens.specs.Laws.Spelled.{spelled_whole}
 use Rattle.wat_tokens.specs.Token.{Keyword}
 use Rattle.wat_types.specs.Function.{function_groups}
 use Rattle.wat_types.specs.FunctionSpells.{func_groups}
@@ -32,12 +32,12 @@ with_locals =
 
 pub locals_of_groups : Locals
 unfolding func func_defined func_inline head inline_export label name_annotation type_use function_groups func_groups locals local_parser listed_locals plain_locals labelled_local val_type many_at many_reads
-locals_of_groups = spelled func (Keyword (codes "func") ∷ locals_and_body) with_locals (rw (nop_read [] refl) refl)
+locals_of_groups = spelled_whole func (Keyword (codes "func") ∷ locals_and_body) with_locals (rw (nop_read [] refl) refl)
 
 pub imported_global : ImportedGlobal
 unfolding global global_defined head inline_export inline_import label name_annotation global_type val_type many_at many_reads is_utf8 chars encode_utf8
-imported_global = spelled global _ _ refl
+imported_global = spelled_whole global _ _ refl
 
 pub plain_tag : PlainTag
 unfolding tag head inline_export label name_annotation type_use function_groups func_groups func_group params plain_params val_type many_at many_reads
-plain_tag = spelled tag _ _ refl
+plain_tag = spelled_whole tag _ _ refl

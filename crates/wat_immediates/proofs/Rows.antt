@@ -4,7 +4,7 @@ use Rattle.std.specs.Prelude.{codes}
 use Rattle.wat_tokens.specs.Index.{name}
 use Rattle.wat_tokens.specs.Token.{Tok, Keyword, Id}
 use Rattle.wat_tokens.specs.Spelled.{in_parens, Spelled}
-use Rattle.wat_tokens.specs.Laws.Spelled.{spelled}
+use Rattle.wat_tokens.specs.Laws.Spelled.{spelled_whole}
 use Rattle.wat_tokens.specs.ManySpells.{many_at, many_reads}
 use Rattle.wat_tokens.specs.Number.{read}
 use Rattle.wat_immediates.specs.Lanes.{lane_arg, lane_access}
@@ -30,32 +30,32 @@ access_in_array = record { target = array (name (codes "a")); offset = 1; align 
 
 array_access : Spelled (mem_arg 4) in_array access_in_array
 unfolding mem_arg target offset_or_0 align_or field past_front read
-array_access = spelled (mem_arg 4) in_array access_in_array (rw align_is_2 refl)
+array_access = spelled_whole (mem_arg 4) in_array access_in_array (rw align_is_2 refl)
 
 pub accesses : Accesses
 unfolding mem_arg target index_or_0 offset_or_0 align_or field past_front read
-accesses = (array_access, spelled (mem_arg 4) _ _ refl)
+accesses = (array_access, spelled_whole (mem_arg 4) _ _ refl)
 
 pub atomic_accesses : AtomicAccesses
 unfolding atomic_mem_arg mem_arg target index_or_0 offset_or_0 align_or align field past_front ordering many_at many_reads read
-atomic_accesses = (spelled (atomic_mem_arg 4 true) _ _ refl, spelled (atomic_mem_arg 4 false) _ _ refl)
+atomic_accesses = (spelled_whole (atomic_mem_arg 4 true) _ _ refl, spelled_whole (atomic_mem_arg 4 false) _ _ refl)
 
 pub lane_accesses : LaneAccesses
 unfolding lane_access lane_arg mem_arg target index_or_0 offset_or_0 align_or align field past_front many_at many_reads read
-lane_accesses = (spelled (lane_access 1) _ _ refl, spelled lane_arg _ _ refl)
+lane_accesses = (spelled_whole (lane_access 1) _ _ refl, spelled_whole lane_arg _ _ refl)
 
 pub table_inits : TableInits
 unfolding init index_pair many_at many_reads read
-table_inits = (spelled init _ _ refl, spelled init _ _ refl)
+table_inits = (spelled_whole init _ _ refl, spelled_whole init _ _ refl)
 
 pub table_copies : TableCopies
 unfolding copy index_pair many_at many_reads read
-table_copies = (spelled copy _ _ refl, spelled copy _ _ refl)
+table_copies = (spelled_whole copy _ _ refl, spelled_whole copy _ _ refl)
 
 pub vector : Vector
 unfolding v128_const wide_const four two many_at many_reads read
-vector = (_, spelled v128_const _ _ refl, refl)
+vector = (_, spelled_whole v128_const _ _ refl, refl)
 
 pub ordered_table : OrderedTable
 unfolding ordering index_or_0 many_at many_reads read
-ordered_table = spelled (ordered index_or_0) _ _ refl
+ordered_table = spelled_whole (ordered index_or_0) _ _ refl

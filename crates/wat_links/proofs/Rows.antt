@@ -4,7 +4,7 @@ use Rattle.std.specs.Char.{encode_utf8}
 use Rattle.std.specs.Str.{chars, is_utf8}
 use Rattle.wat_tokens.specs.ManySpells.{many_at, many_reads}
 use Rattle.wat_tokens.specs.NameAnnotation.{name_annotation}
-use Rattle.wat_tokens.specs.Laws.Spelled.{spelled}
+use Rattle.wat_tokens.specs.Laws.Spelled.{spelled_whole}
 use Rattle.wat_types.specs.Function.{function_groups}
 use Rattle.wat_types.specs.FunctionSpells.{func_groups}
 use Rattle.wat_types.specs.Label.{label}
@@ -19,7 +19,7 @@ use Rattle.wat_links.specs.Rows.{Imports, InlineNames}
 
 pub imports_of_texts : Imports
 unfolding imports import_items import_choice typed_items typed_list named_items named_list named_item shared_sig item_sig func_kind label name_annotation type_use function_groups func_groups many_at many_reads is_utf8 chars encode_utf8
-imports_of_texts = (spelled imports _ _ refl, spelled imports _ _ refl, spelled imports _ _ refl)
+imports_of_texts = (spelled_whole imports _ _ refl, spelled_whole imports _ _ refl, spelled_whole imports _ _ refl)
 
 pub inline_names : InlineNames
 unfolding inline_export inline_name many_at many_reads is_utf8 chars encode_utf8

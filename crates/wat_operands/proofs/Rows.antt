@@ -3,7 +3,7 @@ use Rattle.std.proofs.Common.{refl}
 use Rattle.wat_tokens.specs.ManySpells.{many_at, many_reads}
 use Rattle.wat_tokens.specs.NameAnnotation.{name_annotation}
 use Rattle.wat_tokens.specs.Number.{read}
-use Rattle.wat_tokens.specs.Laws.Spelled.{spelled}
+use Rattle.wat_tokens.specs.Laws.Spelled.{spelled_whole}
 use Rattle.wat_types.specs.Function.{function_groups}
 use Rattle.wat_types.specs.FunctionSpells.{func_groups}
 use Rattle.wat_types.specs.Group.{val_types}
@@ -20,12 +20,12 @@ use Rattle.wat_operands.specs.Select.{select_types}
 
 pub catches : Catches
 unfolding try_table catch_clause catch_kind block_type label name_annotation type_use function_groups func_groups many_at many_reads read
-catches = spelled try_table _ _ refl
+catches = spelled_whole try_table _ _ refl
 
 pub handlers : Handlers
 unfolding resume_table handler aim many_at many_reads read
-handlers = spelled resume_table _ _ refl
+handlers = spelled_whole resume_table _ _ refl
 
 pub selects : Selects
 unfolding select_types val_types val_type many_at many_reads
-selects = (spelled select_types _ _ refl, spelled select_types _ _ refl, spelled select_types _ _ refl)
+selects = (spelled_whole select_types _ _ refl, spelled_whole select_types _ _ refl, spelled_whole select_types _ _ refl)

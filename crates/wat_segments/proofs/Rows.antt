@@ -4,7 +4,7 @@ use Rattle.std.specs.Prelude.{codes}
 use Rattle.wat_tokens.specs.ManySpells.{many_at, many_reads}
 use Rattle.wat_tokens.specs.NameAnnotation.{name_annotation}
 use Rattle.wat_tokens.specs.Number.{read}
-use Rattle.wat_tokens.specs.Laws.Spelled.{spelled}
+use Rattle.wat_tokens.specs.Laws.Spelled.{spelled_whole}
 use Rattle.wat_tokens.specs.Token.{Tok, RParen}
 use Rattle.wat_types.specs.Exponent.{exponent}
 use Rattle.wat_types.specs.Function.{function_groups}
@@ -32,15 +32,15 @@ use Rattle.wat_segments.specs.Rows.{block_text, head_behind_nop, InlineMemory, S
 
 pub inline_memory_of_text : InlineMemory
 unfolding memory memory_kind inline_memory head inline_export label name_annotation is_64 pagesize_or_none pagesize page_exponent exponent data_vals data_val many_at many_reads read
-inline_memory_of_text = spelled memory _ _ refl
+inline_memory_of_text = spelled_whole memory _ _ refl
 
 pub shared_memory : SharedMemory
 unfolding memory memory_kind head inline_export label name_annotation memory_type limits_type is_64 pagesize_or_none many_at many_reads read
-shared_memory = spelled memory _ _ refl
+shared_memory = spelled_whole memory _ _ refl
 
 pub passive_data : PassiveData
 unfolding data_segment data_kind label name_annotation data_vals data_val number_list wide_numbers many_at many_reads read
-passive_data = (spelled data_segment _ _ refl, spelled data_segment _ _ refl)
+passive_data = (spelled_whole data_segment _ _ refl, spelled_whole data_segment _ _ refl)
 
 block_word : head_of (codes "block") ≡ Some (word.Block block.block)
 block_word = head_of_word (word.Block block.block) (codes "block") refl
@@ -50,4 +50,4 @@ closed = RParen ∷ []
 
 pub head_of_data_last : HeadLast
 unfolding data_segment data_kind data_active data_memory offset_inside head_last instruction operand block_type label name_annotation type_use function_groups func_groups data_vals many_at many_reads
-head_of_data_last = spelled data_segment block_text head_behind_nop (rw (block_word, nop_read closed refl) refl)
+head_of_data_last = spelled_whole data_segment block_text head_behind_nop (rw (block_word, nop_read closed refl) refl)

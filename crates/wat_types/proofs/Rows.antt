@@ -4,7 +4,7 @@ use Rattle.std.specs.Prelude.{codes}
 use Rattle.wat_tokens.specs.Token.{Tok, RParen, Keyword, Integer}
 use Rattle.wat_tokens.specs.NameAnnotation.{name_annotation}
 use Rattle.wat_tokens.specs.Spelled.{in_parens, Spelled}
-use Rattle.wat_tokens.specs.Laws.Spelled.{spelled}
+use Rattle.wat_tokens.specs.Laws.Spelled.{spelled_whole}
 use Rattle.wat_tokens.specs.ManySpells.{many_at, many_reads}
 use Rattle.wat_tokens.specs.Number.{read}
 use Rattle.wat_types.specs.Define.{kind, linked, described, maybe_shared, type_def, type_}
@@ -35,36 +35,36 @@ page_text_64k = in_parens (Keyword (codes "pagesize") ∷ text_64k)
 
 page_of_64k : Spelled pagesize_or_none page_text_64k (Some 16)
 unfolding pagesize_or_none pagesize
-page_of_64k = spelled pagesize_or_none page_text_64k (Some 16) (rw exponent_64k refl)
+page_of_64k = spelled_whole pagesize_or_none page_text_64k (Some 16) (rw exponent_64k refl)
 
 pub page_sizes : PageSizes
 unfolding pagesize_or_none pagesize page_exponent exponent read
-page_sizes = (spelled pagesize_or_none _ _ refl, page_of_64k, spelled pagesize_or_none _ _ refl)
+page_sizes = (spelled_whole pagesize_or_none _ _ refl, page_of_64k, spelled_whole pagesize_or_none _ _ refl)
 
 pub globals : Globals
 unfolding global_type val_type ref_type shorthand many_at many_reads read
-globals = (spelled global_type _ _ refl, spelled global_type _ _ refl)
+globals = (spelled_whole global_type _ _ refl, spelled_whole global_type _ _ refl)
 
 pub long_limits : LongLimits
 unfolding limits_type is_64 many_at many_reads read
-long_limits = spelled limits_type _ _ refl
+long_limits = spelled_whole limits_type _ _ refl
 
 pub final_sub : FinalSub
 unfolding type_def maybe_shared described linked kind function_groups func_groups func_group many_at many_reads read
-final_sub = spelled type_def _ _ refl
+final_sub = spelled_whole type_def _ _ refl
 
 pub open_sub : OpenSub
 unfolding type_def maybe_shared described linked kind field_type storage_type many_at many_reads read
-open_sub = (spelled type_def _ _ refl, spelled type_def _ _ refl)
+open_sub = (spelled_whole type_def _ _ refl, spelled_whole type_def _ _ refl)
 
 pub structure : Structure
 unfolding struct_type member_group members plain_members label name_annotation field_type storage_type val_type many_at many_reads read
-structure = spelled struct_type _ _ refl
+structure = spelled_whole struct_type _ _ refl
 
 pub described_type : Described
 unfolding type_ type_def maybe_shared described linked kind label name_annotation struct_type member_group many_at many_reads read
-described_type = spelled type_ _ _ refl
+described_type = spelled_whole type_ _ _ refl
 
 pub uses : Uses
 unfolding type_use function_groups func_groups func_group params plain_params val_type label name_annotation many_at many_reads read
-uses = (spelled (type_use begins_func function_type) _ _ refl, spelled (type_use begins_func function_type) _ _ refl, spelled (type_use begins_func function_type) _ _ refl)
+uses = (spelled_whole (type_use begins_func function_type) _ _ refl, spelled_whole (type_use begins_func function_type) _ _ refl, spelled_whole (type_use begins_func function_type) _ _ refl)

@@ -117,32 +117,32 @@ export_as : (x : List ℕ × ℕ) (d t : List Tok) → begins_export (d ++ t) �
 unfolding entry
 export_as x d t b s = inl (b, (x, s, refl, refl))
 
-export_of : (x : List ℕ × ℕ) (d t : List Tok) → entry.spells (of_export x) d t
+export_is : (x : List ℕ × ℕ) (d t : List Tok) → entry.spells (of_export x) d t
     → (begins_export (d ++ t) ≡ true) × export_entry.spells x d t
 unfolding entry
-export_of x d t (inl s) =
+export_is x d t (inl s) =
     let e : s.1.0 ≡ x =
     (let h = s.1.3 in cc) in (s.0, subst (λ (u : List ℕ × ℕ). export_entry.spells u d t) e s.1.1)
-export_of x d t (inr (b, inl s)) = absurd (let h = s.1.3 in cc)
-export_of x d t (inr (b, inr s)) = absurd (let h = s.1.3 in cc)
+export_is x d t (inr (b, inl s)) = absurd (let h = s.1.3 in cc)
+export_is x d t (inr (b, inr s)) = absurd (let h = s.1.3 in cc)
 
 import_as : (x : List ℕ × List ℕ × ℕ) (d t : List Tok) → begins_import (d ++ t) ≡ true
     → import_entry.spells x d t → entry.spells (of_import x) d t
 unfolding entry
 import_as x d t b s = inr (import_no_export (d ++ t) b, inl (b, (x, s, refl, refl)))
 
-import_of : (x : List ℕ × List ℕ × ℕ) (d t : List Tok) → entry.spells (of_import x) d t
+import_is : (x : List ℕ × List ℕ × ℕ) (d t : List Tok) → entry.spells (of_import x) d t
     → (begins_import (d ++ t) ≡ true) × import_entry.spells x d t
 unfolding entry
-import_of x d t (inl s) = absurd (let h = s.1.3 in cc)
-import_of x d t (inr (b, inl s)) =
+import_is x d t (inl s) = absurd (let h = s.1.3 in cc)
+import_is x d t (inr (b, inl s)) =
     let e : s.1.0 ≡ x =
     (let h = s.1.3 in cc) in (
       s.0,
       subst (λ (u : List ℕ × List ℕ × ℕ). import_entry.spells u d t) e
           s.1.1,
     )
-import_of x d t (inr (b, inr s)) = absurd (let h = s.1.3 in cc)
+import_is x d t (inr (b, inr s)) = absurd (let h = s.1.3 in cc)
 
 -- ---- what the first subsection tells of the tokens in front
 
@@ -250,41 +250,43 @@ stops_import xs (s ∷ ss) c r a p = rw (whole ss s c r p) (starts_no_import s p
 
 -- ---- both ways
 
-abbrev flat : List SubsectionTy → List EntryTy
-flat ss = flat_map entries_in ss
+abbrev all_entries : List SubsectionTy → List EntryTy
+all_entries ss = flat_map entries_in ss
 
 -- a subsection, in front of others that are cut
 abbrev IsFirst : List SubsectionTy → List Tok → List Tok → SubsectionTy → Type 0
-IsFirst ss c r s = many_spells more entry (entries_in s ++ flat ss) c r × IsFilled s × IsApart s ss
+IsFirst ss c r s =
+    many_spells more entry (entries_in s ++ all_entries ss) c r × IsFilled s × IsApart s ss
 
 first_cut : (s : SubsectionTy) (ss : List SubsectionTy) (d e r : List Tok)
     → more ((d ++ e) ++ r) ≡ true → subsection.spells s d (e ++ r)
-    → many_spells more subsection ss e r → many_spells more entry (flat ss) e r
+    → many_spells more subsection ss e r → many_spells more entry (all_entries ss) e r
     → IsFirst ss (d ++ e) r s
 unfolding subsection entry
 first_cut s ss d e r m (inl p) rest es =
-    let q = run_in_front of_export begins_export export_entry export_entry_eats export_as export_of
-    (group_more (codes "export-info")) p.1.0 d e r (flat ss) p.0 p.1.1 es in
+    let q = run_in_front of_export begins_export export_entry export_entry_eats export_as export_is
+    (group_more (codes "export-info")) p.1.0 d e r (all_entries ss) p.0 p.1.1 es in
     let filled = subst (λ (u : List (List ℕ × ℕ)). IsFilled (export_info u)) p.1.1.3 tt in
     subst (λ (u : SubsectionTy). IsFirst ss (d ++ e) r u) p.1.3
     (q.0, filled, apart_export p.1.0 ss e r q.1 rest)
 first_cut s ss d e r m (inr (b, inl p)) rest es =
-    let q = run_in_front of_import begins_import import_entry import_entry_eats import_as import_of
-    (group_more (codes "import-info")) p.1.0 d e r (flat ss) p.0 p.1.1 es in
+    let q = run_in_front of_import begins_import import_entry import_entry_eats import_as import_is
+    (group_more (codes "import-info")) p.1.0 d e r (all_entries ss) p.0 p.1.1 es in
     let filled = subst (λ (u : List (List ℕ × List ℕ × ℕ)). IsFilled (import_info u)) p.1.1.3 tt in
     subst (λ (u : SubsectionTy). IsFirst ss (d ++ e) r u) p.1.3
     (q.0, filled, apart_import p.1.0 ss e r q.1 rest)
 first_cut s ss d e r m (inr (b, inr p)) rest es =
     let q = lone_entries s (lone_is s d (e ++ r) p.1) in
-    let here : many_spells more entry (other s ∷ flat ss) (d ++ e) r =
+    let here : many_spells more entry (other s ∷ all_entries ss) (d ++ e) r =
     (d, e, refl, m, inr (b, inr (p.0, (s, p.1, refl, refl))), es) in (
-      subst (λ (u : List EntryTy). many_spells more entry (u ++ flat ss) (d ++ e) r) (sym q.0) here,
+      subst (λ (u : List EntryTy). many_spells more entry (u ++ all_entries ss) (d ++ e) r)
+          (sym q.0) here,
       q.1,
       q.2 ss,
     )
 
 to_cut : (ss : List SubsectionTy) (c r : List Tok) → many_spells more subsection ss c r
-    → many_spells more entry (flat ss) c r × AreCut ss
+    → many_spells more entry (all_entries ss) c r × AreCut ss
 to_cut [] c r p = (p, tt)
 to_cut (s ∷ ss) c r p =
     let rest = to_cut ss p.1 r p.5 in
@@ -305,25 +307,25 @@ lone_alone s d t (inr (b, inr p)) =
           (p.0, subst (λ (u : SubsectionTy). lone_entry.spells u d t) e p.1.1),
     )
 
-from_cut : (ss : List SubsectionTy) (c r : List Tok) → many_spells more entry (flat ss) c r
+from_cut : (ss : List SubsectionTy) (c r : List Tok) → many_spells more entry (all_entries ss) c r
     → AreCut ss → many_spells more subsection ss c r
 unfolding subsection
 from_cut [] c r s a = s
 from_cut (export_info [] ∷ ss) c r s a = absurd a.0
 from_cut (import_info [] ∷ ss) c r s a = absurd a.0
 from_cut (export_info (x ∷ xs) ∷ ss) c r s a =
-    let p = entries_run of_export begins_export export_entry export_entry_eats export_as export_of
-    (group_more (codes "export-info")) (x ∷ xs) c r (flat ss) s in
+    let p = entries_run of_export begins_export export_entry export_entry_eats export_as export_is
+    (group_more (codes "export-info")) (x ∷ xs) c r (all_entries ss) s in
     let rest = from_cut ss p.1 r p.4 a.2 in
-    let q = front_is_run of_export begins_export export_entry export_entry_eats export_as export_of
+    let q = front_is_run of_export begins_export export_entry export_entry_eats export_as export_is
     (group_more (codes "export-info")) x xs c p.0 p.1 r p.2
     (p.3 (stops_export (x ∷ xs) ss p.1 r a.1 rest)) in
     (p.0, p.1, p.2, q.0, inl (q.1, (x ∷ xs, q.2, refl, refl)), rest)
 from_cut (import_info (x ∷ xs) ∷ ss) c r s a =
-    let p = entries_run of_import begins_import import_entry import_entry_eats import_as import_of
-    (group_more (codes "import-info")) (x ∷ xs) c r (flat ss) s in
+    let p = entries_run of_import begins_import import_entry import_entry_eats import_as import_is
+    (group_more (codes "import-info")) (x ∷ xs) c r (all_entries ss) s in
     let rest = from_cut ss p.1 r p.4 a.2 in
-    let q = front_is_run of_import begins_import import_entry import_entry_eats import_as import_of
+    let q = front_is_run of_import begins_import import_entry import_entry_eats import_as import_is
     (group_more (codes "import-info")) x xs c p.0 p.1 r p.2
     (p.3 (stops_import (x ∷ xs) ss p.1 r a.1 rest)) in
     let no = import_no_export (p.0 ++ (p.1 ++ r)) q.1 in

@@ -70,8 +70,8 @@ abbrev pub is_between : (ts c r : List Tok) → ts ≡ c ++ r
 is_between ts c r e l =
     record { front = c; is = e; shorter = omega (arith, ap length e, length-append c r); level = l }
 
-joined : (a b m r : List Tok) → m ≡ b ++ r → a ++ m ≡ (a ++ b) ++ r
-joined a b m r e = rw e (simp append_assoc)
+append_behind : (a b m r : List Tok) → m ≡ b ++ r → a ++ m ≡ (a ++ b) ++ r
+append_behind a b m r e = rw e (simp append_assoc)
 
 pub group_is : (a f y x d b r : List Tok) → a ≡ f ++ b → b ≡ y ++ (RParen ∷ d) → d ≡ x ++ r
     → LParen ∷ a ≡ (LParen ∷ (f ++ (y ++ (RParen ∷ x)))) ++ r
@@ -106,7 +106,8 @@ lists_between (Plain i xs) ts r (m, h, l) =
     let f = reads_front i ts m h in
     let k = lists_between xs m r l in
     let v = reads_level i ts m h in
-    is_between ts (f.0 ++ k.front) r (f.1 ∙ joined f.0 k.front m r k.is) (omega (arith, v, k.level))
+    is_between ts (f.0 ++ k.front) r (f.1 ∙ append_behind f.0 k.front m r k.is)
+    (omega (arith, v, k.level))
 lists_between (Folded i ys xs) ts r (a, b, d, e, s, h, ly, lx) =
     grouped i ts a b d r e h (lists_between ys b (RParen ∷ d) ly) (lists_between xs d r lx)
 lists_between (Block i ys xs) ts r (a, b, d, e, s, h, ly, lx) =

@@ -13,15 +13,15 @@ no_unit = None
 abbrev a_unit : Unit {0} → Option (Unit {0})
 a_unit u = Some u
 
-begun : (a b c : Tok) (u : Unit {0}) (m n : List ℕ) (r : List Tok)
+names_first : (a b c : Tok) (u : Unit {0}) (m n : List ℕ) (r : List Tok)
     → word_only (codes "import") a ≡ Some u → text_in b ≡ Some m → text_in c ≡ Some n
     → begins_inline_import (LParen ∷ a ∷ b ∷ c ∷ RParen ∷ r) ≡ true
-begun (Keyword k) (String s) (String s2) u m n r e f g =
+names_first (Keyword k) (String s) (String s2) u m n r e f g =
     by_test (bytes_eq k (codes "import")) (λ b. b)
     (λ b. absurd (let h : no_unit ≡ a_unit u = rw b at e in cc))
-begun (Keyword k) (String s) _ u m n r e f g = absurd cc
-begun (Keyword k) _ c u m n r e f g = absurd cc
-begun _ b c u m n r e f g = absurd cc
+names_first (Keyword k) (String s) _ u m n r e f g = absurd cc
+names_first (Keyword k) _ c u m n r e f g = absurd cc
+names_first _ b c u m n r e f g = absurd cc
 
 pub no_import : (t : List Tok) → begins_inline_import t ≡ false → inline_import.reads t ≡ None
 unfolding inline_import
@@ -34,6 +34,6 @@ no_import t e =
     let q = s.4 in
     let k : begins_inline_import t ≡ true =
     rw (y.1, p.1, s.2, s.3.1, q.2, q.3.1, q.4.1)
-    (begun s.3.0 q.3.0 q.4.0 _ _ _ x.1 s.3.2 q.3.2 q.4.2) in
+    (names_first s.3.0 q.3.0 q.4.0 _ _ _ x.1 s.3.2 q.3.2 q.4.2) in
     absurd cc))
     (λ f. f)

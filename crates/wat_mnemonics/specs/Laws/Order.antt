@@ -36,13 +36,13 @@ less_between (x ∷ xs) zero (suc k) h a b = first_less x xs k h (omega arith)
 less_between (x ∷ xs) (suc j) (suc k) h a b =
     less_between xs j k (rises-tail x xs h) (omega arith) (omega arith)
 
-own : (o : Ordering) → o ≡ ordering_reverse o → o ≡ Equal
-own Less e = cc
-own Equal e = refl
-own Greater e = cc
+own_reverse : (o : Ordering) → o ≡ ordering_reverse o → o ≡ Equal
+own_reverse Less e = cc
+own_reverse Equal e = refl
+own_reverse Greater e = cc
 
 pub self_equal : (x : List ℕ) → cmp x x ≡ Equal
-self_equal x = own (cmp x x) (nat_list_cmp_total.antisymm x x)
+self_equal x = own_reverse (cmp x x) (nat_list_cmp_total.antisymm x x)
 
 -- places of a strict order with one entry are one
 pub same_place : (xs : List (List ℕ)) (j k : ℕ) → IsTrue (rises xs) → j < length xs → k < length xs

@@ -78,17 +78,17 @@ module _ {A : Type 0} (g : Production A) where
 
 -- ---- ) (
 
-opened : (t : List Tok) (x : Unit {0} × List Tok) → one_reads as_lparen t ≡ Some x
+lparen_first : (t : List Tok) (x : Unit {0} × List Tok) → one_reads as_lparen t ≡ Some x
     → t ≡ LParen ∷ x.1
-opened [] x e = none_is_not x e
-opened (LParen ∷ t) x e = ap (λ (u : Unit {0} × List Tok). LParen ∷ u.1) (some_is (tt, t) x e)
-opened (_ ∷ t) x e = none_is_not x e
+lparen_first [] x e = none_is_not x e
+lparen_first (LParen ∷ t) x e = ap (λ (u : Unit {0} × List Tok). LParen ∷ u.1) (some_is (tt, t) x e)
+lparen_first (_ ∷ t) x e = none_is_not x e
 
 pub turn_sound : (t : List Tok) (x : Unit {0} × List Tok) → turn_reads t ≡ Some x
     → Front turn_spells t x
 turn_sound [] x e = none_is_not x e
 turn_sound (RParen ∷ t) x e =
-    (RParen ∷ LParen ∷ [], ap (λ (u : List Tok). RParen ∷ u) (opened t x e), refl)
+    (RParen ∷ LParen ∷ [], ap (λ (u : List Tok). RParen ∷ u) (lparen_first t x e), refl)
 turn_sound (_ ∷ t) x e = none_is_not x e
 
 pub turn_complete : (v : Unit {0}) (c r : List Tok) → turn_spells v c r

@@ -8,9 +8,9 @@ use Rattle.wat_tokens.specs.Index.{Idx, number, name, same_index}
 
 -- ---- equality
 
-abbrev number_in : Idx → ℕ
-number_in (number n) = n
-number_in (name x) = 0
+abbrev idx_number : Idx → ℕ
+idx_number (number n) = n
+idx_number (name x) = 0
 
 abbrev name_in : Idx → List ℕ
 name_in (number n) = []
@@ -18,7 +18,7 @@ name_in (name x) = x
 
 pub same_index_decides : (x y : Idx) → Decides (same_index x y) (x ≡ y)
 same_index_decides (number m) (number n) =
-    (λ e. ap number ((unsigned_Decides m n).0 e), λ e. (unsigned_Decides m n).1 (ap number_in e))
+    (λ e. ap number ((unsigned_Decides m n).0 e), λ e. (unsigned_Decides m n).1 (ap idx_number e))
 same_index_decides (number m) (name y) = (λ e. absurd cc, λ e. absurd cc)
 same_index_decides (name x) (number n) = (λ e. absurd cc, λ e. absurd cc)
 same_index_decides (name x) (name y) =

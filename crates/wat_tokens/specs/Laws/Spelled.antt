@@ -4,6 +4,6 @@ use Rattle.wat_lexer.specs.Token.{Tok}
 use Rattle.wat_tokens.specs.Production.{Production}
 use Rattle.wat_tokens.specs.Spelled.{Spelled}
 
-pub spelled : {A : Type 0} (g : Production A) (ts : List Tok) (v : A) → g.reads ts ≡ Some (v, [])
-    → Spelled g ts v
-spelled g ts v e = g.sound ts (v, []) e
+pub spelled_whole : {A : Type 0} (g : Production A) (ts : List Tok) (v : A)
+    → g.reads ts ≡ Some (v, []) → Spelled g ts v
+spelled_whole g ts v e = g.sound ts (v, []) e
