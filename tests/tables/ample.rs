@@ -1,11 +1,11 @@
 //! What tests read texts by that have to be read, and values by that have to be cloned: memory is
 //! ample, so that a refusal for want of it is wrong too.
 
+use crate::reading::{parser_of, repeated};
 use bumpalo::Bump;
 use std::alloc::Global;
 use std::fmt::Debug;
 use wat_tokens::{Error, Parse};
-use wat_vectors::reading::{parser_of, repeated};
 
 /// Calls the inherent `clone` of a T.
 pub trait Clones<T> {

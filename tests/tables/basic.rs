@@ -1,6 +1,7 @@
 //! Each basic type once as it is read, and each of its faults with the offset.
 
 use crate::hashing::hash_of;
+use crate::reading::{parser_of, read, refusal};
 use bumpalo::Bump;
 use std::alloc::Global;
 use std::fmt::Debug;
@@ -9,7 +10,6 @@ use std::test::Fail;
 use wat_tokens::{
     Error, F32, F64, Fault, Id, Index, Integer, NameAnnotation, Parse, Peek, Span, kw,
 };
-use wat_vectors::reading::{parser_of, read, refusal};
 
 /// Wants a value where a text is read.
 fn reads<'a, T: Parse<'a> + PartialEq + Debug + Drop>(

@@ -1,5 +1,6 @@
 //! Casts and the types of a `select` as they are read and cloned, and their faults with the offset.
 
+use crate::reading::{name_of, number_of, read, refused_otherwise, repeated};
 use bumpalo::Bump;
 use std::alloc::Global;
 use std::test::Fail;
@@ -9,7 +10,6 @@ use wat_operands::{
 };
 use wat_tokens::{Error, Fault, Index};
 use wat_types::{AbstractHeapType, HeapType, RefType, ValType};
-use wat_vectors::reading::{name_of, number_of, read, refused_otherwise, repeated};
 
 /// Whether the branch is `1 (ref i31) anyref`.
 fn is_wanted(label: Index<'_>, from: RefType<'_>, to: RefType<'_>) -> bool {
@@ -53,18 +53,18 @@ fn branches_on_casts(rt: HostRuntime) -> Result<(), Fail> {
 }
 
 #[test]
-fn refused(rt: HostRuntime) {
+fn refused(rt: HostRuntime) -> Result<(), Fail> {
     let alloc = rt.alloc();
     let arena = Bump::new(alloc);
     let rows = &[("i32", Fault::Unexpected, 0)];
-    assert_eq!(rt; refused_otherwise::<RefTest>(alloc, &arena, rows), None);
+    assert_eq!(rt; refused_otherwise::<RefTest>(alloc, &arena, rows)?, None);
     let rows = &[
         ("anyref", Fault::Unexpected, 0),
         ("1 (ref i31)", Fault::Unexpected, 11),
         ("1 anyref (shared $t)", Fault::Unexpected, 17),
     ];
     assert_eq!(rt;
-        refused_otherwise::<BrOnCastFail>(alloc, &arena, rows),
+        refused_otherwise::<BrOnCastFail>(alloc, &arena, rows)?,
         None
     );
     let rows = &[
@@ -72,7 +72,8 @@ fn refused(rt: HostRuntime) {
         ("(result i32", Fault::Unexpected, 11),
         ("(result i32) (result i8)", Fault::Unexpected, 21),
     ];
-    assert_eq!(rt; refused_otherwise::<SelectTypes>(alloc, &arena, rows), None);
+    assert_eq!(rt; refused_otherwise::<SelectTypes>(alloc, &arena, rows)?, None);
+    Ok(())
 }
 
 /// How many types a `select` and its clone have, None of one without a list of them.

@@ -1,6 +1,7 @@
 //! Blocks, calls, what is caught and handlers as they are read and cloned, and their faults with
 //! the offset.
 
+use crate::reading::{name_of, number_of, read, refused_otherwise, repeated};
 use bumpalo::Bump;
 use std::alloc::Global;
 use std::test::Fail;
@@ -10,7 +11,6 @@ use wat_operands::{
 };
 use wat_tokens::{Error, Fault, Index, Span};
 use wat_types::{FunctionType, TypeUse, ValType};
-use wat_vectors::reading::{name_of, number_of, read, refused_otherwise, repeated};
 
 /// The index of a type use, and how many parameters and results it has in line.
 type Shape = (Option<u32>, Option<(usize, usize)>);
@@ -110,7 +110,7 @@ fn calls(rt: HostRuntime) -> Result<(), Fail> {
 }
 
 #[test]
-fn refused(rt: HostRuntime) {
+fn refused(rt: HostRuntime) -> Result<(), Fail> {
     let alloc = rt.alloc();
     let arena = Bump::new(alloc);
     let rows = &[
@@ -119,10 +119,10 @@ fn refused(rt: HostRuntime) {
         ("nop type", Fault::Unexpected, 0),
         ("$l (type)", Fault::Unexpected, 8),
     ];
-    assert_eq!(rt; refused_otherwise::<BlockType>(alloc, &arena, rows), None);
+    assert_eq!(rt; refused_otherwise::<BlockType>(alloc, &arena, rows)?, None);
     let rows = &[("-1 (type 7)", Fault::Range, 0)];
     assert_eq!(rt;
-        refused_otherwise::<CallIndirect>(alloc, &arena, rows),
+        refused_otherwise::<CallIndirect>(alloc, &arena, rows)?,
         None
     );
     let rows = &[
@@ -132,18 +132,19 @@ fn refused(rt: HostRuntime) {
         ("(catch_all 0) (catch 0 x)", Fault::Unexpected, 23),
         ("(catch 0 4294967296)", Fault::Range, 9),
     ];
-    assert_eq!(rt; refused_otherwise::<TryTable>(alloc, &arena, rows), None);
+    assert_eq!(rt; refused_otherwise::<TryTable>(alloc, &arena, rows)?, None);
     let rows = &[
         ("(on 0)", Fault::Unexpected, 5),
         ("(on switch)", Fault::Unexpected, 4),
         ("(on 0 switch 1)", Fault::Unexpected, 13),
         ("(on 1 2) (on 3 -4)", Fault::Range, 15),
     ];
-    assert_eq!(rt; refused_otherwise::<ResumeTable>(alloc, &arena, rows), None);
+    assert_eq!(rt; refused_otherwise::<ResumeTable>(alloc, &arena, rows)?, None);
     let rows = &[("", Fault::Unexpected, 0)];
-    assert_eq!(rt; refused_otherwise::<Resume>(alloc, &arena, rows), None);
+    assert_eq!(rt; refused_otherwise::<Resume>(alloc, &arena, rows)?, None);
     let rows = &[("1 (on 1 2)", Fault::Unexpected, 2)];
-    assert_eq!(rt; refused_otherwise::<ResumeThrow>(alloc, &arena, rows), None);
+    assert_eq!(rt; refused_otherwise::<ResumeThrow>(alloc, &arena, rows)?, None);
+    Ok(())
 }
 
 #[test]

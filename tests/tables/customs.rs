@@ -1,5 +1,6 @@
 //! Custom sections as they are read, and each of their faults with the offset.
 
+use crate::reading::{parser_of, refusal, repeated};
 use bumpalo::Bump;
 use std::alloc::Global;
 use std::test::Fail;
@@ -7,7 +8,6 @@ use wat_customs::{
     Custom, CustomPlace, CustomPlaceAnchor, Dylink0, Dylink0Subsection, Producers, RawCustomSection,
 };
 use wat_tokens::{Error, Fault, Parse};
-use wat_vectors::reading::{parser_of, refusal, repeated};
 
 /// Reads a value from the front of a text, behind its `(`; the standard annotations are known.
 fn read_behind_open<'a, T: Parse<'a>>(

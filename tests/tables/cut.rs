@@ -1,5 +1,6 @@
 //! Tests of the cut: each lexical rule with texts that are cut and texts that are refused.
 
+use crate::reading::repeated;
 use bumpalo::Bump;
 use std::alloc::{AllocError, Global};
 use std::process::Abort;
@@ -7,7 +8,6 @@ use std::test::Fail;
 use wat_lexer::cut::cut;
 use wat_lexer::fault::{Error, Fault};
 use wat_lexer::token::Token;
-use wat_vectors::reading::repeated;
 
 /// Adds a token in a short form: its sign, if it has one, and its content.
 fn add(out: &mut String, token: Token) -> Result<(), AllocError> {

@@ -1,10 +1,10 @@
 //! Structure types and definitions as they are read, and their faults with the offset.
 
+use crate::reading::{name_of, number_of, read, refusal, repeated};
 use bumpalo::Bump;
 use std::test::Fail;
 use wat_tokens::{Fault, Parser, Peek};
 use wat_types::{InnerTypeKind, Rec, StorageType, StructType, Type, TypeDef, ValType};
-use wat_vectors::reading::{name_of, number_of, read, refusal, repeated};
 
 #[test]
 fn definitions(rt: HostRuntime) -> Result<(), Fail> {

@@ -1,13 +1,13 @@
 //! Element segments as they are read, and their faults with the offset.
 
 use crate::elements_shown::shown_elem;
+use crate::reading::{parser_of, read, read_unannotated, refusal, repeated};
 use bumpalo::Bump;
 use std::alloc::Global;
 use std::test::Fail;
 use wat_elems::{Elem, ElemKind, ElemPayload};
 use wat_expr::Expression;
 use wat_tokens::{Error, Fault, Index};
-use wat_vectors::reading::{parser_of, read, read_unannotated, refusal, repeated};
 
 #[test]
 fn segments_that_are_not_active(rt: HostRuntime) -> Result<(), Fail> {

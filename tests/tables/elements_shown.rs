@@ -1,5 +1,6 @@
 //! What element segments and tables hold, as texts.
 
+use crate::reading::read;
 use bumpalo::Bump;
 use std::alloc::Global;
 use std::test::Fail;
@@ -8,7 +9,6 @@ use wat_expr::Expression;
 use wat_instr::Instruction;
 use wat_tokens::Index;
 use wat_types::{RefType, TableType};
-use wat_vectors::reading::read;
 
 /// Adds a space, and the number or the name of an index.
 fn add_index(out: &mut String, index: Index<'_>) -> Result<(), Fail> {

@@ -1,10 +1,10 @@
 //! Each choice of each row of expressions and of a module's fields is read with ample memory: the
 //! program lists the text.
 
+use crate::reading::repeated;
 use std::alloc::Global;
 use std::test::Fail;
 use wat_show::{Mode, Watched, run};
-use wat_vectors::reading::repeated;
 
 /// What the program writes of the bytes, and its status.
 fn shown(alloc: Global, mode: Mode, bytes: &[u8]) -> Result<(Vec<u8>, u8), Fail> {

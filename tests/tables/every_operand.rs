@@ -3,6 +3,7 @@
 
 use crate::ample::Clones;
 use crate::findings::Findings;
+use crate::reading::{read, repeated};
 use bumpalo::Bump;
 use std::alloc::Global;
 use std::test::Fail;
@@ -18,7 +19,6 @@ use wat_operands::{
     TryTable,
 };
 use wat_tokens::Error;
-use wat_vectors::reading::{read, repeated};
 
 /// The inherent `clone` of operands, imports and exports.
 struct Inherent;

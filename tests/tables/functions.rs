@@ -1,5 +1,6 @@
 //! Functions, locals, globals and tags as they are read, and their faults with the offset.
 
+use crate::reading::{number_of, parser_of, read_unannotated, refusal, repeated};
 use bumpalo::Bump;
 use std::alloc::Global as Allocator;
 use std::test::Fail;
@@ -8,7 +9,6 @@ use wat_funcs::{Func, FuncKind, Global, GlobalKind, Local, LocalParser, Tag, Tag
 use wat_links::{InlineExport, InlineImport};
 use wat_tokens::{Error, Fault, Id, NameAnnotation, Parse};
 use wat_types::{FunctionType, GlobalType, TagType, TypeUse, ValType};
-use wat_vectors::reading::{number_of, parser_of, read_unannotated, refusal, repeated};
 
 /// Reads a whole text as a T; the standard annotations are known and spans are kept. What is left
 /// over is refused.

@@ -1,6 +1,7 @@
 //! Every mnemonic with the least operand that it takes, and instructions as they are read, cloned
 //! and written.
 
+use crate::reading::{number_of, read, refusal, repeated};
 use bumpalo::Bump;
 use std::alloc::Global;
 use std::test::Fail;
@@ -8,7 +9,6 @@ use wat_instr::{AccessOp, Head, IndexedOp, Instruction, LabelOp, ScalarOp, Vecto
 use wat_mnemonics::table::HEADS;
 use wat_operands::{MemArg, MemArgTarget};
 use wat_tokens::{Error, F32, F64, Fault, Index};
-use wat_vectors::reading::{number_of, read, refusal, repeated};
 
 /// The shortest operand of an instruction, or None where no literal is read.
 fn least(head: Head) -> Option<&'static str> {

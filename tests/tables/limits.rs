@@ -2,6 +2,7 @@
 //! offset.
 
 use crate::hashing::hash_of;
+use crate::reading::{read_unannotated, refusal};
 use bumpalo::Bump;
 use std::alloc::Global;
 use std::test::Fail;
@@ -10,7 +11,6 @@ use wat_types::{
     AbstractHeapType, GlobalType, HeapType, Limits, MemoryType, RefType, StorageType, TableType,
     ValType, page_size,
 };
-use wat_vectors::reading::{read_unannotated, refusal};
 
 /// Reads the size of a page.
 fn read_page_size(alloc: Global, text: &str, arena: &Bump) -> Result<Option<u32>, Error> {

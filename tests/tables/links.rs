@@ -1,6 +1,7 @@
 //! Imports and exports as they are read, counted, changed and cloned, and their faults with the
 //! offset.
 
+use crate::reading::{read, refusal, repeated};
 use bumpalo::Bump;
 use std::alloc::Global;
 use std::test::Fail;
@@ -9,7 +10,6 @@ use wat_links::{
     ItemSig,
 };
 use wat_tokens::{Error, Fault, Parser, Peek, Span, kw};
-use wat_vectors::reading::{read, refusal, repeated};
 
 /// The word of a signature's kind.
 fn word_of(sig: &ItemSig<'_>) -> &'static str {

@@ -1,5 +1,6 @@
 //! What accesses are given, as it is read, and each of the faults with the offset.
 
+use crate::reading::{name_of, number_of, refusal};
 use bumpalo::Bump;
 use std::alloc::Global;
 use std::test::Fail;
@@ -7,7 +8,6 @@ use wat_immediates::{
     LaneArg, LoadOrStoreLane, MemArg, MemArgOrdering, MemArgTarget, Ordered, Ordering, TableArg,
 };
 use wat_tokens::{Error, Fault, Parse, Parser, Peek};
-use wat_vectors::reading::{name_of, number_of, refusal};
 
 /// Whether an array is accessed, and the number or the name of it or of the memory.
 fn target_of<'a>(access: &MemArg<'a>) -> (bool, Option<u32>, Option<&'a str>) {

@@ -1,5 +1,6 @@
 //! Words that are and aren't mnemonics, opcodes, and default alignments.
 
+use crate::reading::refusal;
 use bumpalo::Bump;
 use std::alloc::Global;
 use std::test::Fail;
@@ -8,7 +9,6 @@ use wat_mnemonics::{
     AccessOp, AtomicAccessOp, Head, IndexedOp, LaneAccessOp, RmwAccessOp, ScalarOp, VectorOp,
 };
 use wat_tokens::{Error, Fault, Parser};
-use wat_vectors::reading::refusal;
 
 /// Takes the word of an instruction in front of a text.
 fn take(alloc: Global, text: &str, arena: &Bump) -> Result<Head, Error> {

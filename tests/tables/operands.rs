@@ -1,5 +1,6 @@
 //! Indices, labels and lanes as they are read, and each of the faults with the offset.
 
+use crate::reading::{number_of, read_unannotated, refused_otherwise};
 use bumpalo::Bump;
 use std::alloc::Global;
 use std::fmt::Write;
@@ -11,7 +12,6 @@ use wat_immediates::{
     TableCopy, TableInit, V128Const,
 };
 use wat_tokens::{Error, F32, F64, Fault, Index, Span};
-use wat_vectors::reading::{number_of, read_unannotated, refused_otherwise};
 
 /// The index of the number, at the beginning of the text.
 fn numbered<'a>(number: u32) -> Index<'a> {
@@ -176,28 +176,28 @@ fn constants_of_floats_and_shuffles(rt: HostRuntime) -> Result<(), Fail> {
 }
 
 #[test]
-fn refused(rt: HostRuntime) {
+fn refused(rt: HostRuntime) -> Result<(), Fail> {
     let alloc = rt.alloc();
     let arena = Bump::new(alloc);
     let rows = &[("nop 1", Fault::Unexpected, 0)];
-    assert_eq!(rt; refused_otherwise::<TableInit>(alloc, &arena, rows), None);
+    assert_eq!(rt; refused_otherwise::<TableInit>(alloc, &arena, rows)?, None);
     let rows = &[("1", Fault::Unexpected, 1)];
-    assert_eq!(rt; refused_otherwise::<TableCopy>(alloc, &arena, rows), None);
+    assert_eq!(rt; refused_otherwise::<TableCopy>(alloc, &arena, rows)?, None);
     let rows = &[("1 $l", Fault::Unexpected, 2)];
     assert_eq!(rt;
-        refused_otherwise::<ArrayNewFixed>(alloc, &arena, rows),
+        refused_otherwise::<ArrayNewFixed>(alloc, &arena, rows)?,
         None
     );
     let rows = &[("1 4294967296", Fault::Range, 2)];
-    assert_eq!(rt; refused_otherwise::<Switch>(alloc, &arena, rows), None);
+    assert_eq!(rt; refused_otherwise::<Switch>(alloc, &arena, rows)?, None);
     let rows = &[("", Fault::Unexpected, 0), ("0 -1", Fault::Range, 2)];
     assert_eq!(rt;
-        refused_otherwise::<BrTableIndices>(alloc, &arena, rows),
+        refused_otherwise::<BrTableIndices>(alloc, &arena, rows)?,
         None
     );
     let rows = &[("0 -1", Fault::Range, 2)];
     assert_eq!(rt;
-        refused_otherwise::<I8x16Shuffle>(alloc, &arena, rows),
+        refused_otherwise::<I8x16Shuffle>(alloc, &arena, rows)?,
         None
     );
     let rows = &[
@@ -209,5 +209,6 @@ fn refused(rt: HostRuntime) {
         ("i32", Fault::Unexpected, 0),
         ("1", Fault::Unexpected, 0),
     ];
-    assert_eq!(rt; refused_otherwise::<V128Const>(alloc, &arena, rows), None);
+    assert_eq!(rt; refused_otherwise::<V128Const>(alloc, &arena, rows)?, None);
+    Ok(())
 }

@@ -1,10 +1,10 @@
 //! The parser: what it refuses to be made of, what it takes and passes over, and its lookups.
 
+use crate::reading::{refusal, repeated};
 use bumpalo::Bump;
 use std::process::Abort;
 use std::test::Fail;
 use wat_tokens::{Cursor, Fault, Parser};
-use wat_vectors::reading::{refusal, repeated};
 
 #[test]
 fn texts_that_cannot_be_cut_are_refused(rt: HostRuntime) {

@@ -3,7 +3,7 @@
 
 use crate::findings::Findings;
 use crate::operands_shown::add_operand;
-use crate::reading::places_in;
+use crate::reading::{places_in, read};
 use bumpalo::Bump;
 use std::alloc::Global;
 use std::test::Fail;
@@ -23,7 +23,6 @@ use wat_operands::{
 use wat_tokens::Fault::{
     Alignment, FloatLiteral, ImportId, ImportMixed, Operator, Range, Unexpected, Utf8,
 };
-use wat_vectors::reading::read;
 
 #[test]
 fn places_of_imports_exports_and_sections(rt: HostRuntime) {

@@ -1,6 +1,7 @@
 //! Each row of the list of instructions: its word, operand, default alignment and opcode.
 
 use crate::operands_shown::add_operand;
+use crate::reading::{parser_of, read};
 use crate::rows::ROWS;
 use bumpalo::Bump;
 use std::alloc::Global;
@@ -8,7 +9,6 @@ use std::test::Fail;
 use wat_instr::{Head, Instruction};
 use wat_operands::MemArg;
 use wat_tokens::Parser;
-use wat_vectors::reading::{parser_of, read};
 
 /// Adds the bytes of an opcode, or a dash where there is none.
 fn add_opcode(alloc: Global, out: &mut String, head: Head) -> Result<(), Fail> {

@@ -1,5 +1,6 @@
 //! Memories and data segments as they are read, their bytes, and their faults with the offset.
 
+use crate::reading::{parser_of, read, refusal, repeated};
 use bumpalo::Bump;
 use std::alloc::Global;
 use std::test::Fail;
@@ -8,7 +9,6 @@ use wat_segments::{Data, DataKind, DataVal, Memory, MemoryKind};
 use wat_tokens::whole::in_group;
 use wat_tokens::{Error, Fault, Id, Index, NameAnnotation, Parse};
 use wat_types::MemoryType;
-use wat_vectors::reading::{parser_of, read, refusal, repeated};
 
 /// Reads a group; the standard annotations are known, and spans are kept where `tracks` says so.
 fn read_group<'a, T: Parse<'a> + Drop>(

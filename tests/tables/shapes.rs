@@ -10,11 +10,11 @@ ghost use Rattle.wat_tokens.specs.Parses.{no_items, seen_option};
 ghost use Rattle.wat_tokens.specs.Parts.{opt, seq};
 ghost use Rattle.wat_tokens.specs.Tests.{begins_group, begins_id};
 
+use crate::reading::refusal;
 use bumpalo::Bump;
 use std::test::Fail;
 use wat_tokens::repeat::while_begun;
 use wat_tokens::{Cursor, Fault, Id, Parse, Parser, Peek};
-use wat_vectors::reading::refusal;
 
 /// `( by u32 u32 )`
 #[derive(Clone, Copy, Debug)]

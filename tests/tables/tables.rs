@@ -1,12 +1,12 @@
 //! Tables as they are read, and their faults with the offset.
 
 use crate::elements_shown::shown_table;
+use crate::reading::{parser_of, read, refusal, repeated};
 use bumpalo::Bump;
 use std::alloc::Global;
 use std::test::Fail;
 use wat_elems::{ElemPayload, Table, TableKind};
 use wat_tokens::{Error, Fault};
-use wat_vectors::reading::{parser_of, read, refusal, repeated};
 
 #[test]
 fn tables_by_their_type(rt: HostRuntime) -> Result<(), Fail> {

@@ -1,10 +1,10 @@
 //! Type uses and types of tags as they are read, made, turned into another and cloned.
 
+use crate::reading::{number_of, read_unannotated, refusal, repeated};
 use bumpalo::Bump;
 use std::test::Fail;
 use wat_tokens::{Fault, Index, Span};
 use wat_types::{FunctionType, FunctionTypeNoNames, TagType, TypeUse, ValType};
-use wat_vectors::reading::{number_of, read_unannotated, refusal, repeated};
 
 /// How many parameters the inline type has, where there is one.
 fn param_count(ty: &TypeUse<'_, FunctionType<'_>>) -> Option<usize> {

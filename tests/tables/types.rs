@@ -1,5 +1,6 @@
 //! Texts that are read as types, each through the named call.
 
+use crate::reading::{number_of, read_unannotated, refusal, repeated};
 use bumpalo::Bump;
 use std::alloc::Global;
 use std::process::Abort;
@@ -9,7 +10,6 @@ use wat_types::{
     FunctionType, GlobalType, HeapType, InnerTypeKind, Limits, Rec, RefType, StorageType,
     StructType, Type, TypeDef, ValType,
 };
-use wat_vectors::reading::{number_of, read_unannotated, refusal, repeated};
 
 #[test]
 fn globals_and_limits(rt: HostRuntime) -> Result<(), Fail> {

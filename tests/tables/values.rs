@@ -1,12 +1,12 @@
 //! Each type as it is read, and each of its faults with the offset.
 
 use crate::hashing::hash_of;
+use crate::reading::{read, read_unannotated, refusal};
 use bumpalo::Bump;
 use std::process::Abort;
 use std::test::Fail;
 use wat_tokens::{Fault, Id, Index, Parser, Peek, Span};
 use wat_types::{AbstractHeapType, FunctionType, FunctionTypeNoNames, HeapType, RefType, ValType};
-use wat_vectors::reading::{read, read_unannotated, refusal};
 
 fn named(name: &str, offset: usize) -> Index<'_> {
     Index::Id(Id::new(name, Span::from_offset(offset)))

@@ -1,9 +1,9 @@
 //! Each kind of value of a data segment, put behind a byte.
 
+use crate::reading::read;
 use bumpalo::Bump;
 use std::test::Fail;
 use wat_core::DataVal;
-use wat_vectors::reading::read;
 
 #[test]
 fn values_are_put_behind_a_byte(rt: HostRuntime) -> Result<(), Fail> {

@@ -1,23 +1,13 @@
 //! Expressions as they are read, with their hints and spans, and their faults with the offset.
 
+use crate::reading::read_unannotated;
+use crate::whole_expressions::{Mode, read_whole, refusal_of};
 use bumpalo::Bump;
 use std::alloc::Global;
-use std::process::Abort;
 use std::test::Fail;
 use wat_expr::Expression;
 use wat_instr::{Instruction, LabelOp};
-use wat_tokens::{Error, Fault, Parse, Parser};
-use wat_vectors::reading::{nested, parser_of, read_unannotated, refusal};
-
-/// How many parts are nested.
-const TIMES: usize = 100_000;
-
-/// How a text is read.
-#[derive(Clone, Copy)]
-enum Mode {
-    WrittenOut,
-    Folded,
-}
+use wat_tokens::{Fault, Parse, Parser};
 
 /// The text, where `#` stands for a hint of 1, `%` for one of 0, and `!` for one of 2. Each is 34
 /// bytes long.
@@ -32,27 +22,6 @@ fn with_hints(alloc: Global, text: &str) -> Result<String, Fail> {
         }
     }
     Ok(out)
-}
-
-/// Reads a whole text; the standard annotations are known and spans are kept. What is left over is
-/// refused.
-fn read_whole<'a>(
-    alloc: Global,
-    mode: Mode,
-    text: &'a str,
-    arena: &'a Bump,
-) -> Result<Expression<'a>, Error> {
-    let mut parser = parser_of(alloc, text, arena)?;
-    parser.track_instr_spans(true);
-    let found = match mode {
-        Mode::WrittenOut => Expression::parse(&mut parser)?,
-        Mode::Folded => Expression::parse_folded_instruction(&mut parser)?,
-    };
-    if parser.at_end() {
-        Ok(found)
-    } else {
-        Err(parser.unexpected())
-    }
 }
 
 /// Adds the hints of the instruction with the index.
@@ -89,13 +58,6 @@ fn listed(alloc: Global, mode: Mode, text: &str) -> Result<String, Fail> {
     listing(alloc, &found)
 }
 
-/// How many instructions a whole text is read as.
-fn count_of(alloc: Global, mode: Mode, text: &str) -> Result<usize, Error> {
-    let arena = Bump::new(alloc);
-    let found = read_whole(alloc, mode, text, &arena)?;
-    Ok(found.instrs.len())
-}
-
 /// The offsets of the instructions that a whole text is read as.
 fn offsets_of(alloc: Global, mode: Mode, text: &str) -> Result<Vec<usize>, Fail> {
     let arena = Bump::new(alloc);
@@ -105,12 +67,6 @@ fn offsets_of(alloc: Global, mode: Mode, text: &str) -> Result<Vec<usize>, Fail>
         offsets.push(span.offset())?;
     }
     Ok(offsets)
-}
-
-/// What a whole text is refused with, and where.
-fn refusal_of(alloc: Global, mode: Mode, text: &str) -> Option<(Fault, usize)> {
-    let arena = Bump::new(alloc);
-    refusal(read_whole(alloc, mode, text, &arena))
 }
 
 #[test]
@@ -416,89 +372,5 @@ fn the_rest_is_left(rt: HostRuntime) -> Result<(), Fail> {
     let found = Expression::parse(&mut parser)?;
     assert_eq!(rt; listing(alloc, &found)?.as_str(), "nop block end");
     assert_eq!(rt; parser.cur_span().offset(), 12);
-    Ok(())
-}
-
-/// So many times the first part, with as many times the second behind it, are read as so many
-/// instructions.
-fn has_count(
-    rt: &impl Abort,
-    alloc: Global,
-    mode: Mode,
-    first: &str,
-    second: &str,
-    wanted: usize,
-) -> Result<(), Fail> {
-    let text = nested(alloc, first, TIMES, second, TIMES)?;
-    let count = count_of(alloc, mode, &text)?;
-    assert_eq!(rt; count, wanted, "at {first}");
-    Ok(())
-}
-
-#[test]
-fn deep_blocks(rt: HostRuntime) -> Result<(), Fail> {
-    has_count(&rt, rt.alloc(), Mode::WrittenOut, "(block", ")", 200_000)
-}
-
-#[test]
-fn deep_groups(rt: HostRuntime) -> Result<(), Fail> {
-    has_count(&rt, rt.alloc(), Mode::WrittenOut, "(nop ", ")", 100_000)
-}
-
-#[test]
-fn deep_conditions(rt: HostRuntime) -> Result<(), Fail> {
-    has_count(&rt, rt.alloc(), Mode::WrittenOut, "(if", "(then))", 200_000)
-}
-
-#[test]
-fn deep_arms(rt: HostRuntime) -> Result<(), Fail> {
-    has_count(
-        &rt,
-        rt.alloc(),
-        Mode::WrittenOut,
-        "(if (then",
-        "))",
-        200_000,
-    )
-}
-
-#[test]
-fn deep_folded_instructions(rt: HostRuntime) -> Result<(), Fail> {
-    has_count(&rt, rt.alloc(), Mode::Folded, "(nop", ")", 100_000)
-}
-
-#[test]
-fn deep_and_refused(rt: HostRuntime) -> Result<(), Fail> {
-    let alloc = rt.alloc();
-    for (mode, first, second, more, fault, offset) in [
-        (
-            Mode::WrittenOut,
-            "(block",
-            ")",
-            99_999,
-            Fault::Operator,
-            699_999,
-        ),
-        (
-            Mode::Folded,
-            "(nop",
-            ")",
-            99_999,
-            Fault::Unexpected,
-            499_999,
-        ),
-        (
-            Mode::WrittenOut,
-            "(if",
-            ")",
-            1,
-            Fault::IfWithoutThen,
-            300_000,
-        ),
-    ] {
-        let text = nested(alloc, first, TIMES, second, more)?;
-        let found = refusal_of(alloc, mode, &text);
-        assert_eq!(rt; found, Some((fault, offset)), "at {first}");
-    }
     Ok(())
 }

@@ -1,4 +1,4 @@
-//! Modules as they are read, and their faults with the offset.
+//! Modules as they are read, by the names of wat_core alone, and their faults with the offset.
 
 use bumpalo::Bump;
 use std::alloc::Global as Allocator;
@@ -265,29 +265,5 @@ fn names_are_known_as_before(rt: HostRuntime) -> Result<(), Fail> {
     assert_eq!(rt; off, (false, false));
     let on = known_behind(rt.alloc(), true)?;
     assert_eq!(rt; on, (true, true));
-    Ok(())
-}
-
-/// How many fields a text's module has. The arena is given back where nothing of the module is used
-/// any more.
-fn fields_of(alloc: Allocator, text: &str) -> Result<usize, Fail> {
-    let mut arena = Bump::new(alloc);
-    let mut parser = Parser::new(alloc, text, &arena)?;
-    parser.open()?;
-    let module = Module::parse(&mut parser)?;
-    hand::let_go(parser);
-    let fields = match &module.kind {
-        ModuleKind::Text(fields) => fields.len(),
-        ModuleKind::Binary(_) => 0,
-    };
-    hand::let_go(module);
-    arena.reset()?;
-    Ok(fields)
-}
-
-#[test]
-fn an_arena_outlives_its_module(rt: HostRuntime) -> Result<(), Fail> {
-    let fields = fields_of(rt.alloc(), "(module (func $\"f\\n\") (data \"\\00\"))")?;
-    assert_eq!(rt; fields, 2);
     Ok(())
 }

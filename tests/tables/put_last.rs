@@ -1,12 +1,12 @@
 //! An instruction that is put behind the others of an expression.
 
+use crate::reading::parser_of;
 use bumpalo::Bump;
 use std::alloc::Global;
 use std::test::Fail;
 use wat_expr::Expression;
 use wat_instr::Instruction;
 use wat_tokens::Error;
-use wat_vectors::reading::parser_of;
 
 /// What an expression is, behind which an instruction was put: how many instructions and hints it
 /// has, the last one's word, and of the kept spans how many there are and where the last one

@@ -1,0 +1,26 @@
+//! Texts that are read as one folded instruction, or refused.
+
+use crate::shown::shows;
+use std::test::Fail;
+use wat_show::Mode;
+
+/// A text, what the program shows of it, and its status.
+const ROWS: [(&str, &str, u8); 9] = [
+    ("(block (nop))", "nop\nblock\n", 0),
+    ("(block (nop) (br 0))", "nop\nbr 0\nblock\n", 0),
+    ("(nop)", "nop\n", 0),
+    ("", "refused Unexpected at 0\n", 1),
+    ("nop", "refused Unexpected at 0\n", 1),
+    ("(nop) nop", "refused Unexpected at 6\n", 1),
+    ("(i32.add nop)", "refused Unexpected at 9\n", 1),
+    ("(if (nop) (then))", "refused Operator at 11\n", 1),
+    ("(if", "refused Unexpected at 3\n", 1),
+];
+
+#[test]
+fn folded_instructions_are_shown(rt: HostRuntime) -> Result<(), Fail> {
+    for (text, expected, status) in ROWS {
+        shows(&rt, rt.alloc(), Mode::Folded, text, expected, status)?;
+    }
+    Ok(())
+}
