@@ -1,11 +1,12 @@
-//! Texts that are read as a module, or refused.
+//! Texts that are read as a module, or refused. A row is a text, what the program shows of it, and
+//! its status.
 
 use crate::shown::shows;
 use std::test::Fail;
 use wat_show::Mode;
 
-/// A text, what the program shows of it, and its status.
-const ROWS: [(&str, &str, u8); 83] = [
+/// Functions.
+const FUNCTIONS: [(&str, &str, u8); 20] = [
     (
         "(module (func (@metadata.code.branch_hint \"\\01\") (br_if 0 (local.get 0))))",
         "module text 1\nfunc inline 0\n  local.get 0\n  br_if 0 hint 1\n",
@@ -106,6 +107,10 @@ const ROWS: [(&str, &str, u8); 83] = [
         "refused HintTarget at 50\n",
         1,
     ),
+];
+
+/// Types, imports, exports, starts and custom sections.
+const FIELDS: [(&str, &str, u8); 19] = [
     ("(module)", "module text 0\n", 0),
     (
         "(module (import \"m\"))",
@@ -193,6 +198,10 @@ const ROWS: [(&str, &str, u8); 83] = [
         "module text 2\nimport single 1\nexport func\n",
         0,
     ),
+];
+
+/// Texts that are no modules.
+const OTHER_TEXTS: [(&str, &str, u8); 13] = [
     (
         "(module (import \"m\" (func $f)))",
         "refused ImportId at 26\n",
@@ -238,6 +247,10 @@ const ROWS: [(&str, &str, u8); 83] = [
         1,
     ),
     ("(module (@custom \"a\" [", "refused LexChar at 21\n", 1),
+];
+
+/// Data and element segments, and what they fill.
+const SEGMENTS: [(&str, &str, u8); 21] = [
     (
         "(module (data (i32.add (block nop))))",
         "module text 1\ndata active 0\n  block\n  nop\n  end\n  i32.add\n",
@@ -343,6 +356,10 @@ const ROWS: [(&str, &str, u8); 83] = [
         "module text 1\ndata passive 16\n",
         0,
     ),
+];
+
+/// Segments that are refused.
+const OTHER_SEGMENTS: [(&str, &str, u8); 10] = [
     (
         "(module (table shared i64 funcref (elem)))",
         "refused Unexpected at 26\n",
@@ -388,8 +405,40 @@ const ROWS: [(&str, &str, u8); 83] = [
 ];
 
 #[test]
-fn modules_are_shown(rt: HostRuntime) -> Result<(), Fail> {
-    for (text, expected, status) in ROWS {
+fn functions_are_shown(rt: HostRuntime) -> Result<(), Fail> {
+    for (text, expected, status) in FUNCTIONS {
+        shows(&rt, rt.alloc(), Mode::Module, text, expected, status)?;
+    }
+    Ok(())
+}
+
+#[test]
+fn fields_are_shown(rt: HostRuntime) -> Result<(), Fail> {
+    for (text, expected, status) in FIELDS {
+        shows(&rt, rt.alloc(), Mode::Module, text, expected, status)?;
+    }
+    Ok(())
+}
+
+#[test]
+fn other_texts_are_refused(rt: HostRuntime) -> Result<(), Fail> {
+    for (text, expected, status) in OTHER_TEXTS {
+        shows(&rt, rt.alloc(), Mode::Module, text, expected, status)?;
+    }
+    Ok(())
+}
+
+#[test]
+fn segments_are_shown(rt: HostRuntime) -> Result<(), Fail> {
+    for (text, expected, status) in SEGMENTS {
+        shows(&rt, rt.alloc(), Mode::Module, text, expected, status)?;
+    }
+    Ok(())
+}
+
+#[test]
+fn other_segments_are_refused(rt: HostRuntime) -> Result<(), Fail> {
+    for (text, expected, status) in OTHER_SEGMENTS {
         shows(&rt, rt.alloc(), Mode::Module, text, expected, status)?;
     }
     Ok(())
