@@ -72,7 +72,10 @@ fn refused(rt: HostRuntime) -> Result<(), Fail> {
         ("(result i32", Fault::Unexpected, 11),
         ("(result i32) (result i8)", Fault::Unexpected, 21),
     ];
-    assert_eq!(rt; refused_otherwise::<SelectTypes>(alloc, &arena, rows)?, None);
+    assert_eq!(rt;
+        refused_otherwise::<SelectTypes>(alloc, &arena, rows)?,
+        None
+    );
     Ok(())
 }
 

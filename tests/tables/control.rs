@@ -139,11 +139,17 @@ fn refused(rt: HostRuntime) -> Result<(), Fail> {
         ("(on 0 switch 1)", Fault::Unexpected, 13),
         ("(on 1 2) (on 3 -4)", Fault::Range, 15),
     ];
-    assert_eq!(rt; refused_otherwise::<ResumeTable>(alloc, &arena, rows)?, None);
+    assert_eq!(rt;
+        refused_otherwise::<ResumeTable>(alloc, &arena, rows)?,
+        None
+    );
     let rows = &[("", Fault::Unexpected, 0)];
     assert_eq!(rt; refused_otherwise::<Resume>(alloc, &arena, rows)?, None);
     let rows = &[("1 (on 1 2)", Fault::Unexpected, 2)];
-    assert_eq!(rt; refused_otherwise::<ResumeThrow>(alloc, &arena, rows)?, None);
+    assert_eq!(rt;
+        refused_otherwise::<ResumeThrow>(alloc, &arena, rows)?,
+        None
+    );
     Ok(())
 }
 
