@@ -1,16 +1,29 @@
 //! What tests read texts by that have to be read, and values by that have to be cloned: memory is
 //! ample, so that a refusal for want of it is wrong too.
 
+use crate::operands_shown::add_operand;
 use crate::reading::{parser_of, repeated};
 use bumpalo::Bump;
 use std::alloc::Global;
 use std::fmt::Debug;
+use wat_instr::Instruction;
 use wat_tokens::{Error, Parse};
 
 /// Calls the inherent `clone` of a T.
 pub trait Clones<T> {
     /// The same once more.
     fn clone_of(found: &T) -> Result<T, Error>;
+}
+
+/// Adds a value and its clone, where they aren't shown alike.
+pub fn add_if_unlike<T: Debug>(wrong: &mut String, found: &T, copy: &T) -> Result<(), Error> {
+    let alloc = *wrong.allocator();
+    let shown = format!(in alloc; "{found:?}")?;
+    let again = format!(in alloc; "{copy:?}")?;
+    if shown != again {
+        write!(wrong, "{shown} cloned as {again}\n")?;
+    }
+    Ok(())
 }
 
 /// Adds a text that isn't read as a whole, and why.
@@ -86,14 +99,11 @@ fn add_if_uncloned<'a, T: Parse<'a> + Debug + Drop, C: Clones<T>>(
     arena: &'a Bump,
     text: &'a str,
 ) -> Result<(), Error> {
-    let alloc = *wrong.allocator();
-    let mut parser = parser_of(alloc, text, arena)?;
+    let mut parser = parser_of(*wrong.allocator(), text, arena)?;
     let found = parser.parse::<T>()?;
-    let shown = format!(in alloc; "{found:?}")?;
-    let copy = C::clone_of(&found)?;
-    let again = format!(in alloc; "{copy:?}")?;
-    if shown != again || !parser.at_end() {
-        write!(wrong, "{text}: {shown} cloned as {again}\n")?;
+    add_if_unlike(wrong, &found, &C::clone_of(&found)?)?;
+    if !parser.at_end() {
+        write!(wrong, "{text}: more behind it\n")?;
     }
     Ok(())
 }
@@ -111,7 +121,58 @@ pub fn add_uncloned<'a, T: Parse<'a> + Debug + Drop, C: Clones<T>>(
     Ok(())
 }
 
-/// The same, where the part stands 0, 1, 2 and 1,000 times between the first text and the last.
+/// The same, where each part stands between the first text and the last.
+pub fn add_uncloned_between<'a, T: Parse<'a> + Debug + Drop, C: Clones<T>>(
+    wrong: &mut String,
+    arena: &'a Bump,
+    first: &str,
+    parts: &[&str],
+    last: &str,
+) -> Result<(), Error> {
+    for part in parts {
+        let text = repeated(*wrong.allocator(), first, part, 1, last)?;
+        add_if_uncloned::<T, C>(wrong, arena, arena.try_alloc_str(&text)?)?;
+    }
+    Ok(())
+}
+
+/// Adds each instruction, of a part between the first text and the last, whose clone isn't shown as
+/// the instruction itself is, or that isn't read as a whole.
+pub fn add_uncloned_instructions(
+    wrong: &mut String,
+    first: &str,
+    parts: &[&str],
+    last: &str,
+) -> Result<(), Error> {
+    let alloc = *wrong.allocator();
+    for part in parts {
+        let arena = Bump::new(alloc);
+        let text = repeated(alloc, first, part, 1, last)?;
+        let mut parser = parser_of(alloc, &text, &arena)?;
+        add_if_instruction_unlike(wrong, &parser.parse::<Instruction>()?)?;
+        if !parser.at_end() {
+            write!(wrong, "{text}: more behind it\n")?;
+        }
+    }
+    Ok(())
+}
+
+/// Adds what an instruction and its clone are shown as, with their operands, where that isn't the
+/// same.
+pub fn add_if_instruction_unlike(wrong: &mut String, found: &Instruction<'_>) -> Result<(), Error> {
+    let alloc = *wrong.allocator();
+    let mut shown = String::new(alloc);
+    add_operand(&mut shown, found)?;
+    let mut again = String::new(alloc);
+    add_operand(&mut again, &found.clone()?)?;
+    if shown != again {
+        write!(wrong, "{shown} cloned as {again}\n")?;
+    }
+    Ok(())
+}
+
+/// What [`add_uncloned`] adds, where the part stands 0, 1, 2 and 1,000 times between the first text
+/// and the last.
 pub fn add_uncloned_times<'a, T: Parse<'a> + Debug + Drop, C: Clones<T>>(
     wrong: &mut String,
     arena: &'a Bump,

@@ -1,9 +1,12 @@
 //! Each choice of each row of expressions and of a module's fields is read with ample memory: the
-//! program lists the text.
+//! program lists the text, and what has a `clone` of its own in it is cloned.
 
-use crate::reading::repeated;
+use crate::copies::Copies;
+use crate::reading::{parser_of, repeated};
+use bumpalo::Bump;
 use std::alloc::Global;
 use std::test::Fail;
+use wat_expr::{Expression, FoldedInstruction};
 use wat_show::{Mode, Watched, run};
 
 /// What the program writes of the bytes, and its status.
@@ -14,12 +17,37 @@ fn shown(alloc: Global, mode: Mode, bytes: &[u8]) -> Result<(Vec<u8>, u8), Fail>
     Ok((writer.into_inner(), status))
 }
 
-/// Adds a text that the program refuses, and what it writes.
+/// Copies what is read of a text in a mode.
+fn copies_of(alloc: Global, mode: Mode, text: &str) -> Result<Copies, Fail> {
+    let arena = Bump::new(alloc);
+    let mut copies = Copies::new(alloc);
+    match mode {
+        Mode::Module => copies.of_module(text)?,
+        Mode::Folded => {
+            let found = parser_of(alloc, text, &arena)?.parse::<FoldedInstruction>()?;
+            copies.of_expression(&found.0)?;
+        }
+        Mode::Expr | Mode::FuncType => {
+            let found = parser_of(alloc, text, &arena)?.parse::<Expression>()?;
+            copies.of_expression(&found)?;
+        }
+    }
+    Ok(copies)
+}
+
+/// Adds a text that the program refuses, and what it writes, or what isn't copied as it is.
 fn add_if_refused(wrong: &mut String, mode: Mode, text: &str) -> Result<(), Fail> {
-    let (out, status) = shown(*wrong.allocator(), mode, text.as_bytes())?;
+    let alloc = *wrong.allocator();
+    let (out, status) = shown(alloc, mode, text.as_bytes())?;
     if status != 0 {
         let listing = str::from_utf8(&out).unwrap_or("no UTF-8");
         write!(wrong, "{text}: {listing}")?;
+        return Ok(());
+    }
+    let copies = copies_of(alloc, mode, text)?;
+    if !copies.wrong.is_empty() {
+        let unlike = copies.wrong.as_str();
+        write!(wrong, "{text}: {unlike}")?;
     }
     Ok(())
 }

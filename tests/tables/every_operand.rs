@@ -10,7 +10,6 @@ use std::test::Fail;
 use wat_immediates::{
     BrTableIndices, I8x16Shuffle, LaneArg, Ordered, Ordering, TableArg, V128Const,
 };
-use wat_instr::Instruction;
 use wat_links::{
     Export, ExportKind, ExportType, ImportItems, Imports, InlineExport, InlineImport, ItemSig,
 };
@@ -171,7 +170,6 @@ const ACCESSES: &[&str] = &[
 #[test]
 fn every_operand_of_an_instruction(rt: HostRuntime) {
     let alloc = rt.alloc();
-    let arena = Bump::new(alloc);
     let mut out = Findings::new(alloc);
     for first in [
         "i32.load",
@@ -180,14 +178,14 @@ fn every_operand_of_an_instruction(rt: HostRuntime) {
         "i32.atomic.load",
         "i64.atomic.rmw.add",
     ] {
-        out.unread_between::<Instruction>(&arena, first, ACCESSES, "");
+        out.uncloned_instructions(first, ACCESSES, "");
     }
     for first in ["i32.atomic.store8", "i64.atomic.rmw32.cmpxchg_u"] {
-        out.unread_between::<Instruction>(&arena, first, ACCESSES, " seqcst");
-        out.unread_between::<Instruction>(&arena, first, ACCESSES, " acqrel");
+        out.uncloned_instructions(first, ACCESSES, " seqcst");
+        out.uncloned_instructions(first, ACCESSES, " acqrel");
     }
     for first in ["v128.load8_lane", "v128.store64_lane"] {
-        out.unread_between::<Instruction>(&arena, first, ACCESSES, " 1");
+        out.uncloned_instructions(first, ACCESSES, " 1");
     }
     for (first, parts) in [
         ("table.get", &["", " 1", " $t"][..]),
@@ -220,12 +218,21 @@ fn every_operand_of_an_instruction(rt: HostRuntime) {
         ("try_table", CAUGHT),
         ("call_indirect", USES),
     ] {
-        out.unread_between::<Instruction>(&arena, first, parts, "");
+        out.uncloned_instructions(first, parts, "");
     }
-    out.unread_times::<Instruction>(&arena, ("br_table 0", " 1", ""));
-    out.unread_times::<Instruction>(&arena, ("select", " (result i32)", ""));
-    out.unread_times::<Instruction>(&arena, ("resume 0", " (on 1 2)", ""));
-    out.unread_times::<Instruction>(&arena, ("try_table", " (catch_all 2)", ""));
+    for (first, part) in [
+        ("br_table 0", " 1"),
+        ("select", " (result i32)"),
+        ("resume 0", " (on 1 2)"),
+        ("try_table", " (catch_all 2)"),
+    ] {
+        for times in [0, 1, 2, 1000] {
+            match repeated(alloc, first, part, times, "") {
+                Ok(text) => out.uncloned_instructions(&text, &[""], ""),
+                Err(_) => assert!(rt; false, "no memory for {first}"),
+            }
+        }
+    }
     assert_eq!(rt; out.all(), "");
 }
 
@@ -294,9 +301,9 @@ fn every_import_and_export_and_its_clone(rt: HostRuntime) -> Result<(), Fail> {
         ],
     );
     out.uncloned_times::<ItemSig, Inherent>(&arena, ("func", "(param $x i32)", ""));
-    out.unread_between::<Imports>(&arena, "import \"m\" \"n\" (", ITEMS, ")");
-    out.unread_between::<Imports>(&arena, "import \"m\" (item \"a\" (", ITEMS, "))");
-    out.unread_between::<Imports>(&arena, "import \"m\" (", ITEMS, ")");
+    out.uncloned_between::<Imports, Inherent>(&arena, "import \"m\" \"n\" (", ITEMS, ")");
+    out.uncloned_between::<Imports, Inherent>(&arena, "import \"m\" (item \"a\" (", ITEMS, "))");
+    out.uncloned_between::<Imports, Inherent>(&arena, "import \"m\" (", ITEMS, ")");
     out.uncloned::<Imports, Inherent>(
         &arena,
         &["import \"m\" \"n\" (func $f)", "import \"\" (func)"],
@@ -328,12 +335,17 @@ fn every_import_and_export_and_its_clone(rt: HostRuntime) -> Result<(), Fail> {
         assert!(rt; kind_is_cloned(alloc, item)?, "at {item}");
         let text = repeated(alloc, "import \"m\" (item \"a\" (", item, 1, "))")?;
         assert!(rt; item_is_cloned(alloc, &text)?, "at {item}");
+        assert_eq!(rt; sigs_of(alloc, &text)?, (1, true), "at {item}");
+        let text = repeated(alloc, "import \"m\" \"n\" (", item, 1, ")")?;
+        assert_eq!(rt; sigs_of(alloc, &text)?, (1, true), "at {item}");
+        let text = repeated(alloc, "import \"m\" (item \"a\") (", item, 1, ")")?;
+        assert_eq!(rt; sigs_of(alloc, &text)?, (1, true), "at {item}");
     }
     let kinds = &["func", "table", "memory", "global", "tag"];
     out.unread::<ExportKind>(&arena, kinds);
     out.unread_between::<Export>(&arena, "export \"a\" (", kinds, " 1)");
     out.unread_between::<Export>(&arena, "export \"\" (", kinds, " $x)");
-    out.unread_between::<ExportType>(&arena, "export \"a\" (", ITEMS, ")");
+    out.uncloned_between::<ExportType, Inherent>(&arena, "export \"a\" (", ITEMS, ")");
     out.uncloned::<ExportType, Inherent>(
         &arena,
         &["export \"a\" (func $f (param i32))", "export \"a\" (tag)"],

@@ -2,7 +2,8 @@
 //! test of many tables has one assertion.
 
 use crate::ample::{
-    Clones, add_uncloned, add_uncloned_times, add_unread, add_unread_between, add_unread_times,
+    Clones, add_uncloned, add_uncloned_between, add_uncloned_instructions, add_uncloned_times,
+    add_unread, add_unread_between, add_unread_times,
 };
 use crate::reading::{add_misplaced, add_misrefused};
 use bumpalo::Bump;
@@ -102,6 +103,24 @@ impl Findings {
         texts: &[&'a str],
     ) {
         let outcome = add_uncloned::<T, C>(&mut self.text, arena, texts);
+        self.note(outcome);
+    }
+
+    /// Notes what [`add_uncloned_between`] adds.
+    pub fn uncloned_between<'a, T: Parse<'a> + Debug + Drop, C: Clones<T>>(
+        &mut self,
+        arena: &'a Bump,
+        first: &str,
+        parts: &[&str],
+        last: &str,
+    ) {
+        let outcome = add_uncloned_between::<T, C>(&mut self.text, arena, first, parts, last);
+        self.note(outcome);
+    }
+
+    /// Notes what [`add_uncloned_instructions`] adds.
+    pub fn uncloned_instructions(&mut self, first: &str, parts: &[&str], last: &str) {
+        let outcome = add_uncloned_instructions(&mut self.text, first, parts, last);
         self.note(outcome);
     }
 

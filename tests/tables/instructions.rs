@@ -1,6 +1,7 @@
 //! Every mnemonic with the least operand that it takes, and instructions as they are read, cloned
 //! and written.
 
+use crate::ample::add_if_instruction_unlike;
 use crate::reading::{number_of, read, refusal, repeated};
 use bumpalo::Bump;
 use std::alloc::Global;
@@ -33,11 +34,17 @@ fn least(head: Head) -> Option<&'static str> {
     }
 }
 
-/// The word of the instruction that is read where the word and the operand stand in a text.
+/// The word of the instruction that is read, and cloned, where the word and the operand stand in a
+/// text.
 fn word_of(alloc: Global, word: &str, operand: &str) -> Result<&'static str, Fail> {
     let arena = Bump::new(alloc);
     let text = repeated(alloc, word, " ", 1, operand)?;
     let found = read::<Instruction>(alloc, text.as_str(), &arena)?;
+    let mut wrong = String::new(alloc);
+    add_if_instruction_unlike(&mut wrong, &found)?;
+    if !wrong.is_empty() {
+        return Ok("with another clone");
+    }
     Ok(found.mnemonic())
 }
 

@@ -1,10 +1,10 @@
 //! What Debug writes of an instruction's operand.
 
-use std::test::Fail;
 use wat_instr::Instruction;
+use wat_tokens::Error;
 
 /// Adds what Debug writes of the operand of an instruction that is of a kind with others.
-fn add_shared(out: &mut String, found: &Instruction<'_>) -> Result<(), Fail> {
+fn add_shared(out: &mut String, found: &Instruction<'_>) -> Result<(), Error> {
     match found {
         Instruction::Block(_, block) => write!(out, "{block:?}")?,
         Instruction::Label(_, label) => write!(out, "{label:?}")?,
@@ -28,7 +28,7 @@ fn add_shared(out: &mut String, found: &Instruction<'_>) -> Result<(), Fail> {
 }
 
 /// Adds what Debug writes of the operand of a cast, a handler or a constant.
-fn add_single(out: &mut String, found: &Instruction<'_>) -> Result<(), Fail> {
+fn add_single(out: &mut String, found: &Instruction<'_>) -> Result<(), Error> {
     match found {
         Instruction::br_table(table) => write!(out, "{table:?}")?,
         Instruction::select(types) => write!(out, "{types:?}")?,
@@ -53,7 +53,7 @@ fn add_single(out: &mut String, found: &Instruction<'_>) -> Result<(), Fail> {
 }
 
 /// Adds what Debug writes of the operand of one of the other instructions.
-fn add_other(out: &mut String, found: &Instruction<'_>) -> Result<(), Fail> {
+fn add_other(out: &mut String, found: &Instruction<'_>) -> Result<(), Error> {
     match found {
         Instruction::memory_init(init) => write!(out, "{init:?}")?,
         Instruction::memory_copy(copy) => write!(out, "{copy:?}")?,
@@ -74,7 +74,7 @@ fn add_other(out: &mut String, found: &Instruction<'_>) -> Result<(), Fail> {
 }
 
 /// Adds what Debug writes of an instruction, which is its word, and of its operand.
-pub fn add_operand(out: &mut String, found: &Instruction<'_>) -> Result<(), Fail> {
+pub fn add_operand(out: &mut String, found: &Instruction<'_>) -> Result<(), Error> {
     write!(out, "{found:?} ")?;
     add_shared(out, found)?;
     add_single(out, found)?;

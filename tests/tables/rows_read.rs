@@ -1,6 +1,7 @@
-//! Each row of the list of instructions: its word, operand, default alignment and opcode.
+//! Each row of the list of instructions: its word, operand, default alignment and opcode, and what
+//! Debug writes of it.
 
-use crate::operands_shown::add_operand;
+use crate::ample::add_if_instruction_unlike;
 use crate::reading::{parser_of, read};
 use crate::rows::ROWS;
 use bumpalo::Bump;
@@ -8,7 +9,7 @@ use std::alloc::Global;
 use std::test::Fail;
 use wat_instr::{Head, Instruction};
 use wat_operands::MemArg;
-use wat_tokens::Parser;
+use wat_tokens::{F32, F64, Parser};
 
 /// Adds the bytes of an opcode, or a dash where there is none.
 fn add_opcode(alloc: Global, out: &mut String, head: Head) -> Result<(), Fail> {
@@ -46,20 +47,7 @@ fn add_instruction(out: &mut String, head: Head, found: &Instruction<'_>) -> Res
     if found.head() != head {
         out.push_str(" of another word")?;
     }
-    add_clone(out, found)
-}
-
-/// Adds whether the clone of an instruction is shown as another one.
-fn add_clone(out: &mut String, found: &Instruction<'_>) -> Result<(), Fail> {
-    let alloc = *out.allocator();
-    let mut shown = String::new(alloc);
-    add_operand(&mut shown, found)?;
-    let mut again = String::new(alloc);
-    add_operand(&mut again, &found.clone()?)?;
-    if shown != again {
-        write!(out, " cloned as {again}")?;
-    }
-    Ok(())
+    Ok(add_if_instruction_unlike(out, found)?)
 }
 
 /// Adds what is read from the front of a parser's text, and whether more stands behind it.
@@ -109,6 +97,37 @@ fn every_row(rt: HostRuntime) -> Result<(), Fail> {
         rest = others;
     }
     assert_eq!(rt; (rows, opcodes, rest), (623, 339, ""));
+    Ok(())
+}
+
+/// What Debug writes of the instruction of a row, which is read of its text, or made where no
+/// literal is read.
+fn debug_of(alloc: Global, word: &str, text: &str) -> Result<String, Fail> {
+    let arena = Bump::new(alloc);
+    let found = match word {
+        "f32.const" => Instruction::f32_const(F32 { bits: 1 }),
+        "f64.const" => Instruction::f64_const(F64 { bits: 1 }),
+        _ => read::<Instruction>(alloc, text, &arena)?,
+    };
+    Ok(format!(in alloc; "{found:?}")?)
+}
+
+#[test]
+fn debug_is_the_mnemonic(rt: HostRuntime) -> Result<(), Fail> {
+    let alloc = rt.alloc();
+    let mut rows = 0_usize;
+    let mut rest = ROWS;
+    for _ in 0..ROWS.len() {
+        let Some((row, others)) = rest.split_once('\n') else {
+            break;
+        };
+        let (text, _) = row.split_once(" : ").unwrap_or(("", ""));
+        let word = text.split_whitespace().next().unwrap_or("");
+        assert_eq!(rt; debug_of(alloc, word, text)?.as_str(), word, "at {row}");
+        rows = rows.saturating_add(1);
+        rest = others;
+    }
+    assert_eq!(rt; (rows, rest), (623, ""));
     Ok(())
 }
 
