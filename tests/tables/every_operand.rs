@@ -168,7 +168,7 @@ const ACCESSES: &[&str] = &[
 ];
 
 #[test]
-fn every_operand_of_an_instruction(rt: HostRuntime) {
+fn every_access_of_an_instruction(rt: HostRuntime) {
     let alloc = rt.alloc();
     let mut out = Findings::new(alloc);
     for first in [
@@ -187,39 +187,56 @@ fn every_operand_of_an_instruction(rt: HostRuntime) {
     for first in ["v128.load8_lane", "v128.store64_lane"] {
         out.uncloned_instructions(first, ACCESSES, " 1");
     }
-    for (first, parts) in [
-        ("table.get", &["", " 1", " $t"][..]),
-        ("memory.size", &["", " 1", " $m"]),
-        ("table.init", &[" 1", " 1 2", " $t $e", " $e"]),
-        ("memory.init", &[" 1", " 1 2", " $m $d", " $d"]),
-        ("table.copy", &["", " 1 2", " $a $b"]),
-        ("memory.copy", &["", " 1 2", " $a $b"]),
-        ("else", &["", " $l"]),
-        ("end", &["", " $l"]),
-        ("atomic.fence", &["", " seqcst", " acqrel"]),
-        ("i32.const", &[" 0", " -2147483648", " 0xffff_ffff"]),
-        (
-            "i64.const",
-            &[" 0", " -9223372036854775808", " 18446744073709551615"],
-        ),
-        ("select", &["", " (result)", " (result i32)"]),
-        (
-            "ref.null",
-            &[" func", " 0", " $t", " (exact 1)", " (shared any)"],
-        ),
-        (
-            "ref.test",
-            &[" funcref", " (ref $t)", " (ref null 1)", " (shared anyref)"],
-        ),
-        ("br_on_cast", &[" 0 anyref (ref $t)", " $l (ref any) eqref"]),
-        ("call", &[" 0", " $f"]),
-        ("array.new_fixed", &[" $t 0", " 1 4294967295"]),
-        ("block", USES),
-        ("try_table", CAUGHT),
-        ("call_indirect", USES),
-    ] {
+    assert_eq!(rt; out.all(), "");
+}
+
+/// Instructions, and the operands of each.
+const OPERANDS: &[(&str, &[&str])] = &[
+    ("table.get", &["", " 1", " $t"]),
+    ("memory.size", &["", " 1", " $m"]),
+    ("table.init", &[" 1", " 1 2", " $t $e", " $e"]),
+    ("memory.init", &[" 1", " 1 2", " $m $d", " $d"]),
+    ("table.copy", &["", " 1 2", " $a $b"]),
+    ("memory.copy", &["", " 1 2", " $a $b"]),
+    ("else", &["", " $l"]),
+    ("end", &["", " $l"]),
+    ("atomic.fence", &["", " seqcst", " acqrel"]),
+    ("i32.const", &[" 0", " -2147483648", " 0xffff_ffff"]),
+    (
+        "i64.const",
+        &[" 0", " -9223372036854775808", " 18446744073709551615"],
+    ),
+    ("select", &["", " (result)", " (result i32)"]),
+    (
+        "ref.null",
+        &[" func", " 0", " $t", " (exact 1)", " (shared any)"],
+    ),
+    (
+        "ref.test",
+        &[" funcref", " (ref $t)", " (ref null 1)", " (shared anyref)"],
+    ),
+    ("br_on_cast", &[" 0 anyref (ref $t)", " $l (ref any) eqref"]),
+    ("call", &[" 0", " $f"]),
+    ("array.new_fixed", &[" $t 0", " 1 4294967295"]),
+    ("block", USES),
+    ("try_table", CAUGHT),
+    ("call_indirect", USES),
+];
+
+#[test]
+fn every_operand_of_an_instruction(rt: HostRuntime) {
+    let alloc = rt.alloc();
+    let mut out = Findings::new(alloc);
+    for (first, parts) in OPERANDS {
         out.uncloned_instructions(first, parts, "");
     }
+    assert_eq!(rt; out.all(), "");
+}
+
+#[test]
+fn every_list_of_an_instruction(rt: HostRuntime) {
+    let alloc = rt.alloc();
+    let mut out = Findings::new(alloc);
     for (first, part) in [
         ("br_table 0", " 1"),
         ("select", " (result i32)"),
@@ -285,7 +302,7 @@ fn item_is_cloned(alloc: Global, text: &str) -> Result<bool, Fail> {
 }
 
 #[test]
-fn every_import_and_export_and_its_clone(rt: HostRuntime) -> Result<(), Fail> {
+fn every_import_and_its_clone(rt: HostRuntime) {
     let alloc = rt.alloc();
     let arena = Bump::new(alloc);
     let mut out = Findings::new(alloc);
@@ -310,6 +327,12 @@ fn every_import_and_export_and_its_clone(rt: HostRuntime) -> Result<(), Fail> {
     );
     out.uncloned_times::<Imports, Inherent>(&arena, ("import \"m\"", "(item \"a\" (tag $t))", ""));
     out.uncloned_times::<Imports, Inherent>(&arena, ("import \"m\"", "(item \"a\")", "(tag)"));
+    assert_eq!(rt; out.all(), "");
+}
+
+#[test]
+fn every_signature_of_imports(rt: HostRuntime) -> Result<(), Fail> {
+    let alloc = rt.alloc();
     for (last, many) in [
         ("(item \"a\" (func $f (param i32)))", true),
         ("(item \"a\")", false),
@@ -341,6 +364,14 @@ fn every_import_and_export_and_its_clone(rt: HostRuntime) -> Result<(), Fail> {
         let text = repeated(alloc, "import \"m\" (item \"a\") (", item, 1, ")")?;
         assert_eq!(rt; sigs_of(alloc, &text)?, (1, true), "at {item}");
     }
+    Ok(())
+}
+
+#[test]
+fn every_export_and_its_clone(rt: HostRuntime) {
+    let alloc = rt.alloc();
+    let arena = Bump::new(alloc);
+    let mut out = Findings::new(alloc);
     let kinds = &["func", "table", "memory", "global", "tag"];
     out.unread::<ExportKind>(&arena, kinds);
     out.unread_between::<Export>(&arena, "export \"a\" (", kinds, " 1)");
@@ -353,5 +384,4 @@ fn every_import_and_export_and_its_clone(rt: HostRuntime) -> Result<(), Fail> {
     out.unread_times::<InlineExport>(&arena, ("", "(export \"a\")", ""));
     out.unread::<InlineImport>(&arena, &["(import \"\" \"a\")"]);
     assert_eq!(rt; out.all(), "");
-    Ok(())
 }
