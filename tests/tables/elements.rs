@@ -5,7 +5,7 @@ use crate::reading::{parser_of, read, read_unannotated, refusal, repeated};
 use bumpalo::Bump;
 use std::alloc::Global;
 use std::test::Fail;
-use wat_elems::{Elem, ElemKind, ElemPayload};
+use wat_fields::{Elem, ElemKind, ElemPayload};
 use wat_expr::Expression;
 use wat_tokens::{Error, Fault, Index};
 

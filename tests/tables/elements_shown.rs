@@ -4,7 +4,7 @@ use crate::reading::read;
 use bumpalo::Bump;
 use std::alloc::Global;
 use std::test::Fail;
-use wat_elems::{Elem, ElemKind, ElemPayload, Table, TableKind};
+use wat_fields::{Elem, ElemKind, ElemPayload, Table, TableKind};
 use wat_expr::Expression;
 use wat_instr::Instruction;
 use wat_tokens::Index;

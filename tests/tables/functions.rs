@@ -5,7 +5,7 @@ use bumpalo::Bump;
 use std::alloc::Global as Allocator;
 use std::test::Fail;
 use wat_expr::Expression;
-use wat_funcs::{Func, FuncKind, Global, GlobalKind, Local, LocalParser, Tag, TagKind};
+use wat_fields::{Func, FuncKind, Global, GlobalKind, Local, LocalParser, Tag, TagKind};
 use wat_links::{InlineExport, InlineImport};
 use wat_tokens::{Error, Fault, Id, NameAnnotation, Parse};
 use wat_types::{FunctionType, GlobalType, TagType, TypeUse, ValType};

@@ -5,7 +5,7 @@ use bumpalo::Bump;
 use std::alloc::Global;
 use std::test::Fail;
 use wat_expr::Expression;
-use wat_segments::{Data, DataKind, DataVal, Memory, MemoryKind};
+use wat_fields::{Data, DataKind, DataVal, Memory, MemoryKind};
 use wat_tokens::whole::in_group;
 use wat_tokens::{Error, Fault, Id, Index, NameAnnotation, Parse};
 use wat_types::MemoryType;

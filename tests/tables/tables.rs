@@ -5,7 +5,7 @@ use crate::reading::{parser_of, read, refusal, repeated};
 use bumpalo::Bump;
 use std::alloc::Global;
 use std::test::Fail;
-use wat_elems::{ElemPayload, Table, TableKind};
+use wat_fields::{ElemPayload, Table, TableKind};
 use wat_tokens::{Error, Fault};
 
 #[test]

@@ -11,13 +11,13 @@ use Rattle.wat_customs.specs.Custom.{CustomTy, seen_custom, bare_custom, custom}
 use Rattle.wat_links.specs.Export.{ExportTy, seen_export, export_}
 use Rattle.wat_links.specs.Forms.{imports}
 use Rattle.wat_links.specs.Import.{HeldName, ImportsTy, seen_imports, bare_imports}
-use Rattle.wat_funcs.specs.Func.{FuncFieldTy, seen_func, bare_func, func}
-use Rattle.wat_funcs.specs.Global.{GlobalFieldTy, seen_global, bare_global, global}
-use Rattle.wat_funcs.specs.Tag.{TagTy, seen_tag, bare_tag, tag}
-use Rattle.wat_segments.specs.Data.{DataTy, seen_data, bare_data, data_segment}
-use Rattle.wat_segments.specs.Memory.{MemoryTy, seen_memory, bare_memory, memory}
-use Rattle.wat_elems.specs.Elem.{ElemTy, seen_elem, bare_elem, elem}
-use Rattle.wat_elems.specs.Table.{TableFieldTy, seen_table, bare_table, table}
+use Rattle.wat_fields.specs.Data.{DataTy, seen_data, bare_data, data_segment}
+use Rattle.wat_fields.specs.Elem.{ElemTy, seen_elem, bare_elem, elem}
+use Rattle.wat_fields.specs.Func.{FuncFieldTy, seen_func, bare_func, func}
+use Rattle.wat_fields.specs.Global.{GlobalFieldTy, seen_global, bare_global, global}
+use Rattle.wat_fields.specs.Memory.{MemoryTy, seen_memory, bare_memory, memory}
+use Rattle.wat_fields.specs.Table.{TableFieldTy, seen_table, bare_table, table}
+use Rattle.wat_fields.specs.Tag.{TagTy, seen_tag, bare_tag, tag}
 use Rattle.wat_types.specs.declared.define.«Type».{«Type»}
 use Rattle.wat_types.specs.declared.define.Rec.{Rec}
 use Rattle.wat_tokens.specs.declared.index.Index.{Index}
@@ -25,13 +25,13 @@ use Rattle.wat_customs.specs.declared.custom.Custom.{Custom}
 use Rattle.wat_links.specs.declared.export.Export.{Export}
 use Rattle.wat_links.specs.declared.import.ImportsOf.{ImportsOf}
 use Rattle.wat_links.specs.declared.item.ItemSig.{ItemSig}
-use Rattle.wat_funcs.specs.declared.func.Func.{Func}
-use Rattle.wat_funcs.specs.declared.global.Global.{Global}
-use Rattle.wat_funcs.specs.declared.tag.Tag.{Tag}
-use Rattle.wat_segments.specs.declared.data.Data.{Data}
-use Rattle.wat_segments.specs.declared.memory.Memory.{Memory}
-use Rattle.wat_elems.specs.declared.elem.Elem.{Elem}
-use Rattle.wat_elems.specs.declared.table.Table.{Table}
+use Rattle.wat_fields.specs.declared.data.Data.{Data}
+use Rattle.wat_fields.specs.declared.elem.Elem.{Elem}
+use Rattle.wat_fields.specs.declared.func.Func.{Func}
+use Rattle.wat_fields.specs.declared.global.Global.{Global}
+use Rattle.wat_fields.specs.declared.memory.Memory.{Memory}
+use Rattle.wat_fields.specs.declared.table.Table.{Table}
+use Rattle.wat_fields.specs.declared.tag.Tag.{Tag}
 use Rattle.wat_core.specs.declared.field.ModuleFieldOf.{ModuleFieldOf}
 use Rattle.wat_core.specs.declared.field.ModuleFieldOf.TheVariants as code
 

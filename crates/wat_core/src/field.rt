@@ -6,10 +6,8 @@ ghost use Rattle.wat_tokens.specs.Reads.{ReadsIf, ReadsLight};
 ghost use Rattle.wat_core.specs.Field.{ModuleFieldTy, seen_field, bare_field, start, last_field};
 ghost use Rattle.wat_core.specs.Field.{further_field, defined_field, module_field};
 
-use wat_elems::{Elem, Table};
-use wat_funcs::{Func, Global, Tag};
+use wat_fields::{Data, Elem, Func, Global, Memory, Table, Tag};
 use wat_links::{Custom, Export, Imports};
-use wat_segments::{Data, Memory};
 use wat_tokens::{Index, Parse, Parser, Result};
 use wat_types::{Rec, Type};
 

@@ -2,7 +2,7 @@
 
 ghost use Rattle.std.specs.Prelude.{◌≡◌, ◌≢◌, ◌≤◌, ◌+◌, ◌++◌, List, length, max, true, false, IfOk};
 ghost use Rattle.std.specs.Prelude.{IfErr};
-ghost use Rattle.wat_tokens.specs.Counts.{Counted, Turned, Kept};
+ghost use Rattle.wat_tokens.specs.Counts.{Counted, Turned, Grows, Kept};
 ghost use Rattle.wat_tokens.specs.Error.{Memory};
 ghost use Rattle.wat_tokens.specs.Parens.{nest};
 ghost use Rattle.wat_tokens.specs.Parses.{Gives, Accepts};
@@ -155,6 +155,10 @@ impl<'a> Module<'a> {
         // `peak` is at most the greater of what it was and how the tokens that were taken nest.
         ensures peak { (c : List Tok) → (lit parser.old).left ≡ c ++ (lit parser.new).left
             → parser.new.peak ≤ max parser.old.peak (nest c) }
+        // What is left is an end of the tokens in front, also on a refusal.
+        ensures end { (c : List Tok) × ((lit parser.old).left ≡ c ++ (lit parser.new).left) }
+        // No count fell.
+        ensures grows { Grows parser.old parser.new }
         // The parser stands directly behind them, and what is left is visible as before.
         ensures stands { (c : List Tok) → (lit parser.old).left ≡ c ++ (lit parser.new).left
             → parser.new.rest ≡ behind true (length c) parser.old.rest }

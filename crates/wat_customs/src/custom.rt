@@ -72,11 +72,11 @@ impl<'a> Parse<'a> for Custom<'a> {
     #[tactic(auto, unfolding(crate::specs::Custom::custom))]
     fn parse(parser: &mut Parser<'a>) -> Result<Self> {
         if annotation_next(parser, "producers") {
-            return Ok(Custom::Producers(Producers::parse(parser)?));
+            return Producers::parse(parser).map(Custom::Producers);
         }
         if annotation_next(parser, "dylink.0") {
             return Ok(Custom::Dylink0(Dylink0::parse(parser)?));
         }
-        Ok(Custom::Raw(RawCustomSection::parse(parser)?))
+        RawCustomSection::parse(parser).map(Custom::Raw)
     }
 }

@@ -104,7 +104,7 @@ fn read_before<'a>(parser: &mut Parser<'a>) -> Result<CustomPlace>
         parser.keyword("first")?;
         return Ok(CustomPlace::BeforeFirst);
     }
-    Ok(CustomPlace::Before(CustomPlaceAnchor::parse(parser)?))
+    CustomPlaceAnchor::parse(parser).map(CustomPlace::Before)
 }
 
 /// `after last` or `after` and a section.
@@ -117,7 +117,7 @@ fn read_after<'a>(parser: &mut Parser<'a>) -> Result<CustomPlace>
         parser.keyword("last")?;
         return Ok(CustomPlace::AfterLast);
     }
-    Ok(CustomPlace::After(CustomPlaceAnchor::parse(parser)?))
+    CustomPlaceAnchor::parse(parser).map(CustomPlace::After)
 }
 
 /// `before first`, `before` and a section, `after last`, or `after` and a section.

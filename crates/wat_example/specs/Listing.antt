@@ -3,7 +3,7 @@ use Rattle.std.specs.Prelude.{ℕ, List, [], ◌++◌, Option, Some, None, lengt
 use Rattle.std.specs.Prelude.{decimal}
 use Rattle.wat_core.specs.Field.{ModuleFieldTy, a_func, an_export}
 use Rattle.wat_core.specs.Module.{ModuleTy, ModuleKindTy, text, binary}
-use Rattle.wat_funcs.specs.Func.{FuncFieldTy, FuncUse}
+use Rattle.wat_fields.specs.Func.{FuncFieldTy, FuncUse}
 use Rattle.wat_links.specs.Export.{ExportTy}
 use Rattle.wat_links.specs.declared.export.ExportKind.{ExportKind}
 use Rattle.wat_links.specs.declared.export.ExportKind.TheVariants.{Func}

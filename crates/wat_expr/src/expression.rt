@@ -1,7 +1,7 @@
 //! Expressions.
 
 ghost use Rattle.std.specs.Prelude.{◌≡◌, [], ◌∷◌, ◌++◌, List, Option, map, None, true, false};
-ghost use Rattle.std.specs.Prelude.{IsTrue, IfOk, IfErr, MatchResult};
+ghost use Rattle.std.specs.Prelude.{IfOk, IfErr, MatchResult};
 ghost use Rattle.wat_expr.specs.Expression.{Expr, seen_hint, seen_expression, bare_expression};
 ghost use Rattle.wat_expr.specs.Expression.{value_of, SpansAre, kept_spans, and_span};
 ghost use Rattle.wat_expr.specs.Flat.{span_count, flat, no_output, one_more, push};
@@ -9,8 +9,8 @@ ghost use Rattle.wat_expr.specs.Items.{Items, lists, mark};
 ghost use Rattle.wat_expr.specs.Listed.{IsListed};
 ghost use Rattle.wat_expr.specs.ExpressionProduction.{expression};
 ghost use Rattle.wat_instr.specs.Instruction.{seen_instruction, end_instr};
-ghost use Rattle.wat_tokens.specs.Counts.{Counted, Quiet, Stays, Kept};
 ghost use Rattle.wat_tokens.specs.Parses.{Gives, Accepts};
+ghost use Rattle.wat_tokens.specs.Reads.{Parsed};
 ghost use Rattle.wat_tokens.specs.Tests.{ends};
 ghost use Rattle.wat_tokens.specs.Token.{Tok};
 
@@ -200,8 +200,9 @@ impl<'a> Parse<'a> for Expression<'a> {
     ghost grammar = { expression };
 
     fn parse(parser: &mut Parser<'a>) -> Result<Self>
-        ensures exact { Gives false bare_expression seen_expression result
-            (expression.reads parser.old.left) parser.new.left }
+        ensures reads { Parsed (Gives false bare_expression seen_expression result
+            (expression.reads parser.old.left) parser.new.left) false false result parser.old
+            parser.new }
         // The tokens that were taken list items, and these are their unfolding, their hints and
         // their counts.
         ensures listed { IfOk result (λ e. IsListed parser.old parser.new e) }
@@ -209,10 +210,6 @@ impl<'a> Parse<'a> for Expression<'a> {
         ensures only { (xs : Items) (r : List Tok) → lists xs parser.old.left r → ends r ≡ true
             → Accepts seen_expression bare_expression result (value_of xs) parser.new.left r }
         ensures spans { IfOk result (λ e. SpansAre parser.old.tracks e) }
-        ensures counts { Counted result parser.old parser.new }
-        ensures quiet { IsTrue false → Quiet parser.old parser.new }
-        ensures stays { IsTrue false → Stays parser.old parser.new }
-        ensures names { Kept parser.old parser.new }
     {
         let mut reader = Reader::new(parser.alloc(), parser.tracks());
         'turns: while !reader.is_done(parser) {

@@ -120,6 +120,6 @@ impl<'a> Parse<'a> for FoldedInstruction<'a> {
     ghost grammar = { folded_instruction };
 
     fn parse(parser: &mut Parser<'a>) -> Result<Self> {
-        Ok(FoldedInstruction(Expression::parse_folded_instruction(parser)?))
+        Expression::parse_folded_instruction(parser).map(FoldedInstruction)
     }
 }

@@ -140,7 +140,7 @@ fn read_target<'a>(parser: &mut Parser<'a>) -> Result<MemArgTarget<'a>>
         parser.new }
 {
     if !parser.second_is("type") {
-        return Ok(MemArgTarget::Memory(index_or_zero(parser)?));
+        return index_or_zero(parser).map(MemArgTarget::Memory);
     }
     parser.open()?;
     parser.keyword("type")?;

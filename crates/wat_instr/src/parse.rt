@@ -1,9 +1,8 @@
 //! Instructions as they are read.
 
 ghost use Rattle.std.specs.Prelude.{◌≡◌, ◌+◌, ◌≤◌, ◌∷◌, ℕ, true, false, List, None, IfErr};
-ghost use Rattle.std.proofs.Common.{IsTrue};
-ghost use Rattle.wat_tokens.specs.Counts.{Counted, Quiet, Stays, Kept};
 ghost use Rattle.wat_tokens.specs.Parses.{Gives};
+ghost use Rattle.wat_tokens.specs.Reads.{Parsed};
 ghost use Rattle.wat_tokens.specs.Token.{Tok, Keyword};
 ghost use Rattle.wat_mnemonics.specs.Probes.{AtMostTen};
 ghost use Rattle.wat_mnemonics.specs.Mnemonic.{mnemonic};
@@ -93,13 +92,10 @@ impl<'a> Parse<'a> for Instruction<'a> {
 
     #[tactic(auto, unfolding(crate::specs::Reading::ReadsOperand, crate::specs::Instruction::instruction))]
     fn parse(parser: &mut Parser<'a>) -> Result<Self>
-        ensures exact { Gives false bare_instruction seen_instruction result
-            (instruction.reads parser.old.left) parser.new.left }
-        ensures counts { Counted result parser.old parser.new }
-        ensures quiet { IsTrue false → Quiet parser.old parser.new }
         // No turn and no height is counted.
-        ensures stays { IsTrue true → Stays parser.old parser.new }
-        ensures names { Kept parser.old parser.new }
+        ensures reads { Parsed (Gives false bare_instruction seen_instruction result
+            (instruction.reads parser.old.left) parser.new.left) false true result parser.old
+            parser.new }
         // The word is compared at most ten times, and at least once where a keyword stands in
         // front.
         ensures probes { AtMostTen parser.old parser.new }

@@ -5,9 +5,8 @@ ghost use Rattle.std.specs.Prelude.{slice_get, ◌<◌, IfOk, IfErr};
 ghost use Rattle.std.specs.Borrow.{sem};
 ghost use Rattle.std.specs.Option.{option_map};
 ghost use Rattle.wat_tokens.specs.Copies.{Copies};
-ghost use Rattle.wat_tokens.specs.Counts.{Counted, Quiet, Kept};
 ghost use Rattle.wat_tokens.specs.Lookup.{in_front};
-ghost use Rattle.wat_tokens.specs.Parses.{Gives, no_items};
+ghost use Rattle.wat_tokens.specs.Parses.{no_items};
 ghost use Rattle.wat_tokens.specs.Reads.{Reads};
 ghost use Rattle.wat_tokens.specs.Tests.{begins_lparen};
 ghost use Rattle.wat_links.specs.Item.{SigTy, seen_sig, bare_sig, SameSig};
@@ -441,12 +440,9 @@ fn typed_next(parser: &Parser<'_>) -> bool
 /// A single item.
 #[tactic(auto, unfolding(crate::specs::Import::single_item))]
 fn read_single<'a>(parser: &mut Parser<'a>, module: &'a str) -> Result<ImportItems<'a>>
-    ensures exact { Gives false bare_items seen_items result
-        (single_item.reads parser.old.left) parser.new.left }
+    ensures reads { Reads bare_items seen_items result (single_item.reads parser.old.left) parser.old
+        parser.new }
     ensures module { IfOk result (λ i. (module_of i).now ≡ «module».now) }
-    ensures counts { Counted result parser.old parser.new }
-    ensures quiet { Quiet parser.old parser.new }
-    ensures names { Kept parser.old parser.new }
 {
     let name = <&str as Parse>::parse(parser)?;
     let sig = read_sig(parser)?;
@@ -456,12 +452,9 @@ fn read_single<'a>(parser: &mut Parser<'a>, module: &'a str) -> Result<ImportIte
 /// Items with signatures.
 #[tactic(auto, using(crate::specs::Laws::Import::typed_item_eats), unfolding(crate::specs::Import::typed_items, crate::specs::Import::typed_list))]
 fn read_typed<'a>(parser: &mut Parser<'a>, module: &'a str) -> Result<ImportItems<'a>>
-    ensures exact { Gives false bare_items seen_items result
-        (typed_items.reads parser.old.left) parser.new.left }
+    ensures reads { Reads bare_items seen_items result (typed_items.reads parser.old.left) parser.old
+        parser.new }
     ensures module { IfOk result (λ i. (module_of i).now ≡ «module».now) }
-    ensures counts { Counted result parser.old parser.new }
-    ensures quiet { Quiet parser.old parser.new }
-    ensures names { Kept parser.old parser.new }
 {
     let mut items = Vec::new(parser.alloc());
     parts::<_, TypedItem>(parser, &mut items)?;
@@ -471,12 +464,9 @@ fn read_typed<'a>(parser: &mut Parser<'a>, module: &'a str) -> Result<ImportItem
 /// Items without signatures, and the one that they share.
 #[tactic(auto, using(crate::specs::Laws::Import::named_item_eats), unfolding(crate::specs::Import::named_items, crate::specs::Import::named_list))]
 fn read_named<'a>(parser: &mut Parser<'a>, module: &'a str) -> Result<ImportItems<'a>>
-    ensures exact { Gives false bare_items seen_items result
-        (named_items.reads parser.old.left) parser.new.left }
+    ensures reads { Reads bare_items seen_items result (named_items.reads parser.old.left) parser.old
+        parser.new }
     ensures module { IfOk result (λ i. (module_of i).now ≡ «module».now) }
-    ensures counts { Counted result parser.old parser.new }
-    ensures quiet { Quiet parser.old parser.new }
-    ensures names { Kept parser.old parser.new }
 {
     let mut items = Vec::new(parser.alloc());
     parts::<_, NamedItem>(parser, &mut items)?;
@@ -487,12 +477,9 @@ fn read_named<'a>(parser: &mut Parser<'a>, module: &'a str) -> Result<ImportItem
 /// What is imported from the module.
 #[tactic(auto, unfolding(crate::specs::Forms::import_items, crate::specs::Import::import_choice))]
 fn read_items<'a>(parser: &mut Parser<'a>, module: &'a str) -> Result<ImportItems<'a>>
-    ensures exact { Gives false bare_items seen_items result
-        (import_items.reads parser.old.left) parser.new.left }
+    ensures reads { Reads bare_items seen_items result (import_items.reads parser.old.left) parser.old
+        parser.new }
     ensures module { IfOk result (λ i. (module_of i).now ≡ «module».now) }
-    ensures counts { Counted result parser.old parser.new }
-    ensures quiet { Quiet parser.old parser.new }
-    ensures names { Kept parser.old parser.new }
 {
     if typed_next(parser) {
         return read_typed(parser, module);

@@ -93,7 +93,7 @@ fn read_func_kind<'a>(parser: &mut Parser<'a>) -> Result<ItemKind<'a>>
         (func_kind.reads parser.old.left) parser.old parser.new }
 {
     if !parser.second_is("exact") {
-        return Ok(ItemKind::Func(TypeUse::parse(parser)?));
+        return TypeUse::parse(parser).map(ItemKind::Func);
     }
     parser.open()?;
     parser.keyword("exact")?;

@@ -77,11 +77,11 @@ fn read_kind<'a>(parser: &mut Parser<'a>) -> Result<TryTableCatchKind<'a>>
 {
     if parser.next_is("catch") {
         parser.keyword("catch")?;
-        return Ok(CatchKind::Catch(Index::parse(parser)?));
+        return Index::parse(parser).map(CatchKind::Catch);
     }
     if parser.next_is("catch_ref") {
         parser.keyword("catch_ref")?;
-        return Ok(CatchKind::CatchRef(Index::parse(parser)?));
+        return Index::parse(parser).map(CatchKind::CatchRef);
     }
     if parser.next_is("catch_all") {
         parser.keyword("catch_all")?;

@@ -4,24 +4,24 @@ use Rattle.std.specs.Prelude.{codes}
 use Rattle.wat_core.specs.Field.{ModuleFieldTy, a_type, a_rec, an_import, a_func, a_table, a_memory}
 use Rattle.wat_core.specs.Field.{a_global, an_export, a_start, an_elem, a_data, a_tag, a_custom}
 use Rattle.wat_customs.specs.Custom.{CustomTy, raw, produced, linked}
-use Rattle.wat_elems.specs.Elem.{ElemKindTy, Segment}
-use Rattle.wat_elems.specs.Elem as elems
-use Rattle.wat_elems.specs.Payload.{PayloadTy, indices, exprs}
-use Rattle.wat_elems.specs.Table.{TableKindTy}
-use Rattle.wat_elems.specs.Table as tables
 use Rattle.wat_expr.specs.Expression.{Expr}
-use Rattle.wat_funcs.specs.Func.{FuncKindTy}
-use Rattle.wat_funcs.specs.Func as funcs
-use Rattle.wat_funcs.specs.Global.{GlobalKindTy}
-use Rattle.wat_funcs.specs.Global as globals
+use Rattle.wat_fields.specs.Data.{DataKindTy}
+use Rattle.wat_fields.specs.Data as segments
+use Rattle.wat_fields.specs.DataVal.{DataValTy, bytes_in}
+use Rattle.wat_fields.specs.Elem.{ElemKindTy, Segment}
+use Rattle.wat_fields.specs.Elem as elems
+use Rattle.wat_fields.specs.Func.{FuncKindTy}
+use Rattle.wat_fields.specs.Func as funcs
+use Rattle.wat_fields.specs.Global.{GlobalKindTy}
+use Rattle.wat_fields.specs.Global as globals
+use Rattle.wat_fields.specs.Memory.{MemoryKindTy}
+use Rattle.wat_fields.specs.Memory as memories
+use Rattle.wat_fields.specs.Payload.{PayloadTy, indices, exprs}
+use Rattle.wat_fields.specs.Table.{TableKindTy}
+use Rattle.wat_fields.specs.Table as tables
 use Rattle.wat_links.specs.Import.{ItemsTy, single, group1, group2}
 use Rattle.wat_links.specs.declared.export.ExportKind.{ExportKind}
 use Rattle.wat_links.specs.declared.export.ExportKind.TheVariants as kind
-use Rattle.wat_segments.specs.Data.{DataKindTy}
-use Rattle.wat_segments.specs.Data as segments
-use Rattle.wat_segments.specs.DataVal.{DataValTy, bytes_in}
-use Rattle.wat_segments.specs.Memory.{MemoryKindTy}
-use Rattle.wat_segments.specs.Memory as memories
 use Rattle.wat_tokens.specs.Index.{Idx}
 use Rattle.wat_listing.specs.Expressions.{below}
 use Rattle.wat_listing.specs.Listing.{index_text}

@@ -3,16 +3,16 @@
 ghost use Rattle.std.specs.Prelude.{◌≡◌, ◌++◌, OnOk};
 ghost use Rattle.wat_core.specs.Field.{seen_field};
 ghost use Rattle.wat_customs.specs.Custom.{seen_custom};
-ghost use Rattle.wat_elems.specs.Elem.{seen_elem_kind};
-ghost use Rattle.wat_elems.specs.Payload.{seen_payload};
-ghost use Rattle.wat_elems.specs.Table.{seen_table_kind};
-ghost use Rattle.wat_funcs.specs.Func.{seen_func_kind};
-ghost use Rattle.wat_funcs.specs.Global.{seen_global_kind};
-ghost use Rattle.wat_funcs.specs.Tag.{seen_tag_kind};
+ghost use Rattle.wat_fields.specs.Data.{seen_data_kind};
+ghost use Rattle.wat_fields.specs.DataVal.{seen_data_vals};
+ghost use Rattle.wat_fields.specs.Elem.{seen_elem_kind};
+ghost use Rattle.wat_fields.specs.Func.{seen_func_kind};
+ghost use Rattle.wat_fields.specs.Global.{seen_global_kind};
+ghost use Rattle.wat_fields.specs.Memory.{seen_memory_kind};
+ghost use Rattle.wat_fields.specs.Payload.{seen_payload};
+ghost use Rattle.wat_fields.specs.Table.{seen_table_kind};
+ghost use Rattle.wat_fields.specs.Tag.{seen_tag_kind};
 ghost use Rattle.wat_links.specs.Import.{seen_items};
-ghost use Rattle.wat_segments.specs.Data.{seen_data_kind};
-ghost use Rattle.wat_segments.specs.DataVal.{seen_data_vals};
-ghost use Rattle.wat_segments.specs.Memory.{seen_memory_kind};
 ghost use Rattle.wat_tokens.specs.Index.{seen_index};
 ghost use Rattle.wat_show.specs.Fields.{import_text, export_text, func_text, global_text, tag_text};
 ghost use Rattle.wat_show.specs.Fields.{payload_line, payload_lines, table_text, elem_word};
@@ -23,12 +23,12 @@ use crate::entries::add_entries;
 use crate::pieces::total;
 use std::alloc::AllocError;
 use wat_core::ModuleField;
-use wat_elems::{ElemKind, ElemPayload, TableKind};
-use wat_funcs::{FuncKind, GlobalKind, TagKind};
+use wat_fields::{
+    DataKind, DataVal, ElemKind, ElemPayload, FuncKind, GlobalKind, MemoryKind, TableKind, TagKind,
+};
 use wat_links::{Custom, ExportKind, ImportItems};
 use wat_listing::expressions::add_below;
 use wat_listing::listing::add_index;
-use wat_segments::{DataKind, DataVal, MemoryKind};
 use wat_streams::text::{add, add_counted};
 use wat_tokens::Index;
 

@@ -1,10 +1,10 @@
 //! How many bytes pieces have together.
 
 ghost use Rattle.std.specs.Prelude.{◌≡◌, ℕ, List, length, map};
-ghost use Rattle.wat_segments.specs.DataVal.{bytes_in, seen_data_val};
+ghost use Rattle.wat_fields.specs.DataVal.{bytes_in, seen_data_val};
 ghost use Rattle.wat_show.specs.Fields.{byte_count};
 
-use wat_segments::DataVal;
+use wat_fields::DataVal;
 
 /// A piece that holds bytes.
 pub trait Piece {

@@ -1,7 +1,7 @@
 -- What a call promises that reads by a production.
 use Rattle.std.specs.Prelude.{◌≡◌, ◌+◌, drop, Result, IfOk, IfErr, Bool, false, IsTrue}
 use Rattle.wat_lexer.specs.Sight.{hidden}
-use Rattle.wat_tokens.specs.Counts.{Counted, Quiet, Kept}
+use Rattle.wat_tokens.specs.Counts.{Counted, Quiet, Stays, Kept}
 use Rattle.wat_tokens.specs.Error.{Error, Unexpected}
 use Rattle.wat_tokens.specs.Parses.{Gives, Exactly}
 use Rattle.wat_tokens.specs.Production.{Read}
@@ -18,6 +18,18 @@ pub record Call {X : Type 0} (answers silence : Type 0) (r : Result X Error) (a 
     pub exact : answers
     pub counts : Counted r a b
     pub quiet : silence
+    pub names : Kept a b
+
+-- What the parse of a type promises: from a to b it answered r.
+-- quiet: that tokens alone were counted, where the type's loops need no turn of their own (`still`)
+-- stays: that no turn and no height was counted, where it holds no expression (`stays_put`)
+-- exact, counts, names: as above
+pub record Parsed {X : Type 0} (answers : Type 0) (still stays_put : Bool) (r : Result X Error)
+    (a b : State) : Type 0 where
+    pub exact : answers
+    pub counts : Counted r a b
+    pub quiet : IsTrue still → Quiet a b
+    pub stays : IsTrue stays_put → Stays a b
     pub names : Kept a b
 
 -- it answers what `read` finds in front, as view sees it, and takes no memory where that is bare;

@@ -171,7 +171,7 @@ impl<'a> Parse<'a> for Index<'a> {
 
     fn parse(parser: &mut Parser<'a>) -> Result<Self, Error> {
         if parser.peek::<Id>() {
-            return Ok(Index::Id(Id::parse(parser)?));
+            return Id::parse(parser).map(Index::Id);
         }
         let span = parser.cur_span();
         let number = u32::parse(parser)?;

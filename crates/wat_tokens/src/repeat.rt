@@ -1,12 +1,11 @@
 //! Parts that stand one behind the other.
 
-ghost use Rattle.std.specs.Prelude.{◌≡◌, ◌≤◌, [], map, List, Bool, IsTrue, true, false};
+ghost use Rattle.std.specs.Prelude.{◌≡◌, ◌≤◌, [], map, List, Bool, true, false};
 ghost use Rattle.wat_lexer.specs.Token.{Tok};
-ghost use Rattle.wat_tokens.specs.Counts.{Counted, Quiet, Kept};
 ghost use Rattle.wat_tokens.specs.Joined.{joined_behind};
 ghost use Rattle.wat_tokens.specs.Many.{after_front};
 ghost use Rattle.wat_tokens.specs.ManySpells.{many_reads};
-ghost use Rattle.wat_tokens.specs.Parses.{Gives, no_items};
+ghost use Rattle.wat_tokens.specs.Parses.{no_items};
 ghost use Rattle.wat_tokens.specs.Production.{Production};
 ghost use Rattle.wat_tokens.specs.Reads.{ReadsIf};
 ghost use Rattle.wat_tokens.specs.Tests.{more};
@@ -43,11 +42,8 @@ pub trait Part<'a, V> {
 
     /// Takes the part that stands in front, or refuses as [`Parse::parse`] does.
     fn take(parser: &mut Parser<'a>) -> Result<V, Error>
-        ensures exact { Gives light bare seen result
-            (grammar.reads parser.old.left) parser.new.left }
-        ensures counts { Counted result parser.old parser.new }
-        ensures quiet { IsTrue quiet → Quiet parser.old parser.new }
-        ensures names { Kept parser.old parser.new };
+        ensures reads { ReadsIf quiet light bare seen result (grammar.reads parser.old.left)
+            parser.old parser.new };
 }
 
 /// Takes parts as long as one has to follow, each put behind those that are there.
@@ -88,11 +84,9 @@ pub trait Group<'a, V> {
     /// Takes the group that stands in front, each part put behind those that are there, or refuses
     /// as [`Parse::parse`] does.
     fn take(parser: &mut Parser<'a>, out: &mut Vec<V>) -> Result<(), Error>
-        ensures exact { Gives false no_items (λ _. map seen out.new.items) result (after_front
-            (map seen out.old.items) (grammar.reads parser.old.left)) parser.new.left }
-        ensures counts { Counted result parser.old parser.new }
-        ensures quiet { IsTrue quiet → Quiet parser.old parser.new }
-        ensures names { Kept parser.old parser.new };
+        ensures reads { ReadsIf quiet false no_items (λ _. map seen out.new.items) result
+            (after_front (map seen out.old.items) (grammar.reads parser.old.left)) parser.old
+            parser.new };
 }
 
 /// Takes groups as long as one has to follow, the parts of each put behind those that are there.

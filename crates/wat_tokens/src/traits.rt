@@ -9,6 +9,7 @@ ghost use Rattle.wat_tokens.specs.Lookup.{in_front};
 ghost use Rattle.wat_tokens.specs.Parens.{nest};
 ghost use Rattle.wat_tokens.specs.Parses.{Gives, Accepts};
 ghost use Rattle.wat_tokens.specs.Production.{Production, Front};
+ghost use Rattle.wat_tokens.specs.Reads.{Parsed};
 ghost use Rattle.wat_tokens.specs.State.{behind};
 ghost use Rattle.wat_tokens.specs.Tests.{second};
 
@@ -43,12 +44,9 @@ pub trait Parse<'a>: Sized {
     /// Where none does, it is refused with the first fault that is met, and the parser then has
     /// some end of its tokens left. Memory may be answered where the value isn't bare.
     fn parse(parser: &mut Parser<'a>) -> Result<Self, Error>
-        ensures exact { Gives light bare seen result
-            (grammar.reads parser.old.left) parser.new.left }
-        ensures counts { Counted result parser.old parser.new }
-        ensures quiet { IsTrue quiet → Quiet parser.old parser.new }
-        ensures stays { IsTrue stays → Stays parser.old parser.new }
-        ensures names { Kept parser.old parser.new };
+        ensures reads { Parsed (Gives light bare seen result
+            (grammar.reads parser.old.left) parser.new.left) quiet stays result parser.old
+            parser.new };
 }
 
 /// A type whose values begin with tokens that tell them from what else may stand there.

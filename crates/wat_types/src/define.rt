@@ -90,7 +90,7 @@ impl<'a> Parse<'a> for ContType<'a> {
     ghost grammar = { index };
 
     fn parse(parser: &mut Parser<'a>) -> Result<Self> {
-        Ok(ContType(Index::parse(parser)?))
+        Index::parse(parser).map(ContType)
     }
 }
 
@@ -109,15 +109,15 @@ impl<'a> Parse<'a> for InnerTypeKind<'a> {
     #[tactic(auto, unfolding(crate::specs::Define::kind))]
     fn parse(parser: &mut Parser<'a>) -> Result<Self> {
         if parser.next_is("func") {
-            return Ok(InnerTypeKind::Func(behind(parser, "func")?));
+            return behind(parser, "func").map(InnerTypeKind::Func);
         }
         if parser.next_is("struct") {
-            return Ok(InnerTypeKind::Struct(behind(parser, "struct")?));
+            return behind(parser, "struct").map(InnerTypeKind::Struct);
         }
         if parser.next_is("array") {
-            return Ok(InnerTypeKind::Array(behind(parser, "array")?));
+            return behind(parser, "array").map(InnerTypeKind::Array);
         }
-        Ok(InnerTypeKind::Cont(behind(parser, "cont")?))
+        behind(parser, "cont").map(InnerTypeKind::Cont)
     }
 }
 

@@ -257,7 +257,7 @@ impl<'a> Parse<'a> for FunctionTypeNoNames<'a> {
     ghost grammar = { function_type_no_names };
 
     fn parse(parser: &mut Parser<'a>) -> Result<Self> {
-        Ok(FunctionTypeNoNames(read_groups(parser, false)?))
+        read_groups(parser, false).map(FunctionTypeNoNames)
     }
 }
 

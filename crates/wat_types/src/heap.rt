@@ -128,7 +128,7 @@ impl<'a> Parse<'a> for HeapType<'a> {
     #[tactic(auto, using(crate::proofs::NoGroup::shared_heap), unfolding(crate::specs::Heap::heap_type))]
     fn parse(parser: &mut Parser<'a>) -> Result<Self> {
         if parser.peek::<Index>() {
-            return Ok(HeapType::Concrete(Index::parse(parser)?));
+            return Index::parse(parser).map(HeapType::Concrete);
         }
         if !opens(parser) {
             return Ok(HeapType::Abstract {

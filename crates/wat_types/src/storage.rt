@@ -52,7 +52,7 @@ impl<'a> Parse<'a> for StorageType<'a> {
             return Ok(StorageType::I16);
         }
         if parser.peek::<ValType>() {
-            return Ok(StorageType::Val(ValType::parse(parser)?));
+            return ValType::parse(parser).map(StorageType::Val);
         }
         Err(parser.unexpected())
     }

@@ -43,6 +43,6 @@ impl<'a> Parse<'a> for TagType<'a> {
     ghost grammar = { tag_type };
 
     fn parse(parser: &mut Parser<'a>) -> Result<Self> {
-        Ok(TagType::Exception(TypeUse::parse(parser)?))
+        TypeUse::parse(parser).map(TagType::Exception)
     }
 }

@@ -61,7 +61,7 @@ impl<'a> Parse<'a> for ValType<'a> {
                 parser.take_keyword()?;
                 Ok(ty)
             }
-            None => Ok(ValType::Ref(RefType::parse(parser)?)),
+            None => RefType::parse(parser).map(ValType::Ref),
         }
     }
 }

@@ -3,21 +3,21 @@ use Rattle.std.proofs.Common.{◌||◌, ◌&&◌, ℕ, Bool, true, List, codes, 
 use Rattle.wat_tokens.specs.Tests.{begins_word, second, begins_lparen}
 use Rattle.wat_types.specs.Limits.{is_64}
 use Rattle.wat_types.specs.Reference.{begins_ref}
-use Rattle.wat_funcs.specs.Local.{labelled_local, plain_locals, listed_locals, local_parser}
-use Rattle.wat_funcs.specs.Locals.{locals}
-use Rattle.wat_funcs.specs.Func.{exact_use, func_import, func_inline, func_defined, func}
-use Rattle.wat_funcs.specs.Global.{global_defined, global}
-use Rattle.wat_funcs.specs.Tag.{tag}
-use Rattle.wat_segments.specs.Numbers.{other_numbers, wide_numbers, number_list}
-use Rattle.wat_segments.specs.DataVal.{data_val}
-use Rattle.wat_segments.specs.DataVals.{data_vals}
-use Rattle.wat_segments.specs.Offset.{head_last, offset_inside}
-use Rattle.wat_segments.specs.Data.{data_memory, data_active, data_kind, data_segment}
-use Rattle.wat_segments.specs.Memory.{inline_memory, memory_kind, memory}
-use Rattle.wat_elems.specs.Payload.{item_list, index_list, listed, typed_elems, payload, payload_or_indices}
-use Rattle.wat_elems.specs.Item.{written_or_folded, item}
-use Rattle.wat_elems.specs.Elem.{elem_offset, in_table, table_number, in_some_table, declared_segment, passive_segment, active_segment, segment, elem}
-use Rattle.wat_elems.specs.Table.{begins_prefix, inline_table, normal_table, imported_table, table_kind, table}
+use Rattle.wat_fields.specs.Local.{labelled_local, plain_locals, listed_locals, local_parser}
+use Rattle.wat_fields.specs.Locals.{locals}
+use Rattle.wat_fields.specs.Func.{exact_use, func_import, func_inline, func_defined, func}
+use Rattle.wat_fields.specs.Global.{global_defined, global}
+use Rattle.wat_fields.specs.Tag.{tag}
+use Rattle.wat_fields.specs.Numbers.{other_numbers, wide_numbers, number_list}
+use Rattle.wat_fields.specs.DataVal.{data_val}
+use Rattle.wat_fields.specs.DataVals.{data_vals}
+use Rattle.wat_fields.specs.Offset.{head_last, offset_inside}
+use Rattle.wat_fields.specs.Data.{data_memory, data_active, data_kind, data_segment}
+use Rattle.wat_fields.specs.Memory.{inline_memory, memory_kind, memory}
+use Rattle.wat_fields.specs.Payload.{item_list, index_list, listed, typed_elems, payload, payload_or_indices}
+use Rattle.wat_fields.specs.Item.{written_or_folded, item}
+use Rattle.wat_fields.specs.Elem.{elem_offset, in_table, table_number, in_some_table, declared_segment, passive_segment, active_segment, segment, elem}
+use Rattle.wat_fields.specs.Table.{begins_prefix, inline_table, normal_table, imported_table, table_kind, table}
 use Rattle.wat_core.specs.Field.{start, last_field, further_field, defined_field, module_field}
 use Rattle.wat_core.proofs.Calm.Rests.{CalmTest, either_test, word_test, lparen_test, guarded_test}
 use Rattle.wat_core.proofs.Calm.Productions.{Calm, calm}

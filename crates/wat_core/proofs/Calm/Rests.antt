@@ -12,8 +12,8 @@ use Rattle.wat_instr.specs.Laws.Sees.{Sees, begins_word_sees, begins_index_sees,
 use Rattle.wat_customs.specs.Custom.{begins_annotated}
 use Rattle.wat_links.specs.Import.{opens_typed, typed, begins_inline_import}
 use Rattle.wat_links.specs.Export.{begins_inline_export}
-use Rattle.wat_segments.specs.Data.{begins_passive}
-use Rattle.wat_segments.specs.Numbers.{begins_numbers}
+use Rattle.wat_fields.specs.Data.{begins_passive}
+use Rattle.wat_fields.specs.Numbers.{begins_numbers}
 
 -- ---- rests
 

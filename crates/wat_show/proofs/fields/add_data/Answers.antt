@@ -1,7 +1,7 @@
 use Rattle.std.proofs.Common.{◌≡◌, ◌++◌, ◌∙◌, ℕ, ap, sym, subst}
 use Rattle.std.proofs.lemmas.Simd.{map-map}
 use Rattle.std.specs.Prelude.{OnOk, codes}
-use Rattle.wat_segments.specs.DataVal.{bytes_in, seen_data_val, seen_data_vals}
+use Rattle.wat_fields.specs.DataVal.{bytes_in, seen_data_val, seen_data_vals}
 use Rattle.wat_show.specs.Fields.{byte_count, vals_count}
 use Rattle.wat_streams.specs.Laws.Written.{added_both}
 use Rattle.wat_streams.specs.Written.{counted}

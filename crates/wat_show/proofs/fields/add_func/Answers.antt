@@ -1,7 +1,7 @@
 use Rattle.std.proofs.Common.{ℕ, ◌≡◌, ◌++◌, ◌∙◌, ap, arith, length}
 use Rattle.std.proofs.lemmas.List.{length-map}
 use Rattle.std.specs.Prelude.{codes, map}
-use Rattle.wat_funcs.specs.Local.{seen_local}
+use Rattle.wat_fields.specs.Local.{seen_local}
 use Rattle.wat_streams.specs.Laws.Written.{added_both}
 use Rattle.wat_streams.specs.Written.{counted}
 use Rattle.wat_show.proofs.fields.add_func.Goals as goal

@@ -6,11 +6,11 @@ use Rattle.wat_tokens.proofs.Joined.{joined_not_bare}
 use Rattle.wat_tokens.proofs.repeat.groups.Goals as goal
 
 pub groups-smaller : goal.groups-smaller
-groups-smaller g c = adding_takes join g.G.Group.follows g.G.Group.grammar c.requires (map g.G.Group.seen c.groups.out.items) c.groups.parser.left (map g.G.Group.seen c.take.new.out.items) c.take.new.parser.left c.in_ok-take.ensures.exact
+groups-smaller g c = adding_takes join g.G.Group.follows g.G.Group.grammar c.requires (map g.G.Group.seen c.groups.out.items) c.groups.parser.left (map g.G.Group.seen c.take.new.out.items) c.take.new.parser.left c.in_ok-take.ensures.reads.exact
 
 pub groups-preserved : goal.groups-preserved
 groups-preserved g c = record {
-  exact = sym (adding_goes_on join g.G.Group.follows g.G.Group.grammar c.requires (map g.G.Group.seen c.groups.out.items) c.groups.parser.left (map g.G.Group.seen c.take.new.out.items) c.take.new.parser.left (sym c.follows.ensures ∙ c.groups-test.true) c.in_ok-take.ensures.exact) ∙ c.groups.invariant.exact;
+  exact = sym (adding_goes_on join g.G.Group.follows g.G.Group.grammar c.requires (map g.G.Group.seen c.groups.out.items) c.groups.parser.left (map g.G.Group.seen c.take.new.out.items) c.take.new.parser.left (sym c.follows.ensures ∙ c.groups-test.true) c.in_ok-take.ensures.reads.exact) ∙ c.groups.invariant.exact;
   counts = search rules;
   turned = search rules;
   quiet = search rules;
@@ -34,7 +34,7 @@ returns-in_err-take g c =
     let before = map g.G.Group.seen c.groups.out.items in
     record {
       reads = record {
-        exact = rw (p.1, p.2) ((λ not. sym c.groups.invariant.exact ∙ adding_fails join g.G.Group.follows g.G.Group.grammar c.requires before c.groups.parser.left begun (c.in_err-take.ensures.exact.0 not)), (λ m. (refl, joined_not_bare g.G.Group.follows g.G.Group.grammar c.requires before c.groups.parser.left _ begun (c.in_err-take.ensures.exact.1 m).1 c.groups.invariant.exact)));
+        exact = rw (p.1, p.2) ((λ not. sym c.groups.invariant.exact ∙ adding_fails join g.G.Group.follows g.G.Group.grammar c.requires before c.groups.parser.left begun (c.in_err-take.ensures.reads.exact.0 not)), (λ m. (refl, joined_not_bare g.G.Group.follows g.G.Group.grammar c.requires before c.groups.parser.left _ begun (c.in_err-take.ensures.reads.exact.1 m).1 c.groups.invariant.exact)));
         counts = search rules;
         quiet = search rules;
         names = search rules;

@@ -11,7 +11,7 @@ parts-preserved g c =
     let v = c.in_ok-take.field-0 in
     let e : map g.P.Part.seen c.push.new.self.items ≡ map g.P.Part.seen c.parts.out.items ++ g.P.Part.seen v ∷ [] = rw c.in_ok-push.ensures.items (map_push _ c.parts.out.items v) in
     record {
-      exact = rw e (sym (loop_goes_on g.P.Part.follows g.P.Part.grammar c.requires (map g.P.Part.seen c.parts.out.items) c.parts.parser.left (g.P.Part.seen v) c.take.new.parser.left (sym c.follows.ensures ∙ c.parts-test.true) c.in_ok-take.ensures.exact) ∙ c.parts.invariant.exact);
+      exact = rw e (sym (loop_goes_on g.P.Part.follows g.P.Part.grammar c.requires (map g.P.Part.seen c.parts.out.items) c.parts.parser.left (g.P.Part.seen v) c.take.new.parser.left (sym c.follows.ensures ∙ c.parts-test.true) c.in_ok-take.ensures.reads.exact) ∙ c.parts.invariant.exact);
       counts = search rules;
       turned = search rules;
       quiet = search rules;
@@ -34,7 +34,7 @@ returns-in_err-take g c =
     let p = err_from_is_err_and c.from_residual.result c.from_residual.ensures.1 in
     record {
       reads = record {
-        exact = rw (p.1, p.2) ((λ not. sym c.parts.invariant.exact ∙ loop_fails g.P.Part.follows g.P.Part.grammar c.requires (map g.P.Part.seen c.parts.out.items) c.parts.parser.left begun (c.in_err-take.ensures.exact.0 not)), (λ m. (refl, not_bare g.P.Part.follows g.P.Part.grammar (map g.P.Part.seen c.parts.out.items) c.parts.parser.left _ begun c.parts.invariant.exact)));
+        exact = rw (p.1, p.2) ((λ not. sym c.parts.invariant.exact ∙ loop_fails g.P.Part.follows g.P.Part.grammar c.requires (map g.P.Part.seen c.parts.out.items) c.parts.parser.left begun (c.in_err-take.ensures.reads.exact.0 not)), (λ m. (refl, not_bare g.P.Part.follows g.P.Part.grammar (map g.P.Part.seen c.parts.out.items) c.parts.parser.left _ begun c.parts.invariant.exact)));
         counts = search rules;
         quiet = search rules;
         names = search rules;

@@ -1,4 +1,4 @@
-use Rattle.std.proofs.Common.{Ok, Some, None, true, false, length, subst, sym, ◌≡◌}
+use Rattle.std.proofs.Common.{Ok, Some, None, true, false, length, subst, sym, ◌≡◌, rules}
 use Rattle.std.proofs.lemmas.Result.{err_from_is_err_and}
 use Rattle.wat_expr.proofs.Whole.{goes_on, refused, refused_counts, left_pending, reads_nothing_listed, listed, found, accepted}
 use Rattle.wat_expr.proofs.expression.ExpressionParse.parse.Goals as goal
@@ -7,22 +7,29 @@ pub turns-preserved : goal.turns-preserved
 turns-preserved c =
     goes_on _ _ _ _ _ _ _ _ _ _ c.tick.ensures.only c.height.ensures c.held.ensures c.note_height.ensures c.note_held.ensures.only c.turns.invariant c.turn.ensures.steady.counts c.turn.ensures.steady.stays c.turn.ensures.steady.names c.tick.ensures.counts c.turns-test.ensures c.in_ok-turn.ensures.turned c.note_held.ensures.counts
 
-pub returns-in_err-turn-clause-exact : goal.returns-in_err-turn-clause-exact
-returns-in_err-turn-clause-exact c =
+pub returns-in_err-turn-clause-reads : goal.returns-in_err-turn-clause-reads
+returns-in_err-turn-clause-reads c =
     let p = err_from_is_err_and c.from_residual.result c.from_residual.ensures.1 in
-    rw (p.1, p.2) (refused _ _ _ _ c.in_err-turn.field-0.0 c.turns.invariant c.tick.ensures.only c.turns-test.ensures c.in_err-turn.ensures.turned)
+    record {
+      exact = rw (p.1, p.2) (refused _ _ _ _ c.in_err-turn.field-0.0 c.turns.invariant c.tick.ensures.only c.turns-test.ensures c.in_err-turn.ensures.turned);
+      counts = rw p.1 (refused_counts _ _ _ _ _ c.tick.ensures.only c.turns.invariant c.turn.ensures.steady.counts c.turn.ensures.steady.stays c.tick.ensures.counts);
+      quiet = search rules;
+      stays = search rules;
+      names = search rules;
+    }
 
 pub returns-in_err-turn-clause-only : goal.returns-in_err-turn-clause-only
-returns-in_err-turn-clause-only c = accepted c.from_residual.result _ _ (returns-in_err-turn-clause-exact c)
+returns-in_err-turn-clause-only c = accepted c.from_residual.result _ _ (returns-in_err-turn-clause-reads c).exact
 
-pub returns-in_err-turn-clause-counts : goal.returns-in_err-turn-clause-counts
-returns-in_err-turn-clause-counts c =
-    let p = err_from_is_err_and c.from_residual.result c.from_residual.ensures.1 in
-    rw p.1 (refused_counts _ _ _ _ _ c.tick.ensures.only c.turns.invariant c.turn.ensures.steady.counts c.turn.ensures.steady.stays c.tick.ensures.counts)
-
-pub returns-in-Some-clause-exact : goal.returns-in-Some-clause-exact
-returns-in-Some-clause-exact c =
-    ((λ n. reads_nothing_listed _ (left_pending _ _ _ _ c.turns.invariant c.in-Some.is c.turns-test.ensures.1)), (λ m. absurd (cc)))
+pub returns-in-Some-clause-reads : goal.returns-in-Some-clause-reads
+returns-in-Some-clause-reads c =
+    record {
+      exact = ((λ n. reads_nothing_listed _ (left_pending _ _ _ _ c.turns.invariant c.in-Some.is c.turns-test.ensures.1)), (λ m. absurd (cc)));
+      counts = search rules;
+      quiet = search rules;
+      stays = search rules;
+      names = search rules;
+    }
 
 pub returns-in-Some-clause-only : goal.returns-in-Some-clause-only
 returns-in-Some-clause-only c = λ xs r l e. absurd (left_pending _ _ _ _ c.turns.invariant c.in-Some.is c.turns-test.ensures.1 xs r l e)
@@ -40,13 +47,20 @@ returns-clause-listed c =
       held = w.held;
     }
 
-pub returns-clause-exact : goal.returns-clause-exact
-returns-clause-exact c = found _ _ _ (returns-clause-listed c)
+pub returns-clause-reads : goal.returns-clause-reads
+returns-clause-reads c =
+    record {
+      exact = found _ _ _ (returns-clause-listed c);
+      counts = search rules;
+      quiet = search rules;
+      stays = search rules;
+      names = search rules;
+    }
 
 pub returns-clause-only : goal.returns-clause-only
 returns-clause-only c =
     let out = c.turns.reader.out in
-    accepted (Ok record { instrs = c.shrink_to_fit.new.self; branch_hints = out.branch_hints; instr_spans = out.instr_spans }) _ c.turns.parser.left (returns-clause-exact c)
+    accepted (Ok record { instrs = c.shrink_to_fit.new.self; branch_hints = out.branch_hints; instr_spans = out.instr_spans }) _ c.turns.parser.left (returns-clause-reads c).exact
 
 pub returns-clause-spans : goal.returns-clause-spans
 returns-clause-spans c =

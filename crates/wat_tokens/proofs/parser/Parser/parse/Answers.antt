@@ -4,25 +4,25 @@ use Rattle.wat_tokens.proofs.Exact.{gives_accepts, gives_refused}
 use Rattle.wat_tokens.proofs.parser.Parser.parse.Goals as goal
 
 pub returns-clause-accepts : goal.returns-clause-accepts
-returns-clause-accepts g c = gives_accepts g.T.Parse.light g.T.Parse.bare g.T.Parse.seen g.T.Parse.grammar c.parse.result c.args.self.now.left c.parse.new.parser.left c.parse.ensures.exact
+returns-clause-accepts g c = gives_accepts g.T.Parse.light g.T.Parse.bare g.T.Parse.seen g.T.Parse.grammar c.parse.result c.args.self.now.left c.parse.new.parser.left c.parse.ensures.reads.exact
 
 pub returns-clause-refused : goal.returns-clause-refused
-returns-clause-refused g c = gives_refused g.T.Parse.light g.T.Parse.bare g.T.Parse.seen g.T.Parse.grammar c.parse.result c.args.self.now.left c.parse.new.parser.left c.parse.ensures.exact
+returns-clause-refused g c = gives_refused g.T.Parse.light g.T.Parse.bare g.T.Parse.seen g.T.Parse.grammar c.parse.result c.args.self.now.left c.parse.new.parser.left c.parse.ensures.reads.exact
 
 pub returns-clause-taken : goal.returns-clause-taken
-returns-clause-taken g c d = counts_taken c.args.self.now c.parse.new.parser d c.parse.ensures.counts.0
+returns-clause-taken g c d = counts_taken c.args.self.now c.parse.new.parser d c.parse.ensures.reads.counts.0
 
 pub returns-clause-within : goal.returns-clause-within
-returns-clause-within g c = counts_within c.args.self.now c.parse.new.parser c.parse.ensures.counts.0
+returns-clause-within g c = counts_within c.args.self.now c.parse.new.parser c.parse.ensures.reads.counts.0
 
 pub returns-clause-peak : goal.returns-clause-peak
-returns-clause-peak g c d = counts_peak c.args.self.now c.parse.new.parser d c.parse.ensures.counts.0
+returns-clause-peak g c d = counts_peak c.args.self.now c.parse.new.parser d c.parse.ensures.reads.counts.0
 
 pub returns-clause-stands : goal.returns-clause-stands
-returns-clause-stands g c d = counts_stands c.args.self.now c.parse.new.parser d c.parse.ensures.counts.0
+returns-clause-stands g c d = counts_stands c.args.self.now c.parse.new.parser d c.parse.ensures.reads.counts.0
 
 pub returns-clause-end : goal.returns-clause-end
-returns-clause-end g c = counts_end c.args.self.now c.parse.new.parser c.parse.ensures.counts.0
+returns-clause-end g c = counts_end c.args.self.now c.parse.new.parser c.parse.ensures.reads.counts.0
 
 pub returns-clause-grows : goal.returns-clause-grows
-returns-clause-grows g c = counts_grows c.args.self.now c.parse.new.parser c.parse.ensures.counts.0
+returns-clause-grows g c = counts_grows c.args.self.now c.parse.new.parser c.parse.ensures.reads.counts.0

@@ -6,12 +6,12 @@ use Rattle.wat_tokens.specs.Index.{begins_index}
 use Rattle.wat_types.proofs.NoGroup.{shared_heap}
 use Rattle.wat_types.proofs.heap.HeapTypeParse.parse.Goals as goal
 
-pub returns-in_err-in_group-2-clause-exact : goal.returns-in_err-in_group-2-clause-exact
-returns-in_err-in_group-2-clause-exact c =
+pub returns-in_err-in_group-2 : goal.returns-in_err-in_group-2
+returns-in_err-in_group-2 c =
     let p = err_from_is_err_and c.from_residual-in_err-in_group-2.result c.from_residual-in_err-in_group-2.ensures.1 in
     let t = c.args.parser.now.left in
     let begun : begins_lparen t ≡ true = search rules in
     let no_index : begins_index t ≡ false = search rules in
     let no_exact : begins_group (codes "exact") t ≡ false = search rules in
     let e = shared_heap t begun no_index no_exact in
-    rw (p.1, p.2) ((λ not. rw (e, c.in_err-in_group-2.ensures.reads.exact.0 not) refl), (λ m. let n = (c.in_err-in_group-2.ensures.reads.exact.1 m).0 in absurd cc))
+    record { reads = record { exact = rw (p.1, p.2) ((λ not. rw (e, c.in_err-in_group-2.ensures.reads.exact.0 not) refl), (λ m. let n = (c.in_err-in_group-2.ensures.reads.exact.1 m).0 in absurd cc)); counts = search rules; quiet = search rules; stays = search rules; names = search rules } }

@@ -1,2 +1,0 @@
-pub mod RefFuncs
-pub mod Rows

@@ -1,0 +1,6 @@
+pub mod Bytes
+pub mod ElementRows
+pub mod FunctionRows
+pub mod Heads
+pub mod RefFuncs
+pub mod SegmentRows

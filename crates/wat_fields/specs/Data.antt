@@ -1,0 +1,83 @@
+-- Data segments.
+use Rattle.std.specs.Prelude.{Bool, true, not, ◌&&◌, List, ◌∷◌, codes, unwrap_or}
+use Rattle.wat_tokens.specs.Token.{Tok, RParen, String}
+use Rattle.wat_tokens.specs.Tests.{begins_word, begins_integer, second}
+use Rattle.wat_tokens.specs.Production.{Production}
+use Rattle.wat_tokens.specs.Parts.{seq, made, where_else, opt, after_word}
+use Rattle.wat_tokens.specs.Groups.{group, paren}
+use Rattle.wat_tokens.specs.Index.{Idx, number, seen_index, index}
+use Rattle.wat_tokens.specs.Integers.{unsigned}
+use Rattle.wat_tokens.specs.Parses.{no_items}
+use Rattle.wat_types.specs.Label.{Label, seen_label, label}
+use Rattle.wat_expr.specs.Expression.{Expr, seen_expression, bare_expression}
+use Rattle.wat_fields.specs.Numbers.{begins_numbers}
+use Rattle.wat_fields.specs.DataVal.{DataValTy, seen_data_vals}
+use Rattle.wat_fields.specs.DataVals.{data_vals}
+use Rattle.wat_fields.specs.Offset.{offset_inside}
+use Rattle.wat_fields.specs.declared.data.Data.{Data}
+use Rattle.wat_fields.specs.declared.data.DataKind.{DataKind}
+use Rattle.wat_fields.specs.declared.data.DataKind.TheVariants as code
+
+-- ---- what contracts see
+
+-- into a memory, at an offset; or nowhere by itself
+pub data DataKindTy : Type 0 where
+  passive : DataKindTy
+  active : Idx → Expr → DataKindTy
+
+pub record DataTy : Type 0 where
+  pub label : Label
+  pub kind : DataKindTy
+  pub vals : List DataValTy
+
+abbrev pub data_of : Label → DataKindTy → List DataValTy → DataTy
+data_of l k v = record { label = l; kind = k; vals = v }
+
+abbrev pub seen_data_kind : DataKind → DataKindTy
+seen_data_kind code.Passive = passive
+seen_data_kind (code.Active i e) = active (seen_index i) (seen_expression e)
+
+abbrev pub seen_data : Data → DataTy
+seen_data d = data_of (seen_label d.id d.name) (seen_data_kind d.kind) (seen_data_vals d.data.items)
+
+-- no instruction
+abbrev pub bare_data_kind : DataKindTy → Bool
+bare_data_kind passive = true
+bare_data_kind (active i e) = bare_expression e
+
+-- no instruction and no value
+abbrev pub bare_data : DataTy → Bool
+bare_data d = bare_data_kind d.kind && no_items d.vals
+
+-- ---- the grammar
+
+-- `)`, a string, or a group of numbers
+abbrev pub begins_passive : List Tok → Bool
+begins_passive (RParen ∷ r) = true
+begins_passive (String s ∷ r) = true
+begins_passive t = begins_numbers t
+
+-- the second token is `memory`, whatever the first is
+abbrev pub memory_follows : List Tok → Bool
+memory_follows t = second (begins_word (codes "memory")) t
+
+-- u32, where an Integer comes next; ( memory idx ), where the second token is `memory`; else
+-- nothing, memory 0
+unfoldable pub data_memory : Production Idx
+data_memory =
+    where_else begins_integer (made number (unsigned 32))
+    (made (λ i. unwrap_or i (number 0)) (opt memory_follows (group (codes "memory") index)))
+
+-- a memory, and ( offset )
+unfoldable pub data_active : Production DataKindTy
+data_active = made (λ v. active v.0 v.1) (seq data_memory (paren offset_inside))
+
+-- passive, where that begins; else active
+unfoldable pub data_kind : Production DataKindTy
+data_kind = made (λ k. unwrap_or k passive) (opt (λ t. not (begins_passive t)) data_active)
+
+-- `data id? name?`, a kind, and DataVal*, to the end
+unfoldable pub data_segment : Production DataTy
+data_segment =
+    after_word (codes "data") (made (λ v. data_of v.0 v.1.0 v.1.1)
+    (seq label (seq data_kind data_vals)))

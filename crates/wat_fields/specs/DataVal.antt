@@ -1,0 +1,41 @@
+-- Values of data segments.
+use Rattle.std.specs.Prelude.{ℕ, Bool, true, List, map}
+use Rattle.wat_tokens.specs.Tests.{begins_lparen}
+use Rattle.wat_tokens.specs.Production.{Production}
+use Rattle.wat_tokens.specs.Parts.{made, where_else}
+use Rattle.wat_tokens.specs.Groups.{paren}
+use Rattle.wat_tokens.specs.Parses.{no_items}
+use Rattle.wat_tokens.specs.Strings.{string}
+use Rattle.wat_fields.specs.Numbers.{number_list}
+use Rattle.wat_fields.specs.declared.data_val.DataVal.{DataVal}
+use Rattle.wat_fields.specs.declared.data_val.DataVal.TheVariants as code
+
+-- ---- what contracts see
+
+-- the bytes of a string, or those of numbers
+pub data DataValTy : Type 0 where
+  written : List ℕ → DataValTy
+  numbers : List ℕ → DataValTy
+
+-- all its bytes, in order
+abbrev pub bytes_in : DataValTy → List ℕ
+bytes_in (written bs) = bs
+bytes_in (numbers bs) = bs
+
+abbrev pub seen_data_val : DataVal → DataValTy
+seen_data_val (code.String s) = written s.now
+seen_data_val (code.Integral v) = numbers v.items
+
+abbrev pub seen_data_vals : List DataVal → List DataValTy
+seen_data_vals vs = map seen_data_val vs
+
+-- no number
+abbrev pub bare_val : DataValTy → Bool
+bare_val (written bs) = true
+bare_val (numbers bs) = no_items bs
+
+-- ---- the grammar
+
+-- where `(` comes next, ( numbers ); else bytes
+unfoldable pub data_val : Production DataValTy
+data_val = where_else begins_lparen (made numbers (paren number_list)) (made written string)

@@ -1,0 +1,110 @@
+-- Element segments.
+use Rattle.std.specs.Prelude.{Bool, true, not, ◌&&◌, ◌||◌, List, codes, Option, Some}
+use Rattle.wat_tokens.specs.Token.{Tok}
+use Rattle.wat_tokens.specs.Tests.{begins_word, begins_group, begins_integer, begins_lparen}
+use Rattle.wat_tokens.specs.Production.{Production}
+use Rattle.wat_tokens.specs.Parts.{seq, made, where_else, opt, after_word}
+use Rattle.wat_tokens.specs.Groups.{group}
+use Rattle.wat_tokens.specs.Index.{Idx, number, seen_index, index}
+use Rattle.wat_tokens.specs.Integers.{unsigned}
+use Rattle.wat_tokens.specs.Parses.{seen_option}
+use Rattle.wat_types.specs.Label.{Label, seen_label, label}
+use Rattle.wat_types.specs.Reference.{begins_ref}
+use Rattle.wat_expr.specs.Expression.{Expr, seen_expression, bare_expression}
+use Rattle.wat_fields.specs.Payload.{PayloadTy, seen_payload, bare_payload, payload}
+use Rattle.wat_fields.specs.Payload.{payload_or_indices}
+use Rattle.wat_fields.specs.Item.{written_or_folded}
+use Rattle.wat_fields.specs.declared.elem.ElemKind.{ElemKind}
+use Rattle.wat_fields.specs.declared.elem.ElemKind.TheVariants as code
+use Rattle.wat_fields.specs.declared.elem.Elem.{Elem}
+
+-- ---- what contracts see
+
+-- passive; declared; or active, in a table, where one is written, and at an offset
+pub data ElemKindTy : Type 0 where
+  passive : ElemKindTy
+  declared : ElemKindTy
+  active : Option Idx → Expr → ElemKindTy
+
+-- a kind, and what the segment holds
+abbrev pub Segment : Type 0
+Segment = ElemKindTy × PayloadTy
+
+pub record ElemTy : Type 0 where
+  pub label : Label
+  pub segment : Segment
+
+abbrev pub elem_of : Label → Segment → ElemTy
+elem_of l s = record { label = l; segment = s }
+
+abbrev pub seen_elem_kind : ElemKind → ElemKindTy
+seen_elem_kind code.Passive = passive
+seen_elem_kind code.Declared = declared
+seen_elem_kind (code.Active t e) = active (seen_option seen_index t) (seen_expression e)
+
+abbrev pub seen_elem : Elem → ElemTy
+seen_elem e = elem_of (seen_label e.id e.name) (seen_elem_kind e.kind, seen_payload e.payload)
+
+-- no instruction in the offset
+abbrev pub bare_elem_kind : ElemKindTy → Bool
+bare_elem_kind passive = true
+bare_elem_kind declared = true
+bare_elem_kind (active t e) = bare_expression e
+
+abbrev pub bare_segment : Segment → Bool
+bare_segment s = bare_elem_kind s.0 && bare_payload s.1
+
+abbrev pub bare_elem : ElemTy → Bool
+bare_elem e = bare_segment e.segment
+
+-- ---- the grammar
+
+-- where the second token is `offset`, ( offset Expression ); else a folded instruction
+unfoldable pub elem_offset : Production Expr
+elem_offset = written_or_folded (codes "offset")
+
+-- an active segment, of its table, its offset and what it holds
+abbrev pub active_of : Option Idx × (Expr × PayloadTy) → Segment
+active_of v = (active v.0 v.1.0, v.1.1)
+
+-- ( table idx ), and then an offset and a payload
+unfoldable pub in_table : Production Segment
+in_table =
+    made active_of (seq (made (λ i. Some i) (group (codes "table") index))
+    (seq elem_offset payload))
+
+-- u32, where an Integer comes next
+unfoldable pub table_number : Production (Option Idx)
+table_number = opt begins_integer (made number (unsigned 32))
+
+-- u32 or nothing, and then an offset and a payload, which may be indices alone
+unfoldable pub in_some_table : Production Segment
+in_some_table = made active_of (seq table_number (seq elem_offset payload_or_indices))
+
+-- `declare` payload
+unfoldable pub declared_segment : Production Segment
+declared_segment = made (λ p. (declared, p)) (after_word (codes "declare") payload)
+
+-- payload
+unfoldable pub passive_segment : Production Segment
+passive_segment = made (λ p. (passive, p)) payload
+
+-- an Integer, or `(` that begins no RefType
+abbrev pub begins_active : List Tok → Bool
+begins_active t = begins_integer t || (begins_lparen t && not (begins_ref t))
+
+-- in the table that is written, where `(` and `table` come next; else in that of the number, or in
+-- one that isn't written
+unfoldable pub active_segment : Production Segment
+active_segment = where_else (begins_group (codes "table")) in_table in_some_table
+
+-- declared where `declare` comes next; active where an Integer comes next, or `(` that begins no
+-- RefType; else passive
+unfoldable pub segment : Production Segment
+segment =
+    where_else (begins_word (codes "declare")) declared_segment
+    (where_else begins_active active_segment passive_segment)
+
+-- `elem id? name?`, and then a kind and what it holds
+unfoldable pub elem : Production ElemTy
+elem = after_word (codes "elem") (made (λ v. elem_of v.0 v.1) (seq label segment))

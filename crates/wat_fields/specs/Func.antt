@@ -1,0 +1,102 @@
+-- Functions.
+use Rattle.std.specs.Prelude.{ℕ, Bool, true, false, ◌&&◌, List, codes}
+use Rattle.wat_tokens.specs.Tests.{begins_word, second}
+use Rattle.wat_tokens.specs.Production.{Production}
+use Rattle.wat_tokens.specs.Parts.{seq, made, where_else, after_word}
+use Rattle.wat_tokens.specs.Groups.{group}
+use Rattle.wat_tokens.specs.Parses.{no_items}
+use Rattle.wat_types.specs.Label.{seen_label}
+use Rattle.wat_types.specs.Function.{seen_function, bare_function}
+use Rattle.wat_types.specs.Group.{FuncTy}
+use Rattle.wat_types.specs.Use.{UseTy, seen_use, bare_use}
+use Rattle.wat_types.specs.declared.function.FunctionType.{FunctionType}
+use Rattle.wat_types.specs.declared.type_use.TypeUse.{TypeUse}
+use Rattle.wat_links.specs.Export.{seen_inline_export}
+use Rattle.wat_links.specs.Head.{HeadTy, field_head, bare_head, head}
+use Rattle.wat_links.specs.Import.{seen_inline_import, inline_import, begins_inline_import}
+use Rattle.wat_links.specs.Item.{func_use}
+use Rattle.wat_expr.specs.Expression.{Expr, seen_expression, bare_expression}
+use Rattle.wat_expr.specs.ExpressionProduction.{expression}
+use Rattle.wat_fields.specs.Local.{LocalTy, seen_locals}
+use Rattle.wat_fields.specs.Locals.{locals}
+use Rattle.wat_fields.specs.declared.func.Func.{Func}
+use Rattle.wat_fields.specs.declared.func.FuncKind.{FuncKind}
+use Rattle.wat_fields.specs.declared.func.FuncKind.TheVariants as code
+
+-- ---- what contracts see
+
+-- imported under two names, of exactly its type or not; or with locals and a body
+pub data FuncKindTy : Type 0 where
+  imported : List ℕ × List ℕ → Bool → FuncKindTy
+  inline : List LocalTy → Expr → FuncKindTy
+
+-- a use of a function type
+abbrev pub FuncUse : Type 0
+FuncUse = UseTy FuncTy
+
+-- a type, and how a function of it is defined
+abbrev pub DefinedFunc : Type 0
+DefinedFunc = FuncUse × FuncKindTy
+
+pub record FuncFieldTy : Type 0 where
+  pub head : HeadTy
+  pub ty : FuncUse
+  pub kind : FuncKindTy
+
+abbrev pub func_of : HeadTy → DefinedFunc → FuncFieldTy
+func_of h d = record { head = h; ty = d.0; kind = d.1 }
+
+abbrev pub seen_func_use : TypeUse FunctionType → FuncUse
+seen_func_use u = seen_use seen_function u
+
+abbrev pub seen_func_kind : FuncKind → FuncKindTy
+seen_func_kind (code.Import i b) = imported (seen_inline_import i) b
+seen_func_kind (code.Inline ls e) = inline (seen_locals ls.items) (seen_expression e)
+
+abbrev pub seen_defined_func : TypeUse FunctionType × FuncKind → DefinedFunc
+seen_defined_func d = (seen_func_use d.0, seen_func_kind d.1)
+
+abbrev pub seen_func : Func → FuncFieldTy
+seen_func f =
+    func_of (field_head (seen_label f.id f.name) (seen_inline_export f.exports))
+    (seen_func_use f.ty, seen_func_kind f.kind)
+
+-- no parameter and no result in line
+abbrev pub bare_func_use : FuncUse → Bool
+bare_func_use u = bare_use bare_function u
+
+-- no local and no instruction
+abbrev pub bare_func_kind : FuncKindTy → Bool
+bare_func_kind (imported i b) = true
+bare_func_kind (inline ls e) = no_items ls && bare_expression e
+
+abbrev pub bare_defined_func : DefinedFunc → Bool
+bare_defined_func d = bare_func_use d.0 && bare_func_kind d.1
+
+abbrev pub bare_func : FuncFieldTy → Bool
+bare_func f = bare_head f.head && bare_defined_func (f.ty, f.kind)
+
+-- ---- the grammar
+
+-- where the second token is `exact`, ( exact TypeUse ); else TypeUse
+unfoldable pub exact_use : Production (FuncUse × Bool)
+exact_use =
+    where_else (second (begins_word (codes "exact")))
+    (made (λ u. (u, true)) (group (codes "exact") func_use))
+    (made (λ u. (u, false)) func_use)
+
+-- InlineImport, and a type use, exact or not
+unfoldable pub func_import : Production DefinedFunc
+func_import = made (λ v. (v.1.0, imported v.0 v.1.1)) (seq inline_import exact_use)
+
+-- TypeUse ( LocalParser )* Expression
+unfoldable pub func_inline : Production DefinedFunc
+func_inline = made (λ v. (v.0, inline v.1.0 v.1.1)) (seq func_use (seq locals expression))
+
+-- where an import in line begins, that; else a type use, locals and a body
+unfoldable pub func_defined : Production DefinedFunc
+func_defined = where_else begins_inline_import func_import func_inline
+
+-- `func` head, and then a type and how the function is defined
+unfoldable pub func : Production FuncFieldTy
+func = after_word (codes "func") (made (λ v. func_of v.0 v.1) (seq head func_defined))

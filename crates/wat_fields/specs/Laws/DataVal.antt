@@ -1,0 +1,10 @@
+-- Laws: values of data segments.
+use Rattle.std.specs.Prelude.{◌≤◌}
+use Rattle.std.proofs.Common.{arith}
+use Rattle.wat_fields.specs.DataVal.{data_val}
+
+-- ---- the grammar
+
+pub data_val_eats : 1 ≤ data_val.least
+unfolding data_val
+data_val_eats = omega arith

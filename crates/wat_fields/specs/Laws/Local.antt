@@ -1,0 +1,9 @@
+-- Laws: locals of functions.
+use Rattle.std.specs.Prelude.{◌≤◌}
+use Rattle.std.proofs.Common.{arith}
+use Rattle.wat_fields.specs.Local.{local_group}
+
+-- ---- the grammar
+
+pub local_group_eats : 1 ≤ local_group.least
+local_group_eats = omega arith

@@ -1,0 +1,12 @@
+-- Laws: what an element segment holds.
+use Rattle.std.specs.Prelude.{◌≤◌}
+use Rattle.std.proofs.Common.{lit≤}
+use Rattle.wat_expr.specs.ExpressionProduction.{expression}
+use Rattle.wat_expr.specs.FoldedProduction.{folded_instruction}
+use Rattle.wat_fields.specs.Item.{written_or_folded, item}
+
+-- ---- expressions
+
+pub item_eats : 1 ≤ item.least
+unfolding item written_or_folded expression folded_instruction
+item_eats = lit≤ tt

@@ -1,0 +1,8 @@
+-- Laws: indices that are read as expressions of one `ref.func` each.
+use Rattle.std.specs.Prelude.{◌≤◌}
+use Rattle.std.proofs.Common.{lit≤}
+use Rattle.wat_fields.specs.RefFunc.{ref_func}
+
+pub ref_func_eats : 1 ≤ ref_func.least
+unfolding ref_func
+ref_func_eats = lit≤ tt

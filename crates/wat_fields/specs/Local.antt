@@ -1,0 +1,62 @@
+-- Locals of functions.
+use Rattle.std.specs.Prelude.{Bool, List, [], ◌∷◌, codes, map}
+use Rattle.wat_tokens.specs.Token.{Tok}
+use Rattle.wat_tokens.specs.Tests.{begins_word, more, second}
+use Rattle.wat_tokens.specs.Production.{Production}
+use Rattle.wat_tokens.specs.Parts.{seq, made, where_else, after_word}
+use Rattle.wat_tokens.specs.Many.{many}
+use Rattle.wat_tokens.specs.Groups.{paren}
+use Rattle.wat_types.specs.Label.{Label, no_label, seen_label, label, begins_label}
+use Rattle.wat_types.specs.Value.{ValTy, seen_val, val_type}
+use Rattle.wat_types.specs.Laws.Value.{val_type_eats}
+use Rattle.wat_fields.specs.declared.local.Local.{Local}
+use Rattle.wat_fields.specs.declared.local.LocalParser.{LocalParser}
+
+-- ---- what contracts see
+
+-- a local: what names it, and its type
+pub record LocalTy : Type 0 where
+  pub label : Label
+  pub ty : ValTy
+
+abbrev pub local_of : Label → ValTy → LocalTy
+local_of l t = record { label = l; ty = t }
+
+abbrev pub seen_local : Local → LocalTy
+seen_local l = local_of (seen_label l.id l.name) (seen_val l.ty)
+
+abbrev pub seen_locals : List Local → List LocalTy
+seen_locals ls = map seen_local ls
+
+abbrev pub seen_local_parser : LocalParser → List LocalTy
+seen_local_parser p = seen_locals p.locals.items
+
+-- ---- the grammar
+
+-- id? name? ValType, as a list of one local
+unfoldable pub labelled_local : Production (List LocalTy)
+labelled_local = made (λ v. local_of v.0 v.1 ∷ []) (seq label val_type)
+
+-- ValType
+abbrev pub plain_local : Production LocalTy
+plain_local = made (local_of no_label) val_type
+
+-- ValType*, to the end
+unfoldable pub plain_locals : Production (List LocalTy)
+plain_locals = many more plain_local val_type_eats
+
+-- where an id or a name begins, id? name? ValType; else ValType*, to the end
+unfoldable pub listed_locals : Production (List LocalTy)
+listed_locals = where_else begins_label labelled_local plain_locals
+
+-- `local id? name? ValType`, with an id or a name; or `local ValType*`, to the end
+unfoldable pub local_parser : Production (List LocalTy)
+local_parser = after_word (codes "local") listed_locals
+
+-- ( LocalParser )
+abbrev pub local_group : Production (List LocalTy)
+local_group = paren local_parser
+
+-- one more group has to follow: the second token is `local`, whatever the first is
+abbrev pub local_follows : List Tok → Bool
+local_follows t = second (begins_word (codes "local")) t

@@ -1,0 +1,72 @@
+-- Numbers of data segments, as their bytes.
+use Rattle.std.specs.Prelude.{◌≤◌, ℕ, ℤ, Bool, ◌||◌, List, codes}
+use Rattle.std.specs.Int.{Width, w8, w16, w32, w64, cast_unsigned, to_le_bytes}
+use Rattle.std.proofs.Common.{lit≤}
+use Rattle.wat_tokens.specs.Token.{Tok}
+use Rattle.wat_tokens.specs.Tests.{begins_word, begins_group, more}
+use Rattle.wat_tokens.specs.Production.{Production}
+use Rattle.wat_tokens.specs.Parts.{made, where_else, after_word}
+use Rattle.wat_tokens.specs.Joined.{joined}
+use Rattle.wat_tokens.specs.Integers.{signed}
+use Rattle.wat_tokens.specs.Floats.{none}
+use Rattle.wat_fields.specs.VectorBytes.{vector_as_bytes}
+use Rattle.wat_fields.specs.Laws.Numbers.{vector_eats}
+
+-- ---- one number, as its bytes, the lowest first
+
+-- the bytes of an integer of the width: a negative one is by two's complement
+abbrev pub integer_bytes : Width → ℤ → List ℕ
+integer_bytes w n = to_le_bytes w (cast_unsigned w n)
+
+-- iN, as its bytes
+abbrev pub integer_as_bytes : Width → ℕ → Production (List ℕ)
+integer_as_bytes w n = made (integer_bytes w) (signed n)
+
+-- a number of floating point, as the bytes of its bits: no tokens spell one
+abbrev pub float_as_bytes : Width → Production (List ℕ)
+float_as_bytes w = made (to_le_bytes w) none
+
+-- ---- the word of a kind, and numbers of it to the end
+
+-- w g*, to the end, as all their bytes in order
+abbrev pub all_behind : List ℕ → (g : Production (List ℕ)) → 1 ≤ g.least → Production (List ℕ)
+all_behind w g eats = after_word w (joined more g eats)
+
+-- `v128` V128Const* | `f32`, and `f64`, with no number, since none has a spelling
+unfoldable pub other_numbers : Production (List ℕ)
+other_numbers =
+    where_else (begins_word (codes "f32")) (all_behind (codes "f32") (float_as_bytes w32) (lit≤ tt))
+    (where_else (begins_word (codes "f64"))
+    (all_behind (codes "f64") (float_as_bytes w64) (lit≤ tt))
+    (all_behind (codes "v128") vector_as_bytes vector_eats))
+
+-- `i32` i32* | `i64` i64* | other numbers
+unfoldable pub wide_numbers : Production (List ℕ)
+wide_numbers =
+    where_else (begins_word (codes "i32"))
+    (all_behind (codes "i32") (integer_as_bytes w32 32) (lit≤ tt))
+    (where_else (begins_word (codes "i64"))
+    (all_behind (codes "i64") (integer_as_bytes w64 64) (lit≤ tt))
+    other_numbers)
+
+-- `i8` i8* | `i16` i16* | wide numbers
+unfoldable pub number_list : Production (List ℕ)
+number_list =
+    where_else (begins_word (codes "i8"))
+    (all_behind (codes "i8") (integer_as_bytes w8 8) (lit≤ tt))
+    (where_else (begins_word (codes "i16"))
+    (all_behind (codes "i16") (integer_as_bytes w16 16) (lit≤ tt))
+    wide_numbers)
+
+-- ---- what begins a group of numbers
+
+abbrev pub begins_integers : List Tok → Bool
+begins_integers t =
+    begins_group (codes "i8") t || begins_group (codes "i16") t || begins_group (codes "i32") t
+    || begins_group (codes "i64") t
+
+-- `(`, and the word of a kind
+abbrev pub begins_numbers : List Tok → Bool
+begins_numbers t =
+    begins_integers t || begins_group (codes "f32") t || begins_group (codes "f64") t
+    || begins_group (codes "v128") t

@@ -1,0 +1,96 @@
+-- What an element segment holds.
+use Rattle.std.specs.Prelude.{Bool, true, false, if◌then◌else◌, ◌&&◌, List, [], ◌∷◌, codes, map}
+use Rattle.std.proofs.Common.{lit≤}
+use Rattle.wat_tokens.specs.Tests.{begins_word, more, begins_lparen}
+use Rattle.wat_tokens.specs.Production.{Production}
+use Rattle.wat_tokens.specs.Parts.{seq, made, where_else, after_word}
+use Rattle.wat_tokens.specs.Many.{many}
+use Rattle.wat_tokens.specs.Index.{Idx, seen_index, index}
+use Rattle.wat_tokens.specs.Parses.{no_items}
+use Rattle.wat_types.specs.Heap.{HeapTy, abstract_}
+use Rattle.wat_types.specs.Reference.{RefTy, seen_ref, ref_type, begins_ref}
+use Rattle.wat_types.specs.declared.heap.AbstractHeapType.TheVariants as heap_word
+use Rattle.wat_mnemonics.specs.declared.head.Head.TheVariants as word
+use Rattle.wat_mnemonics.specs.declared.indexed.IndexedOp.TheVariants as op
+use Rattle.wat_instr.specs.Operand as operands
+use Rattle.wat_instr.specs.Instruction.{instr_of}
+use Rattle.wat_expr.specs.Expression.{Expr, seen_expression}
+use Rattle.wat_fields.specs.declared.payload.ElemPayload.{ElemPayload}
+use Rattle.wat_fields.specs.declared.payload.ElemPayload.TheVariants as code
+use Rattle.wat_fields.specs.Item.{item}
+use Rattle.wat_fields.specs.Laws.Payload.{item_eats}
+
+-- ---- what contracts see
+
+-- indices of functions; or expressions, and the type of each
+pub data PayloadTy : Type 0 where
+  indices : List Idx → PayloadTy
+  exprs : RefTy → List Expr → PayloadTy
+
+abbrev pub seen_payload : ElemPayload → PayloadTy
+seen_payload (code.Indices v) = indices (map seen_index v.items)
+seen_payload (code.Exprs t v) = exprs (seen_ref t) (map seen_expression v.items)
+
+-- no index and no expression
+abbrev pub bare_payload : PayloadTy → Bool
+bare_payload (indices v) = no_items v
+bare_payload (exprs t v) = no_items v
+
+-- ---- expressions
+
+-- item*, to the end
+unfoldable pub item_list : Production (List Expr)
+item_list = many more item item_eats
+
+-- ---- indices
+
+-- idx*, to the end
+unfoldable pub index_list : Production (List Idx)
+index_list = many more index (lit≤ tt)
+
+-- the one instruction `ref.func` of an index
+abbrev pub ref_func_of : Idx → Expr
+ref_func_of i =
+    record { instrs = instr_of (word.Indexed op.ref_func) (operands.one_index i) ∷ []; hints = [] }
+
+abbrev pub is_func : HeapTy → Bool
+is_func (abstract_ false heap_word.Func) = true
+is_func _ = false
+
+-- the type that `funcref` is
+abbrev pub is_funcref : RefTy → Bool
+is_funcref t = t.nullable && is_func t.heap
+
+-- ---- behind a type in line
+
+-- indices as they are written, or expressions
+pub data ListedTy : Type 0 where
+  by_index : List Idx → ListedTy
+  by_item : List Expr → ListedTy
+
+-- what is listed, as a payload of the type: indices are indices where it is `funcref`, and else a
+-- `ref.func` of each
+abbrev pub of_type : RefTy → ListedTy → PayloadTy
+of_type t (by_index is) = if is_funcref t then indices is else exprs t (map ref_func_of is)
+of_type t (by_item es) = exprs t es
+
+-- items where `(` comes next, else indices
+unfoldable pub listed : Production ListedTy
+listed = where_else begins_lparen (made by_item item_list) (made by_index index_list)
+
+-- ---- in a segment
+
+-- RefType items
+unfoldable pub typed_elems : Production PayloadTy
+typed_elems = made (λ v. exprs v.0 v.1) (seq ref_type item_list)
+
+-- `func` indices, where `func` comes next; else RefType items
+unfoldable pub payload : Production PayloadTy
+payload = where_else (begins_word (codes "func"))
+    (made indices (after_word (codes "func") index_list)) typed_elems
+
+-- `func` indices, where `func` comes next; RefType items, where a type comes next; else indices
+unfoldable pub payload_or_indices : Production PayloadTy
+payload_or_indices =
+    where_else (begins_word (codes "func")) (made indices (after_word (codes "func") index_list))
+    (where_else begins_ref typed_elems (made indices index_list))

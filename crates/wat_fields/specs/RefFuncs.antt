@@ -1,0 +1,28 @@
+-- Indices that are read as expressions of one `ref.func` each. Private functions' contracts need it
+-- alone.
+use Rattle.std.specs.Prelude.{List}
+use Rattle.wat_tokens.specs.Tests.{more}
+use Rattle.wat_tokens.specs.Production.{Production}
+use Rattle.wat_tokens.specs.Parts.{made}
+use Rattle.wat_tokens.specs.Many.{many}
+use Rattle.wat_types.specs.Reference.{RefTy}
+use Rattle.wat_expr.specs.Expression.{Expr}
+use Rattle.wat_fields.specs.Payload.{PayloadTy, indices, exprs, by_index, of_type, index_list}
+use Rattle.wat_fields.specs.RefFunc.{ref_func}
+use Rattle.wat_fields.specs.Laws.RefFuncs.{ref_func_eats}
+
+-- idx*, to the end, each as `ref.func` of it
+unfoldable pub ref_funcs : Production (List Expr)
+ref_funcs = many more ref_func ref_func_eats
+
+-- indices, to the end, as a payload of the type
+unfoldable pub indices_of : RefTy → Production PayloadTy
+indices_of ty = made (of_type ty) (made by_index index_list)
+
+-- the same where it is the type that `funcref` is
+unfoldable pub plain_indices : Production PayloadTy
+plain_indices = made indices index_list
+
+-- the same of another type
+unfoldable pub ref_funcs_of : RefTy → Production PayloadTy
+ref_funcs_of ty = made (λ v. exprs ty v) ref_funcs

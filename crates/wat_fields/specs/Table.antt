@@ -1,0 +1,100 @@
+-- Tables.
+use Rattle.std.specs.Prelude.{ℕ, Bool, true, ◌&&◌, ◌||◌, List, codes, Option}
+use Rattle.wat_tokens.specs.Token.{Tok}
+use Rattle.wat_tokens.specs.Tests.{begins_word, begins_integer, more, second}
+use Rattle.wat_tokens.specs.Production.{Production}
+use Rattle.wat_tokens.specs.Parts.{seq, made, where_else, opt, flag, after_word}
+use Rattle.wat_tokens.specs.Groups.{group}
+use Rattle.wat_tokens.specs.Parses.{seen_option, bare_option}
+use Rattle.wat_types.specs.Label.{seen_label}
+use Rattle.wat_types.specs.Limits.{is_64, TableTy, seen_table_type, table_type}
+use Rattle.wat_types.specs.Reference.{RefTy, seen_ref, ref_type, begins_ref}
+use Rattle.wat_links.specs.Export.{seen_inline_export}
+use Rattle.wat_links.specs.Head.{HeadTy, field_head, bare_head, head}
+use Rattle.wat_links.specs.Import.{seen_inline_import, inline_import}
+use Rattle.wat_expr.specs.Expression.{Expr, seen_expression, bare_expression}
+use Rattle.wat_expr.specs.ExpressionProduction.{expression}
+use Rattle.wat_fields.specs.Payload.{PayloadTy, seen_payload, bare_payload, ListedTy, of_type}
+use Rattle.wat_fields.specs.Payload.{listed}
+use Rattle.wat_fields.specs.declared.table.Table.{Table}
+use Rattle.wat_fields.specs.declared.table.TableKind.{TableKind}
+use Rattle.wat_fields.specs.declared.table.TableKind.TheVariants as code
+
+-- ---- what contracts see
+
+-- imported, by the names of the import and a type; by its type, with the expression of each element
+-- or without; or in line: the type of its elements, whether its addresses have 64 bits, whether it
+-- is shared, and what it holds
+pub data TableKindTy : Type 0 where
+  imported : List ℕ × List ℕ → TableTy → TableKindTy
+  normal : TableTy → Option Expr → TableKindTy
+  inline : RefTy → Bool → Bool → PayloadTy → TableKindTy
+
+pub record TableFieldTy : Type 0 where
+  pub head : HeadTy
+  pub kind : TableKindTy
+
+abbrev pub table_of : HeadTy → TableKindTy → TableFieldTy
+table_of h k = record { head = h; kind = k }
+
+abbrev pub seen_table_kind : TableKind → TableKindTy
+seen_table_kind (code.Import i t) = imported (seen_inline_import i) (seen_table_type t)
+seen_table_kind (code.Normal t e) = normal (seen_table_type t) (seen_option seen_expression e)
+seen_table_kind (code.Inline t is64 shared p) = inline (seen_ref t) is64 shared (seen_payload p)
+
+abbrev pub seen_table : Table → TableFieldTy
+seen_table t =
+    table_of (field_head (seen_label t.id t.name) (seen_inline_export t.exports))
+    (seen_table_kind t.kind)
+
+-- no instruction, and no element in line
+abbrev pub bare_table_kind : TableKindTy → Bool
+bare_table_kind (imported i t) = true
+bare_table_kind (normal t e) = bare_option bare_expression e
+bare_table_kind (inline t is64 shared p) = bare_payload p
+
+abbrev pub bare_table : TableFieldTy → Bool
+bare_table t = bare_head t.head && bare_table_kind t.kind
+
+-- ---- the grammar
+
+-- `shared`, `i32` or `i64`
+abbrev pub begins_prefix : List Tok → Bool
+begins_prefix t =
+    begins_word (codes "shared") t || (begins_word (codes "i32") t || begins_word (codes "i64") t)
+
+-- a RefType, or one of the three words and then a RefType
+abbrev pub begins_inline_elems : List Tok → Bool
+begins_inline_elems t = begins_ref t || (begins_prefix t && second begins_ref t)
+
+-- one of the three words, or an Integer
+abbrev pub begins_normal : List Tok → Bool
+begins_normal t = begins_prefix t || begins_integer t
+
+abbrev pub inline_of : Bool × (Bool × (RefTy × ListedTy)) → TableKindTy
+inline_of v = inline v.1.1.0 v.1.0 v.0 (of_type v.1.1.0 v.1.1.1)
+
+-- `shared`? ( `i32` | `i64` )? RefType ( elem payload )
+unfoldable pub inline_table : Production TableKindTy
+inline_table =
+    made inline_of (seq (flag (codes "shared"))
+    (seq is_64 (seq ref_type (group (codes "elem") listed))))
+
+-- TableType, and then an Expression where not empty
+unfoldable pub normal_table : Production TableKindTy
+normal_table = made (λ v. normal v.0 v.1) (seq table_type (opt more expression))
+
+-- InlineImport TableType
+unfoldable pub imported_table : Production TableKindTy
+imported_table = made (λ v. imported v.0 v.1) (seq inline_import table_type)
+
+-- in line where a RefType comes next, or one of `shared`, `i32`, `i64` and then a RefType; by its
+-- type where one of these words or an Integer comes next; else imported
+unfoldable pub table_kind : Production TableKindTy
+table_kind =
+    where_else begins_inline_elems inline_table
+    (where_else begins_normal normal_table imported_table)
+
+-- `table` head, and then a kind
+unfoldable pub table : Production TableFieldTy
+table = after_word (codes "table") (made (λ v. table_of v.0 v.1) (seq head table_kind))

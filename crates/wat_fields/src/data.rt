@@ -1,0 +1,140 @@
+//! Data segments.
+
+ghost use Rattle.std.specs.Prelude.{◌≡◌, false};
+ghost use Rattle.wat_tokens.specs.Index.{seen_index};
+ghost use Rattle.wat_tokens.specs.Reads.{ReadsIf, ReadsLight};
+ghost use Rattle.wat_fields.specs.Data.{seen_data_kind, bare_data_kind, begins_passive};
+ghost use Rattle.wat_fields.specs.Data.{data_memory, data_active, data_kind, DataTy, seen_data};
+ghost use Rattle.wat_fields.specs.Data.{bare_data, data_segment};
+
+use crate::data_val::{DataVal, read_vals};
+use crate::numbers::numbers_next;
+use crate::offset::read_offset;
+use wat_expr::Expression;
+use wat_tokens::{Fault, Id, Index, NameAnnotation, Parse, Parser, Result, Span};
+
+/// A data segment of a module (WebAssembly Core Specification, Text Format, Modules, "Data
+/// Segments").
+#[derive(Debug, Drop)]
+pub struct Data<'a> {
+    /// Where the word `data` begins.
+    pub span: Span,
+    /// Its identifier.
+    pub id: Option<Id<'a>>,
+    /// The name that an annotation gives.
+    pub name: Option<NameAnnotation<'a>>,
+    /// Whether it is put into a memory at first.
+    pub kind: DataKind<'a>,
+    /// Its values: its bytes are theirs, one value behind the other.
+    pub data: Vec<DataVal<'a>>,
+}
+
+/// Whether a data segment is put into a memory at first (WebAssembly Core Specification, Text
+/// Format, Modules, "Data Segments").
+#[derive(Debug, Drop)]
+pub enum DataKind<'a> {
+    /// It isn't: instructions name it.
+    Passive,
+    /// It is.
+    Active {
+        /// The memory. Where it isn't written, it is memory 0, and stands where the word `data`
+        /// does.
+        memory: Index<'a>,
+        /// Where in the memory.
+        offset: Expression<'a>,
+    },
+}
+
+/// The memory that a segment is put into; `span` is where a memory stands that isn't written.
+#[tactic(auto, unfolding(crate::specs::Data::data_memory))]
+fn read_memory<'a>(parser: &mut Parser<'a>, span: Span) -> Result<Index<'a>>
+    ensures reads { ReadsLight seen_index result (data_memory.reads parser.old.left) parser.old
+        parser.new }
+{
+    if parser.peek::<u32>() {
+        let number = u32::parse(parser)?;
+        return Ok(Index::Num(number, span));
+    }
+    if !parser.second_is("memory") {
+        return Ok(Index::Num(0, span));
+    }
+    parser.open()?;
+    parser.keyword("memory")?;
+    let index = Index::parse(parser)?;
+    parser.close()?;
+    Ok(index)
+}
+
+/// Whether what makes a segment passive stands in front: `)`, a string, or a group of numbers.
+fn passive_next(parser: &Parser<'_>) -> bool
+    ensures { result ≡ begins_passive parser.now.left }
+{
+    let cursor = parser.cursor();
+    cursor.rparen().is_some() || cursor.string().is_some() || numbers_next(parser)
+}
+
+/// A memory and an offset.
+#[tactic(auto, unfolding(crate::specs::Data::data_active))]
+fn read_active<'a>(parser: &mut Parser<'a>, span: Span) -> Result<DataKind<'a>>
+    ensures reads { ReadsIf false false bare_data_kind seen_data_kind result
+        (data_active.reads parser.old.left) parser.old parser.new }
+{
+    let memory = read_memory(parser, span)?;
+    parser.open()?;
+    let offset = read_offset(parser)?;
+    parser.close()?;
+    Ok(DataKind::Active { memory, offset })
+}
+
+/// Passive, where that stands in front, else active.
+#[tactic(auto, unfolding(crate::specs::Data::data_kind))]
+fn read_kind<'a>(parser: &mut Parser<'a>, span: Span) -> Result<DataKind<'a>>
+    ensures reads { ReadsIf false false bare_data_kind seen_data_kind result
+        (data_kind.reads parser.old.left) parser.old parser.new }
+{
+    if passive_next(parser) {
+        return Ok(DataKind::Passive);
+    }
+    read_active(parser, span)
+}
+
+/// `data`, an identifier or none, a name or none, and values to the end. Where neither `)` nor a
+/// string nor a group of numbers stands before the values, it is active: a memory's number, or `(
+/// memory index )`, or nothing, and then `( offset` expression `)` or, as an abbreviation, `(` an
+/// instruction and items `)`, of which the instruction comes last; where there are no items, no
+/// span is kept of it.
+///
+/// Refused are an index that is out of range, with Range, at the index; what isn't the word of an
+/// instruction where an offset is abbreviated, with Operator, at it; what an expression or a value
+/// refuses, as it does; anything else with Unexpected.
+impl<'a> Parse<'a> for Data<'a> {
+    ghost Seen = { DataTy };
+
+    ghost seen = { seen_data };
+
+    ghost light = { false };
+
+    ghost bare = { bare_data };
+
+    ghost quiet = { false };
+
+    ghost stays = { false };
+
+    ghost grammar = { data_segment };
+
+    #[tactic(auto, unfolding(crate::specs::Data::data_segment, wat_types::specs::Label::label))]
+    fn parse(parser: &mut Parser<'a>) -> Result<Self> {
+        let span = parser.keyword("data")?;
+        let id = Option::<Id>::parse(parser)?;
+        let name = Option::<NameAnnotation>::parse(parser)?;
+        let kind = read_kind(parser, span)?;
+        let data = read_vals(parser)?;
+        Ok(Data {
+            span,
+            id,
+            name,
+            kind,
+            data,
+        })
+    }
+}

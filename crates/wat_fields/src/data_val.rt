@@ -1,0 +1,108 @@
+//! Values of data segments.
+
+ghost use Rattle.std.specs.Prelude.{◌≡◌, ◌+◌, ◌++◌, length, false, IfOk, IfErr, MatchResult};
+ghost use Rattle.wat_tokens.specs.Tests.{begins_lparen};
+ghost use Rattle.wat_tokens.specs.Parses.{no_items};
+ghost use Rattle.wat_tokens.specs.Reads.{Reads};
+ghost use Rattle.wat_fields.specs.DataVal.{DataValTy, bytes_in, seen_data_val, seen_data_vals};
+ghost use Rattle.wat_fields.specs.DataVal.{bare_val, data_val};
+ghost use Rattle.wat_fields.specs.DataVals.{data_vals};
+
+use crate::numbers::{append, read_numbers};
+use wat_tokens::repeat::all_to_end;
+use wat_tokens::{Fault, Parse, Parser, Result};
+
+/// A value of a data segment (WebAssembly Core Specification, Text Format, Modules, "Data
+/// Segments", with the numbers of the proposal "Numeric Values in WAT Data Segments").
+#[derive(Debug, Drop)]
+pub enum DataVal<'a> {
+    /// The bytes of a string.
+    String(&'a [u8]),
+    /// The bytes of numbers, one number behind the other, each with its lowest byte first.
+    Integral(Vec<u8>),
+}
+
+impl<'a> DataVal<'a> {
+    /// How many bytes it has.
+    pub fn len(&self) -> usize
+        ensures { result ≡ length (bytes_in (seen_data_val self.now)) }
+    {
+        match self {
+            DataVal::String(bytes) => bytes.len(),
+            DataVal::Integral(bytes) => bytes.len(),
+        }
+    }
+
+    /// Whether it has no bytes.
+    pub fn is_empty(&self) -> bool
+        ensures { result ≡ no_items (bytes_in (seen_data_val self.now)) }
+    {
+        match self {
+            DataVal::String(bytes) => bytes.is_empty(),
+            DataVal::Integral(bytes) => bytes.is_empty(),
+        }
+    }
+
+    /// Puts its bytes behind those of a list. Memory refuses it, where it has any, and then the
+    /// list is as it was.
+    pub fn push_onto(&self, dst: &mut Vec<u8>) -> Result<()>
+        ensures put { MatchResult result (λ _. dst.new.items ≡ dst.old.items ++ bytes_in
+            (seen_data_val self.now)) (λ e. (e.fault ≡ Fault.Memory)
+            × (dst.new.items ≡ dst.old.items)) }
+        // The list grows by as many bytes as `len` answers.
+        ensures grows { IfOk result (λ _. length dst.new.items ≡ length dst.old.items + length
+            (bytes_in (seen_data_val self.now))) }
+        ensures some { IfErr result (λ _. no_items (bytes_in (seen_data_val self.now)) ≡ false) }
+    {
+        match self {
+            DataVal::String(bytes) => append(dst, bytes),
+            DataVal::Integral(bytes) => append(dst, bytes),
+        }
+    }
+}
+
+/// Whether a `(` stands in front.
+fn lparen_next(parser: &Parser<'_>) -> bool
+    ensures { result ≡ begins_lparen parser.now.left }
+{
+    parser.cursor().lparen().is_some()
+}
+
+/// A string, or a group of numbers: `i8`, `i16`, `i32`, `i64`, `f32`, `f64` or `v128`, and numbers
+/// of that type. An integer is read with or without a sign, a vector as
+/// [`V128Const`](wat_immediates::V128Const) is; no floating-point number is read.
+///
+/// Refused are an integer that is out of range, with Range, and a floating-point number, with
+/// FloatLiteral, each at the number; another word behind the `(`, and anything else, with
+/// Unexpected.
+impl<'a> Parse<'a> for DataVal<'a> {
+    ghost Seen = { DataValTy };
+
+    ghost seen = { seen_data_val };
+
+    ghost light = { false };
+
+    ghost bare = { bare_val };
+
+    ghost grammar = { data_val };
+
+    #[tactic(auto, unfolding(crate::specs::DataVal::data_val))]
+    fn parse(parser: &mut Parser<'a>) -> Result<Self> {
+        if !lparen_next(parser) {
+            return Ok(DataVal::String(parser.take_string()?));
+        }
+        parser.open()?;
+        let bytes = read_numbers(parser)?;
+        parser.close()?;
+        Ok(DataVal::Integral(bytes))
+    }
+}
+
+/// Values, to the end.
+#[tactic(auto, using(crate::specs::Laws::DataVal::data_val_eats), unfolding(crate::specs::DataVals::data_vals))]
+pub(crate) fn read_vals<'a>(parser: &mut Parser<'a>) -> Result<Vec<DataVal<'a>>>
+    ensures reads { Reads no_items (λ v. seen_data_vals v.items) result
+        (data_vals.reads parser.old.left) parser.old parser.new }
+{
+    all_to_end::<DataVal>(parser)
+}

@@ -1,0 +1,210 @@
+//! Element segments.
+
+ghost use Rattle.std.specs.Prelude.{◌≡◌, ◌&&◌, true, false};
+ghost use Rattle.wat_tokens.specs.Parses.{seen_option};
+ghost use Rattle.wat_tokens.specs.Index.{seen_index};
+ghost use Rattle.wat_tokens.specs.Reads.{ReadsLight, ReadsIf};
+ghost use Rattle.wat_expr.specs.Expression.{seen_expression, bare_expression};
+ghost use Rattle.wat_fields.specs.Payload.{seen_payload};
+ghost use Rattle.wat_fields.specs.Elem.{seen_elem_kind, bare_segment, elem_offset, in_table};
+ghost use Rattle.wat_fields.specs.Elem.{table_number, in_some_table, declared_segment};
+ghost use Rattle.wat_fields.specs.Elem.{passive_segment, begins_active, active_segment, segment};
+ghost use Rattle.wat_fields.specs.Elem.{ElemTy, seen_elem, bare_elem, elem};
+
+use crate::payload::{ElemPayload, read_payload, read_payload_or_indices, read_written_or_folded};
+use wat_expr::Expression;
+use wat_tokens::{Fault, Id, Index, NameAnnotation, Parse, Parser, Result, Span};
+use wat_types::RefType;
+
+/// An element segment of a module (WebAssembly Core Specification, Text Format, Modules, "Element
+/// Segments").
+#[derive(Debug, Drop)]
+pub struct Elem<'a> {
+    /// Where the word `elem` begins.
+    pub span: Span,
+    /// Its identifier.
+    pub id: Option<Id<'a>>,
+    /// The name that an annotation gives.
+    pub name: Option<NameAnnotation<'a>>,
+    /// Where it is put.
+    pub kind: ElemKind<'a>,
+    /// What it holds.
+    pub payload: ElemPayload<'a>,
+}
+
+/// Where an element segment is put (WebAssembly Core Specification, Text Format, Modules, "Element
+/// Segments").
+#[derive(Debug, Drop)]
+pub enum ElemKind<'a> {
+    /// Nowhere by itself.
+    Passive,
+    /// Nowhere: it only declares references to functions.
+    Declared,
+    /// Into a table, at first.
+    Active {
+        /// Which table, where one is written. A number without the word `table` stands where the
+        /// word `elem` begins.
+        table: Option<Index<'a>>,
+        /// At which offset.
+        offset: Expression<'a>,
+    },
+}
+
+/// A kind, and what the segment holds.
+type Segment<'a> = (ElemKind<'a>, ElemPayload<'a>);
+
+/// `( offset Expression )` where the second token is `offset`, else a folded instruction.
+#[tactic(auto, unfolding(crate::specs::Elem::elem_offset))]
+fn read_offset<'a>(parser: &mut Parser<'a>) -> Result<Expression<'a>>
+    ensures reads { ReadsIf false false bare_expression seen_expression result
+        (elem_offset.reads parser.old.left) parser.old parser.new }
+{
+    read_written_or_folded(parser, "offset")
+}
+
+/// `( table idx )`, an offset and a payload.
+#[tactic(auto, unfolding(crate::specs::Elem::in_table))]
+fn read_in_table<'a>(parser: &mut Parser<'a>) -> Result<Segment<'a>>
+    ensures reads { ReadsIf false false bare_segment (λ s.
+        (seen_elem_kind s.0, seen_payload s.1)) result
+        (in_table.reads parser.old.left) parser.old parser.new }
+{
+    parser.open()?;
+    parser.keyword("table")?;
+    let index = Index::parse(parser)?;
+    parser.close()?;
+    let offset = read_offset(parser)?;
+    let payload = read_payload(parser)?;
+    let table = Some(index);
+    Ok((ElemKind::Active { table, offset }, payload))
+}
+
+/// The table of a number, where one stands in front; `span` is where it is said to stand.
+#[tactic(auto, unfolding(crate::specs::Elem::table_number))]
+fn read_table_number<'a>(parser: &mut Parser<'a>, span: Span) -> Result<Option<Index<'a>>>
+    ensures reads { ReadsLight (λ o. seen_option seen_index o) result
+        (table_number.reads parser.old.left) parser.old parser.new }
+{
+    if !parser.peek::<u32>() {
+        return Ok(None);
+    }
+    let number = u32::parse(parser)?;
+    Ok(Some(Index::Num(number, span)))
+}
+
+/// A table's number or nothing, an offset, and a payload, which may be indices alone.
+#[tactic(auto, unfolding(crate::specs::Elem::in_some_table))]
+fn read_in_some_table<'a>(parser: &mut Parser<'a>, span: Span) -> Result<Segment<'a>>
+    ensures reads { ReadsIf false false bare_segment (λ s.
+        (seen_elem_kind s.0, seen_payload s.1)) result
+        (in_some_table.reads parser.old.left) parser.old parser.new }
+{
+    let table = read_table_number(parser, span)?;
+    let offset = read_offset(parser)?;
+    let payload = read_payload_or_indices(parser)?;
+    Ok((ElemKind::Active { table, offset }, payload))
+}
+
+/// An active segment.
+#[tactic(auto, unfolding(crate::specs::Elem::active_segment))]
+fn read_active<'a>(parser: &mut Parser<'a>, span: Span) -> Result<Segment<'a>>
+    ensures reads { ReadsIf false false bare_segment (λ s.
+        (seen_elem_kind s.0, seen_payload s.1)) result
+        (active_segment.reads parser.old.left) parser.old parser.new }
+{
+    if parser.group_is("table") {
+        return read_in_table(parser);
+    }
+    read_in_some_table(parser, span)
+}
+
+/// `declare`, and a payload.
+#[tactic(auto, unfolding(crate::specs::Elem::declared_segment))]
+fn read_declared<'a>(parser: &mut Parser<'a>) -> Result<Segment<'a>>
+    ensures reads { ReadsIf false false bare_segment (λ s.
+        (seen_elem_kind s.0, seen_payload s.1)) result
+        (declared_segment.reads parser.old.left) parser.old parser.new }
+{
+    parser.keyword("declare")?;
+    let payload = read_payload(parser)?;
+    Ok((ElemKind::Declared, payload))
+}
+
+/// A payload alone.
+#[tactic(auto, unfolding(crate::specs::Elem::passive_segment))]
+fn read_passive<'a>(parser: &mut Parser<'a>) -> Result<Segment<'a>>
+    ensures reads { ReadsIf false false bare_segment (λ s.
+        (seen_elem_kind s.0, seen_payload s.1)) result
+        (passive_segment.reads parser.old.left) parser.old parser.new }
+{
+    let payload = read_payload(parser)?;
+    Ok((ElemKind::Passive, payload))
+}
+
+/// Whether an integer stands in front, or a `(` that begins no reference type.
+fn active_next(parser: &Parser<'_>) -> bool
+    ensures { result ≡ begins_active parser.now.left }
+{
+    if parser.peek::<u32>() {
+        return true;
+    }
+    parser.cursor().lparen().is_some() && !parser.peek::<RefType>()
+}
+
+/// A kind, and what the segment holds; `span` is where the word `elem` begins.
+#[tactic(auto, unfolding(crate::specs::Elem::segment))]
+fn read_segment<'a>(parser: &mut Parser<'a>, span: Span) -> Result<Segment<'a>>
+    ensures reads { ReadsIf false false bare_segment (λ s.
+        (seen_elem_kind s.0, seen_payload s.1)) result
+        (segment.reads parser.old.left) parser.old parser.new }
+{
+    if parser.next_is("declare") {
+        return read_declared(parser);
+    }
+    if active_next(parser) {
+        return read_active(parser, span);
+    }
+    read_passive(parser)
+}
+
+/// `elem id? name?`, a kind, and what the segment holds.
+///
+/// It is declared where `declare` stands in front; active where an integer, or a `(` that begins no
+/// reference type, does: in the table of the number, of `( table idx )`, or in one that isn't
+/// written, and at `( offset Expression )` or at a folded instruction; else it is passive. It holds
+/// `func` and indices, or a type and items, each `( item Expression )` or a folded instruction;
+/// behind an offset without `( table idx )` also indices alone.
+///
+/// Refused are, at the token in front: a number of a table that is too large or has a `-`, with
+/// Range; what is no instruction's word where one is needed, with Operator; what an expression
+/// refuses, with its fault; anything else, with Unexpected.
+impl<'a> Parse<'a> for Elem<'a> {
+    ghost Seen = { ElemTy };
+
+    ghost seen = { seen_elem };
+
+    ghost light = { false };
+
+    ghost bare = { bare_elem };
+
+    ghost quiet = { false };
+
+    ghost stays = { false };
+
+    ghost grammar = { elem };
+
+    #[tactic(auto, unfolding(crate::specs::Elem::elem, wat_types::specs::Label::label))]
+    fn parse(parser: &mut Parser<'a>) -> Result<Self> {
+        let span = parser.keyword("elem")?;
+        let id = Option::<Id>::parse(parser)?;
+        let name = Option::<NameAnnotation>::parse(parser)?;
+        let (kind, payload) = read_segment(parser, span)?;
+        Ok(Elem {
+            span,
+            id,
+            name,
+            kind,
+            payload,
+        })
+    }
+}

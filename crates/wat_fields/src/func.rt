@@ -1,0 +1,138 @@
+//! Functions.
+
+ghost use Rattle.std.specs.Prelude.{◌≡◌, false};
+ghost use Rattle.wat_tokens.specs.Reads.{Reads, ReadsIf};
+ghost use Rattle.wat_fields.specs.Func.{FuncFieldTy, seen_func_use, bare_func_use, exact_use};
+ghost use Rattle.wat_fields.specs.Func.{seen_defined_func, bare_defined_func, func_import};
+ghost use Rattle.wat_fields.specs.Func.{func_inline, func_defined, seen_func, bare_func, func};
+
+use crate::local::Local;
+use wat_expr::Expression;
+use wat_links::{Head, InlineExport, InlineImport};
+use wat_tokens::{Fault, Id, NameAnnotation, Parse, Parser, Result, Span};
+use wat_types::{FunctionType, TypeUse};
+
+/// A function of a module (WebAssembly Core Specification, Text Format, Modules, "Functions").
+#[derive(Debug, Drop)]
+pub struct Func<'a> {
+    /// Where the word `func` begins.
+    pub span: Span,
+    /// Its identifier.
+    pub id: Option<Id<'a>>,
+    /// The name that an annotation gives.
+    pub name: Option<NameAnnotation<'a>>,
+    /// The exports that are written in line.
+    pub exports: InlineExport<'a>,
+    /// How it is defined.
+    pub kind: FuncKind<'a>,
+    /// Its type.
+    pub ty: TypeUse<'a, FunctionType<'a>>,
+}
+
+/// How a function is defined.
+#[derive(Debug, Drop)]
+pub enum FuncKind<'a> {
+    /// It is imported; true where it is of the type itself, and not of one below it: `(exact ..)`.
+    Import(InlineImport<'a>, bool),
+    /// By its body.
+    Inline {
+        /// Its locals, without the parameters.
+        locals: Vec<Local<'a>>,
+        /// Its instructions.
+        expression: Expression<'a>,
+    },
+}
+
+/// What stands behind a function's head: its type, and how it is defined.
+type Defined<'a> = (TypeUse<'a, FunctionType<'a>>, FuncKind<'a>);
+
+/// Where the second token is `exact`, a type use in `( exact .. )`, else a type use; and whether it
+/// is exact.
+#[tactic(auto, unfolding(crate::specs::Func::exact_use))]
+fn read_exact_use<'a>(parser: &mut Parser<'a>) -> Result<(TypeUse<'a, FunctionType<'a>>, bool)>
+    ensures reads { Reads (λ u. bare_func_use u.0) (λ u. (seen_func_use u.0, u.1)) result
+        (exact_use.reads parser.old.left) parser.old parser.new }
+{
+    if !parser.second_is("exact") {
+        return Ok((TypeUse::parse(parser)?, false));
+    }
+    parser.open()?;
+    parser.keyword("exact")?;
+    let ty = TypeUse::parse(parser)?;
+    parser.close()?;
+    Ok((ty, true))
+}
+
+/// An import in line, and a type use, exact or not.
+#[tactic(auto, unfolding(crate::specs::Func::func_import))]
+fn read_import<'a>(parser: &mut Parser<'a>) -> Result<Defined<'a>>
+    ensures reads { Reads bare_defined_func seen_defined_func result
+        (func_import.reads parser.old.left) parser.old parser.new }
+{
+    let import = InlineImport::parse(parser)?;
+    let (ty, is_exact) = read_exact_use(parser)?;
+    Ok((ty, FuncKind::Import(import, is_exact)))
+}
+
+/// A type use, locals and a body.
+#[tactic(auto, unfolding(crate::specs::Func::func_inline))]
+fn read_inline<'a>(parser: &mut Parser<'a>) -> Result<Defined<'a>>
+    ensures reads { ReadsIf false false bare_defined_func seen_defined_func result
+        (func_inline.reads parser.old.left) parser.old parser.new }
+{
+    let ty = TypeUse::parse(parser)?;
+    let locals = Local::parse_remainder(parser)?;
+    let expression = Expression::parse(parser)?;
+    Ok((ty, FuncKind::Inline { locals, expression }))
+}
+
+/// What stands behind the head.
+#[tactic(auto, unfolding(crate::specs::Func::func_defined))]
+fn read_defined<'a>(parser: &mut Parser<'a>) -> Result<Defined<'a>>
+    ensures reads { ReadsIf false false bare_defined_func seen_defined_func result
+        (func_defined.reads parser.old.left) parser.old parser.new }
+{
+    if parser.peek::<InlineImport>() {
+        read_import(parser)
+    } else {
+        read_inline(parser)
+    }
+}
+
+/// `func`, a head, and then, where `(`, `import`, two strings and `)` come next, an import in line
+/// and a type use, that in `( exact .. )` where the second token behind the import is `exact`; else
+/// a type use, groups of locals, as long as the second token is `local`, and an [`Expression`].
+///
+/// Another token in front than the word is refused with Unexpected, at the token, and so is what
+/// stands in the place of a `(` in front of `exact` or `local`. Behind the locals the faults are
+/// those of an expression: a group that is none of the above is refused with Operator, at its word.
+impl<'a> Parse<'a> for Func<'a> {
+    ghost Seen = { FuncFieldTy };
+
+    ghost seen = { seen_func };
+
+    ghost light = { false };
+
+    ghost bare = { bare_func };
+
+    ghost quiet = { false };
+
+    ghost stays = { false };
+
+    ghost grammar = { func };
+
+    #[tactic(auto, unfolding(crate::specs::Func::func))]
+    fn parse(parser: &mut Parser<'a>) -> Result<Self> {
+        let span = parser.keyword("func")?;
+        let Head { id, name, exports } = Head::parse(parser)?;
+        let (ty, kind) = read_defined(parser)?;
+        Ok(Func {
+            span,
+            id,
+            name,
+            exports,
+            kind,
+            ty,
+        })
+    }
+}

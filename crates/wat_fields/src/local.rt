@@ -1,0 +1,148 @@
+//! Locals of functions.
+
+ghost use Rattle.std.specs.Prelude.{◌≡◌, true, false, List};
+ghost use Rattle.wat_tokens.specs.Many.{after_front};
+ghost use Rattle.wat_tokens.specs.Parses.{no_items};
+ghost use Rattle.wat_tokens.specs.Reads.{Reads};
+ghost use Rattle.wat_tokens.specs.Tests.{more};
+ghost use Rattle.wat_fields.specs.Local.{LocalTy, seen_local, seen_locals, seen_local_parser};
+ghost use Rattle.wat_fields.specs.Local.{plain_local, labelled_local, listed_locals, local_parser};
+ghost use Rattle.wat_fields.specs.Local.{local_group, local_follows};
+ghost use Rattle.wat_fields.specs.Locals.{locals};
+
+use wat_tokens::repeat::{Group, Part, all_groups, parts};
+use wat_tokens::{Fault, Id, NameAnnotation, Parse, Parser, Result};
+use wat_types::ValType;
+
+/// A local of a function (WebAssembly Core Specification, Text Format, Modules, "Functions").
+#[derive(Clone, Copy, Debug)]
+pub struct Local<'a> {
+    /// Its identifier.
+    pub id: Option<Id<'a>>,
+    /// The name that an annotation gives.
+    pub name: Option<NameAnnotation<'a>>,
+    /// Its type.
+    pub ty: ValType<'a>,
+}
+
+/// The locals of one group `( local .. )` (WebAssembly Core Specification, Text Format, Modules,
+/// "Functions", Abbreviations).
+#[derive(Debug, Drop)]
+pub struct LocalParser<'a> {
+    /// The locals, in order.
+    pub locals: Vec<Local<'a>>,
+}
+
+/// A local without a label, as long as the group goes on.
+struct PlainLocal;
+
+impl<'a> Part<'a, Local<'a>> for PlainLocal {
+    ghost Seen = { LocalTy };
+
+    ghost seen = { seen_local };
+
+    ghost bare = { λ _. true };
+
+    ghost grammar = { plain_local };
+
+    ghost follows = { more };
+
+    fn follows(parser: &Parser<'a>) -> bool {
+        !parser.is_empty()
+    }
+
+    fn take(parser: &mut Parser<'a>) -> Result<Local<'a>> {
+        let ty = ValType::parse(parser)?;
+        Ok(Local {
+            id: None,
+            name: None,
+            ty,
+        })
+    }
+}
+
+/// A local with an identifier or a name, put behind those that are there.
+#[tactic(auto, unfolding(crate::specs::Local::labelled_local, wat_types::specs::Label::label))]
+fn read_labelled<'a>(parser: &mut Parser<'a>, out: &mut Vec<Local<'a>>) -> Result<()>
+    ensures reads { Reads no_items (λ _. seen_locals out.new.items) result (after_front
+        (seen_locals out.old.items) (labelled_local.reads parser.old.left)) parser.old
+        parser.new }
+{
+    let id = Option::<Id>::parse(parser)?;
+    let name = Option::<NameAnnotation>::parse(parser)?;
+    let ty = ValType::parse(parser)?;
+    out.push(Local { id, name, ty })?;
+    Ok(())
+}
+
+/// The locals behind the word `local`, each put behind those that are there.
+#[tactic(auto, using(wat_types::specs::Laws::Value::val_type_eats), unfolding(crate::specs::Local::listed_locals, crate::specs::Local::plain_locals))]
+fn read_listed<'a>(parser: &mut Parser<'a>, out: &mut Vec<Local<'a>>) -> Result<()>
+    ensures reads { Reads no_items (λ _. seen_locals out.new.items) result (after_front
+        (seen_locals out.old.items) (listed_locals.reads parser.old.left)) parser.old parser.new }
+{
+    if parser.peek::<Id>() || parser.peek::<NameAnnotation>() {
+        return read_labelled(parser, out);
+    }
+    parts::<_, PlainLocal>(parser, out)
+}
+
+/// `local`, and then an identifier, a name or both, and a value type; or, without a label, value
+/// types to the end. Another token in front than the word is refused with Unexpected, at the token.
+impl<'a> Parse<'a> for LocalParser<'a> {
+    ghost Seen = { List LocalTy };
+
+    ghost seen = { seen_local_parser };
+
+    ghost light = { false };
+
+    ghost bare = { no_items };
+
+    ghost grammar = { local_parser };
+
+    #[tactic(auto, unfolding(crate::specs::Local::local_parser))]
+    fn parse(parser: &mut Parser<'a>) -> Result<Self> {
+        parser.keyword("local")?;
+        let mut found = Vec::new(parser.alloc());
+        read_listed(parser, &mut found)?;
+        Ok(LocalParser { locals: found })
+    }
+}
+
+/// `( LocalParser )`, as long as the second token is `local`.
+struct LocalGroup;
+
+impl<'a> Group<'a, Local<'a>> for LocalGroup {
+    ghost Seen = { LocalTy };
+
+    ghost seen = { seen_local };
+
+    ghost grammar = { local_group };
+
+    ghost follows = { local_follows };
+
+    fn follows(parser: &Parser<'a>) -> bool {
+        parser.second_is("local")
+    }
+
+    #[tactic(auto, unfolding(crate::specs::Local::local_parser))]
+    fn take(parser: &mut Parser<'a>, out: &mut Vec<Local<'a>>) -> Result<()> {
+        parser.open()?;
+        parser.keyword("local")?;
+        read_listed(parser, out)?;
+        parser.close()?;
+        Ok(())
+    }
+}
+
+impl<'a> Local<'a> {
+    /// The locals of all groups, in order: groups go on as long as the second token is `local`,
+    /// whatever the first is. Where that is no `(`, it is refused with Unexpected, at the first.
+    #[tactic(auto, using(wat_tokens::specs::Laws::Joined::joined_reads, crate::specs::Laws::Local::local_group_eats), unfolding(crate::specs::Locals::locals))]
+    pub(crate) fn parse_remainder(parser: &mut Parser<'a>) -> Result<Vec<Local<'a>>>
+        ensures reads { Reads no_items (λ ls. seen_locals ls.items) result
+            (locals.reads parser.old.left) parser.old parser.new }
+    {
+        all_groups::<_, LocalGroup>(parser)
+    }
+}

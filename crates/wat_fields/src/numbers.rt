@@ -1,0 +1,263 @@
+//! Numbers of data segments, as their bytes.
+
+ghost use Rattle.std.specs.Prelude.{◌≡◌, ◌++◌, ℕ, false, IfErr, MatchResult};
+ghost use Rattle.std.specs.Int.{w8, w16, w32, w64};
+ghost use Rattle.wat_tokens.specs.Parses.{no_items};
+ghost use Rattle.wat_tokens.specs.Reads.{Reads};
+ghost use Rattle.wat_tokens.specs.Tests.{more};
+ghost use Rattle.wat_fields.specs.Numbers.{integer_as_bytes, float_as_bytes, other_numbers};
+ghost use Rattle.wat_fields.specs.Numbers.{wide_numbers, number_list, begins_integers};
+ghost use Rattle.wat_fields.specs.Numbers.{begins_numbers};
+ghost use Rattle.wat_fields.specs.VectorBytes.{vector_as_bytes};
+
+use wat_immediates::V128Const;
+use wat_tokens::repeat::{Group, all_groups};
+use wat_tokens::{F32, F64, Fault, Parse, Parser, Result};
+
+/// Puts bytes behind the others. Memory refuses it, where there are any, and then the list is as it
+/// was.
+pub(crate) fn append(out: &mut Vec<u8>, bytes: &[u8]) -> Result<()>
+    ensures put { MatchResult result (λ _. out.new.items ≡ out.old.items ++ bytes.now) (λ e.
+        (e.fault ≡ Fault.Memory) × (out.new.items ≡ out.old.items)) }
+    ensures some { IfErr result (λ _. no_items bytes.now ≡ false) }
+{
+    out.extend_from_slice(bytes)?;
+    Ok(())
+}
+
+/// Integers of 8 bits.
+struct I8Bytes;
+
+impl<'a> Group<'a, u8> for I8Bytes {
+    ghost Seen = { ℕ };
+
+    ghost seen = { λ b. b };
+
+    ghost grammar = { integer_as_bytes w8 8 };
+
+    ghost follows = { more };
+
+    fn follows(parser: &Parser<'a>) -> bool {
+        !parser.is_empty()
+    }
+
+    #[tactic(auto, using(crate::proofs::Bytes::bytes_again, wat_tokens::specs::Laws::Filled::filled_behind))]
+    fn take(parser: &mut Parser<'a>, out: &mut Vec<u8>) -> Result<()> {
+        let number = i8::parse(parser)?;
+        append(out, &number.cast_unsigned().to_le_bytes())
+    }
+}
+
+/// Integers of 16 bits.
+struct I16Bytes;
+
+impl<'a> Group<'a, u8> for I16Bytes {
+    ghost Seen = { ℕ };
+
+    ghost seen = { λ b. b };
+
+    ghost grammar = { integer_as_bytes w16 16 };
+
+    ghost follows = { more };
+
+    fn follows(parser: &Parser<'a>) -> bool {
+        !parser.is_empty()
+    }
+
+    #[tactic(auto, using(crate::proofs::Bytes::bytes_again, wat_tokens::specs::Laws::Filled::filled_behind))]
+    fn take(parser: &mut Parser<'a>, out: &mut Vec<u8>) -> Result<()> {
+        let number = i16::parse(parser)?;
+        append(out, &number.cast_unsigned().to_le_bytes())
+    }
+}
+
+/// Integers of 32 bits.
+struct I32Bytes;
+
+impl<'a> Group<'a, u8> for I32Bytes {
+    ghost Seen = { ℕ };
+
+    ghost seen = { λ b. b };
+
+    ghost grammar = { integer_as_bytes w32 32 };
+
+    ghost follows = { more };
+
+    fn follows(parser: &Parser<'a>) -> bool {
+        !parser.is_empty()
+    }
+
+    #[tactic(auto, using(crate::proofs::Bytes::bytes_again, wat_tokens::specs::Laws::Filled::filled_behind))]
+    fn take(parser: &mut Parser<'a>, out: &mut Vec<u8>) -> Result<()> {
+        let number = i32::parse(parser)?;
+        append(out, &number.cast_unsigned().to_le_bytes())
+    }
+}
+
+/// Integers of 64 bits.
+struct I64Bytes;
+
+impl<'a> Group<'a, u8> for I64Bytes {
+    ghost Seen = { ℕ };
+
+    ghost seen = { λ b. b };
+
+    ghost grammar = { integer_as_bytes w64 64 };
+
+    ghost follows = { more };
+
+    fn follows(parser: &Parser<'a>) -> bool {
+        !parser.is_empty()
+    }
+
+    #[tactic(auto, using(crate::proofs::Bytes::bytes_again, wat_tokens::specs::Laws::Filled::filled_behind))]
+    fn take(parser: &mut Parser<'a>, out: &mut Vec<u8>) -> Result<()> {
+        let number = i64::parse(parser)?;
+        append(out, &number.cast_unsigned().to_le_bytes())
+    }
+}
+
+/// Numbers of floating point of 32 bits.
+struct F32Bytes;
+
+impl<'a> Group<'a, u8> for F32Bytes {
+    ghost Seen = { ℕ };
+
+    ghost seen = { λ b. b };
+
+    ghost grammar = { float_as_bytes w32 };
+
+    ghost follows = { more };
+
+    fn follows(parser: &Parser<'a>) -> bool {
+        !parser.is_empty()
+    }
+
+    #[tactic(auto, using(crate::proofs::Bytes::bytes_again, wat_tokens::specs::Laws::Filled::filled_behind))]
+    fn take(parser: &mut Parser<'a>, out: &mut Vec<u8>) -> Result<()> {
+        let number = F32::parse(parser)?;
+        append(out, &number.bits.to_le_bytes())
+    }
+}
+
+/// Numbers of floating point of 64 bits.
+struct F64Bytes;
+
+impl<'a> Group<'a, u8> for F64Bytes {
+    ghost Seen = { ℕ };
+
+    ghost seen = { λ b. b };
+
+    ghost grammar = { float_as_bytes w64 };
+
+    ghost follows = { more };
+
+    fn follows(parser: &Parser<'a>) -> bool {
+        !parser.is_empty()
+    }
+
+    #[tactic(auto, using(crate::proofs::Bytes::bytes_again, wat_tokens::specs::Laws::Filled::filled_behind))]
+    fn take(parser: &mut Parser<'a>, out: &mut Vec<u8>) -> Result<()> {
+        let number = F64::parse(parser)?;
+        append(out, &number.bits.to_le_bytes())
+    }
+}
+
+/// Constants of 128 bits.
+struct V128Bytes;
+
+impl<'a> Group<'a, u8> for V128Bytes {
+    ghost Seen = { ℕ };
+
+    ghost seen = { λ b. b };
+
+    ghost grammar = { vector_as_bytes };
+
+    ghost follows = { more };
+
+    fn follows(parser: &Parser<'a>) -> bool {
+        !parser.is_empty()
+    }
+
+    #[tactic(auto, using(crate::proofs::Bytes::bytes_again, wat_tokens::specs::Laws::Filled::filled_behind))]
+    fn take(parser: &mut Parser<'a>, out: &mut Vec<u8>) -> Result<()> {
+        let constant = V128Const::parse(parser)?;
+        append(out, &constant.to_le_bytes())
+    }
+}
+
+/// `f32` and `f64`, behind which no number can be read, or `v128` and constants.
+#[tactic(auto, using(wat_tokens::specs::Laws::Joined::joined_reads, crate::specs::Laws::Numbers::vector_eats, crate::proofs::Bytes::bytes_again), unfolding(crate::specs::Numbers::other_numbers))]
+fn read_other<'a>(parser: &mut Parser<'a>) -> Result<Vec<u8>>
+    ensures reads { Reads no_items (λ v. v.items) result
+        (other_numbers.reads parser.old.left) parser.old parser.new }
+{
+    if parser.next_is("f32") {
+        parser.keyword("f32")?;
+        return all_groups::<u8, F32Bytes>(parser);
+    }
+    if parser.next_is("f64") {
+        parser.keyword("f64")?;
+        return all_groups::<u8, F64Bytes>(parser);
+    }
+    parser.keyword("v128")?;
+    all_groups::<u8, V128Bytes>(parser)
+}
+
+/// `i32` or `i64` and integers of so many bits, or other numbers.
+#[tactic(auto, using(wat_tokens::specs::Laws::Joined::joined_reads, crate::proofs::Bytes::bytes_again), unfolding(crate::specs::Numbers::wide_numbers))]
+fn read_wide<'a>(parser: &mut Parser<'a>) -> Result<Vec<u8>>
+    ensures reads { Reads no_items (λ v. v.items) result
+        (wide_numbers.reads parser.old.left) parser.old parser.new }
+{
+    if parser.next_is("i32") {
+        parser.keyword("i32")?;
+        return all_groups::<u8, I32Bytes>(parser);
+    }
+    if parser.next_is("i64") {
+        parser.keyword("i64")?;
+        return all_groups::<u8, I64Bytes>(parser);
+    }
+    read_other(parser)
+}
+
+/// The word of a kind of numbers, and numbers of it to the end: all their bytes in order.
+///
+/// An integer is read with a sign: it is refused with Range, at the integer, where it is out of
+/// range. A number behind `f32` or `f64` is refused with FloatLiteral, and another word in front
+/// with Unexpected, at the word.
+#[tactic(auto, using(wat_tokens::specs::Laws::Joined::joined_reads, crate::proofs::Bytes::bytes_again), unfolding(crate::specs::Numbers::number_list))]
+pub(crate) fn read_numbers<'a>(parser: &mut Parser<'a>) -> Result<Vec<u8>>
+    ensures reads { Reads no_items (λ v. v.items) result
+        (number_list.reads parser.old.left) parser.old parser.new }
+{
+    if parser.next_is("i8") {
+        parser.keyword("i8")?;
+        return all_groups::<u8, I8Bytes>(parser);
+    }
+    if parser.next_is("i16") {
+        parser.keyword("i16")?;
+        return all_groups::<u8, I16Bytes>(parser);
+    }
+    read_wide(parser)
+}
+
+/// Whether a group of integers stands in front.
+fn integers_next(parser: &Parser<'_>) -> bool
+    ensures { result ≡ begins_integers parser.now.left }
+{
+    parser.group_is("i8")
+        || parser.group_is("i16")
+        || parser.group_is("i32")
+        || parser.group_is("i64")
+}
+
+/// Whether a group of numbers stands in front.
+pub(crate) fn numbers_next(parser: &Parser<'_>) -> bool
+    ensures { result ≡ begins_numbers parser.now.left }
+{
+    integers_next(parser)
+        || parser.group_is("f32")
+        || parser.group_is("f64")
+        || parser.group_is("v128")
+}

@@ -1,0 +1,236 @@
+//! What an element segment holds.
+
+ghost use Rattle.std.specs.Prelude.{◌≡◌, true, false, map, IfOk, IfErr};
+ghost use Rattle.wat_tokens.specs.Index.{seen_index};
+ghost use Rattle.wat_tokens.specs.Parses.{no_items};
+ghost use Rattle.wat_tokens.specs.Parts.{made};
+ghost use Rattle.wat_tokens.specs.Reads.{Reads, ReadsIf};
+ghost use Rattle.wat_tokens.specs.Tests.{more};
+ghost use Rattle.wat_types.specs.Reference.{seen_ref};
+ghost use Rattle.wat_expr.specs.Expression.{Expr, seen_expression, bare_expression};
+ghost use Rattle.wat_fields.specs.Payload.{seen_payload, bare_payload, item_list, index_list};
+ghost use Rattle.wat_fields.specs.Payload.{ref_func_of, is_funcref, of_type, listed, typed_elems};
+ghost use Rattle.wat_fields.specs.Payload.{payload, payload_or_indices};
+ghost use Rattle.wat_fields.specs.Item.{written_or_folded, item};
+ghost use Rattle.wat_fields.specs.RefFuncs.{ref_funcs_of, plain_indices, indices_of};
+ghost use Rattle.wat_fields.specs.RefFunc.{ref_func};
+
+use std::alloc::Global;
+use wat_expr::Expression;
+use wat_instr::{IndexedOp, Instruction};
+use wat_tokens::repeat::{Part, all_parts, all_to_end};
+use wat_tokens::{Fault, Index, Parse, Parser, Result};
+use wat_types::{AbstractHeapType, HeapType, RefType};
+
+/// What an element segment holds (WebAssembly Core Specification, Text Format, Modules, "Element
+/// Segments").
+#[derive(Debug, Drop)]
+pub enum ElemPayload<'a> {
+    /// Functions, by their indices.
+    Indices(Vec<Index<'a>>),
+    /// Expressions.
+    Exprs {
+        /// The type of each.
+        ty: RefType<'a>,
+        /// The expressions.
+        exprs: Vec<Expression<'a>>,
+    },
+}
+
+/// `( word Expression )` where the second token is the word, else a folded instruction.
+#[tactic(auto, unfolding(crate::specs::Item::written_or_folded))]
+pub(crate) fn read_written_or_folded<'a>(
+    parser: &mut Parser<'a>,
+    word: &str,
+) -> Result<Expression<'a>>
+    ensures reads { ReadsIf false false bare_expression seen_expression result
+        ((written_or_folded word.now).reads parser.old.left) parser.old parser.new }
+{
+    if !parser.second_is(word) {
+        return Expression::parse_folded_instruction(parser);
+    }
+    parser.open()?;
+    parser.keyword(word)?;
+    let value = Expression::parse(parser)?;
+    parser.close()?;
+    Ok(value)
+}
+
+/// `( item Expression )` where the second token is `item`, else a folded instruction.
+struct Item;
+
+impl<'a> Part<'a, Expression<'a>> for Item {
+    ghost Seen = { Expr };
+
+    ghost seen = { seen_expression };
+
+    ghost light = { false };
+
+    ghost bare = { bare_expression };
+
+    ghost quiet = { false };
+
+    ghost grammar = { item };
+
+    ghost follows = { more };
+
+    fn follows(parser: &Parser<'a>) -> bool {
+        !parser.is_empty()
+    }
+
+    #[tactic(auto, unfolding(crate::specs::Item::item))]
+    fn take(parser: &mut Parser<'a>) -> Result<Expression<'a>> {
+        read_written_or_folded(parser, "item")
+    }
+}
+
+/// Items, to the end.
+#[tactic(auto, using(crate::specs::Laws::Payload::item_eats), unfolding(crate::specs::Payload::item_list))]
+fn read_items<'a>(parser: &mut Parser<'a>) -> Result<Vec<Expression<'a>>>
+    ensures reads { ReadsIf false false no_items (λ v. map seen_expression v.items) result
+        (item_list.reads parser.old.left) parser.old parser.new }
+{
+    all_parts::<_, Item>(parser)
+}
+
+/// Indices, to the end.
+#[tactic(auto, unfolding(crate::specs::Payload::index_list))]
+fn read_indices<'a>(parser: &mut Parser<'a>) -> Result<Vec<Index<'a>>>
+    ensures reads { Reads no_items (λ v. map seen_index v.items) result
+        (index_list.reads parser.old.left) parser.old parser.new }
+{
+    all_to_end::<Index>(parser)
+}
+
+/// The one instruction `ref.func` of an index.
+fn ref_func_at<'a>(alloc: Global, index: Index<'a>) -> Result<Expression<'a>>
+    ensures value { IfOk result (λ e. seen_expression e ≡ ref_func_of (seen_index index.entry)) }
+    ensures memory { IfErr result (λ e. e.fault ≡ Fault.Memory) }
+{
+    Expression::one(alloc, Instruction::Indexed(IndexedOp::ref_func, index))
+}
+
+/// An index, as `ref.func` of it.
+struct RefFunc;
+
+impl<'a> Part<'a, Expression<'a>> for RefFunc {
+    ghost Seen = { Expr };
+
+    ghost seen = { seen_expression };
+
+    ghost light = { false };
+
+    ghost bare = { bare_expression };
+
+    ghost grammar = { ref_func };
+
+    ghost follows = { more };
+
+    fn follows(parser: &Parser<'a>) -> bool {
+        !parser.is_empty()
+    }
+
+    #[tactic(auto, unfolding(crate::specs::RefFunc::ref_func))]
+    fn take(parser: &mut Parser<'a>) -> Result<Expression<'a>> {
+        let index = Index::parse(parser)?;
+        ref_func_at(parser.alloc(), index)
+    }
+}
+
+/// Indices, to the end, each as `ref.func` of it, as a payload of the type.
+#[tactic(auto, using(crate::specs::Laws::RefFuncs::ref_func_eats), unfolding(crate::specs::RefFuncs::ref_funcs_of, crate::specs::RefFuncs::ref_funcs))]
+fn read_ref_funcs<'a>(parser: &mut Parser<'a>, ty: RefType<'a>) -> Result<ElemPayload<'a>>
+    ensures reads { Reads bare_payload seen_payload result ((ref_funcs_of
+        (seen_ref ty.entry)).reads parser.old.left) parser.old parser.new }
+{
+    let exprs = all_parts::<_, RefFunc>(parser)?;
+    Ok(ElemPayload::Exprs { ty, exprs })
+}
+
+/// Indices, to the end, as they are.
+#[tactic(auto, unfolding(crate::specs::RefFuncs::plain_indices))]
+fn read_plain_indices<'a>(parser: &mut Parser<'a>) -> Result<ElemPayload<'a>>
+    ensures reads { Reads bare_payload seen_payload result
+        (plain_indices.reads parser.old.left) parser.old parser.new }
+{
+    read_indices(parser).map(ElemPayload::Indices)
+}
+
+/// Whether it is the type that `funcref` is.
+fn is_funcref(ty: RefType<'_>) -> bool
+    ensures { result ≡ is_funcref (seen_ref ty.entry) }
+{
+    match ty.heap {
+        HeapType::Abstract {
+            shared: false,
+            ty: AbstractHeapType::Func,
+        } => ty.nullable,
+        _ => false,
+    }
+}
+
+/// Indices, to the end, as a payload of the type.
+#[tactic(auto, using(crate::proofs::RefFuncs::indices_are, crate::proofs::RefFuncs::ref_funcs_are))]
+fn read_indices_of<'a>(parser: &mut Parser<'a>, ty: RefType<'a>) -> Result<ElemPayload<'a>>
+    ensures reads { Reads bare_payload seen_payload result ((indices_of
+        (seen_ref ty.entry)).reads parser.old.left) parser.old parser.new }
+{
+    if is_funcref(ty) {
+        return read_plain_indices(parser);
+    }
+    read_ref_funcs(parser, ty)
+}
+
+/// Items where `(` stands in front, else indices; as a payload of the type. An index is there as
+/// itself where the type is `funcref`, and else as an expression of the one instruction `ref.func`.
+#[tactic(auto, unfolding(crate::specs::Payload::listed, crate::specs::RefFuncs::indices_of))]
+pub(crate) fn read_listed<'a>(parser: &mut Parser<'a>, ty: RefType<'a>) -> Result<ElemPayload<'a>>
+    ensures reads { ReadsIf false false bare_payload seen_payload result ((made (of_type
+        (seen_ref ty.entry)) listed).reads parser.old.left) parser.old parser.new }
+{
+    if parser.cursor().lparen().is_some() {
+        let exprs = read_items(parser)?;
+        return Ok(ElemPayload::Exprs { ty, exprs });
+    }
+    read_indices_of(parser, ty)
+}
+
+/// A type, and items to the end.
+#[tactic(auto, unfolding(crate::specs::Payload::typed_elems))]
+fn read_typed_items<'a>(parser: &mut Parser<'a>) -> Result<ElemPayload<'a>>
+    ensures reads { ReadsIf false false bare_payload seen_payload result
+        (typed_elems.reads parser.old.left) parser.old parser.new }
+{
+    let ty = RefType::parse(parser)?;
+    let exprs = read_items(parser)?;
+    Ok(ElemPayload::Exprs { ty, exprs })
+}
+
+/// `func` and indices, or a type and items.
+#[tactic(auto, unfolding(crate::specs::Payload::payload))]
+pub(crate) fn read_payload<'a>(parser: &mut Parser<'a>) -> Result<ElemPayload<'a>>
+    ensures reads { ReadsIf false false bare_payload seen_payload result
+        (payload.reads parser.old.left) parser.old parser.new }
+{
+    if parser.next_is("func") {
+        parser.keyword("func")?;
+        return read_indices(parser).map(ElemPayload::Indices);
+    }
+    read_typed_items(parser)
+}
+
+/// `func` and indices, a type and items, or indices alone.
+#[tactic(auto, unfolding(crate::specs::Payload::payload_or_indices))]
+pub(crate) fn read_payload_or_indices<'a>(parser: &mut Parser<'a>) -> Result<ElemPayload<'a>>
+    ensures reads { ReadsIf false false bare_payload seen_payload result
+        (payload_or_indices.reads parser.old.left) parser.old parser.new }
+{
+    if parser.next_is("func") {
+        parser.keyword("func")?;
+        return read_indices(parser).map(ElemPayload::Indices);
+    }
+    if parser.peek::<RefType>() {
+        return read_typed_items(parser);
+    }
+    read_indices(parser).map(ElemPayload::Indices)
+}

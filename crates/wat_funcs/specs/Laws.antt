@@ -1,2 +1,0 @@
--- Laws of the definitions: lemmas that definitions or other crates rest on.
-pub mod Local
