@@ -189,9 +189,12 @@ fn tags_are_lent(rt: HostRuntime) -> Result<(), Fail> {
         ("(catch_all 4)", (2, None, Some(4))),
         ("(catch_all_ref 5)", (3, None, Some(5))),
     ] {
-        let mut clause = read::<TryTableCatch>(alloc, text, &arena)?;
-        retag(&mut clause.kind);
-        assert_eq!(rt; caught(&clause), wanted, "at {text}");
+        let mut found = read::<TryTable>(alloc, text, &arena)?;
+        for clause in &mut found.catches {
+            retag(&mut clause.kind);
+        }
+        let mut all = found.catches.iter().map(caught);
+        assert_eq!(rt; (all.next(), all.next()), (Some(wanted), None), "at {text}");
     }
     Ok(())
 }

@@ -15,7 +15,7 @@ use wat_tokens::{Fault, Id, NameAnnotation, Parse, Parser, Result};
 use wat_types::ValType;
 
 /// A local of a function (WebAssembly Core Specification, Text Format, Modules, "Functions").
-#[derive(Clone, Copy, Debug)]
+#[derive(Clone, Debug, Drop)]
 pub struct Local<'a> {
     /// Its identifier.
     pub id: Option<Id<'a>>,
@@ -27,7 +27,7 @@ pub struct Local<'a> {
 
 /// The locals of one group `( local .. )` (WebAssembly Core Specification, Text Format, Modules,
 /// "Functions", Abbreviations).
-#[derive(Debug, Drop)]
+#[derive(Drop)]
 pub struct LocalParser<'a> {
     /// The locals, in order.
     pub locals: Vec<Local<'a>>,

@@ -27,7 +27,7 @@ pub struct Tag<'a> {
 }
 
 /// How a tag is defined.
-#[derive(Clone, Copy, Debug)]
+#[derive(Debug, Drop)]
 pub enum TagKind<'a> {
     /// It is imported.
     Import(InlineImport<'a>),

@@ -9,12 +9,11 @@ ghost use Rattle.wat_operands.specs.Catches.{TryTy, seen_try, try_table, SameTry
 ghost use Rattle.wat_operands.specs.CatchClause.{CatchTy, catch_kind, catch_clause};
 ghost use Rattle.wat_tokens.specs.Copies.{Copies};
 ghost use Rattle.wat_tokens.specs.Index.{seen_index};
-ghost use Rattle.wat_tokens.specs.Lookup.{in_front};
 ghost use Rattle.wat_tokens.specs.Reads.{ReadsLight};
 
 use crate::block::BlockType;
-use wat_tokens::repeat::while_begun;
-use wat_tokens::{Cursor, Fault, Index, Parse, Parser, Peek, Result};
+use wat_tokens::repeat::{Part, parts};
+use wat_tokens::{Fault, Index, Parse, Parser, Result};
 
 /// What a clause catches, with its tag as an `I` (WebAssembly Core Specification, Text Format,
 /// Instructions, "Control Instructions").
@@ -92,8 +91,10 @@ fn read_kind<'a>(parser: &mut Parser<'a>) -> Result<TryTableCatchKind<'a>>
 }
 
 /// `( catch idx idx )`, `( catch_ref idx idx )`, `( catch_all idx )` or `( catch_all_ref idx )`,
-/// with its parentheses: the tag first, the label last.
-impl<'a> Parse<'a> for TryTableCatch<'a> {
+/// as long as a group begins with one of these words: the tag first, the label last.
+struct Clause;
+
+impl<'a> Part<'a, TryTableCatch<'a>> for Clause {
     ghost Seen = { CatchTy };
 
     ghost seen = { seen_catch };
@@ -102,29 +103,20 @@ impl<'a> Parse<'a> for TryTableCatch<'a> {
 
     ghost grammar = { catch_clause };
 
+    ghost follows = { begins_catch };
+
+    fn follows(parser: &Parser<'a>) -> bool {
+        (parser.group_is("catch") || parser.group_is("catch_ref"))
+            || (parser.group_is("catch_all") || parser.group_is("catch_all_ref"))
+    }
+
     #[tactic(auto, unfolding(crate::specs::CatchClause::catch_clause))]
-    fn parse(parser: &mut Parser<'a>) -> Result<Self> {
+    fn take(parser: &mut Parser<'a>) -> Result<TryTableCatch<'a>> {
         parser.open()?;
         let kind = read_kind(parser)?;
         let label = Index::parse(parser)?;
         parser.close()?;
         Ok(TryTableCatch { kind, label })
-    }
-}
-
-/// `(` and `catch`, `catch_ref`, `catch_all` or `catch_all_ref`.
-impl<'p> Peek for TryTableCatch<'p> {
-    ghost begins = { begins_catch };
-
-    fn peek(cursor: Cursor<'_>) -> bool
-        ensures { result ≡ begins_catch (in_front cursor.entry) }
-    {
-        (cursor.group_is("catch") || cursor.group_is("catch_ref"))
-            || (cursor.group_is("catch_all") || cursor.group_is("catch_all_ref"))
-    }
-
-    fn display() -> &'static str {
-        "catch clause"
     }
 }
 
@@ -160,7 +152,7 @@ impl<'a> Parse<'a> for TryTable<'a> {
     fn parse(parser: &mut Parser<'a>) -> Result<Self> {
         let block = Box::<BlockType>::parse(parser)?;
         let mut catches = Vec::new(parser.alloc());
-        while_begun::<TryTableCatch>(parser, &mut catches)?;
+        parts::<_, Clause>(parser, &mut catches)?;
         Ok(TryTable { block, catches })
     }
 }

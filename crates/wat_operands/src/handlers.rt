@@ -7,11 +7,10 @@ ghost use Rattle.wat_operands.specs.Handlers.{seen_resume_throw_ref, bare_resume
 ghost use Rattle.wat_operands.specs.Handlers.{seen_resume_throw, bare_throw, resume_throw};
 ghost use Rattle.wat_operands.specs.Handler.{HandleTy, handler};
 ghost use Rattle.wat_tokens.specs.Copies.{Copies};
-ghost use Rattle.wat_tokens.specs.Lookup.{in_front};
 ghost use Rattle.wat_tokens.specs.Parses.{no_items};
 
-use wat_tokens::repeat::while_begun;
-use wat_tokens::{Cursor, Fault, Index, Parse, Parser, Peek, Result};
+use wat_tokens::repeat::{Part, parts};
+use wat_tokens::{Fault, Index, Parse, Parser, Result};
 
 /// What is done at a suspension, with each index as an `I` (stack switching, Text Format,
 /// "Instructions").
@@ -86,8 +85,11 @@ pub struct ResumeThrowRefOf<I> {
 /// The operand of `resume_throw_ref`.
 pub type ResumeThrowRef<'a> = ResumeThrowRefOf<Index<'a>>;
 
-/// `( on idx switch )` or `( on idx idx )`, with its parentheses: the tag first, the label last.
-impl<'a> Parse<'a> for Handle<'a> {
+/// `( on idx switch )` or `( on idx idx )`, as long as a group begins with `on`: the tag first, the
+/// label last.
+struct Handler;
+
+impl<'a> Part<'a, Handle<'a>> for Handler {
     ghost Seen = { HandleTy };
 
     ghost seen = { seen_handle };
@@ -96,8 +98,14 @@ impl<'a> Parse<'a> for Handle<'a> {
 
     ghost grammar = { handler };
 
+    ghost follows = { begins_handler };
+
+    fn follows(parser: &Parser<'a>) -> bool {
+        parser.group_is("on")
+    }
+
     #[tactic(auto, unfolding(crate::specs::Handler::handler, crate::specs::Handler::aim))]
-    fn parse(parser: &mut Parser<'a>) -> Result<Self> {
+    fn take(parser: &mut Parser<'a>) -> Result<Handle<'a>> {
         parser.open()?;
         parser.keyword("on")?;
         let tag = Index::parse(parser)?;
@@ -110,21 +118,6 @@ impl<'a> Parse<'a> for Handle<'a> {
         };
         parser.close()?;
         Ok(found)
-    }
-}
-
-/// `(` and `on`.
-impl<'p> Peek for Handle<'p> {
-    ghost begins = { begins_handler };
-
-    fn peek(cursor: Cursor<'_>) -> bool
-        ensures { result ≡ begins_handler (in_front cursor.entry) }
-    {
-        cursor.group_is("on")
-    }
-
-    fn display() -> &'static str {
-        "handler"
     }
 }
 
@@ -160,7 +153,7 @@ impl<'a> Parse<'a> for ResumeTable<'a> {
     #[tactic(auto, using(crate::specs::Laws::Handlers::handler_eats), unfolding(crate::specs::Handlers::resume_table))]
     fn parse(parser: &mut Parser<'a>) -> Result<Self> {
         let mut handlers = Vec::new(parser.alloc());
-        while_begun::<Handle>(parser, &mut handlers)?;
+        parts::<_, Handler>(parser, &mut handlers)?;
         Ok(ResumeTable { handlers })
     }
 }
