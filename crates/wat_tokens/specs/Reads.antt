@@ -26,11 +26,11 @@ pub record Call {X : Type 0} (answers silence : Type 0) (r : Result X Error) (a 
 -- exact, counts, names: as above
 pub record Parsed {X : Type 0} (answers : Type 0) (still stays_put : Bool) (r : Result X Error)
     (a b : State) : Type 0 where
-    pub exact : answers
-    pub counts : Counted r a b
-    pub quiet : IsTrue still → Quiet a b
-    pub stays : IsTrue stays_put → Stays a b
-    pub names : Kept a b
+  pub exact : answers
+  pub counts : Counted r a b
+  pub quiet : IsTrue still → Quiet a b
+  pub stays : IsTrue stays_put → Stays a b
+  pub names : Kept a b
 
 -- it answers what `read` finds in front, as view sees it, and takes no memory where that is bare;
 -- it counts tokens alone
