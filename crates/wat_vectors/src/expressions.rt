@@ -1,12 +1,11 @@
-//! Texts that are read as an expression, or refused. A row is a text, what the program shows of it,
-//! and its status.
+//! Texts that are read as an expression, or refused.
 
-use crate::shown::shows;
+use crate::shown::{Row, show_all};
 use std::test::Fail;
 use wat_show::Mode;
 
-/// Expressions.
-const EXPRESSIONS: [(&str, &str, u8); 21] = [
+const ROWS: &[Row] = &[
+    // Expressions.
     ("", "", 0),
     (
         "(i32.add (i32.const 1) (i32.const 2))",
@@ -40,10 +39,7 @@ const EXPRESSIONS: [(&str, &str, u8); 21] = [
     ("memory.size 1", "memory.size\n", 0),
     ("i32.load $m offset=0x10", "i32.load\n", 0),
     ("v128.load8_lane 0 offset=4 1", "v128.load8_lane\n", 0),
-];
-
-/// Texts that are no expressions.
-const OTHER_TEXTS: [(&str, &str, u8); 21] = [
+    // Texts that are no expressions.
     ("(if nop (then))", "refused Unexpected at 4\n", 1),
     ("(if (nop))", "refused IfWithoutThen at 9\n", 1),
     ("(if (then) (nop))", "refused Unexpected at 12\n", 1),
@@ -65,10 +61,7 @@ const OTHER_TEXTS: [(&str, &str, u8); 21] = [
     ("\"abc", "refused LexString at 0\n", 1),
     ("(;", "refused LexComment at 0\n", 1),
     ("[", "refused LexChar at 0\n", 1),
-];
-
-/// Hints, which the mode leaves out, and operands of accesses to memories.
-const ACCESSES: [(&str, &str, u8); 18] = [
+    // Hints, which the mode leaves out, and operands of accesses to memories.
     (
         "(@metadata.code.branch_hint \"\\01\") (@metadata.code.branch_hint \"\\01\") nop",
         "nop\n",
@@ -103,10 +96,7 @@ const ACCESSES: [(&str, &str, u8); 18] = [
     ("i8x16.extract_lane_s +1", "refused Unexpected at 21\n", 1),
     ("i8x16.extract_lane_s 255", "i8x16.extract_lane_s\n", 0),
     ("i8x16.extract_lane_s 256", "refused Range at 21\n", 1),
-];
-
-/// Other operands and words.
-const OPERANDS: [(&str, &str, u8); 23] = [
+    // Other operands and words.
     ("table.init 1", "table.init\n", 0),
     ("table.init 2 1", "table.init\n", 0),
     ("table.copy", "table.copy\n", 0),
@@ -142,32 +132,5 @@ const OPERANDS: [(&str, &str, u8); 23] = [
 
 #[test]
 fn expressions_are_shown(rt: HostRuntime) -> Result<(), Fail> {
-    for (text, expected, status) in EXPRESSIONS {
-        shows(&rt, rt.alloc(), Mode::Expr, text, expected, status)?;
-    }
-    Ok(())
-}
-
-#[test]
-fn other_texts_are_refused(rt: HostRuntime) -> Result<(), Fail> {
-    for (text, expected, status) in OTHER_TEXTS {
-        shows(&rt, rt.alloc(), Mode::Expr, text, expected, status)?;
-    }
-    Ok(())
-}
-
-#[test]
-fn accesses_are_shown(rt: HostRuntime) -> Result<(), Fail> {
-    for (text, expected, status) in ACCESSES {
-        shows(&rt, rt.alloc(), Mode::Expr, text, expected, status)?;
-    }
-    Ok(())
-}
-
-#[test]
-fn operands_are_shown(rt: HostRuntime) -> Result<(), Fail> {
-    for (text, expected, status) in OPERANDS {
-        shows(&rt, rt.alloc(), Mode::Expr, text, expected, status)?;
-    }
-    Ok(())
+    show_all(&rt, rt.alloc(), Mode::Expr, ROWS)
 }

@@ -1,11 +1,10 @@
 //! Texts that are read as one folded instruction, or refused.
 
-use crate::shown::shows;
+use crate::shown::{Row, show_all};
 use std::test::Fail;
 use wat_show::Mode;
 
-/// A text, what the program shows of it, and its status.
-const ROWS: [(&str, &str, u8); 9] = [
+const ROWS: &[Row] = &[
     ("(block (nop))", "nop\nblock\n", 0),
     ("(block (nop) (br 0))", "nop\nbr 0\nblock\n", 0),
     ("(nop)", "nop\n", 0),
@@ -19,8 +18,5 @@ const ROWS: [(&str, &str, u8); 9] = [
 
 #[test]
 fn folded_instructions_are_shown(rt: HostRuntime) -> Result<(), Fail> {
-    for (text, expected, status) in ROWS {
-        shows(&rt, rt.alloc(), Mode::Folded, text, expected, status)?;
-    }
-    Ok(())
+    show_all(&rt, rt.alloc(), Mode::Folded, ROWS)
 }

@@ -1,11 +1,10 @@
 //! Texts that are read as a function type, or refused.
 
-use crate::shown::{shown, shows};
+use crate::shown::{Row, show_all, shown};
 use std::test::Fail;
 use wat_show::Mode;
 
-/// A text, what the program shows of it, and its status.
-const ROWS: [(&str, &str, u8); 23] = [
+const ROWS: &[Row] = &[
     ("(result) (param i32)", "params i32\nresults\n", 0),
     (
         "(param $x funcref) (result (ref $t) (shared eqref))",
@@ -57,9 +56,7 @@ const ROWS: [(&str, &str, u8); 23] = [
 
 #[test]
 fn function_types_are_shown(rt: HostRuntime) -> Result<(), Fail> {
-    for (text, expected, status) in ROWS {
-        shows(&rt, rt.alloc(), Mode::FuncType, text, expected, status)?;
-    }
+    show_all(&rt, rt.alloc(), Mode::FuncType, ROWS)?;
     let (out, status) = shown(rt.alloc(), Mode::FuncType, &[0xff])?;
     assert_eq!(rt; out.as_slice(), b"refused Utf8 at 0\n".as_slice());
     assert_eq!(rt; status, 1);

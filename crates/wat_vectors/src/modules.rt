@@ -1,12 +1,11 @@
-//! Texts that are read as a module, or refused. A row is a text, what the program shows of it, and
-//! its status.
+//! Texts that are read as a module, or refused.
 
-use crate::shown::shows;
+use crate::shown::{Row, show_all};
 use std::test::Fail;
 use wat_show::Mode;
 
-/// Functions.
-const FUNCTIONS: [(&str, &str, u8); 20] = [
+const ROWS: &[Row] = &[
+    // Functions.
     (
         "(module (func (@metadata.code.branch_hint \"\\01\") (br_if 0 (local.get 0))))",
         "module text 1\nfunc inline 0\n  local.get 0\n  br_if 0 hint 1\n",
@@ -107,10 +106,7 @@ const FUNCTIONS: [(&str, &str, u8); 20] = [
         "refused HintTarget at 50\n",
         1,
     ),
-];
-
-/// Types, imports, exports, starts and custom sections.
-const FIELDS: [(&str, &str, u8); 19] = [
+    // Types, imports, exports, starts and custom sections.
     ("(module)", "module text 0\n", 0),
     (
         "(module (import \"m\"))",
@@ -198,10 +194,7 @@ const FIELDS: [(&str, &str, u8); 19] = [
         "module text 2\nimport single 1\nexport func\n",
         0,
     ),
-];
-
-/// Texts that are no modules.
-const OTHER_TEXTS: [(&str, &str, u8); 13] = [
+    // Texts that are no modules.
     (
         "(module (import \"m\" (func $f)))",
         "refused ImportId at 26\n",
@@ -247,10 +240,7 @@ const OTHER_TEXTS: [(&str, &str, u8); 13] = [
         1,
     ),
     ("(module (@custom \"a\" [", "refused LexChar at 21\n", 1),
-];
-
-/// Data and element segments, and what they fill.
-const SEGMENTS: [(&str, &str, u8); 21] = [
+    // Data and element segments, and what they fill.
     (
         "(module (data (i32.add (block nop))))",
         "module text 1\ndata active 0\n  block\n  nop\n  end\n  i32.add\n",
@@ -356,10 +346,7 @@ const SEGMENTS: [(&str, &str, u8); 21] = [
         "module text 1\ndata passive 16\n",
         0,
     ),
-];
-
-/// Segments that are refused.
-const OTHER_SEGMENTS: [(&str, &str, u8); 10] = [
+    // Segments that are refused.
     (
         "(module (table shared i64 funcref (elem)))",
         "refused Unexpected at 26\n",
@@ -405,41 +392,6 @@ const OTHER_SEGMENTS: [(&str, &str, u8); 10] = [
 ];
 
 #[test]
-fn functions_are_shown(rt: HostRuntime) -> Result<(), Fail> {
-    for (text, expected, status) in FUNCTIONS {
-        shows(&rt, rt.alloc(), Mode::Module, text, expected, status)?;
-    }
-    Ok(())
-}
-
-#[test]
-fn fields_are_shown(rt: HostRuntime) -> Result<(), Fail> {
-    for (text, expected, status) in FIELDS {
-        shows(&rt, rt.alloc(), Mode::Module, text, expected, status)?;
-    }
-    Ok(())
-}
-
-#[test]
-fn other_texts_are_refused(rt: HostRuntime) -> Result<(), Fail> {
-    for (text, expected, status) in OTHER_TEXTS {
-        shows(&rt, rt.alloc(), Mode::Module, text, expected, status)?;
-    }
-    Ok(())
-}
-
-#[test]
-fn segments_are_shown(rt: HostRuntime) -> Result<(), Fail> {
-    for (text, expected, status) in SEGMENTS {
-        shows(&rt, rt.alloc(), Mode::Module, text, expected, status)?;
-    }
-    Ok(())
-}
-
-#[test]
-fn other_segments_are_refused(rt: HostRuntime) -> Result<(), Fail> {
-    for (text, expected, status) in OTHER_SEGMENTS {
-        shows(&rt, rt.alloc(), Mode::Module, text, expected, status)?;
-    }
-    Ok(())
+fn modules_are_shown(rt: HostRuntime) -> Result<(), Fail> {
+    show_all(&rt, rt.alloc(), Mode::Module, ROWS)
 }
