@@ -53,6 +53,21 @@ pub fn add_unread<'a, T: Parse<'a> + Drop>(
     Ok(())
 }
 
+/// The texts in which each part stands between the first text and the last.
+fn texts_between<'a>(
+    alloc: Global,
+    arena: &'a Bump,
+    (first, last): (&str, &str),
+    parts: &[&str],
+) -> Result<Vec<&'a str>, Error> {
+    let mut texts = Vec::new(alloc);
+    for part in parts {
+        let text: &'a str = arena.try_alloc_str(&repeated(alloc, first, part, 1, last)?)?;
+        texts.push(text)?;
+    }
+    Ok(texts)
+}
+
 /// The same, where each part stands between the first text and the last.
 pub fn add_unread_between<'a, T: Parse<'a> + Drop>(
     wrong: &mut String,
@@ -61,11 +76,8 @@ pub fn add_unread_between<'a, T: Parse<'a> + Drop>(
     parts: &[&str],
     last: &str,
 ) -> Result<(), Error> {
-    for part in parts {
-        let text = repeated(*wrong.allocator(), first, part, 1, last)?;
-        add_if_unread::<T>(wrong, arena, arena.try_alloc_str(&text)?)?;
-    }
-    Ok(())
+    let texts = texts_between(*wrong.allocator(), arena, (first, last), parts)?;
+    add_unread::<T>(wrong, arena, &texts)
 }
 
 /// The texts in which a part stands 0, 1, 2 and 1,000 times between the first text and the last.
@@ -129,11 +141,8 @@ pub fn add_uncloned_between<'a, T: Parse<'a> + Debug + Drop, C: Clones<T>>(
     parts: &[&str],
     last: &str,
 ) -> Result<(), Error> {
-    for part in parts {
-        let text = repeated(*wrong.allocator(), first, part, 1, last)?;
-        add_if_uncloned::<T, C>(wrong, arena, arena.try_alloc_str(&text)?)?;
-    }
-    Ok(())
+    let texts = texts_between(*wrong.allocator(), arena, (first, last), parts)?;
+    add_uncloned::<T, C>(wrong, arena, &texts)
 }
 
 /// Adds each instruction, of a part between the first text and the last, whose clone isn't shown as
