@@ -7,5 +7,6 @@ pub mod Heights
 pub mod Instructions
 pub mod Levels
 pub mod OneReading
+pub mod Rows
 pub mod Turns
 pub mod Whole

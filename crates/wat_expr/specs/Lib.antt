@@ -15,5 +15,6 @@ pub mod Listed
 pub mod Progress
 pub mod Reading
 pub mod Rising
+pub mod Rows
 pub mod Taken
 pub mod Turned

@@ -1,4 +1,4 @@
-//! Laws of expressions.
+//! Laws of expressions, and texts that spell them.
 
 ghost use Rattle.std.specs.Prelude.{◌≡◌, ◌≤◌, ◌+◌, ◌∷◌, ◌++◌, Bool, List, [], length, true};
 ghost use Rattle.wat_expr.specs.Expression.{Expr};
@@ -9,6 +9,8 @@ ghost use Rattle.wat_expr.specs.FoldedProduction.{folded_instruction};
 ghost use Rattle.wat_expr.specs.Items.{Items, reads, lists, unfolded, hints, count_hints};
 ghost use Rattle.wat_expr.specs.ExpressionProduction.{expression};
 ghost use Rattle.wat_expr.specs.Rising.{Rises};
+ghost use Rattle.wat_expr.specs.Rows.{OperandsFirst, BothArms, HintBehindOperand, BlockInFold};
+ghost use Rattle.wat_expr.specs.Rows.{HintBehindBlock};
 ghost use Rattle.wat_instr.specs.Follows.{MayFollow, NoTypeSecond};
 ghost use Rattle.wat_instr.specs.Instruction.{Instr, instruction};
 ghost use Rattle.wat_tokens.specs.Tests.{ends};
@@ -95,4 +97,14 @@ pub fn flat_form()
     // Instructions alone are their own flat form.
     ensures already { (xs : Items) (ts r : List Tok) (l : lists xs ts r) → AreInstrs xs
         → flat_tokens xs ts r l ++ r ≡ ts }
+{}
+
+/// Texts that spell expressions and folded instructions, as facts over the definitions alone: an
+/// error that the reader and its definition share would show here.
+pub fn expression_rows()
+    ensures operands_first { OperandsFirst }
+    ensures both_arms { BothArms }
+    ensures hint_behind_operand { HintBehindOperand }
+    ensures block_in_fold { BlockInFold }
+    ensures hint_behind_block { HintBehindBlock }
 {}
