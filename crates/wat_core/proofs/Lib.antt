@@ -1,2 +1,3 @@
 pub mod Calm
 pub mod Ends
+pub mod Rows

@@ -3,3 +3,4 @@ pub mod Field
 pub mod FieldGroup
 pub mod Laws
 pub mod Module
+pub mod Rows

@@ -10,6 +10,8 @@ ghost use Rattle.wat_immediates.specs.Lanes.{lane_access};
 ghost use Rattle.wat_immediates.specs.Memory.{mem_arg, atomic_mem_arg};
 ghost use Rattle.wat_expr.specs.FoldedProduction.{folded_instruction};
 ghost use Rattle.wat_core.specs.Module.{ModuleTy, module_};
+ghost use Rattle.wat_core.specs.Rows.{Named, TwoFields, Binary, Types, Links, Functions, Stores};
+ghost use Rattle.wat_core.specs.Rows.{ZeroGlobal, Segments, Customs};
 
 pub use wat_expr::laws::{flat_again, flat_form, hints_in_order, no_more_than_tokens};
 pub use wat_mnemonics::laws::{no_prefix, one_mnemonic, words_in_order};
@@ -36,4 +38,19 @@ pub fn any_rest()
         → module_.spells m c s }
     // They spell it in front of an end alone.
     ensures ends { (m : ModuleTy) (c r : List Tok) → module_.spells m c r → ends r ≡ true }
+{}
+
+/// Texts that spell modules, as facts over the definitions alone: an error that the reader and its
+/// definition share would show here.
+pub fn module_rows()
+    ensures named { Named }
+    ensures two_fields { TwoFields }
+    ensures binary { Binary }
+    ensures types { Types }
+    ensures links { Links }
+    ensures functions { Functions }
+    ensures stores { Stores }
+    ensures globals { ZeroGlobal }
+    ensures segments { Segments }
+    ensures customs { Customs }
 {}

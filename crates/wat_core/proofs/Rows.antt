@@ -1,0 +1,119 @@
+-- Texts as tokens, and the modules that they spell: what is read of them.
+use Rattle.std.proofs.Common.{◌≡◌, List, [], ◌∷◌, ◌++◌, Some, refl}
+use Rattle.std.specs.Char.{encode_utf8}
+use Rattle.std.specs.Prelude.{codes}
+use Rattle.std.specs.Str.{chars, is_utf8}
+use Rattle.wat_tokens.specs.ManySpells.{many_at, many_reads}
+use Rattle.wat_tokens.specs.NameAnnotation.{name_annotation}
+use Rattle.wat_tokens.specs.Number.{read}
+use Rattle.wat_tokens.specs.Laws.Spelled.{spelled_whole}
+use Rattle.wat_tokens.specs.Token.{Tok, RParen, Keyword, Integer}
+use Rattle.wat_types.specs.Define.{kind, linked, described, maybe_shared, type_def, type_}
+use Rattle.wat_types.specs.Function.{function_groups}
+use Rattle.wat_types.specs.FunctionSpells.{func_groups}
+use Rattle.wat_types.specs.Label.{label}
+use Rattle.wat_types.specs.Limits.{is_64, limits_type, pagesize_or_none, memory_type, table_type}
+use Rattle.wat_types.specs.Recursion.{types, rec}
+use Rattle.wat_types.specs.Reference.{shorthand, begins_shorthand, ref_type}
+use Rattle.wat_types.specs.Storage.{global_type}
+use Rattle.wat_types.specs.Use.{type_use}
+use Rattle.wat_types.specs.Value.{val_type}
+use Rattle.wat_customs.specs.Custom.{custom}
+use Rattle.wat_customs.specs.Raw.{raw_place, raw_data, raw_custom}
+use Rattle.wat_links.specs.Export.{export_kind, export_, inline_export}
+use Rattle.wat_links.specs.Forms.{import_items, imports}
+use Rattle.wat_links.specs.Head.{head}
+use Rattle.wat_links.specs.Import.{single_item, import_choice}
+use Rattle.wat_links.specs.Item.{func_kind, item_sig}
+use Rattle.wat_mnemonics.specs.Word.{head_of}
+use Rattle.wat_mnemonics.specs.Laws.Word.{head_of_word}
+use Rattle.wat_mnemonics.specs.declared.head.Head.TheVariants as word
+use Rattle.wat_instr.specs.Instruction.{instruction}
+use Rattle.wat_instr.specs.Operand.{operand}
+use Rattle.wat_expr.specs.Alone.{alone}
+use Rattle.wat_expr.specs.Expression.{Expr}
+use Rattle.wat_expr.specs.ExpressionProduction.{expression}
+use Rattle.wat_expr.specs.Items.{Nil}
+use Rattle.wat_expr.specs.Laws.Alone.{grouped_read}
+use Rattle.wat_expr.specs.Rows.{group_text}
+use Rattle.wat_fields.specs.Data.{data_kind, data_segment}
+use Rattle.wat_fields.specs.DataVal.{data_val}
+use Rattle.wat_fields.specs.DataVals.{data_vals}
+use Rattle.wat_fields.specs.Elem.{passive_segment, segment, elem}
+use Rattle.wat_fields.specs.Func.{func_inline, func_defined, func}
+use Rattle.wat_fields.specs.Global.{global_defined, global}
+use Rattle.wat_fields.specs.Locals.{locals}
+use Rattle.wat_fields.specs.Memory.{memory_kind, memory}
+use Rattle.wat_fields.specs.Payload.{index_list, payload}
+use Rattle.wat_fields.specs.Table.{normal_table, table_kind, table}
+use Rattle.wat_fields.specs.Tag.{tag}
+use Rattle.wat_core.specs.Field.{start, last_field, further_field, defined_field, module_field}
+use Rattle.wat_core.specs.Module.{fields, pieces, module_kind, module_}
+use Rattle.wat_core.specs.Rows.{zero, Named, TwoFields, Binary, Types, Links, Functions, Stores, ZeroGlobal, Segments, Customs}
+
+-- ---- modules
+
+pub named : Named
+unfolding module_ module_kind fields label name_annotation many_at many_reads is_utf8 chars encode_utf8
+named = (spelled_whole module_ _ _ refl, spelled_whole module_ _ _ refl)
+
+pub two_fields : TwoFields
+unfolding module_ module_kind fields module_field defined_field further_field last_field start label name_annotation many_at many_reads read
+two_fields = spelled_whole module_ _ _ refl
+
+pub in_binary : Binary
+unfolding module_ module_kind pieces label name_annotation many_at many_reads
+in_binary = spelled_whole module_ _ _ refl
+
+-- ---- fields
+
+pub of_types : Types
+unfolding module_ module_kind fields module_field type_ rec types type_def maybe_shared described linked kind function_groups func_groups label name_annotation many_at many_reads
+of_types = (spelled_whole module_ _ _ refl, spelled_whole module_ _ _ refl, spelled_whole module_ _ _ refl)
+
+pub of_links : Links
+unfolding module_ module_kind fields module_field defined_field further_field last_field start imports import_items import_choice single_item item_sig func_kind export_ export_kind type_use function_groups func_groups label name_annotation many_at many_reads read is_utf8 chars encode_utf8
+of_links = (spelled_whole module_ _ _ refl, spelled_whole module_ _ _ refl, spelled_whole module_ _ _ refl)
+
+abbrev closed : List Tok
+closed = RParen ∷ []
+
+abbrev nothing : Expr
+nothing = record { instrs = []; hints = [] }
+
+nothing_read : expression.reads closed ≡ Some (nothing, closed)
+unfolding expression
+nothing_read = expression.complete nothing [] closed (Nil, refl, refl, refl)
+
+pub of_functions : Functions
+unfolding module_ module_kind fields module_field defined_field further_field func func_defined func_inline tag head inline_export locals type_use function_groups func_groups label name_annotation many_at many_reads
+of_functions = (spelled_whole module_ _ _ (rw nothing_read refl), spelled_whole module_ _ _ refl)
+
+pub of_stores : Stores
+unfolding module_ module_kind fields module_field defined_field table table_kind normal_table table_type memory memory_kind memory_type limits_type is_64 ref_type shorthand begins_shorthand pagesize_or_none head inline_export label name_annotation many_at many_reads read
+of_stores = (spelled_whole module_ _ _ refl, spelled_whole module_ _ _ refl)
+
+const_word : head_of (codes "i32.const") ≡ Some word.i32_const
+const_word = head_of_word word.i32_const (codes "i32.const") refl
+
+abbrev const_text : List Tok
+const_text = Keyword (codes "i32.const") ∷ Integer (codes "0") ∷ []
+
+zero_front : instruction.reads (const_text ++ RParen ∷ closed) ≡ Some (zero, RParen ∷ closed)
+unfolding instruction operand read
+zero_front = rw const_word refl
+
+zero_read : expression.reads (group_text (codes "i32.const") (Integer (codes "0") ∷ []) ++ closed) ≡ Some (alone zero, closed)
+zero_read = grouped_read zero const_text closed zero_front refl refl
+
+pub of_globals : ZeroGlobal
+unfolding module_ module_kind fields module_field defined_field further_field global global_defined global_type val_type head inline_export label name_annotation many_at many_reads
+of_globals = spelled_whole module_ _ _ (rw zero_read refl)
+
+pub of_segments : Segments
+unfolding module_ module_kind fields module_field defined_field further_field last_field elem segment passive_segment payload index_list data_segment data_kind data_vals data_val label name_annotation many_at many_reads read
+of_segments = (spelled_whole module_ _ _ refl, spelled_whole module_ _ _ refl)
+
+pub of_customs : Customs
+unfolding module_ module_kind fields module_field defined_field further_field last_field custom raw_custom raw_place raw_data label name_annotation many_at many_reads is_utf8 chars encode_utf8
+of_customs = spelled_whole module_ _ _ refl

@@ -1,0 +1,183 @@
+-- Texts as tokens, and the modules that they spell.
+use Rattle.std.specs.Prelude.{ℕ, pos, false, List, [], ◌∷◌, ◌++◌, codes, Some, None}
+use Rattle.wat_tokens.specs.Token.{Tok, Keyword, Id, Integer, String, Annotation}
+use Rattle.wat_tokens.specs.Index.{number}
+use Rattle.wat_tokens.specs.Spelled.{in_parens, Spelled}
+use Rattle.wat_types.specs.Define.{TypeTy}
+use Rattle.wat_types.specs.Define as define
+use Rattle.wat_types.specs.Group.{empty_function}
+use Rattle.wat_types.specs.Label.{label_of, no_label}
+use Rattle.wat_types.specs.Reference.{short}
+use Rattle.wat_types.specs.Storage.{plain_global}
+use Rattle.wat_types.specs.Use.{use_of}
+use Rattle.wat_types.specs.Value.{i32}
+use Rattle.wat_types.specs.declared.heap.AbstractHeapType.TheVariants as heap_word
+use Rattle.wat_customs.specs.Custom.{raw}
+use Rattle.wat_customs.specs.Raw.{raw_of}
+use Rattle.wat_customs.specs.declared.place.CustomPlace.TheVariants.{AfterLast}
+use Rattle.wat_links.specs.Export.{export_of}
+use Rattle.wat_links.specs.Head.{no_head}
+use Rattle.wat_links.specs.Import.{imports_of, single}
+use Rattle.wat_links.specs.Item as item
+use Rattle.wat_links.specs.declared.export.ExportKind.TheVariants as kind
+use Rattle.wat_mnemonics.specs.declared.head.Head.TheVariants as word
+use Rattle.wat_instr.specs.Instruction.{Instr, instr_of}
+use Rattle.wat_instr.specs.Operand as operands
+use Rattle.wat_expr.specs.Rows.{group_text}
+use Rattle.wat_fields.specs.Data.{data_of}
+use Rattle.wat_fields.specs.Data as segments
+use Rattle.wat_fields.specs.DataVal.{written}
+use Rattle.wat_fields.specs.Elem.{elem_of}
+use Rattle.wat_fields.specs.Elem as elements
+use Rattle.wat_fields.specs.Func.{func_of}
+use Rattle.wat_fields.specs.Func as functions
+use Rattle.wat_fields.specs.Global.{global_of}
+use Rattle.wat_fields.specs.Global as globals
+use Rattle.wat_fields.specs.Memory.{memory_of}
+use Rattle.wat_fields.specs.Memory as memories
+use Rattle.wat_fields.specs.Payload.{indices}
+use Rattle.wat_fields.specs.Table.{table_of}
+use Rattle.wat_fields.specs.Table as tables
+use Rattle.wat_fields.specs.Tag.{tag_of}
+use Rattle.wat_core.specs.Field.{ModuleFieldTy, a_type, a_rec, an_import, a_func, a_table}
+use Rattle.wat_core.specs.Field.{a_memory, a_global, an_export, a_start, an_elem, a_data, a_tag}
+use Rattle.wat_core.specs.Field.{a_custom}
+use Rattle.wat_core.specs.Module.{text, binary, module_with, module_}
+
+-- ---- modules
+
+-- `module`, and then the tokens
+abbrev pub module_and : List Tok → List Tok
+module_and ts = Keyword (codes "module") ∷ ts
+
+-- `module`, and the one group of the word and the tokens, spell a module of this field alone,
+-- which nothing names
+abbrev pub OneField : List ℕ → List Tok → ModuleFieldTy → Type 0
+OneField w ts f =
+    Spelled module_ (module_and (group_text w ts)) (module_with no_label (text (f ∷ [])))
+
+-- ---- what names a module, and how many fields it has
+
+-- `module` has no field; `module $m (@name "n")` is named
+abbrev pub Named : Type 0
+Named =
+    Spelled module_ (module_and []) (module_with no_label (text []))
+    × Spelled module_ (module_and (Id (codes "m")
+    ∷ in_parens (Annotation (codes "name") ∷ String (codes "n") ∷ [])))
+    (module_with (label_of (Some (codes "m")) (Some (codes "n"))) (text []))
+
+-- `module (start 0) (start 1)`: each field, in the order of the text
+abbrev pub TwoFields : Type 0
+TwoFields =
+    Spelled module_ (module_and (group_text (codes "start") (Integer (codes "0") ∷ [])
+    ++ group_text (codes "start") (Integer (codes "1") ∷ [])))
+    (module_with no_label (text (a_start (number 0) ∷ a_start (number 1) ∷ [])))
+
+-- `module binary "a" "b"`
+abbrev pub Binary : Type 0
+Binary =
+    Spelled module_ (module_and (Keyword (codes "binary") ∷ String (codes "a")
+    ∷ String (codes "b") ∷ []))
+    (module_with no_label (binary (codes "a" ∷ codes "b" ∷ [])))
+
+-- ---- fields
+
+-- `(func)`
+abbrev pub lone_func_text : List Tok
+lone_func_text = group_text (codes "func") []
+
+-- the type of a function without parameters and results, of which nothing more is said
+abbrev pub plain_type : TypeTy
+plain_type =
+    record {
+      label = no_label;
+      def = record {
+        kind = define.func empty_function;
+        shared = false;
+        parents = [];
+        descriptor = None;
+        describes = None;
+        final_type = None;
+      };
+    }
+
+-- `(type (func))`, `(rec (type (func)) (type (func)))` and `(rec)`
+abbrev pub Types : Type 0
+Types =
+    OneField (codes "type") lone_func_text (a_type plain_type)
+    × OneField (codes "rec")
+    (group_text (codes "type") lone_func_text ++ group_text (codes "type") lone_func_text)
+    (a_rec (plain_type ∷ plain_type ∷ [])) × OneField (codes "rec") [] (a_rec [])
+
+-- `(import "m" "n" (func))`, `(export "e" (func 0))` and `(start 0)`
+abbrev pub Links : Type 0
+Links =
+    OneField (codes "import") (String (codes "m") ∷ String (codes "n") ∷ lone_func_text)
+    (an_import (imports_of (codes "m") (single (codes "n")
+    (item.sig_of no_label (item.func (use_of None None))))))
+    × OneField (codes "export") (String (codes "e")
+    ∷ group_text (codes "func") (Integer (codes "0") ∷ []))
+    (an_export (export_of (codes "e") kind.Func (number 0)))
+    × OneField (codes "start") (Integer (codes "0") ∷ []) (a_start (number 0))
+
+-- `(func)` has no type, no local and no instruction; `(tag)` has no type
+abbrev pub Functions : Type 0
+Functions =
+    OneField (codes "func") []
+    (a_func (func_of no_head (
+      use_of None None,
+      functions.inline [] (record { instrs = []; hints = [] }),
+    )))
+    × OneField (codes "tag") [] (a_tag (tag_of no_head None (use_of None None)))
+
+-- `(table 1 funcref)` and `(memory 1)`
+abbrev pub Stores : Type 0
+Stores =
+    OneField (codes "table") (Integer (codes "1") ∷ Keyword (codes "funcref") ∷ [])
+    (a_table (table_of no_head (tables.normal (record {
+      limits = record { is64 = false; min = 1; max = None };
+      elem = short false heap_word.Func;
+      shared = false;
+    }) None)))
+    × OneField (codes "memory") (Integer (codes "1") ∷ [])
+    (a_memory (memory_of no_head (memories.normal (record {
+      limits = record { is64 = false; min = 1; max = None };
+      shared = false;
+      page_size_log2 = None;
+    }))))
+
+-- `i32.const 0`
+abbrev pub zero : Instr
+zero = instr_of word.i32_const (operands.integer (pos 0))
+
+-- `i32 (i32.const 0)`
+abbrev pub value_text : List Tok
+value_text =
+    Keyword (codes "i32") ∷ group_text (codes "i32.const") (Integer (codes "0") ∷ [])
+
+abbrev pub zero_global : ModuleFieldTy
+zero_global =
+    a_global (global_of no_head (
+      plain_global i32,
+      globals.inline (record { instrs = zero ∷ []; hints = [] }),
+    ))
+
+-- `(global i32 (i32.const 0))`
+abbrev pub ZeroGlobal : Type 0
+ZeroGlobal = OneField (codes "global") value_text zero_global
+
+-- `(elem func 0)` and `(data "a")` are put nowhere
+abbrev pub Segments : Type 0
+Segments =
+    OneField (codes "elem") (Keyword (codes "func") ∷ Integer (codes "0") ∷ [])
+    (an_elem (elem_of no_label (elements.passive, indices (number 0 ∷ []))))
+    × OneField (codes "data") (String (codes "a") ∷ [])
+    (a_data (data_of no_label segments.passive (written (codes "a") ∷ [])))
+
+-- `(@custom "c" "a")` stands behind the last section
+abbrev pub Customs : Type 0
+Customs =
+    Spelled module_ (module_and (in_parens (Annotation (codes "custom") ∷ String (codes "c")
+    ∷ String (codes "a") ∷ [])))
+    (module_with no_label (text (a_custom (raw (raw_of (codes "c") AfterLast (codes "a" ∷ [])))
+    ∷ [])))
