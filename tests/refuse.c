@@ -1,7 +1,8 @@
 /* A library that tests/refused_calls puts in front of the C library, so that one call of a program is refused, or each from that
    one on: of those that ask for memory (REFUSE_MEMORY is the number of the call, the first being 1), or of those that read standard
-   input or write standard output (REFUSE_IO). Where REFUSE_LASTS is set, each call behind that one is refused too. A byte is written
-   to the file of the number REFUSE_TELLS where a call was refused. No headers are needed to compile it. */
+   input or write standard output (REFUSE_IO). Where REFUSE_LASTS is set, each call behind that one is refused too. To the file of the
+   number REFUSE_TELLS it writes '!' where a call was refused, 's' behind it where that call asked for no more bytes than its block has,
+   and '<' where the next call for memory asks for less than the refused one. No headers are needed to compile it. */
 
 typedef unsigned long size;
 
@@ -9,6 +10,7 @@ enum { INPUT_OUTPUT_ERROR = 5, NO_MEMORY = 12 };
 
 extern void *__libc_malloc(size bytes);
 extern void *__libc_realloc(void *old, size bytes);
+extern size malloc_usable_size(void *block);
 extern long __read(int file, void *to, size bytes);
 extern long __write(int file, const void *from, size bytes);
 extern char *getenv(const char *name);
@@ -23,25 +25,44 @@ static long number_of(const char *name) {
     return number;
 }
 
+static void tell(const char *what) {
+    __write((int)number_of("REFUSE_TELLS"), what, 1);
+}
+
 /* Counts a call, and answers whether it is refused. */
 static int is_refused(const char *name, long *calls, int error) {
     long refused = number_of(name);
     *calls += 1;
     if (!refused || *calls < refused || (*calls > refused && !number_of("REFUSE_LASTS")))
         return 0;
-    __write((int)number_of("REFUSE_TELLS"), "!", 1);
+    tell("!");
     *__errno_location() = error;
     return 1;
 }
 
 static long memory_calls, io_calls;
+/* What the call for memory asked for that was refused, until the next one; else 0. */
+static size refused_bytes;
+
+/* Whether a call is refused that asks for so many bytes, in place of the block old, where there is one. */
+static int is_memory_refused(void *old, size bytes) {
+    if (bytes < refused_bytes)
+        tell("<");
+    refused_bytes = 0;
+    if (!is_refused("REFUSE_MEMORY", &memory_calls, NO_MEMORY))
+        return 0;
+    refused_bytes = bytes;
+    if (old && bytes <= malloc_usable_size(old))
+        tell("s");
+    return 1;
+}
 
 void *malloc(size bytes) {
-    return is_refused("REFUSE_MEMORY", &memory_calls, NO_MEMORY) ? 0 : __libc_malloc(bytes);
+    return is_memory_refused(0, bytes) ? 0 : __libc_malloc(bytes);
 }
 
 void *realloc(void *old, size bytes) {
-    return is_refused("REFUSE_MEMORY", &memory_calls, NO_MEMORY) ? 0 : __libc_realloc(old, bytes);
+    return is_memory_refused(old, bytes) ? 0 : __libc_realloc(old, bytes);
 }
 
 long read(int file, void *to, size bytes) {
