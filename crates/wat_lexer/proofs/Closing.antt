@@ -2,14 +2,15 @@
 use Rattle.std.specs.Cmp.{first_so}
 use Rattle.std.proofs.Common.{◌≡◌, ℕ, zero, suc, ◌+◌, ◌-◌, ◌<◌, ◌≤◌, List, [], ◌∷◌, ◌++◌, length, drop, get_or, refl, ap, sym, ◌∙◌, arith, add-one, append-nil, length-drop}
 use Rattle.std.specs.Prelude.{Bool, true, false, if◌then◌else◌, Option, Some, None, slice_get, IsSome, MatchOption, ◌↔◌, option_to_list, reverse, ◌&&◌, not}
-use Rattle.std.proofs.lemmas.List.{reverse-append, drop-map, length-map, drop_more, drop-set, drop-set-add}
+use Rattle.std.proofs.lemmas.List.{reverse-append, drop-map, length-map, drop_more, drop-set-add}
 use Rattle.std.proofs.lemmas.Option.{slice_get-get_or, slice_get-map}
 use Rattle.std.proofs.Math.ListN.{set, drop_of_length-le}
 use Rattle.std.proofs.Math.Seq.{map-set_same}
-use Rattle.wat_lexer.specs.Token.{Entry, Tok, LParen, RParen, Keyword, Id, Annotation, Integer, String, Reserved, Placed, tokens_of, is_open, is_close}
+use Rattle.wat_lexer.specs.Token.{Entry, Tok, LParen, RParen, Keyword, Id, Annotation, Integer, String, Reserved, Placed, tokens_of, is_open, is_close, is_annotation}
+use Rattle.wat_lexer.specs.declared.lexeme.Leaps.{Leaps}
 use Rattle.wat_lexer.specs.Sight.{hides, annotated, is_standard, annotation_name, shuts, deeper, behind_group, hidden_at, hidden}
 use Rattle.wat_lexer.specs.Cut.{Unclosed, Closed, FirstUnclosed}
-use Rattle.wat_lexer.specs.View.{entry_tok, toks, placed_of, placed, leap, leaping, no_entry, AreLeaps}
+use Rattle.wat_lexer.specs.View.{entry_tok, toks, placed_of, placed, leap, skip, leaping, no_entry, AreLeaps}
 use Rattle.wat_lexer.specs.Laws.Kinds.{open_is, close_is, tokens_of-placed}
 use Rattle.wat_lexer.proofs.Leaps.{leaps_later}
 
@@ -65,37 +66,45 @@ second LParen (Annotation n) r h = refl
 second LParen _ r h = cc
 second _ b r h = cc
 
--- what was told at a group's first two tokens is right
-told : (x y : Entry) (ls : List Entry) → AreLeaps ls → hides false (toks (x ∷ y ∷ ls)) ≡ true → x.skip ≡ hidden false (toks (x ∷ y ∷ ls)) → (hides true (toks (x ∷ y ∷ ls)) ≡ true → y.skip ≡ hidden true (toks (x ∷ y ∷ ls))) → AreLeaps (x ∷ y ∷ ls)
-told x y ls behind begins all unknown = leaps_cons x (y ∷ ls) (leaps_past y ls behind (second (entry_tok x) (entry_tok y) (toks ls) begins)) (elim [ true ↦ unknown | false ↦ λ _. all ])
+-- what was told at a group's annotation is right
+told : (x y : Entry) (ls : List Entry) → AreLeaps ls → hides false (toks (x ∷ y ∷ ls)) ≡ true → ((known : Bool) → hides known (toks (x ∷ y ∷ ls)) ≡ true → skip known y.leaps ≡ hidden known (toks (x ∷ y ∷ ls))) → AreLeaps (x ∷ y ∷ ls)
+told x y ls behind begins right = leaps_cons x (y ∷ ls) (leaps_past y ls behind (second (entry_tok x) (entry_tok y) (toks ls) begins)) right
 
--- the list with another leap at a place
-abbrev marked : List Entry → ℕ → ℕ → List Entry
-marked ls i leap = set ls i (leaping ls i leap)
+-- the list with other leaps at a place
+abbrev pub marked : List Entry → ℕ → Leaps → List Entry
+marked ls i leaps = set ls i (leaping ls i leaps)
 
-marked_same : (ls : List Entry) (i leap : ℕ) → placed (marked ls i leap) ≡ placed ls
-marked_same ls i leap = map-set_same placed_of ls i (leaping ls i leap) no_entry refl
+pub marked_same : (ls : List Entry) (i : ℕ) (leaps : Leaps) → placed (marked ls i leaps) ≡ placed ls
+marked_same ls i leaps = map-set_same placed_of ls i (leaping ls i leaps) no_entry refl
 
--- the list with leaps at two neighbouring places
-abbrev pub twice_marked : List Entry → ℕ → ℕ → ℕ → List Entry
-twice_marked ls at all unknown = marked (marked ls at all) (at + 1) unknown
+-- the second token of an annotation's group is the annotation
+annotates : (a b : Tok) (r : List Tok) → hides false (a ∷ b ∷ r) ≡ true → is_annotation b ≡ true
+annotates LParen (Annotation n) r h = refl
+annotates LParen _ r h = cc
+annotates _ b r h = cc
 
-pub twice_same : (ls : List Entry) (at all unknown : ℕ) → placed (twice_marked ls at all unknown) ≡ placed ls
-twice_same ls at all unknown = marked_same (marked ls at all) (at + 1) unknown ∙ marked_same ls at all
-
-pub twice_leaps : (ls : List Entry) (at all unknown : ℕ) → hides false (toks (drop at ls)) ≡ true → AreLeaps (drop (at + 1) ls) → all ≡ hidden false (toks (drop at ls)) → (hides true (toks (drop at ls)) ≡ true → unknown ≡ hidden true (toks (drop at ls)))
-    → AreLeaps (drop at (twice_marked ls at all unknown))
-twice_leaps ls at all unknown begins behind e f =
+pub second_within : (ls : List Entry) (at : ℕ) → hides false (toks (drop at ls)) ≡ true → at + 1 < length ls
+second_within ls at begins =
     let (n, r, is) = hides_is (toks (drop at ls)) begins in
-    let lt : at + 1 < length ls = omega (arith, ap length is, length-map (drop at ls) entry_tok, length-drop at ls) in
-    let x = leaping ls at all in
-    let y = leaping (marked ls at all) (at + 1) unknown in
+    omega (arith, ap length is, length-map (drop at ls) entry_tok, length-drop at ls)
+
+pub second_annotates : (ls : List Entry) (at : ℕ) → hides false (toks (drop at ls)) ≡ true → is_annotation ((get_or ls (at + 1) no_entry).token) ≡ true
+second_annotates ls at begins =
+    let lt = second_within ls at begins in
+    annotates (entry_tok (get_or ls at no_entry)) (entry_tok (get_or ls (at + 1) no_entry)) (toks (drop (at + 1 + 1) ls)) (rw (drop_more ls at no_entry (omega arith), drop_more ls (at + 1) no_entry lt) at begins)
+
+pub marked_leaps : (ls : List Entry) (at : ℕ) (leaps : Leaps) → hides false (toks (drop at ls)) ≡ true → AreLeaps (drop (at + 1) ls) → ((known : Bool) → hides known (toks (drop at ls)) ≡ true → skip known leaps ≡ hidden known (toks (drop at ls)))
+    → AreLeaps (drop at (marked ls (at + 1) leaps))
+marked_leaps ls at leaps begins behind right =
+    let lt = second_within ls at begins in
+    let x = get_or ls at no_entry in
+    let y = leaping ls (at + 1) leaps in
     let next : at + 1 + 1 ≡ at + 2 = omega arith in
-    let new : drop at (twice_marked ls at all unknown) ≡ x ∷ y ∷ drop (at + 2) ls =
-    rw (drop-set-add at (marked ls at all) 1 y, drop-set ls at x (omega arith), drop_more ls (at + 1) no_entry lt, next) in
+    let new : drop at (marked ls (at + 1) leaps) ≡ x ∷ y ∷ drop (at + 2) ls =
+    rw (drop-set-add at ls 1 y, drop_more ls at no_entry (omega arith), drop_more ls (at + 1) no_entry lt, next) in
     let same : toks (x ∷ y ∷ drop (at + 2) ls) ≡ toks (drop at ls) =
-    ap toks (sym new) ∙ toks_at (twice_marked ls at all unknown) ls at (twice_same ls at all unknown) ∙ sym (toks_at ls ls at refl) in
-    rw new (told x y (drop (at + 2) ls) (leaps_later ls (at + 1) (at + 2) (omega arith) behind) (ap (hides false) same ∙ begins) (e ∙ ap (hidden false) (sym same)) (λ h. f (ap (hides true) (sym same) ∙ h) ∙ ap (hidden true) (sym same)))
+    ap toks (sym new) ∙ toks_at (marked ls (at + 1) leaps) ls at (marked_same ls (at + 1) leaps) ∙ sym (toks_at ls ls at refl) in
+    rw new (told x y (drop (at + 2) ls) (leaps_later ls (at + 1) (at + 2) (omega arith) behind) (ap (hides false) same ∙ begins) (λ known h. right known (ap (hides known) (sym same) ∙ h) ∙ ap (hidden known) (sym same)))
 
 -- THE PASS FROM THE RIGHT
 

@@ -9,6 +9,7 @@ pub mod Outcomes
 pub mod Pieces
 pub mod Places
 pub mod Plain
+pub mod Rows
 pub mod Steps
 pub mod Strings
 pub mod Values

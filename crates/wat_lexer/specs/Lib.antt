@@ -5,6 +5,7 @@ pub mod Integer
 pub mod Laws
 pub mod Number
 pub mod Place
+pub mod Rows
 pub mod Scan
 pub mod Sight
 pub mod Token

@@ -1,5 +1,6 @@
 -- Tokens as contracts see them.
 use Rattle.std.specs.Prelude.{ℕ, Bool, true, false, List, [], ◌∷◌, ◌||◌, map}
+use Rattle.wat_lexer.specs.declared.lexeme.Leaps.{Leaps}
 
 -- A token, without its place. Names are those of the ids and annotations, an integer is its text, a
 -- string its content.
@@ -18,13 +19,12 @@ pub record Placed : Type 0 where
   pub token : Tok
   pub offset : ℕ
 
--- A token, how many bytes of the text stand before it, and how far lookups go from there: at the
--- `(` of an annotation's group, how many tokens from it on are left out where no annotation is
--- known; at the annotation behind it, how many from that `(` on where the five standard names are.
+-- A token, how many bytes of the text stand before it, and, of the annotation of a group, how far
+-- lookups go from the `(` in front of it.
 pub record Entry : Type 0 where
   pub token : Tok
   pub offset : ℕ
-  pub skip : ℕ
+  pub leaps : Leaps
 
 abbrev pub tokens_of : List Placed → List Tok
 tokens_of ps = map (λ p. p.token) ps

@@ -1,5 +1,5 @@
 -- What contracts see of the code's tokens.
-use Rattle.std.specs.Prelude.{◌≡◌, ◌≢◌, ℕ, ◌≤◌, ◌<◌, ◌+◌, ◌-◌, List, [], ◌∷◌, ◌++◌, length, drop}
+use Rattle.std.specs.Prelude.{◌≡◌, ◌≢◌, ℕ, ◌≤◌, ◌<◌, ◌+◌, ◌-◌, ◌*◌, List, [], ◌∷◌, ◌++◌, length, drop}
 use Rattle.std.specs.Prelude.{map, Bool, true, false, ◌||◌, Result, Ok, Err, MatchOption}
 use Rattle.std.specs.Prelude.{slice_range}
 use Rattle.std.specs.List.{AllByRecursion}
@@ -16,6 +16,7 @@ use Rattle.wat_lexer.specs.declared.token.Token.TheVariants as of
 use Rattle.wat_lexer.specs.declared.lexeme.Kind.{Kind}
 use Rattle.wat_lexer.specs.declared.lexeme.Kind.TheVariants as kinds
 use Rattle.wat_lexer.specs.declared.lexeme.Aside.{Aside}
+use Rattle.wat_lexer.specs.declared.lexeme.Leaps.{Leaps}
 use Rattle.wat_lexer.specs.declared.lexeme.Lexeme.{Lexeme}
 use Rattle.wat_lexer.specs.declared.cut.Piece.{Piece}
 use Rattle.wat_lexer.specs.declared.fault.Error.{Error}
@@ -64,9 +65,13 @@ Readable kinds.Aside text from end aside other = aside × (is_annotation other �
 abbrev pub is_paren : Tok → Bool
 is_paren t = is_open t || is_close t
 
+-- no token is left out
+abbrev pub no_leaps : Leaps
+no_leaps = record { all = 0; unknown = 0 }
+
 -- what lies aside where nothing does
 abbrev pub no_aside : Aside
-no_aside = record { token = of.LParen; offset = 0 }
+no_aside = record { token = of.LParen; offset = 0; leaps = no_leaps }
 
 -- the token that lies aside at the place
 abbrev pub lies : List Aside → ℕ → Tok
@@ -75,6 +80,10 @@ lies aside i = view (get_or aside i no_aside).token
 -- the place in the text of the token that lies aside at the place
 abbrev pub lies_from : List Aside → ℕ → ℕ
 lies_from aside i = (get_or aside i no_aside).offset
+
+-- how far lookups go from the `(` in front of it
+abbrev pub lying_leaps : List Aside → ℕ → Leaps
+lying_leaps aside i = (get_or aside i no_aside).leaps
 
 -- the tokens that lie aside
 abbrev pub lying : List Aside → List Tok
@@ -93,7 +102,8 @@ found_tok text aside at end kind = tok_at kind text at end (last_aside aside)
 abbrev pub FoundFits : List ℕ → List Aside → ℕ → ℕ → Kind → Type 0
 FoundFits text aside at end kind =
     Readable kind text at end ((0 < length aside) × (is_paren (last_aside aside) ≡ false)
-    × (lies_from aside (length aside - 1) ≡ at)) (last_aside aside)
+    × (lies_from aside (length aside - 1) ≡ at)
+    × (lying_leaps aside (length aside - 1) ≡ no_leaps)) (last_aside aside)
 
 -- of a kind that lies aside one token was put behind those that lay there, of any other none
 abbrev pub PutAside : Kind → List Aside → List Aside → Type 0
@@ -106,24 +116,53 @@ abbrev pub is_annotation_kind : Kind → Bool
 is_annotation_kind kinds.Annotation = true
 is_annotation_kind _ = false
 
+-- tokens of the kind are read out of the text, and no parens
+abbrev pub is_word : Kind → Bool
+is_word kinds.LParen = false
+is_word kinds.RParen = false
+is_word kinds.Annotation = false
+is_word kinds.Aside = false
+is_word _ = true
+
+-- what is kept of a token has room for a word between two places: 48 bits for the first and 32 for
+-- how many bytes it has
+abbrev pub HasRoom : ℕ → ℕ → Type 0
+HasRoom at end = (at < 281474976710656) × (end < at + 4294967296)
+
+-- a number by its lower 32 bits and those above
+abbrev pub wide : ℕ → ℕ → ℕ
+wide low above = low + 4294967296 * above
+
+-- the part of a token's number above 32 bits: that of a word stands in a field of its own, that of
+-- any other in the field that says how many bytes a word has
+abbrev pub upper : Kind → ℕ → ℕ → ℕ
+upper kinds.LParen size high = size
+upper kinds.RParen size high = size
+upper kinds.Annotation size high = size
+upper kinds.Aside size high = size
+upper _ size high = high
+
+-- how many bytes of the text stand before it; where it lies aside, its place there
+abbrev pub own_number : Lexeme → ℕ
+own_number x = wide x.low (upper x.kind x.size x.high)
+
 -- where a token of the kind stands, by its own number and by that which lies aside
 abbrev pub stands_at : Kind → ℕ → ℕ → ℕ
 stands_at kinds.Annotation own other = other
 stands_at kinds.Aside own other = other
 stands_at _ own other = own
 
--- how far lookups go from a token of the kind, by its second number: only `(` and annotations leap
-abbrev pub skip_of : Kind → ℕ → ℕ
-skip_of kinds.LParen size = size
-skip_of kinds.Annotation size = size
-skip_of _ size = 0
+-- only annotations have leaps
+abbrev pub leaps_of : Kind → Leaps → Leaps
+leaps_of kinds.Annotation other = other
+leaps_of _ other = no_leaps
 
 -- what is kept of a token of the text
 abbrev pub entry_of : List ℕ → List Aside → Lexeme → Entry
 entry_of text aside x = record {
-  token = tok_at x.kind text x.offset (x.offset + x.size) (lies aside x.offset);
-  offset = stands_at x.kind x.offset (lies_from aside x.offset);
-  skip = skip_of x.kind x.size;
+  token = tok_at x.kind text (own_number x) (own_number x + x.size) (lies aside (own_number x));
+  offset = stands_at x.kind (own_number x) (lies_from aside (own_number x));
+  leaps = leaps_of x.kind (lying_leaps aside (own_number x));
 }
 
 abbrev pub entries_of : List ℕ → List Aside → List Lexeme → List Entry
@@ -132,11 +171,23 @@ entries_of text aside ls = map (entry_of text aside) ls
 -- it can be read
 abbrev pub CanBeRead : List ℕ → List Aside → Lexeme → Type 0
 CanBeRead text aside x =
-    Readable x.kind text x.offset (x.offset + x.size)
-    ((x.offset < length aside) × (is_paren (lies aside x.offset) ≡ false)) (lies aside x.offset)
+    Readable x.kind text (own_number x) (own_number x + x.size)
+    ((own_number x < length aside) × (is_paren (lies aside (own_number x)) ≡ false))
+    (lies aside (own_number x))
 
 abbrev pub AllCanBeRead : List ℕ → List Aside → List Lexeme → Type 0
 AllCanBeRead text aside ls = AllByRecursion (CanBeRead text aside) ls
+
+-- the two aren't annotations that lie aside at one place
+abbrev pub Apart : Lexeme → Lexeme → Type 0
+Apart x y =
+    is_annotation_kind x.kind ≡ true → is_annotation_kind y.kind ≡ true
+    → own_number x ≢ own_number y
+
+-- no two annotations lie aside at one place
+abbrev pub AllApart : List Lexeme → Type 0
+AllApart [] = Unit {0}
+AllApart (x ∷ ls) = AllByRecursion (Apart x) ls × AllApart ls
 
 -- what was found is kept
 pub record WasKept (text : List ℕ) (aside : List Aside) (at end : ℕ) (kind : Kind) (x : Lexeme)
@@ -144,9 +195,11 @@ pub record WasKept (text : List ℕ) (aside : List Aside) (at end : ℕ) (kind :
   pub entry : entry_of text aside x ≡ record {
     token = found_tok text aside at end kind;
     offset = at;
-    skip = 0;
+    leaps = no_leaps;
   }
   pub fits : CanBeRead text aside x
+  pub last : is_annotation_kind x.kind ≡ true
+      → (is_annotation_kind kind ≡ true) × (own_number x + 1 ≡ length aside)
 
 abbrev pub entry_tok : Entry → Tok
 entry_tok x = x.token
@@ -164,23 +217,22 @@ placed ls = map placed_of ls
 
 -- what stands where there is no token
 abbrev pub no_entry : Entry
-no_entry = record { token = LParen; offset = 0; skip = 0 }
+no_entry = record { token = LParen; offset = 0; leaps = no_leaps }
 
--- the token at the place, with another leap
-abbrev pub leaping : List Entry → ℕ → ℕ → Entry
-leaping ls i leap = record (get_or ls i no_entry) { skip = leap }
+-- the token at the place, with other leaps
+abbrev pub leaping : List Entry → ℕ → Leaps → Entry
+leaping ls i leaps = record (get_or ls i no_entry) { leaps = leaps }
 
--- only a `(` and an annotation can be told how far lookups go
-abbrev pub can_leap : Tok → Bool
-can_leap t = is_open t || is_annotation t
+-- how far lookups go, where the five names are known or none is
+abbrev pub skip : Bool → Leaps → ℕ
+skip false leaps = leaps.all
+skip true leaps = leaps.unknown
 
--- How far the tokens tell to go from an annotation's group in front: its `(` tells it where no name
--- is known, its annotation where the five are.
+-- how far the tokens tell to go from an annotation's group in front: its annotation tells it
 abbrev pub leap : Bool → List Entry → ℕ
 leap known [] = 0
 leap known (x ∷ []) = 0
-leap false (x ∷ y ∷ ls) = x.skip
-leap true (x ∷ y ∷ ls) = y.skip
+leap known (x ∷ y ∷ ls) = skip known y.leaps
 
 -- wherever a hidden group stands, the tokens tell how many are hidden there
 abbrev pub AreLeaps : List Entry → Type 0

@@ -1,25 +1,26 @@
 //! Cuts a text into tokens.
 
 ghost use Rattle.std.specs.Prelude.{◌≡◌, ◌&&◌, ◌==◌, ◌+◌, ◌-◌, ◌≤◌, ◌<◌};
-ghost use Rattle.std.specs.Prelude.{IfOk, IfErr, ℕ, List};
+ghost use Rattle.std.specs.Prelude.{IfOk, IfErr, IfSome, ℕ, List};
 ghost use Rattle.std.specs.Prelude.{true, false, length, drop, slice_range, slice_index};
 ghost use Rattle.wat_lexer.specs.Cut.{Cuts, FirstFault, IsCut};
 ghost use Rattle.wat_lexer.specs.Place.{offset_of};
 ghost use Rattle.wat_lexer.specs.Scan.{front, run_front, behind_run, all_idchars, Between, Ends};
 ghost use Rattle.wat_lexer.specs.Token.{Placed, has_annotation, is_annotation};
 ghost use Rattle.wat_lexer.specs.View.{view, toks, placed, is_paren, lying, AreLeaps, IsPut};
-ghost use Rattle.wat_lexer.specs.View.{FrontGives, IfFault, FailsAt};
+ghost use Rattle.wat_lexer.specs.View.{FrontGives, IfFault, FailsAt, HasRoom, is_word};
+ghost use Rattle.wat_lexer.specs.View.{FoundFits, found_tok};
 ghost use Rattle.wat_lexer.specs.declared.fault.Fault.{Fault};
 ghost use Rattle.wat_lexer.specs.declared.lexeme.Aside.{Aside};
 
 use crate::class::{content, part, plain_kind, string_token};
 use crate::fault::{Error, Fault, fault_at};
 use crate::groups::tell_leaps;
-use crate::lexeme::{Aside, Kind, is_annotation_kind, is_open, kept};
+use crate::lexeme::{Aside, Kind, Leaps, has_room, is_annotation_kind, is_open, is_word, kept};
 use crate::scan::{comment_end, is_space, line_end, plain_end, run_end, spaces_end};
 use crate::string::string_end;
 use crate::token::{Token, is_annotation};
-use crate::tokens::Tokens;
+use crate::tokens::{Tokens, read};
 use bumpalo::Bump;
 use std::alloc::{AllocError, Global};
 
@@ -37,7 +38,12 @@ fn put<'a>(token: Token<'a>, at: usize, aside: &mut Vec<Aside<'a>>) -> Result<Ki
     requires { is_paren (view token) ≡ false }
     ensures { IfOk result (λ k. IsPut aside.old.items aside.new.items at (view token.entry) k) }
 {
-    aside.push(Aside { token, offset: at })?;
+    let leaps = Leaps { all: 0, unknown: 0 };
+    aside.push(Aside {
+        token,
+        offset: at,
+        leaps,
+    })?;
     if is_annotation(token) {
         Ok(Kind::Annotation)
     } else {
@@ -202,6 +208,58 @@ fn front<'a>(
     }
 }
 
+/// Puts a word aside that stands between two places. Answers its kind.
+// No word of a usual text lies aside.
+#[inline(never)]
+fn put_word<'a>(
+    text: &'a str,
+    kind: Kind,
+    at: usize,
+    end: usize,
+    aside: &mut Vec<Aside<'a>>,
+) -> Result<Kind, AllocError>
+    requires order { at < end }
+    requires a_word { is_word kind ≡ true }
+    requires fits { FoundFits text.now aside.old.items at end kind }
+    ensures { IfOk result (λ k. IsPut aside.old.items aside.new.items at
+        (found_tok text.now aside.old.items at end kind) k) }
+{
+    put(read(text, kind, at, end - at, &[], 0), at, aside)
+}
+
+/// What stands in front. A word for which what is kept of a token has no room is put aside too.
+fn next_piece<'a>(
+    text: &'a str,
+    at: usize,
+    behind: bool,
+    arena: &'a Bump,
+    aside: &mut Vec<Aside<'a>>,
+) -> Result<Piece, Error>
+    requires { at < length text.now }
+    ensures within { IfOk result (λ p. (at < p.end) × (p.end ≤ length text.now)) }
+    ensures value { FrontGives text.now aside.old.items aside.new.items at result (front behind
+        (drop at text.now)) }
+    ensures room { IfOk result (λ p. IfSome p.kind (λ k. is_word k ≡ true → HasRoom at p.end)) }
+{
+    let piece = match front(text, at, behind, arena, aside) {
+        Err(e) => return Err(e),
+        Ok(piece) => piece,
+    };
+    if has_room(at, piece.end) {
+        return Ok(piece);
+    }
+    match piece.kind {
+        Some(kind) if is_word(kind) => {
+            let kind = put_word(text, kind, at, piece.end, aside)?;
+            Ok(Piece {
+                kind: Some(kind),
+                end: piece.end,
+            })
+        }
+        _ => Ok(piece),
+    }
+}
+
 /// Whether an annotation lies aside.
 #[tactic(auto, using(crate::proofs::Entries::annotation_steps))]
 fn any_annotation(aside: &[Aside]) -> bool
@@ -228,7 +286,6 @@ fn cut_pieces<'a>(
     text: &'a str,
     arena: &'a Bump,
 ) -> Result<(Tokens<'a>, bool), Error>
-    requires { length text.now ≤ 4294967295 }
     ensures found { IfOk result (λ v. Cuts (length text.now) false text.now (placed v.0)) }
     ensures noted { IfOk result (λ v. v.1 ≡ has_annotation (toks v.0)) }
     ensures fails { IfErr result (λ e. IfFault e (FailsAt text.now e)) }
@@ -238,7 +295,7 @@ fn cut_pieces<'a>(
     let mut behind = false;
     let mut at = 0;
     while at < text.len() {
-        let piece = match front(text, at, behind, arena, &mut aside) {
+        let piece = match next_piece(text, at, behind, arena, &mut aside) {
             Err(e) => return Err(e),
             Ok(piece) => piece,
         };
@@ -262,9 +319,8 @@ fn cut_pieces<'a>(
 /// Cuts a text into tokens, each of whose annotation groups is closed. Names and strings without
 /// escapes are slices of the text, the others lie in the arena.
 ///
-/// The faults are LexChar, LexString, LexComment, LexAnnotation and Memory, which a text of 2^32
-/// bytes or more is always refused with. WebAssembly Core Specification, Text Format, Lexical
-/// Format.
+/// The faults are LexChar, LexString, LexComment, LexAnnotation and Memory. WebAssembly Core
+/// Specification, Text Format, Lexical Format.
 pub fn cut<'a>(alloc: Global, text: &'a str, arena: &'a Bump) -> Result<Tokens<'a>, Error>
     ensures found { IfOk result (λ ts. IsCut text.now (placed ts)) }
     ensures leaps { IfOk result (λ ts. AreLeaps ts) }
@@ -272,9 +328,6 @@ pub fn cut<'a>(alloc: Global, text: &'a str, arena: &'a Bump) -> Result<Tokens<'
     ensures fault { IfErr result (λ e. IfFault e (FirstFault text.now e.fault (offset_of e.span))) }
     ensures none { IfErr result (λ e. IfFault e ((ts : List Placed) → IsCut text.now ts → ⊥)) }
 {
-    if text.len() > 0xffff_ffff {
-        return Err(fault_at(Fault::Memory, 0));
-    }
     let (mut tokens, noted) = match cut_pieces(alloc, text, arena) {
         Err(e) => return Err(e),
         Ok(parts) => parts,

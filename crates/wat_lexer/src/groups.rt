@@ -7,6 +7,7 @@ ghost use Rattle.wat_lexer.specs.Sight.{hides, hidden};
 ghost use Rattle.wat_lexer.specs.Token.{tokens_of};
 ghost use Rattle.wat_lexer.specs.View.{toks, placed, AreLeaps};
 
+use crate::lexeme::Leaps;
 use crate::sight::{hidden, hides};
 use crate::tokens::Tokens;
 use std::alloc::{AllocError, Global};
@@ -26,8 +27,7 @@ fn tell_leap(tokens: &mut Tokens, at: usize, end: usize)
 {
     let all = end - at + hidden(tokens, end, false);
     let unknown = end - at + hidden(tokens, end, true);
-    tokens.set_skip(at, all);
-    tokens.set_skip(at + 1, unknown);
+    tokens.set_leaps(at + 1, Leaps { all, unknown });
 }
 
 /// Tells each group of an annotation how many tokens are left out where it stands. Answers the

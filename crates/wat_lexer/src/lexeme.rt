@@ -1,8 +1,9 @@
 //! What is kept of a token: its kind, and where it stands.
 
-ghost use Rattle.std.specs.Prelude.{◌≡◌, ◌≤◌, ◌<◌, List, ℕ, length};
+ghost use Rattle.std.specs.Prelude.{◌≡◌, ◌<◌, ◌+◌, List, ℕ, length, true, false, IsTrue, ◌↔◌};
 ghost use Rattle.wat_lexer.specs.Token.{is_open};
-ghost use Rattle.wat_lexer.specs.View.{found_tok, is_annotation_kind, FoundFits, WasKept};
+ghost use Rattle.wat_lexer.specs.View.{found_tok, is_annotation_kind, is_word, wide, own_number};
+ghost use Rattle.wat_lexer.specs.View.{FoundFits, HasRoom, WasKept};
 ghost use Rattle.wat_lexer.specs.declared.lexeme.Aside.{Aside};
 
 use crate::token::Token;
@@ -30,23 +31,63 @@ pub enum Kind {
     Aside,
 }
 
+/// How many tokens are left out from the `(` of an annotation's group on.
+#[derive(Clone, Copy, Debug)]
+pub struct Leaps {
+    /// Where no annotation is known.
+    pub all: usize,
+    /// Where the five standard names are.
+    pub unknown: usize,
+}
+
 /// A token that isn't read out of the text, and how many bytes of the text stand before it.
 #[derive(Clone, Copy, Debug)]
 pub struct Aside<'a> {
     pub token: Token<'a>,
     pub offset: usize,
+    /// Of the annotation of a group how far lookups go from the `(` in front of it.
+    pub leaps: Leaps,
 }
 
-/// What is kept of a token. A text has less than 2^32 bytes.
+/// What is kept of a token. Its number is how many bytes of the text stand before it; where it lies
+/// aside, its place there.
 #[derive(Clone, Copy, Debug)]
 pub struct Lexeme {
-    /// How many bytes of the text stand before it; where it lies aside, its place there.
-    pub offset: u32,
-    /// How many bytes it has, but of two kinds how far lookups go: at the `(` of an annotation's
-    /// group, how many tokens from it on are left out where no annotation is known; at the
-    /// annotation behind it, how many from that `(` on where the five standard names are known.
-    pub size: u32,
+    /// The lower 32 bits of its number.
+    low: u32,
+    /// How many bytes a word has; of any other token the upper 32 bits of its number.
+    size: u32,
+    /// The next 16 bits of a word's number.
+    high: u16,
     pub kind: Kind,
+}
+
+const _: () = prove!(size_of::<Lexeme>() == 12);
+
+/// The parts of a number are counted in units of so many bytes.
+const UNIT: usize = 0x1_0000_0000;
+
+impl Lexeme {
+    /// How many bytes of the text stand before it, where it is a word.
+    pub fn word_at(self) -> usize
+        ensures { result ≡ wide self.low self.high }
+    {
+        self.low as usize + UNIT * self.high as usize
+    }
+
+    /// How many bytes it has, where it is a word.
+    pub fn size(self) -> usize
+        ensures { result ≡ self.size }
+    {
+        self.size as usize
+    }
+
+    /// Its number, where it is none.
+    pub fn number(self) -> usize
+        ensures { result ≡ wide self.low self.size }
+    {
+        self.low as usize + UNIT * self.size as usize
+    }
 }
 
 /// Whether a token of the kind is `(`.
@@ -64,23 +105,66 @@ pub fn is_annotation_kind(kind: Kind) -> bool
     matches!(kind, Kind::Annotation)
 }
 
+/// Whether a token of the kind is read out of the text, and no paren.
+pub fn is_word(kind: Kind) -> bool
+    ensures { result ≡ is_word kind }
+{
+    !matches!(
+        kind,
+        Kind::LParen | Kind::RParen | Kind::Annotation | Kind::Aside
+    )
+}
+
+/// Whether what is kept of a token has room for a word between two places.
+pub fn has_room(at: usize, end: usize) -> bool
+    requires { at < end }
+    ensures { IsTrue result ↔ HasRoom at end }
+{
+    at < UNIT * 0x1_0000 && end - at < UNIT
+}
+
+/// What is kept of a token that is no word, by its number.
+fn numbered(kind: Kind, number: usize) -> Lexeme
+    requires { is_word kind ≡ false }
+    ensures number { own_number result ≡ number }
+    ensures kind { result.kind ≡ kind }
+{
+    Lexeme {
+        low: (number % UNIT) as u32,
+        size: (number / UNIT) as u32,
+        high: 0,
+        kind,
+    }
+}
+
+/// What is kept of a word between two places of a text.
+fn word(kind: Kind, at: usize, end: usize) -> Lexeme
+    requires order { at < end }
+    requires room { HasRoom at end }
+    requires a_word { is_word kind ≡ true }
+    ensures number { own_number result ≡ at }
+    ensures end { own_number result + result.size ≡ end }
+    ensures kind { result.kind ≡ kind }
+{
+    Lexeme {
+        low: (at % UNIT) as u32,
+        size: (end - at) as u32,
+        high: (at / UNIT) as u16,
+        kind,
+    }
+}
+
 /// What is kept of a token between two places of a text, where so many lie aside; where it lies
 /// aside, it is the last there.
 pub fn kept(kind: Kind, at: usize, end: usize, aside: usize) -> Lexeme
     requires order { at < end }
-    requires small { end ≤ 4294967295 }
-    requires room { aside ≤ end }
+    requires room { is_word kind ≡ true → HasRoom at end }
     ensures { (text : List ℕ) (lie : List Aside) → length lie ≡ aside
         → FoundFits text lie at end kind → WasKept text lie at end kind result }
 {
-    let (offset, size) = match kind {
-        Kind::LParen => (at, 0),
-        Kind::Annotation | Kind::Aside => (aside.saturating_sub(1), 0),
-        _ => (at, end - at),
-    };
-    Lexeme {
-        offset: offset as u32,
-        size: size as u32,
-        kind,
+    match kind {
+        Kind::LParen | Kind::RParen => numbered(kind, at),
+        Kind::Annotation | Kind::Aside => numbered(kind, aside.saturating_sub(1)),
+        _ => word(kind, at, end),
     }
 }

@@ -5,6 +5,7 @@ pub mod class;
 pub mod cut;
 pub mod fault;
 pub mod groups;
+pub mod laws;
 pub mod lexeme;
 pub mod number;
 pub mod scan;

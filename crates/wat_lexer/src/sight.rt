@@ -37,7 +37,7 @@ fn begins_hidden(first: Token, second: Token, known: bool) -> bool
 pub fn hides(tokens: &Tokens, at: usize, known: bool) -> bool
     requires { at ≤ length tokens.now }
     ensures value { result ≡ hides known (toks (drop at tokens.now)) }
-    ensures small { length tokens.now ≤ 4294967295 }
+    ensures small { length tokens.now ≤ 9223372036854775807 }
 {
     let count = tokens.len();
     if at + 1 < count && tokens.opens(at) && tokens.annotates(at + 1) {
@@ -54,11 +54,7 @@ fn leap(tokens: &Tokens, at: usize, known: bool) -> usize
 {
     let count = tokens.len();
     if at + 1 < count {
-        if known {
-            tokens.skip(at + 1)
-        } else {
-            tokens.skip(at)
-        }
+        tokens.skip(at + 1, known)
     } else {
         0
     }
@@ -72,7 +68,7 @@ pub fn hidden(tokens: &Tokens, at: usize, known: bool) -> usize
     requires leaps { AreLeaps (drop at tokens.now) }
     ensures value { result ≡ hidden known (toks (drop at tokens.now)) }
     ensures within { at + result ≤ length tokens.now }
-    ensures small { length tokens.now ≤ 4294967295 }
+    ensures small { length tokens.now ≤ 9223372036854775807 }
     ensures first { Shown known (drop result (drop at tokens.now)) (as_shown known (toks
         (drop at tokens.now))) }
 {

@@ -3,17 +3,18 @@
 ghost use Rattle.std.specs.Prelude.{◌≡◌, ◌≤◌, ◌<◌, ◌+◌, true, length, slice_range};
 ghost use Rattle.std.proofs.Math.ListN.{get_or, set};
 ghost use Rattle.wat_lexer.specs.Token.{is_open, is_close, is_annotation};
-ghost use Rattle.wat_lexer.specs.View.{view, entries_of, entry_of, CanBeRead, Word, AllCanBeRead};
-ghost use Rattle.wat_lexer.specs.View.{can_leap, leaping, no_entry};
+ghost use Rattle.wat_lexer.specs.View.{view, tok_at, lies, entries_of, Readable, Word};
+ghost use Rattle.wat_lexer.specs.View.{AllCanBeRead, AllApart, leaping, no_entry, skip};
 
 use crate::class::part;
-use crate::lexeme::{Aside, Kind, Lexeme};
+use crate::lexeme::{Aside, Kind, Leaps, Lexeme};
 use crate::number::Integer;
 use crate::token::Token;
 use std::marker::Model;
 
-/// The tokens of a text, each with its place and how far lookups go from there, in 12 bytes. What
-/// can be read out of the text is, whenever it is asked for; the rest lies aside.
+/// The tokens of a text, each with its place, in 12 bytes. What can be read out of the text is,
+/// whenever it is asked for; the rest lies aside, and with an annotation how far lookups go from
+/// its group.
 #[derive(Drop)]
 pub struct Tokens<'a> {
     text: &'a str,
@@ -24,20 +25,21 @@ pub struct Tokens<'a> {
 impl<'a> Model for Tokens<'a> {
     ghost use Rattle.std.specs.Prelude.{List, length, ◌≤◌};
     ghost use Rattle.wat_lexer.specs.Token.{Entry};
-    ghost use Rattle.wat_lexer.specs.View.{entries_of, AllCanBeRead};
+    ghost use Rattle.wat_lexer.specs.View.{entries_of, AllCanBeRead, AllApart};
 
     ghost Value = { List Entry };
 
     ghost view = { λ t. entries_of t.text.now t.aside.items t.lexemes.items };
 
-    ghost invariant = { λ t. AllCanBeRead t.text.now t.aside.items t.lexemes.items × (length t.lexemes.items ≤ 4294967295) };
+    ghost invariant = { λ t. AllCanBeRead t.text.now t.aside.items t.lexemes.items × AllApart t.lexemes.items × (length t.lexemes.items ≤ 9223372036854775807) };
 }
 
 impl<'a> Tokens<'a> {
     /// The tokens that were kept of a text.
     pub fn of(text: &'a str, lexemes: Vec<Lexeme>, aside: Vec<Aside<'a>>) -> Tokens<'a>
         requires fit { AllCanBeRead text.now aside.items lexemes.items }
-        requires small { length lexemes.items ≤ 4294967295 }
+        requires apart { AllApart lexemes.items }
+        requires small { length lexemes.items ≤ 9223372036854775807 }
         ensures { result ≡ entries_of text.entry.now aside.entry.items lexemes.items }
     {
         Tokens {
@@ -50,7 +52,7 @@ impl<'a> Tokens<'a> {
     /// How many there are.
     pub fn len(&self) -> usize
         ensures value { result ≡ length self.now }
-        ensures small { result ≤ 4294967295 }
+        ensures small { result ≤ 9223372036854775807 }
     {
         self.lexemes.len()
     }
@@ -85,7 +87,14 @@ impl<'a> Tokens<'a> {
         ensures { view result ≡ (get_or self.now at no_entry).token }
     {
         let lexeme = self.lexemes[at];
-        read(self.text, &self.aside, lexeme)
+        read(
+            self.text,
+            lexeme.kind,
+            lexeme.word_at(),
+            lexeme.size(),
+            &self.aside,
+            lexeme.number(),
+        )
     }
 
     /// How many bytes of the text stand before it.
@@ -94,33 +103,37 @@ impl<'a> Tokens<'a> {
         ensures { result ≡ (get_or self.now at no_entry).offset }
     {
         let lexeme = self.lexemes[at];
-        let offset = lexeme.offset as usize;
         match lexeme.kind {
-            Kind::Annotation | Kind::Aside => self.aside[offset].offset,
-            _ => offset,
+            Kind::Annotation | Kind::Aside => self.aside[lexeme.number()].offset,
+            Kind::LParen | Kind::RParen => lexeme.number(),
+            _ => lexeme.word_at(),
         }
     }
 
-    /// How far lookups go from there.
-    pub fn skip(&self, at: usize) -> usize
+    /// How far lookups go from the `(` in front of it, where the standard names are known or none
+    /// is.
+    pub fn skip(&self, at: usize, known: bool) -> usize
         requires { at < length self.now }
-        ensures { result ≡ (get_or self.now at no_entry).skip }
+        ensures { result ≡ skip known (get_or self.now at no_entry).leaps }
     {
         let lexeme = self.lexemes[at];
         match lexeme.kind {
-            Kind::LParen | Kind::Annotation => lexeme.size as usize,
+            Kind::Annotation => {
+                let leaps = self.aside[lexeme.number()].leaps;
+                if known { leaps.unknown } else { leaps.all }
+            }
             _ => 0,
         }
     }
 
-    /// Tells how far lookups go from there, a `(` or an annotation.
-    pub(crate) fn set_skip(&mut self, at: usize, skip: usize)
+    /// Tells how far lookups go from the `(` in front of an annotation.
+    pub(crate) fn set_leaps(&mut self, at: usize, leaps: Leaps)
         requires place { at < length self.old }
-        requires small { skip ≤ 4294967295 }
-        requires leaps { can_leap ((get_or self.old at no_entry).token) ≡ true }
-        ensures { self.new ≡ set self.old at (leaping self.old at skip) }
+        requires annotates { is_annotation ((get_or self.old at no_entry).token) ≡ true }
+        ensures { self.new ≡ set self.old at (leaping self.old at leaps) }
     {
-        self.lexemes[at].size = skip as u32;
+        let number = self.lexemes[at].number();
+        self.aside[number].leaps = leaps;
     }
 }
 
@@ -133,14 +146,21 @@ fn word<'a>(text: &'a str, from: usize, front: usize, end: usize) -> &'a str
     part(text, from + front, end)
 }
 
-/// A token that was kept.
-fn read<'a>(text: &'a str, aside: &[Aside<'a>], lexeme: Lexeme) -> Token<'a>
-    requires { CanBeRead text.now aside.now lexeme }
-    ensures { view result ≡ (entry_of text.now aside.now lexeme).token }
+/// The token of a kind: a word is read out of the text, from a place on and of so many bytes; what
+/// lies aside stands at another place there.
+pub fn read<'a>(
+    text: &'a str,
+    kind: Kind,
+    from: usize,
+    size: usize,
+    aside: &[Aside<'a>],
+    place: usize,
+) -> Token<'a>
+    requires { Readable kind text.now from (from + size) (place < length aside.now)
+        (lies aside.now place) }
+    ensures { view result ≡ tok_at kind text.now from (from + size) (lies aside.now place) }
 {
-    let from = lexeme.offset as usize;
-    let size = lexeme.size as usize;
-    match lexeme.kind {
+    match kind {
         Kind::LParen => Token::LParen,
         Kind::RParen => Token::RParen,
         Kind::Keyword => Token::Keyword(word(text, from, 0, from + size)),
@@ -148,6 +168,6 @@ fn read<'a>(text: &'a str, aside: &[Aside<'a>], lexeme: Lexeme) -> Token<'a>
         Kind::Integer => Token::Integer(Integer::over(word(text, from, 0, from + size))),
         Kind::String => Token::String(&text.as_bytes()[from + 1..from + size - 1]),
         Kind::Reserved => Token::Reserved(word(text, from, 0, from + size)),
-        Kind::Annotation | Kind::Aside => aside[from].token,
+        Kind::Annotation | Kind::Aside => aside[place].token,
     }
 }

@@ -85,7 +85,7 @@ impl<'a> Parser<'a> {
     ///
     /// Where the text can't be cut, it is refused with its first fault from the left: LexChar,
     /// LexString or LexComment, and where it has none of these, LexAnnotation. Memory may be
-    /// answered for any text, and is for one of 4 GiB or more.
+    /// answered for any text.
     pub fn new(alloc: Global, text: &'a str, arena: &'a Bump) -> Result<Parser<'a>, Error>
         ensures fresh { IfOk result (λ p. IsFresh text.now p) }
         ensures fault { IfErr result (λ e. e.fault ≢ Fault.Memory

@@ -1,6 +1,6 @@
 use Rattle.std.proofs.Common.{◌≡◌, ◌-◌, ◌≤◌, length, drop}
 use Rattle.wat_lexer.specs.Token.{has_annotation}
-use Rattle.wat_lexer.specs.View.{lying, entries_of, toks, placed, AllCanBeRead}
+use Rattle.wat_lexer.specs.View.{lying, entries_of, toks, placed, AllCanBeRead, AllApart}
 use Rattle.wat_lexer.proofs.CutSoFar.{CutSoFar}
 use Rattle.wat_lexer.proofs.cut.cut_pieces.Given as goal
 
@@ -9,8 +9,8 @@ invariant-loop-at l = record {
   cuts : CutSoFar l.text (placed (entries_of l.text l.aside.items l.tokens.items)) l.behind (drop l.at l.text);
   noted : has_annotation (lying l.aside.items) ≡ has_annotation (toks (entries_of l.text l.aside.items l.tokens.items));
   fits : AllCanBeRead l.text l.aside.items l.tokens.items;
+  apart : AllApart l.tokens.items;
   few : length l.tokens.items ≤ l.at;
-  room : length l.aside.items ≤ l.at;
   within : l.at ≤ length l.text;
 }
 

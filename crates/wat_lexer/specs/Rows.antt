@@ -1,0 +1,85 @@
+-- Small texts, and the tokens into which they are cut, each with how many bytes stand before it.
+use Rattle.std.specs.Prelude.{◌≡◌, ℕ, List, [], ◌∷◌, codes, true, false, Some, None}
+use Rattle.std.specs.Prelude.{pos, neg_ℤ}
+use Rattle.wat_lexer.specs.Token.{Tok, LParen, RParen, Keyword, Id, Annotation, Integer, String}
+use Rattle.wat_lexer.specs.Token.{Reserved, Placed}
+use Rattle.wat_lexer.specs.Cut.{IsCut, FirstFault}
+use Rattle.wat_lexer.specs.Number.{unsigned_value, signed_value}
+use Rattle.wat_lexer.specs.Sight.{hidden, as_shown}
+use Rattle.wat_lexer.specs.declared.fault.Fault.TheVariants.{LexChar, LexString, LexComment}
+use Rattle.wat_lexer.specs.declared.fault.Fault.TheVariants.{LexAnnotation}
+
+abbrev pub at : ℕ → Tok → Placed
+at n t = record { token = t; offset = n }
+
+-- a line comment with a `(` in it, and a block comment with another and a quote in it
+abbrev pub Comments : Type 0
+Comments =
+    IsCut (codes "(a ;;b(\n(;(;;)\";)c)")
+    (at 0 LParen ∷ at 1 (Keyword (codes "a")) ∷ at 17 (Keyword (codes "c")) ∷ at 18 RParen ∷ [])
+
+-- a tab, the letter A and U+1F600 by their escapes, and a string without one
+abbrev pub Strings : Type 0
+Strings =
+    IsCut (codes "\"a\\t\\41\\u{1_f600}\" \"b c\"")
+    (at 0 (String (97 ∷ 9 ∷ 65 ∷ 240 ∷ 159 ∷ 152 ∷ 128 ∷ []))
+    ∷ at 19 (String (98 ∷ 32 ∷ 99 ∷ [])) ∷ [])
+
+-- `$x $"a b" (@"n" c)`
+abbrev pub QuotedNames : Type 0
+QuotedNames =
+    IsCut (codes "$x $\"a b\" (@\"n\" c)")
+    (at 0 (Id (codes "x")) ∷ at 3 (Id (codes "a b")) ∷ at 10 LParen
+    ∷ at 11 (Annotation (codes "n")) ∷ at 16 (Keyword (codes "c")) ∷ at 17 RParen ∷ [])
+
+-- `( @n $ "a"b)`: the `@` isn't directly behind the `(`, no name stands behind the `$`, and a letter
+-- stands directly behind the string
+abbrev pub Spoiled : Type 0
+Spoiled =
+    IsCut (codes "( @n $ \"a\"b)")
+    (at 0 LParen ∷ at 2 (Reserved (codes "@n")) ∷ at 5 (Reserved (codes "$"))
+    ∷ at 7 (Reserved (codes "\"a\"b")) ∷ at 11 RParen ∷ [])
+
+-- a `_` stands between two digits
+abbrev pub Integers : Type 0
+Integers =
+    IsCut (codes "1_000 -0x1_F +7 1__0 _1 1_")
+    (at 0 (Integer (codes "1_000")) ∷ at 6 (Integer (codes "-0x1_F"))
+    ∷ at 13 (Integer (codes "+7")) ∷ at 16 (Reserved (codes "1__0"))
+    ∷ at 21 (Reserved (codes "_1")) ∷ at 24 (Reserved (codes "1_")) ∷ [])
+
+-- read in 8 bits
+abbrev pub Values : Type 0
+Values =
+    (unsigned_value 8 (codes "0x1_F") ≡ Some 31) × (unsigned_value 8 (codes "+255") ≡ Some 255)
+    × (unsigned_value 8 (codes "256") ≡ None) × (unsigned_value 8 (codes "-0") ≡ None)
+    × (signed_value 8 (codes "-0x80") ≡ Some (neg_ℤ (pos 128)))
+    × (signed_value 8 (codes "255") ≡ Some (neg_ℤ (pos 1))) × (signed_value 8 (codes "-129") ≡ None)
+
+-- `(@custom (a)) b`
+abbrev custom_group : List Tok
+custom_group =
+    LParen ∷ Annotation (codes "custom") ∷ LParen ∷ Keyword (codes "a") ∷ RParen ∷ RParen
+    ∷ Keyword (codes "b") ∷ []
+
+-- `(@x) (@custom (a)) b`
+abbrev two_groups : List Tok
+two_groups = LParen ∷ Annotation (codes "x") ∷ RParen ∷ custom_group
+
+-- the group of `@custom` is hidden where the five names aren't known, that of `@x` in any case
+abbrev pub HiddenGroups : Type 0
+HiddenGroups =
+    (hidden false custom_group ≡ 6) × (as_shown false custom_group ≡ Keyword (codes "b") ∷ [])
+    × (hidden true custom_group ≡ 0) × (as_shown true custom_group ≡ custom_group)
+    × (hidden false two_groups ≡ 9) × (as_shown false two_groups ≡ Keyword (codes "b") ∷ [])
+    × (hidden true two_groups ≡ 3) × (as_shown true two_groups ≡ custom_group)
+
+-- `a{`, `a "b\q"` and `a (;(;;)`
+abbrev pub Faults : Type 0
+Faults =
+    FirstFault (codes "a{") LexChar 1 × FirstFault (codes "a \"b\\q\"") LexString 2
+    × FirstFault (codes "a (;(;;)") LexComment 2
+
+-- `((@a b)(@c (d)`: the second group with an annotation isn't closed
+abbrev pub OpenGroup : Type 0
+OpenGroup = FirstFault (codes "((@a b)(@c (d)") LexAnnotation 7
