@@ -1,7 +1,7 @@
 -- Texts as tokens, and the modules that they spell: what is read of them.
 use Rattle.std.proofs.Common.{◌≡◌, List, [], ◌∷◌, ◌++◌, Some, refl}
 use Rattle.std.specs.Char.{encode_utf8}
-use Rattle.std.specs.Prelude.{codes}
+use Rattle.std.specs.Prelude.{codes, pos}
 use Rattle.std.specs.Str.{chars, is_utf8}
 use Rattle.wat_tokens.specs.ManySpells.{many_at, many_reads}
 use Rattle.wat_tokens.specs.NameAnnotation.{name_annotation}
@@ -25,11 +25,11 @@ use Rattle.wat_links.specs.Forms.{import_items, imports}
 use Rattle.wat_links.specs.Head.{head}
 use Rattle.wat_links.specs.Import.{single_item, import_choice}
 use Rattle.wat_links.specs.Item.{func_kind, item_sig}
-use Rattle.wat_mnemonics.specs.Word.{head_of}
-use Rattle.wat_mnemonics.specs.Laws.Word.{head_of_word}
 use Rattle.wat_mnemonics.specs.declared.head.Head.TheVariants as word
 use Rattle.wat_instr.specs.Instruction.{instruction}
+use Rattle.wat_instr.specs.Laws.First.{instruction_read}
 use Rattle.wat_instr.specs.Operand.{operand}
+use Rattle.wat_instr.specs.Operand as operands
 use Rattle.wat_expr.specs.Alone.{alone}
 use Rattle.wat_expr.specs.Expression.{Expr}
 use Rattle.wat_expr.specs.ExpressionProduction.{expression}
@@ -93,15 +93,12 @@ pub of_stores : Stores
 unfolding module_ module_kind fields module_field defined_field table table_kind normal_table table_type memory memory_kind memory_type limits_type is_64 ref_type shorthand begins_shorthand pagesize_or_none head inline_export label name_annotation many_at many_reads read
 of_stores = (spelled_whole module_ _ _ refl, spelled_whole module_ _ _ refl)
 
-const_word : head_of (codes "i32.const") ≡ Some word.i32_const
-const_word = head_of_word word.i32_const (codes "i32.const") refl
-
 abbrev const_text : List Tok
 const_text = Keyword (codes "i32.const") ∷ Integer (codes "0") ∷ []
 
 zero_front : instruction.reads (const_text ++ RParen ∷ closed) ≡ Some (zero, RParen ∷ closed)
-unfolding instruction operand read
-zero_front = rw const_word refl
+unfolding operand read
+zero_front = instruction_read word.i32_const (codes "i32.const") refl (operands.integer (pos 0)) (Integer (codes "0") ∷ RParen ∷ closed) (RParen ∷ closed) refl
 
 zero_read : expression.reads (group_text (codes "i32.const") (Integer (codes "0") ∷ []) ++ closed) ≡ Some (alone zero, closed)
 zero_read = grouped_read zero const_text closed zero_front refl refl

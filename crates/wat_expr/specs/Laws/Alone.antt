@@ -3,12 +3,12 @@ use Rattle.std.proofs.Common.{◌≡◌, true, List, [], ◌∷◌, ◌++◌, co
 use Rattle.wat_tokens.specs.Tests.{ends}
 use Rattle.wat_tokens.specs.Spelled.{in_parens}
 use Rattle.wat_tokens.specs.Token.{Tok, LParen, RParen, Keyword}
-use Rattle.wat_mnemonics.specs.Word.{head_of}
 use Rattle.wat_mnemonics.specs.declared.head.Head.TheVariants as word
 use Rattle.wat_mnemonics.specs.declared.scalar.ScalarOp.TheVariants as scalar
-use Rattle.wat_mnemonics.specs.Laws.Word.{head_of_word}
 use Rattle.wat_instr.specs.Instruction.{Instr, instruction}
+use Rattle.wat_instr.specs.Laws.First.{instruction_read}
 use Rattle.wat_instr.specs.Operand.{operand}
+use Rattle.wat_instr.specs.Operand as operands
 use Rattle.wat_expr.specs.Folded.{NoGroup}
 use Rattle.wat_expr.specs.Items.{IsOther, sort, Nil, Plain, Folded}
 use Rattle.wat_expr.specs.ExpressionProduction.{expression}
@@ -26,14 +26,13 @@ alone_read i c r e k =
 abbrev pub nop_text : List Tok
 nop_text = Keyword (codes "nop") ∷ []
 
-nop_word : head_of (codes "nop") ≡ Some (word.Scalar scalar.nop)
-nop_word = head_of_word (word.Scalar scalar.nop) (codes "nop") refl
-
 -- `nop` before an end
 pub nop_read : (r : List Tok) → ends r ≡ true
     → expression.reads (nop_text ++ r) ≡ Some (alone nop, r)
-unfolding instruction operand
-nop_read r k = alone_read nop nop_text r (rw nop_word refl) k
+unfolding operand
+nop_read r k =
+    alone_read nop nop_text r
+    (instruction_read (word.Scalar scalar.nop) (codes "nop") refl operands.nothing r r refl) k
 
 -- where an instruction that opens no block stands alone in a group, and then an end, the expression
 -- is that instruction

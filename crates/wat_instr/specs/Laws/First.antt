@@ -5,8 +5,10 @@ use Rattle.wat_tokens.specs.Token.{Tok, Keyword}
 use Rattle.wat_tokens.specs.Laws.Production.{bind_some}
 use Rattle.wat_mnemonics.specs.Heads.{head_word}
 use Rattle.wat_mnemonics.specs.Word.{head_of, mnemonic_reads}
-use Rattle.wat_mnemonics.specs.Laws.Word.{mnemonic_sound}
-use Rattle.wat_instr.specs.Instruction.{Instr, behind_word, instruction}
+use Rattle.wat_mnemonics.specs.Laws.Word.{head_of_word, mnemonic_sound}
+use Rattle.wat_mnemonics.specs.declared.head.Head.{Head}
+use Rattle.wat_instr.specs.Instruction.{Instr, instr_of, behind_word, instruction}
+use Rattle.wat_instr.specs.Operand.{Operand, operand}
 
 -- nothing is read from no tokens
 pub instruction_none : instruction.reads [] ≡ None
@@ -35,3 +37,10 @@ then_is_none = refl
 pub instruction_not_then : (t : List Tok) → instruction.reads (Keyword (codes "then") ∷ t) ≡ None
 unfolding instruction
 instruction_not_then t = rw then_is_none refl
+
+-- a row's word in front, and its operand behind it
+pub instruction_read : (h : Head) (w : List ℕ) → head_word h ≡ w → (o : Operand) (t r : List Tok)
+    → (operand h).reads t ≡ Some (o, r)
+    → instruction.reads (Keyword w ∷ t) ≡ Some (instr_of h o, r)
+unfolding instruction
+instruction_read h w k o t r e = rw (head_of_word h w k) (rw e refl)
