@@ -20,6 +20,7 @@ pub mod Payload
 pub mod RefFunc
 pub mod RefFuncs
 pub mod SegmentRows
+pub mod Spans
 pub mod Table
 pub mod Tag
 pub mod VectorBytes

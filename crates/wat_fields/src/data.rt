@@ -1,11 +1,13 @@
 //! Data segments.
 
-ghost use Rattle.std.specs.Prelude.{◌≡◌, false};
+ghost use Rattle.std.specs.Prelude.{◌≡◌, false, IfOk};
 ghost use Rattle.wat_tokens.specs.Index.{seen_index};
-ghost use Rattle.wat_tokens.specs.Reads.{ReadsIf, ReadsLight};
+ghost use Rattle.wat_tokens.specs.Parses.{Gives};
+ghost use Rattle.wat_tokens.specs.Reads.{Parsed, ReadsIf, ReadsLight};
 ghost use Rattle.wat_fields.specs.Data.{seen_data_kind, bare_data_kind, begins_passive};
 ghost use Rattle.wat_fields.specs.Data.{data_memory, data_active, data_kind, DataTy, seen_data};
 ghost use Rattle.wat_fields.specs.Data.{bare_data, data_segment};
+ghost use Rattle.wat_fields.specs.Spans.{DataSpansAre, offset_behind, is_offset_written};
 
 use crate::data_val::{DataVal, read_vals};
 use crate::numbers::numbers_next;
@@ -78,6 +80,8 @@ fn passive_next(parser: &Parser<'_>) -> bool
 fn read_active<'a>(parser: &mut Parser<'a>, span: Span) -> Result<DataKind<'a>>
     ensures reads { ReadsIf false false bare_data_kind seen_data_kind result
         (data_active.reads parser.old.left) parser.old parser.new }
+    ensures spans { IfOk result (λ k. DataSpansAre (offset_behind
+        (data_memory.reads parser.old.left)) parser.old.tracks k) }
 {
     let memory = read_memory(parser, span)?;
     parser.open()?;
@@ -91,6 +95,8 @@ fn read_active<'a>(parser: &mut Parser<'a>, span: Span) -> Result<DataKind<'a>>
 fn read_kind<'a>(parser: &mut Parser<'a>, span: Span) -> Result<DataKind<'a>>
     ensures reads { ReadsIf false false bare_data_kind seen_data_kind result
         (data_kind.reads parser.old.left) parser.old parser.new }
+    ensures spans { IfOk result (λ k. DataSpansAre (offset_behind
+        (data_memory.reads parser.old.left)) parser.old.tracks k) }
 {
     if passive_next(parser) {
         return Ok(DataKind::Passive);
@@ -123,7 +129,13 @@ impl<'a> Parse<'a> for Data<'a> {
     ghost grammar = { data_segment };
 
     #[tactic(auto, unfolding(crate::specs::Data::data_segment, wat_types::specs::Label::label))]
-    fn parse(parser: &mut Parser<'a>) -> Result<Self> {
+    fn parse(parser: &mut Parser<'a>) -> Result<Self>
+        ensures reads { Parsed (Gives false bare_data seen_data result
+            (data_segment.reads parser.old.left) parser.new.left) false false result parser.old
+            parser.new }
+        ensures spans { IfOk result (λ d. DataSpansAre (is_offset_written parser.old.left)
+            parser.old.tracks d.kind) }
+    {
         let span = parser.keyword("data")?;
         let id = Option::<Id>::parse(parser)?;
         let name = Option::<NameAnnotation>::parse(parser)?;

@@ -1,15 +1,16 @@
 //! Element segments.
 
-ghost use Rattle.std.specs.Prelude.{◌≡◌, ◌&&◌, true, false};
-ghost use Rattle.wat_tokens.specs.Parses.{seen_option};
+ghost use Rattle.std.specs.Prelude.{◌≡◌, ◌&&◌, true, false, IfOk};
+ghost use Rattle.wat_tokens.specs.Parses.{Gives, seen_option};
 ghost use Rattle.wat_tokens.specs.Index.{seen_index};
-ghost use Rattle.wat_tokens.specs.Reads.{ReadsLight, ReadsIf};
-ghost use Rattle.wat_expr.specs.Expression.{seen_expression, bare_expression};
+ghost use Rattle.wat_tokens.specs.Reads.{Parsed, ReadsLight, ReadsIf};
+ghost use Rattle.wat_expr.specs.Expression.{seen_expression, bare_expression, SpansAre};
 ghost use Rattle.wat_fields.specs.Payload.{seen_payload};
 ghost use Rattle.wat_fields.specs.Elem.{seen_elem_kind, bare_segment, elem_offset, in_table};
 ghost use Rattle.wat_fields.specs.Elem.{table_number, in_some_table, declared_segment};
 ghost use Rattle.wat_fields.specs.Elem.{passive_segment, begins_active, active_segment, segment};
 ghost use Rattle.wat_fields.specs.Elem.{ElemTy, seen_elem, bare_elem, elem};
+ghost use Rattle.wat_fields.specs.Spans.{ElemSpansAre};
 
 use crate::payload::{ElemPayload, read_payload, read_payload_or_indices, read_written_or_folded};
 use wat_expr::Expression;
@@ -58,6 +59,7 @@ type Segment<'a> = (ElemKind<'a>, ElemPayload<'a>);
 fn read_offset<'a>(parser: &mut Parser<'a>) -> Result<Expression<'a>>
     ensures reads { ReadsIf false false bare_expression seen_expression result
         (elem_offset.reads parser.old.left) parser.old parser.new }
+    ensures spans { IfOk result (λ e. SpansAre parser.old.tracks e) }
 {
     read_written_or_folded(parser, "offset")
 }
@@ -68,6 +70,7 @@ fn read_in_table<'a>(parser: &mut Parser<'a>) -> Result<Segment<'a>>
     ensures reads { ReadsIf false false bare_segment (λ s.
         (seen_elem_kind s.0, seen_payload s.1)) result
         (in_table.reads parser.old.left) parser.old parser.new }
+    ensures spans { IfOk result (λ s. ElemSpansAre parser.old.tracks s) }
 {
     parser.open()?;
     parser.keyword("table")?;
@@ -98,6 +101,7 @@ fn read_in_some_table<'a>(parser: &mut Parser<'a>, span: Span) -> Result<Segment
     ensures reads { ReadsIf false false bare_segment (λ s.
         (seen_elem_kind s.0, seen_payload s.1)) result
         (in_some_table.reads parser.old.left) parser.old parser.new }
+    ensures spans { IfOk result (λ s. ElemSpansAre parser.old.tracks s) }
 {
     let table = read_table_number(parser, span)?;
     let offset = read_offset(parser)?;
@@ -111,6 +115,7 @@ fn read_active<'a>(parser: &mut Parser<'a>, span: Span) -> Result<Segment<'a>>
     ensures reads { ReadsIf false false bare_segment (λ s.
         (seen_elem_kind s.0, seen_payload s.1)) result
         (active_segment.reads parser.old.left) parser.old parser.new }
+    ensures spans { IfOk result (λ s. ElemSpansAre parser.old.tracks s) }
 {
     if parser.group_is("table") {
         return read_in_table(parser);
@@ -124,6 +129,7 @@ fn read_declared<'a>(parser: &mut Parser<'a>) -> Result<Segment<'a>>
     ensures reads { ReadsIf false false bare_segment (λ s.
         (seen_elem_kind s.0, seen_payload s.1)) result
         (declared_segment.reads parser.old.left) parser.old parser.new }
+    ensures spans { IfOk result (λ s. ElemSpansAre parser.old.tracks s) }
 {
     parser.keyword("declare")?;
     let payload = read_payload(parser)?;
@@ -136,6 +142,7 @@ fn read_passive<'a>(parser: &mut Parser<'a>) -> Result<Segment<'a>>
     ensures reads { ReadsIf false false bare_segment (λ s.
         (seen_elem_kind s.0, seen_payload s.1)) result
         (passive_segment.reads parser.old.left) parser.old parser.new }
+    ensures spans { IfOk result (λ s. ElemSpansAre parser.old.tracks s) }
 {
     let payload = read_payload(parser)?;
     Ok((ElemKind::Passive, payload))
@@ -157,6 +164,7 @@ fn read_segment<'a>(parser: &mut Parser<'a>, span: Span) -> Result<Segment<'a>>
     ensures reads { ReadsIf false false bare_segment (λ s.
         (seen_elem_kind s.0, seen_payload s.1)) result
         (segment.reads parser.old.left) parser.old parser.new }
+    ensures spans { IfOk result (λ s. ElemSpansAre parser.old.tracks s) }
 {
     if parser.next_is("declare") {
         return read_declared(parser);
@@ -194,7 +202,12 @@ impl<'a> Parse<'a> for Elem<'a> {
     ghost grammar = { elem };
 
     #[tactic(auto, unfolding(crate::specs::Elem::elem, wat_types::specs::Label::label))]
-    fn parse(parser: &mut Parser<'a>) -> Result<Self> {
+    fn parse(parser: &mut Parser<'a>) -> Result<Self>
+        ensures reads { Parsed (Gives false bare_elem seen_elem result
+            (elem.reads parser.old.left) parser.new.left) false false result parser.old
+            parser.new }
+        ensures spans { IfOk result (λ e. ElemSpansAre parser.old.tracks (e.kind, e.payload)) }
+    {
         let span = parser.keyword("elem")?;
         let id = Option::<Id>::parse(parser)?;
         let name = Option::<NameAnnotation>::parse(parser)?;

@@ -1,10 +1,12 @@
 //! Functions.
 
-ghost use Rattle.std.specs.Prelude.{◌≡◌, false};
-ghost use Rattle.wat_tokens.specs.Reads.{Reads, ReadsIf};
+ghost use Rattle.std.specs.Prelude.{◌≡◌, false, IfOk};
+ghost use Rattle.wat_tokens.specs.Parses.{Gives};
+ghost use Rattle.wat_tokens.specs.Reads.{Parsed, Reads, ReadsIf};
 ghost use Rattle.wat_fields.specs.Func.{FuncFieldTy, seen_func_use, bare_func_use, exact_use};
 ghost use Rattle.wat_fields.specs.Func.{seen_defined_func, bare_defined_func, func_import};
 ghost use Rattle.wat_fields.specs.Func.{func_inline, func_defined, seen_func, bare_func, func};
+ghost use Rattle.wat_fields.specs.Spans.{FuncSpansAre};
 
 use crate::local::Local;
 use wat_expr::Expression;
@@ -68,6 +70,7 @@ fn read_exact_use<'a>(parser: &mut Parser<'a>) -> Result<(TypeUse<'a, FunctionTy
 fn read_import<'a>(parser: &mut Parser<'a>) -> Result<Defined<'a>>
     ensures reads { Reads bare_defined_func seen_defined_func result
         (func_import.reads parser.old.left) parser.old parser.new }
+    ensures spans { IfOk result (λ d. FuncSpansAre parser.old.tracks d.1) }
 {
     let import = InlineImport::parse(parser)?;
     let (ty, is_exact) = read_exact_use(parser)?;
@@ -79,6 +82,7 @@ fn read_import<'a>(parser: &mut Parser<'a>) -> Result<Defined<'a>>
 fn read_inline<'a>(parser: &mut Parser<'a>) -> Result<Defined<'a>>
     ensures reads { ReadsIf false false bare_defined_func seen_defined_func result
         (func_inline.reads parser.old.left) parser.old parser.new }
+    ensures spans { IfOk result (λ d. FuncSpansAre parser.old.tracks d.1) }
 {
     let ty = TypeUse::parse(parser)?;
     let locals = Local::parse_remainder(parser)?;
@@ -91,6 +95,7 @@ fn read_inline<'a>(parser: &mut Parser<'a>) -> Result<Defined<'a>>
 fn read_defined<'a>(parser: &mut Parser<'a>) -> Result<Defined<'a>>
     ensures reads { ReadsIf false false bare_defined_func seen_defined_func result
         (func_defined.reads parser.old.left) parser.old parser.new }
+    ensures spans { IfOk result (λ d. FuncSpansAre parser.old.tracks d.1) }
 {
     if parser.peek::<InlineImport>() {
         read_import(parser)
@@ -122,7 +127,12 @@ impl<'a> Parse<'a> for Func<'a> {
     ghost grammar = { func };
 
     #[tactic(auto, unfolding(crate::specs::Func::func))]
-    fn parse(parser: &mut Parser<'a>) -> Result<Self> {
+    fn parse(parser: &mut Parser<'a>) -> Result<Self>
+        ensures reads { Parsed (Gives false bare_func seen_func result
+            (func.reads parser.old.left) parser.new.left) false false result parser.old
+            parser.new }
+        ensures spans { IfOk result (λ f. FuncSpansAre parser.old.tracks f.kind) }
+    {
         let span = parser.keyword("func")?;
         let Head { id, name, exports } = Head::parse(parser)?;
         let (ty, kind) = read_defined(parser)?;

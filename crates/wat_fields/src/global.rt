@@ -1,9 +1,11 @@
 //! Globals.
 
-ghost use Rattle.std.specs.Prelude.{◌≡◌, false};
-ghost use Rattle.wat_tokens.specs.Reads.{ReadsIf};
+ghost use Rattle.std.specs.Prelude.{◌≡◌, false, IfOk};
+ghost use Rattle.wat_tokens.specs.Parses.{Gives};
+ghost use Rattle.wat_tokens.specs.Reads.{Parsed, ReadsIf};
 ghost use Rattle.wat_fields.specs.Global.{GlobalFieldTy, seen_defined_global, bare_defined_global};
 ghost use Rattle.wat_fields.specs.Global.{global_defined, seen_global, bare_global, global};
+ghost use Rattle.wat_fields.specs.Spans.{GlobalSpansAre};
 
 use wat_expr::Expression;
 use wat_links::{Head, InlineExport, InlineImport};
@@ -41,6 +43,7 @@ pub enum GlobalKind<'a> {
 fn read_defined<'a>(parser: &mut Parser<'a>) -> Result<(GlobalType<'a>, GlobalKind<'a>)>
     ensures reads { ReadsIf false false bare_defined_global seen_defined_global result
         (global_defined.reads parser.old.left) parser.old parser.new }
+    ensures spans { IfOk result (λ d. GlobalSpansAre parser.old.tracks d.1) }
 {
     if parser.peek::<InlineImport>() {
         let import = InlineImport::parse(parser)?;
@@ -74,7 +77,12 @@ impl<'a> Parse<'a> for Global<'a> {
     ghost grammar = { global };
 
     #[tactic(auto, unfolding(crate::specs::Global::global))]
-    fn parse(parser: &mut Parser<'a>) -> Result<Self> {
+    fn parse(parser: &mut Parser<'a>) -> Result<Self>
+        ensures reads { Parsed (Gives false bare_global seen_global result
+            (global.reads parser.old.left) parser.new.left) false false result parser.old
+            parser.new }
+        ensures spans { IfOk result (λ g. GlobalSpansAre parser.old.tracks g.kind) }
+    {
         let span = parser.keyword("global")?;
         let Head { id, name, exports } = Head::parse(parser)?;
         let (ty, kind) = read_defined(parser)?;

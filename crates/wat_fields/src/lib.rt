@@ -17,6 +17,7 @@ pub mod memory;
 mod numbers;
 mod offset;
 pub mod payload;
+mod spanned;
 pub mod table;
 pub mod tag;
 

@@ -1,14 +1,34 @@
 //! The offset of an active data segment.
 
-ghost use Rattle.std.specs.Prelude.{false};
-ghost use Rattle.wat_expr.specs.Expression.{seen_expression, bare_expression};
+ghost use Rattle.std.specs.Prelude.{false, ◌&&◌, codes, IfOk};
+ghost use Rattle.wat_expr.specs.Expression.{seen_expression, bare_expression, SpansAre};
+ghost use Rattle.wat_expr.specs.ExpressionProduction.{expression};
+ghost use Rattle.wat_tokens.specs.Parts.{seq};
 ghost use Rattle.wat_tokens.specs.Reads.{ReadsIf};
+ghost use Rattle.wat_tokens.specs.Tests.{begins_word};
 ghost use Rattle.wat_fields.specs.Offset.{head_last, offset_inside};
+ghost use Rattle.wat_fields.specs.Spans.{OffsetSpansAre};
 
 use wat_expr::Expression;
 use wat_instr::Instruction;
-use wat_tokens::whole::both;
 use wat_tokens::{Parse, Parser, Result};
+
+/// A value, and an expression directly behind it.
+///
+/// The value's type is a parameter, as in [`wat_tokens::whole`]: a body that holds a value of a
+/// large type over a call that may refuse is proved slowly.
+fn read_before_items<'a, T: Parse<'a> + Drop>(
+    parser: &mut Parser<'a>,
+) -> Result<(T, Expression<'a>)>
+    ensures reads { ReadsIf false false (λ v. T.bare v.0 && bare_expression v.1)
+        (λ v. (T.seen v.0, seen_expression v.1)) result
+        ((seq T.grammar expression).reads parser.old.left) parser.old parser.new }
+    ensures spans { IfOk result (λ v. SpansAre parser.old.tracks v.1) }
+{
+    let value = T::parse(parser)?;
+    let items = Expression::parse(parser)?;
+    Ok((value, items))
+}
 
 /// An instruction and items, to the end. The instruction stands behind what the items unfold to,
 /// and its span behind theirs. Where there are no items, it is an expression of one instruction,
@@ -17,9 +37,10 @@ use wat_tokens::{Parse, Parser, Result};
 fn read_head_last<'a>(parser: &mut Parser<'a>) -> Result<Expression<'a>>
     ensures reads { ReadsIf false false bare_expression seen_expression result
         (head_last.reads parser.old.left) parser.old parser.new }
+    ensures spans { IfOk result (λ e. OffsetSpansAre false parser.old.tracks e) }
 {
     let span = parser.cur_span();
-    let (head, mut offset) = both::<Instruction, Expression>(parser)?;
+    let (head, mut offset) = read_before_items::<Instruction>(parser)?;
     if offset.instrs.is_empty() {
         offset.instr_spans = None;
     }
@@ -33,6 +54,8 @@ fn read_head_last<'a>(parser: &mut Parser<'a>) -> Result<Expression<'a>>
 pub(crate) fn read_offset<'a>(parser: &mut Parser<'a>) -> Result<Expression<'a>>
     ensures reads { ReadsIf false false bare_expression seen_expression result
         (offset_inside.reads parser.old.left) parser.old parser.new }
+    ensures spans { IfOk result (λ e. OffsetSpansAre (begins_word (codes "offset") parser.old.left)
+        parser.old.tracks e) }
 {
     if parser.next_is("offset") {
         parser.keyword("offset")?;

@@ -1,24 +1,26 @@
 //! What an element segment holds.
 
-ghost use Rattle.std.specs.Prelude.{◌≡◌, true, false, map, IfOk, IfErr};
+ghost use Rattle.std.specs.Prelude.{◌≡◌, ◌&&◌, true, false, map, All, IfOk, IfErr};
 ghost use Rattle.wat_tokens.specs.Index.{seen_index};
 ghost use Rattle.wat_tokens.specs.Parses.{no_items};
 ghost use Rattle.wat_tokens.specs.Parts.{made};
 ghost use Rattle.wat_tokens.specs.Reads.{Reads, ReadsIf};
-ghost use Rattle.wat_tokens.specs.Tests.{more};
+ghost use Rattle.wat_tokens.specs.Tests.{begins_lparen};
 ghost use Rattle.wat_types.specs.Reference.{seen_ref};
-ghost use Rattle.wat_expr.specs.Expression.{Expr, seen_expression, bare_expression};
+ghost use Rattle.wat_expr.specs.Expression.{Expr, seen_expression, bare_expression, SpansAre};
 ghost use Rattle.wat_fields.specs.Payload.{seen_payload, bare_payload, item_list, index_list};
 ghost use Rattle.wat_fields.specs.Payload.{ref_func_of, is_funcref, of_type, listed, typed_elems};
 ghost use Rattle.wat_fields.specs.Payload.{payload, payload_or_indices};
 ghost use Rattle.wat_fields.specs.Item.{written_or_folded, item};
 ghost use Rattle.wat_fields.specs.RefFuncs.{ref_funcs_of, plain_indices, indices_of};
 ghost use Rattle.wat_fields.specs.RefFunc.{ref_func};
+ghost use Rattle.wat_fields.specs.Spans.{PayloadSpansAre};
 
+use crate::spanned::{Spanned, all_spanned};
 use std::alloc::Global;
 use wat_expr::Expression;
 use wat_instr::{IndexedOp, Instruction};
-use wat_tokens::repeat::{Part, all_parts, all_to_end};
+use wat_tokens::repeat::all_to_end;
 use wat_tokens::{Fault, Index, Parse, Parser, Result};
 use wat_types::{AbstractHeapType, HeapType, RefType};
 
@@ -45,6 +47,7 @@ pub(crate) fn read_written_or_folded<'a>(
 ) -> Result<Expression<'a>>
     ensures reads { ReadsIf false false bare_expression seen_expression result
         ((written_or_folded word.now).reads parser.old.left) parser.old parser.new }
+    ensures spans { IfOk result (λ e. SpansAre parser.old.tracks e) }
 {
     if !parser.second_is(word) {
         return Expression::parse_folded_instruction(parser);
@@ -59,12 +62,10 @@ pub(crate) fn read_written_or_folded<'a>(
 /// `( item Expression )` where the second token is `item`, else a folded instruction.
 struct Item;
 
-impl<'a> Part<'a, Expression<'a>> for Item {
+impl<'a> Spanned<'a, Expression<'a>> for Item {
     ghost Seen = { Expr };
 
     ghost seen = { seen_expression };
-
-    ghost light = { false };
 
     ghost bare = { bare_expression };
 
@@ -72,11 +73,7 @@ impl<'a> Part<'a, Expression<'a>> for Item {
 
     ghost grammar = { item };
 
-    ghost follows = { more };
-
-    fn follows(parser: &Parser<'a>) -> bool {
-        !parser.is_empty()
-    }
+    ghost keeps = { λ tracks e. SpansAre tracks e };
 
     #[tactic(auto, unfolding(crate::specs::Item::item))]
     fn take(parser: &mut Parser<'a>) -> Result<Expression<'a>> {
@@ -89,8 +86,9 @@ impl<'a> Part<'a, Expression<'a>> for Item {
 fn read_items<'a>(parser: &mut Parser<'a>) -> Result<Vec<Expression<'a>>>
     ensures reads { ReadsIf false false no_items (λ v. map seen_expression v.items) result
         (item_list.reads parser.old.left) parser.old parser.new }
+    ensures spans { IfOk result (λ v. All (λ e. SpansAre parser.old.tracks e) v.items) }
 {
-    all_parts::<_, Item>(parser)
+    all_spanned::<_, Item>(parser)
 }
 
 /// Indices, to the end.
@@ -105,6 +103,7 @@ fn read_indices<'a>(parser: &mut Parser<'a>) -> Result<Vec<Index<'a>>>
 /// The one instruction `ref.func` of an index.
 fn ref_func_at<'a>(alloc: Global, index: Index<'a>) -> Result<Expression<'a>>
     ensures value { IfOk result (λ e. seen_expression e ≡ ref_func_of (seen_index index.entry)) }
+    ensures spans { IfOk result (λ e. SpansAre false e) }
     ensures memory { IfErr result (λ e. e.fault ≡ Fault.Memory) }
 {
     Expression::one(alloc, Instruction::Indexed(IndexedOp::ref_func, index))
@@ -113,22 +112,18 @@ fn ref_func_at<'a>(alloc: Global, index: Index<'a>) -> Result<Expression<'a>>
 /// An index, as `ref.func` of it.
 struct RefFunc;
 
-impl<'a> Part<'a, Expression<'a>> for RefFunc {
+impl<'a> Spanned<'a, Expression<'a>> for RefFunc {
     ghost Seen = { Expr };
 
     ghost seen = { seen_expression };
 
-    ghost light = { false };
-
     ghost bare = { bare_expression };
+
+    ghost quiet = { true };
 
     ghost grammar = { ref_func };
 
-    ghost follows = { more };
-
-    fn follows(parser: &Parser<'a>) -> bool {
-        !parser.is_empty()
-    }
+    ghost keeps = { λ _ e. SpansAre false e };
 
     #[tactic(auto, unfolding(crate::specs::RefFunc::ref_func))]
     fn take(parser: &mut Parser<'a>) -> Result<Expression<'a>> {
@@ -142,8 +137,9 @@ impl<'a> Part<'a, Expression<'a>> for RefFunc {
 fn read_ref_funcs<'a>(parser: &mut Parser<'a>, ty: RefType<'a>) -> Result<ElemPayload<'a>>
     ensures reads { Reads bare_payload seen_payload result ((ref_funcs_of
         (seen_ref ty.entry)).reads parser.old.left) parser.old parser.new }
+    ensures spans { IfOk result (λ p. PayloadSpansAre false p) }
 {
-    let exprs = all_parts::<_, RefFunc>(parser)?;
+    let exprs = all_spanned::<_, RefFunc>(parser)?;
     Ok(ElemPayload::Exprs { ty, exprs })
 }
 
@@ -152,6 +148,7 @@ fn read_ref_funcs<'a>(parser: &mut Parser<'a>, ty: RefType<'a>) -> Result<ElemPa
 fn read_plain_indices<'a>(parser: &mut Parser<'a>) -> Result<ElemPayload<'a>>
     ensures reads { Reads bare_payload seen_payload result
         (plain_indices.reads parser.old.left) parser.old parser.new }
+    ensures spans { IfOk result (λ p. PayloadSpansAre false p) }
 {
     read_indices(parser).map(ElemPayload::Indices)
 }
@@ -174,6 +171,7 @@ fn is_funcref(ty: RefType<'_>) -> bool
 fn read_indices_of<'a>(parser: &mut Parser<'a>, ty: RefType<'a>) -> Result<ElemPayload<'a>>
     ensures reads { Reads bare_payload seen_payload result ((indices_of
         (seen_ref ty.entry)).reads parser.old.left) parser.old parser.new }
+    ensures spans { IfOk result (λ p. PayloadSpansAre false p) }
 {
     if is_funcref(ty) {
         return read_plain_indices(parser);
@@ -187,6 +185,8 @@ fn read_indices_of<'a>(parser: &mut Parser<'a>, ty: RefType<'a>) -> Result<ElemP
 pub(crate) fn read_listed<'a>(parser: &mut Parser<'a>, ty: RefType<'a>) -> Result<ElemPayload<'a>>
     ensures reads { ReadsIf false false bare_payload seen_payload result ((made (of_type
         (seen_ref ty.entry)) listed).reads parser.old.left) parser.old parser.new }
+    ensures spans { IfOk result (λ p. PayloadSpansAre (begins_lparen parser.old.left
+        && parser.old.tracks) p) }
 {
     if parser.cursor().lparen().is_some() {
         let exprs = read_items(parser)?;
@@ -200,6 +200,7 @@ pub(crate) fn read_listed<'a>(parser: &mut Parser<'a>, ty: RefType<'a>) -> Resul
 fn read_typed_items<'a>(parser: &mut Parser<'a>) -> Result<ElemPayload<'a>>
     ensures reads { ReadsIf false false bare_payload seen_payload result
         (typed_elems.reads parser.old.left) parser.old parser.new }
+    ensures spans { IfOk result (λ p. PayloadSpansAre parser.old.tracks p) }
 {
     let ty = RefType::parse(parser)?;
     let exprs = read_items(parser)?;
@@ -211,6 +212,7 @@ fn read_typed_items<'a>(parser: &mut Parser<'a>) -> Result<ElemPayload<'a>>
 pub(crate) fn read_payload<'a>(parser: &mut Parser<'a>) -> Result<ElemPayload<'a>>
     ensures reads { ReadsIf false false bare_payload seen_payload result
         (payload.reads parser.old.left) parser.old parser.new }
+    ensures spans { IfOk result (λ p. PayloadSpansAre parser.old.tracks p) }
 {
     if parser.next_is("func") {
         parser.keyword("func")?;
@@ -224,6 +226,7 @@ pub(crate) fn read_payload<'a>(parser: &mut Parser<'a>) -> Result<ElemPayload<'a
 pub(crate) fn read_payload_or_indices<'a>(parser: &mut Parser<'a>) -> Result<ElemPayload<'a>>
     ensures reads { ReadsIf false false bare_payload seen_payload result
         (payload_or_indices.reads parser.old.left) parser.old parser.new }
+    ensures spans { IfOk result (λ p. PayloadSpansAre parser.old.tracks p) }
 {
     if parser.next_is("func") {
         parser.keyword("func")?;

@@ -1,11 +1,13 @@
 //! Tables.
 
-ghost use Rattle.std.specs.Prelude.{◌≡◌, true, false};
-ghost use Rattle.wat_tokens.specs.Reads.{ReadsLight, ReadsIf};
+ghost use Rattle.std.specs.Prelude.{◌≡◌, true, false, IfOk};
+ghost use Rattle.wat_tokens.specs.Parses.{Gives};
+ghost use Rattle.wat_tokens.specs.Reads.{Parsed, ReadsLight, ReadsIf};
 ghost use Rattle.wat_fields.specs.Table.{seen_table_kind, bare_table_kind, begins_prefix};
 ghost use Rattle.wat_fields.specs.Table.{begins_inline_elems, begins_normal, inline_table};
 ghost use Rattle.wat_fields.specs.Table.{normal_table, imported_table, table_kind, TableFieldTy};
 ghost use Rattle.wat_fields.specs.Table.{seen_table, bare_table, table};
+ghost use Rattle.wat_fields.specs.Spans.{TableSpansAre, items_behind, inline_front, has_items};
 
 use crate::payload::{ElemPayload, read_listed};
 use wat_expr::Expression;
@@ -65,6 +67,8 @@ pub enum TableKind<'a> {
 fn read_inline<'a>(parser: &mut Parser<'a>) -> Result<TableKind<'a>>
     ensures reads { ReadsIf false false bare_table_kind seen_table_kind result
         (inline_table.reads parser.old.left) parser.old parser.new }
+    ensures spans { IfOk result (λ k. TableSpansAre (items_behind
+        (inline_front.reads parser.old.left)) parser.old.tracks k) }
 {
     let shared = parser.flag("shared");
     let is64 = take_is64(parser)?;
@@ -86,6 +90,8 @@ fn read_inline<'a>(parser: &mut Parser<'a>) -> Result<TableKind<'a>>
 fn read_normal<'a>(parser: &mut Parser<'a>) -> Result<TableKind<'a>>
     ensures reads { ReadsIf false false bare_table_kind seen_table_kind result
         (normal_table.reads parser.old.left) parser.old parser.new }
+    ensures spans { IfOk result (λ k. TableSpansAre (items_behind
+        (inline_front.reads parser.old.left)) parser.old.tracks k) }
 {
     let ty = TableType::parse(parser)?;
     let init_expr = if parser.is_empty() {
@@ -101,6 +107,8 @@ fn read_normal<'a>(parser: &mut Parser<'a>) -> Result<TableKind<'a>>
 fn read_imported<'a>(parser: &mut Parser<'a>) -> Result<TableKind<'a>>
     ensures reads { ReadsLight seen_table_kind result (imported_table.reads parser.old.left)
         parser.old parser.new }
+    ensures spans { IfOk result (λ k. TableSpansAre (items_behind
+        (inline_front.reads parser.old.left)) parser.old.tracks k) }
 {
     if !parser.peek::<InlineImport>() {
         return Err(parser.unexpected());
@@ -139,6 +147,8 @@ fn normal_next(parser: &Parser<'_>) -> bool
 fn read_kind<'a>(parser: &mut Parser<'a>) -> Result<TableKind<'a>>
     ensures reads { ReadsIf false false bare_table_kind seen_table_kind result
         (table_kind.reads parser.old.left) parser.old parser.new }
+    ensures spans { IfOk result (λ k. TableSpansAre (items_behind
+        (inline_front.reads parser.old.left)) parser.old.tracks k) }
 {
     if inline_next(parser) {
         return read_inline(parser);
@@ -175,7 +185,13 @@ impl<'a> Parse<'a> for Table<'a> {
     ghost grammar = { table };
 
     #[tactic(auto, unfolding(crate::specs::Table::table))]
-    fn parse(parser: &mut Parser<'a>) -> Result<Self> {
+    fn parse(parser: &mut Parser<'a>) -> Result<Self>
+        ensures reads { Parsed (Gives false bare_table seen_table result
+            (table.reads parser.old.left) parser.new.left) false false result parser.old
+            parser.new }
+        ensures spans { IfOk result (λ t. TableSpansAre (has_items parser.old.left)
+            parser.old.tracks t.kind) }
+    {
         let span = parser.keyword("table")?;
         let Head { id, name, exports } = Head::parse(parser)?;
         let kind = read_kind(parser)?;

@@ -1,0 +1,48 @@
+-- What a loop keeps that reads values to the end of their group.
+use Rattle.std.proofs.Common.{◌≡◌, ◌≤◌, ℕ, zero, suc, Bool, true, false, List, [], ◌∷◌, ◌++◌, length, Some, None, refl, ap, sym, ◌∙◌, append_assoc}
+use Rattle.std.proofs.lemmas.List.{append-nil}
+use Rattle.wat_tokens.specs.Token.{Tok}
+use Rattle.wat_tokens.specs.Production.{Read, bind, Production, some_of}
+use Rattle.wat_tokens.specs.Laws.Filled.{filled_behind}
+use Rattle.wat_tokens.specs.Laws.Many.{many_step, many_stop, many_fails}
+use Rattle.wat_tokens.specs.Laws.Production.{by_read}
+use Rattle.wat_tokens.specs.Many.{after_front}
+use Rattle.wat_tokens.specs.ManySpells.{many_at, many_reads}
+use Rattle.wat_tokens.specs.Parses.{NotBare, no_items}
+
+pub front_of_none : {A : Type 0} (read : Read (List A)) → after_front [] read ≡ read
+front_of_none (Some x) = refl
+front_of_none None = refl
+
+module _ {A : Type 0} (begins : List Tok → Bool) (g : Production A) where
+  regroup : (before : List A) (v : A) (read : Read (List A)) → after_front before (bind read (λ vs r. Some (v ∷ vs, r))) ≡ after_front (before ++ v ∷ []) read
+  regroup before v (Some x) = ap (λ (vs : List A). some_of (vs, x.1)) (sym (append_assoc before (v ∷ []) x.0))
+  regroup before v None = refl
+
+  pub goes_on : 1 ≤ g.least → (before : List A) (t : List Tok) (v : A) (t' : List Tok) → begins t ≡ true → g.reads t ≡ Some (v, t')
+      → after_front before (many_reads begins g t) ≡ after_front (before ++ v ∷ []) (many_reads begins g t')
+  goes_on eats before t v t' k e =
+      ap (λ (u : Read (List A)). after_front before u) (many_step begins g eats t v t' k e) ∙ regroup before v (many_reads begins g t')
+
+  pub ends_here : (before : List A) (t : List Tok) → begins t ≡ false → after_front before (many_reads begins g t) ≡ Some (before, t)
+  ends_here before t k = rw (many_stop begins g t k) (ap (λ (vs : List A). some_of (vs, t)) (append-nil before))
+
+  pub fails_here : (before : List A) (t : List Tok) → begins t ≡ true → g.reads t ≡ None → after_front before (many_reads begins g t) ≡ None
+  fails_here before t k e = rw (many_fails begins g t k e) refl
+
+  rest_after : (before : List A) (v : A) (x : Read (List A)) → NotBare no_items (after_front before (bind x (λ vs r. Some (v ∷ vs, r))))
+  rest_after before v (Some y) = filled_behind before (v ∷ y.0) refl
+  rest_after before v None = tt
+
+  begun_after : (before : List A) (n : ℕ) (t : List Tok) → begins t ≡ true → NotBare no_items (after_front before (many_at begins g n t))
+  unfolding many_at
+  begun_after before zero t k = rw k tt
+  begun_after before (suc n) t k =
+      rw k (by_read (g.reads t)
+      (λ x e. rw e (rest_after before x.0 (many_at begins g n x.1)))
+      (λ e. rw e tt))
+
+  -- where a value begins, what the loop reads is no list without items
+  pub not_bare : (before : List A) (t : List Tok) (total : Read (List A)) → begins t ≡ true → after_front before (many_reads begins g t) ≡ total → NotBare no_items total
+  unfolding many_reads
+  not_bare before t total k e = rw (← e) (begun_after before (length t) t k)

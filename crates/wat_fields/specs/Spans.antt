@@ -1,0 +1,123 @@
+-- Where the expressions of fields keep spans.
+--
+-- Each that is read as an expression or as a folded instruction has as many spans as instructions
+-- where the parser tracks them, and else none (`SpansAre`). Two have none, whatever the parser
+-- tracks: the `ref.func` that an index of a table in line becomes, and the abbreviated offset of a
+-- data segment where it is one instruction, without operands. `SpansAre false` says that an
+-- expression has none.
+use Rattle.std.specs.Prelude.{Bool, true, false, ◌&&◌, ◌||◌, List, [], ◌∷◌, codes, Some, None}
+use Rattle.std.specs.Prelude.{All, IfSome}
+use Rattle.wat_tokens.specs.Token.{Tok}
+use Rattle.wat_tokens.specs.Tests.{begins_word, begins_lparen, second}
+use Rattle.wat_tokens.specs.Index.{Idx}
+use Rattle.wat_tokens.specs.Production.{Production, Read}
+use Rattle.wat_tokens.specs.Parts.{seq, flag, after_word}
+use Rattle.wat_types.specs.Label.{Label, label}
+use Rattle.wat_types.specs.Limits.{is_64}
+use Rattle.wat_types.specs.Reference.{RefTy, ref_type}
+use Rattle.wat_links.specs.Head.{HeadTy, head}
+use Rattle.wat_expr.specs.Expression.{SpansAre}
+use Rattle.wat_expr.specs.declared.expression.Expression.{Expression}
+use Rattle.wat_fields.specs.Data.{data_memory}
+use Rattle.wat_fields.specs.declared.data.DataKind.{DataKind}
+use Rattle.wat_fields.specs.declared.data.DataKind.TheVariants as data_code
+use Rattle.wat_fields.specs.declared.elem.ElemKind.{ElemKind}
+use Rattle.wat_fields.specs.declared.elem.ElemKind.TheVariants as elem_code
+use Rattle.wat_fields.specs.declared.func.FuncKind.{FuncKind}
+use Rattle.wat_fields.specs.declared.func.FuncKind.TheVariants as func_code
+use Rattle.wat_fields.specs.declared.global.GlobalKind.{GlobalKind}
+use Rattle.wat_fields.specs.declared.global.GlobalKind.TheVariants as global_code
+use Rattle.wat_fields.specs.declared.payload.ElemPayload.{ElemPayload}
+use Rattle.wat_fields.specs.declared.payload.ElemPayload.TheVariants as payload_code
+use Rattle.wat_fields.specs.declared.table.TableKind.{TableKind}
+use Rattle.wat_fields.specs.declared.table.TableKind.TheVariants as table_code
+
+-- ---- functions and globals
+
+-- those of a body
+abbrev pub FuncSpansAre : Bool → FuncKind → Type 0
+FuncSpansAre tracks (func_code.Import i b) = Unit {0}
+FuncSpansAre tracks (func_code.Inline ls e) = SpansAre tracks e
+
+-- those of the first value
+abbrev pub GlobalSpansAre : Bool → GlobalKind → Type 0
+GlobalSpansAre tracks (global_code.Import i) = Unit {0}
+GlobalSpansAre tracks (global_code.Inline e) = SpansAre tracks e
+
+-- ---- data segments
+
+abbrev pub is_many : {A : Type 0} → List A → Bool
+is_many [] = false
+is_many (x ∷ []) = false
+is_many (x ∷ y ∷ r) = true
+
+-- more than one instruction, the last with operands
+abbrev pub has_operands : Expression → Bool
+has_operands e = is_many e.instrs.items
+
+-- those of an offset, which is written with the word `offset` or abbreviated: an abbreviated one
+-- without operands has none
+abbrev pub OffsetSpansAre : Bool → Bool → Expression → Type 0
+OffsetSpansAre is_written tracks e = SpansAre ((is_written || has_operands e) && tracks) e
+
+-- those of an active segment's offset
+abbrev pub DataSpansAre : Bool → Bool → DataKind → Type 0
+DataSpansAre is_written tracks data_code.Passive = Unit {0}
+DataSpansAre is_written tracks (data_code.Active m e) = OffsetSpansAre is_written tracks e
+
+-- the second token behind what was read is `offset`
+abbrev pub offset_behind : {A : Type 0} → Read A → Bool
+offset_behind (Some x) = second (begins_word (codes "offset")) x.1
+offset_behind None = false
+
+-- a data segment up to its offset: `data id? name?` and a memory
+unfoldable pub data_front : Production (Label × Idx)
+data_front = after_word (codes "data") (seq label data_memory)
+
+-- its offset is written with the word
+abbrev pub is_offset_written : List Tok → Bool
+is_offset_written t = offset_behind (data_front.reads t)
+
+-- ---- what element segments hold
+
+-- those of each expression
+abbrev pub PayloadSpansAre : Bool → ElemPayload → Type 0
+PayloadSpansAre keeps (payload_code.Indices v) = Unit {0}
+PayloadSpansAre keeps (payload_code.Exprs t v) = All (λ e. SpansAre keeps e) v.items
+
+-- those of an active segment's offset
+abbrev pub ElemKindSpansAre : Bool → ElemKind → Type 0
+ElemKindSpansAre tracks elem_code.Passive = Unit {0}
+ElemKindSpansAre tracks elem_code.Declared = Unit {0}
+ElemKindSpansAre tracks (elem_code.Active t e) = SpansAre tracks e
+
+-- those of the offset and of each expression that it holds
+abbrev pub ElemSpansAre : Bool → ElemKind × ElemPayload → Type 0
+ElemSpansAre tracks s = ElemKindSpansAre tracks s.0 × PayloadSpansAre tracks s.1
+
+-- ---- tables
+
+-- those of the expression of each element; and of what is listed in line, where it is items: an
+-- index has none
+abbrev pub TableSpansAre : Bool → Bool → TableKind → Type 0
+TableSpansAre of_items tracks (table_code.Import i t) = Unit {0}
+TableSpansAre of_items tracks (table_code.Normal t e) = IfSome e (λ x. SpansAre tracks x)
+TableSpansAre of_items tracks (table_code.Inline t is64 shared p) =
+    PayloadSpansAre (of_items && tracks) p
+
+-- the third token behind what was read is `(`
+abbrev pub items_behind : {A : Type 0} → Read A → Bool
+items_behind (Some x) = second (second begins_lparen) x.1
+items_behind None = false
+
+-- a table in line behind its head, up to `( elem`
+unfoldable pub inline_front : Production (Bool × (Bool × RefTy))
+inline_front = seq (flag (codes "shared")) (seq is_64 ref_type)
+
+-- a table in line up to `( elem`
+unfoldable pub table_front : Production (HeadTy × (Bool × (Bool × RefTy)))
+table_front = after_word (codes "table") (seq head inline_front)
+
+-- behind `( elem` items are listed, which begin with `(`
+abbrev pub has_items : List Tok → Bool
+has_items t = items_behind (table_front.reads t)
