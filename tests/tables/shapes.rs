@@ -1,14 +1,14 @@
 //! Types of a user's own, made of the parts of `wat_tokens`.
 
-ghost use Rattle.std.specs.Prelude.{ℕ, List, map, Option, codes, true, false};
+ghost use Rattle.std.specs.Prelude.{ℕ, List, map, Option, codes};
 ghost use Rattle.std.proofs.Common.{lit≤};
 ghost use Rattle.wat_tokens.specs.Groups.{group};
 ghost use Rattle.wat_tokens.specs.Index.{identifier, name_of};
 ghost use Rattle.wat_tokens.specs.Integers.{unsigned};
 ghost use Rattle.wat_tokens.specs.Many.{many};
-ghost use Rattle.wat_tokens.specs.Parses.{no_items, seen_option};
 ghost use Rattle.wat_tokens.specs.Parts.{opt, seq};
 ghost use Rattle.wat_tokens.specs.Tests.{begins_group, begins_id};
+ghost use Rattle.wat_tokens.specs.Views.{plain, owning, no_items, seen_option};
 
 use crate::reading::refusal;
 use bumpalo::Bump;
@@ -26,9 +26,7 @@ struct Step {
 impl<'a> Parse<'a> for Step {
     ghost Seen = { ℕ × ℕ };
 
-    ghost seen = { λ s. (s.east, s.north) };
-
-    ghost bare = { λ _. true };
+    ghost view = { plain (λ s. (s.east, s.north)) };
 
     ghost grammar = { group (codes "by") (seq (unsigned 32) (unsigned 32)) };
 
@@ -70,11 +68,9 @@ struct Path<'a> {
 impl<'a> Parse<'a> for Path<'a> {
     ghost Seen = { Option (List ℕ) × List (ℕ × ℕ) };
 
-    ghost seen = { λ p. (seen_option name_of p.name, map (λ s. (s.east, s.north)) p.steps.items) };
-
-    ghost light = { false };
-
-    ghost bare = { λ p. no_items p.1 };
+    ghost view = { owning
+        (λ p. (seen_option name_of p.name, map (λ s. (s.east, s.north)) p.steps.items))
+        (λ p. no_items p.1) };
 
     ghost grammar = { let step = group (codes "by") (seq (unsigned 32) (unsigned 32)) in
         group (codes "path") (seq (opt begins_id identifier) (many (begins_group (codes "by")) step (lit≤ tt))) };

@@ -1,10 +1,10 @@
 -- Fields of a module.
 use Rattle.std.specs.Prelude.{Bool, true, List, codes}
 use Rattle.wat_tokens.specs.Index.{Idx, seen_index, index}
-use Rattle.wat_tokens.specs.Parses.{no_items}
 use Rattle.wat_tokens.specs.Parts.{made, where_else, after_word}
 use Rattle.wat_tokens.specs.Production.{Production}
 use Rattle.wat_tokens.specs.Tests.{begins_word}
+use Rattle.wat_tokens.specs.Views.{no_items}
 use Rattle.wat_types.specs.Define.{TypeTy, seen_type, bare_type, type_}
 use Rattle.wat_types.specs.Recursion.{seen_rec, rec}
 use Rattle.wat_customs.specs.Custom.{CustomTy, seen_custom, bare_custom, custom}

@@ -3,11 +3,11 @@ use Rattle.std.specs.Prelude.{ℕ, Bool, List, codes, map}
 use Rattle.std.specs.Borrow.{Bor}
 use Rattle.std.proofs.Common.{lit≤}
 use Rattle.wat_tokens.specs.Many.{many}
-use Rattle.wat_tokens.specs.Parses.{no_items}
 use Rattle.wat_tokens.specs.Parts.{seq, made, where_else, after_word}
 use Rattle.wat_tokens.specs.Production.{Production}
 use Rattle.wat_tokens.specs.Strings.{string}
 use Rattle.wat_tokens.specs.Tests.{begins_word, more}
+use Rattle.wat_tokens.specs.Views.{no_items}
 use Rattle.wat_types.specs.Label.{Label, seen_label, label}
 use Rattle.wat_core.specs.Field.{ModuleFieldTy, ModuleField, seen_field}
 use Rattle.wat_core.specs.declared.module.«Module».{«Module»}

@@ -1,8 +1,10 @@
 //! Fields of a module.
 
-ghost use Rattle.std.specs.Prelude.{◌≡◌, false};
+ghost use Rattle.std.specs.Prelude.{◌≡◌};
+ghost use Rattle.wat_tokens.specs.Cost.{turns_too};
 ghost use Rattle.wat_tokens.specs.Index.{seen_index};
-ghost use Rattle.wat_tokens.specs.Reads.{ReadsIf, ReadsLight};
+ghost use Rattle.wat_tokens.specs.Reads.{Reads, ReadsAt};
+ghost use Rattle.wat_tokens.specs.Views.{plain, owning};
 ghost use Rattle.wat_core.specs.Field.{ModuleFieldTy, seen_field, bare_field, start, last_field};
 ghost use Rattle.wat_core.specs.Field.{further_field, defined_field, module_field};
 
@@ -76,8 +78,7 @@ pub type ModuleField<'a> = ModuleFieldOf<
 /// `start`, and an index.
 #[tactic(auto, unfolding(crate::specs::Field::start))]
 fn read_start<'a>(parser: &mut Parser<'a>) -> Result<Index<'a>>
-    ensures reads { ReadsLight seen_index result
-        (start.reads parser.old.left) parser.old parser.new }
+    ensures reads { Reads (plain seen_index) start result parser.old parser.new }
 {
     parser.keyword("start")?;
     Index::parse(parser)
@@ -86,8 +87,8 @@ fn read_start<'a>(parser: &mut Parser<'a>) -> Result<Index<'a>>
 /// The function to start with, an element or data segment, or a custom section.
 #[tactic(auto, unfolding(crate::specs::Field::last_field))]
 fn read_last<'a>(parser: &mut Parser<'a>) -> Result<ModuleField<'a>>
-    ensures reads { ReadsIf false false bare_field seen_field result
-        (last_field.reads parser.old.left) parser.old parser.new }
+    ensures reads { ReadsAt turns_too (owning seen_field bare_field) last_field result parser.old
+        parser.new }
 {
     if parser.next_is("start") {
         return Ok(ModuleField::Start(read_start(parser)?));
@@ -104,8 +105,8 @@ fn read_last<'a>(parser: &mut Parser<'a>) -> Result<ModuleField<'a>>
 /// A global, an export, a tag, or one of the last.
 #[tactic(auto, unfolding(crate::specs::Field::further_field))]
 fn read_further<'a>(parser: &mut Parser<'a>) -> Result<ModuleField<'a>>
-    ensures reads { ReadsIf false false bare_field seen_field result
-        (further_field.reads parser.old.left) parser.old parser.new }
+    ensures reads { ReadsAt turns_too (owning seen_field bare_field) further_field result parser.old
+        parser.new }
 {
     if parser.next_is("global") {
         return Ok(ModuleField::Global(Global::parse(parser)?));
@@ -122,8 +123,8 @@ fn read_further<'a>(parser: &mut Parser<'a>) -> Result<ModuleField<'a>>
 /// A function, a table, a memory, or one of the further.
 #[tactic(auto, unfolding(crate::specs::Field::defined_field))]
 fn read_defined<'a>(parser: &mut Parser<'a>) -> Result<ModuleField<'a>>
-    ensures reads { ReadsIf false false bare_field seen_field result
-        (defined_field.reads parser.old.left) parser.old parser.new }
+    ensures reads { ReadsAt turns_too (owning seen_field bare_field) defined_field result parser.old
+        parser.new }
 {
     if parser.next_is("func") {
         return Ok(ModuleField::Func(Func::parse(parser)?));
@@ -143,15 +144,9 @@ fn read_defined<'a>(parser: &mut Parser<'a>) -> Result<ModuleField<'a>>
 impl<'a> Parse<'a> for ModuleField<'a> {
     ghost Seen = { ModuleFieldTy };
 
-    ghost seen = { seen_field };
+    ghost view = { owning seen_field bare_field };
 
-    ghost light = { false };
-
-    ghost bare = { bare_field };
-
-    ghost quiet = { false };
-
-    ghost stays = { false };
+    ghost cost = { turns_too };
 
     ghost grammar = { module_field };
 

@@ -1,17 +1,19 @@
 //! Modules.
 
-ghost use Rattle.std.specs.Prelude.{◌≡◌, ◌≢◌, ◌≤◌, ◌+◌, ◌++◌, List, length, max, true, false, IfOk};
+ghost use Rattle.std.specs.Prelude.{◌≡◌, ◌≢◌, ◌≤◌, ◌+◌, ◌++◌, List, length, max, true, IfOk};
 ghost use Rattle.std.specs.Prelude.{IfErr};
+ghost use Rattle.wat_tokens.specs.Cost.{turns_too};
 ghost use Rattle.wat_tokens.specs.Counts.{Counted, Turned, Grows, Kept};
 ghost use Rattle.wat_tokens.specs.Error.{Memory};
 ghost use Rattle.wat_tokens.specs.Parens.{nest};
-ghost use Rattle.wat_tokens.specs.Parses.{Gives, Accepts};
+ghost use Rattle.wat_tokens.specs.Parses.{Accepts};
 ghost use Rattle.wat_tokens.specs.Production.{Front};
-ghost use Rattle.wat_tokens.specs.Reads.{ReadsIf};
+ghost use Rattle.wat_tokens.specs.Reads.{ReadsAt};
 ghost use Rattle.wat_tokens.specs.Sight.{as_shown};
 ghost use Rattle.wat_tokens.specs.State.{behind, lit};
 ghost use Rattle.wat_tokens.specs.Tests.{ends, more};
 ghost use Rattle.wat_tokens.specs.Token.{Tok};
+ghost use Rattle.wat_tokens.specs.Views.{owning};
 ghost use Rattle.wat_core.specs.Field.{ModuleFieldTy, seen_field, bare_field};
 ghost use Rattle.wat_core.specs.Module.{ModuleTy, seen_module_kind, bare_module_kind, module_kind};
 ghost use Rattle.wat_core.specs.Module.{seen_module, bare_module, module_};
@@ -53,13 +55,9 @@ struct FieldGroup;
 impl<'a> Part<'a, ModuleField<'a>> for FieldGroup {
     ghost Seen = { ModuleFieldTy };
 
-    ghost seen = { seen_field };
+    ghost view = { owning seen_field bare_field };
 
-    ghost light = { false };
-
-    ghost bare = { bare_field };
-
-    ghost quiet = { false };
+    ghost cost = { turns_too };
 
     ghost grammar = { field_group };
 
@@ -77,8 +75,8 @@ impl<'a> Part<'a, ModuleField<'a>> for FieldGroup {
 /// `binary` and strings, or fields in their groups.
 #[tactic(auto, using(crate::specs::Laws::Module::field_group_eats), unfolding(crate::specs::Module::module_kind, crate::specs::Module::fields, crate::specs::Module::pieces))]
 fn read_kind<'a>(parser: &mut Parser<'a>) -> Result<ModuleKind<'a>>
-    ensures reads { ReadsIf false false bare_module_kind seen_module_kind result
-        (module_kind.reads parser.old.left) parser.old parser.new }
+    ensures reads { ReadsAt turns_too (owning seen_module_kind bare_module_kind) module_kind result
+        parser.old parser.new }
 {
     if parser.next_is("binary") {
         parser.keyword("binary")?;
@@ -94,15 +92,9 @@ struct Named<'a>(Module<'a>);
 impl<'a> Parse<'a> for Named<'a> {
     ghost Seen = { ModuleTy };
 
-    ghost seen = { λ m. seen_module m.0 };
+    ghost view = { owning (λ m. seen_module m.0) bare_module };
 
-    ghost light = { false };
-
-    ghost bare = { bare_module };
-
-    ghost quiet = { false };
-
-    ghost stays = { false };
+    ghost cost = { turns_too };
 
     ghost grammar = { module_ };
 
@@ -137,7 +129,7 @@ impl<'a> Module<'a> {
             (seen_module m, (lit parser.new).left)) }
         // Where tokens in front spell a module, it is that one, or memory ran out.
         ensures accepts { (v : ModuleTy) (c r : List Tok) → (lit parser.old).left ≡ c ++ r
-            → module_.spells v c r → Accepts seen_module bare_module result v
+            → module_.spells v c r → Accepts (owning seen_module bare_module) result v
             (lit parser.new).left r }
         // A fault other than Memory means that no tokens in front spell a module.
         ensures refused { IfErr result (λ e. e.fault ≢ Memory → (v : ModuleTy) (c r : List Tok)

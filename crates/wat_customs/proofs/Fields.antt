@@ -3,7 +3,8 @@ use Rattle.std.proofs.Common.{◌≡◌, false, List, [], ◌∷◌, ◌++◌, S
 use Rattle.wat_tokens.specs.Laws.Filled.{filled_before, filled_behind}
 use Rattle.wat_tokens.specs.Production.{Read, bind}
 use Rattle.wat_tokens.specs.Many.{after_front}
-use Rattle.wat_tokens.specs.Parses.{NotBare, no_items}
+use Rattle.wat_tokens.specs.Parses.{NotBare}
+use Rattle.wat_tokens.specs.Views.{no_items}
 use Rattle.wat_customs.specs.Producers.{field_with_entries, fields_of}
 use Rattle.wat_customs.specs.ProducerEntry.{Versioned, ProducerTy}
 use Rattle.wat_customs.specs.declared.producers.Field.{Field}

@@ -3,8 +3,9 @@ use Rattle.std.proofs.Common.{◌≤◌, Bool, List, refl}
 use Rattle.wat_tokens.specs.Token.{Tok}
 use Rattle.wat_tokens.specs.Production.{Production}
 use Rattle.wat_tokens.specs.Laws.Production.{by_read}
-use Rattle.wat_tokens.specs.Parses.{NotBare, no_items}
 use Rattle.wat_tokens.specs.ManySpells.{many_reads}
+use Rattle.wat_tokens.specs.Parses.{NotBare}
+use Rattle.wat_tokens.specs.Views.{no_items}
 use Rattle.wat_customs.specs.Dylink.{run}
 
 pub run_not_bare : {A : Type 0} (begins : List Tok → Bool) (g : Production A) (eats : 1 ≤ g.least) (t : List Tok) → NotBare no_items ((run begins g eats).reads t)

@@ -4,7 +4,7 @@ use Rattle.std.specs.Str.{bytes_eq}
 use Rattle.wat_tokens.specs.Token.{Tok, Annotation}
 use Rattle.wat_tokens.specs.Production.{Production}
 use Rattle.wat_tokens.specs.Parts.{made, where_else}
-use Rattle.wat_tokens.specs.Parses.{no_items}
+use Rattle.wat_tokens.specs.Views.{no_items}
 use Rattle.wat_customs.specs.Raw.{RawTy, seen_raw, bare_raw, raw_custom}
 use Rattle.wat_customs.specs.Producers.{seen_producers, producers}
 use Rattle.wat_customs.specs.ProducerEntry.{Versioned}

@@ -9,8 +9,8 @@ use Rattle.wat_tokens.specs.Parts.{seq, made, where_else, opt}
 use Rattle.wat_tokens.specs.Groups.{group}
 use Rattle.wat_tokens.specs.Many.{many}
 use Rattle.wat_tokens.specs.Integers.{unsigned}
-use Rattle.wat_tokens.specs.Parses.{no_items}
 use Rattle.wat_tokens.specs.Strings.{text}
+use Rattle.wat_tokens.specs.Views.{no_items}
 use Rattle.wat_customs.specs.declared.dylink.Dylink0.{Dylink0}
 use Rattle.wat_customs.specs.declared.dylink.Dylink0Subsection.{Dylink0Subsection}
 use Rattle.wat_customs.specs.declared.dylink.Dylink0Subsection.TheVariants as code

@@ -6,8 +6,8 @@ use Rattle.wat_tokens.specs.Production.{Production}
 use Rattle.wat_tokens.specs.Parts.{seq, made, opt, annotation}
 use Rattle.wat_tokens.specs.Groups.{paren}
 use Rattle.wat_tokens.specs.Many.{many}
-use Rattle.wat_tokens.specs.Parses.{no_items}
 use Rattle.wat_tokens.specs.Strings.{string, text}
+use Rattle.wat_tokens.specs.Views.{no_items}
 use Rattle.wat_customs.specs.Place.{custom_place}
 use Rattle.wat_customs.specs.declared.place.CustomPlace.{CustomPlace}
 use Rattle.wat_customs.specs.declared.place.CustomPlace.TheVariants.{AfterLast}

@@ -1,6 +1,7 @@
 //! Custom sections.
 
-ghost use Rattle.std.specs.Prelude.{◌≡◌, false};
+ghost use Rattle.std.specs.Prelude.{◌≡◌};
+ghost use Rattle.wat_tokens.specs.Views.{owning};
 ghost use Rattle.wat_customs.specs.Custom.{CustomTy, seen_custom, bare_custom, place_of};
 ghost use Rattle.wat_customs.specs.Custom.{custom_name, begins_annotated, custom};
 
@@ -61,11 +62,7 @@ fn annotation_next(parser: &Parser<'_>, name: &str) -> bool
 impl<'a> Parse<'a> for Custom<'a> {
     ghost Seen = { CustomTy };
 
-    ghost seen = { seen_custom };
-
-    ghost light = { false };
-
-    ghost bare = { bare_custom };
+    ghost view = { owning seen_custom bare_custom };
 
     ghost grammar = { custom };
 

@@ -1,9 +1,9 @@
 //! The `dylink.0` section.
 
-ghost use Rattle.std.specs.Prelude.{◌≡◌, ℕ, codes, true, false, List, map};
-ghost use Rattle.wat_tokens.specs.Parses.{no_items};
-ghost use Rattle.wat_tokens.specs.Reads.{Reads, ReadsLight};
+ghost use Rattle.std.specs.Prelude.{◌≡◌, ℕ, codes, List, map};
+ghost use Rattle.wat_tokens.specs.Reads.{Reads};
 ghost use Rattle.wat_tokens.specs.Tests.{more};
+ghost use Rattle.wat_tokens.specs.Views.{plain, owning, no_items};
 ghost use Rattle.wat_customs.specs.Dylink.{SubsectionTy, seen_dylink_export, seen_dylink_import};
 ghost use Rattle.wat_customs.specs.Dylink.{seen_subsection};
 ghost use Rattle.wat_customs.specs.Dylink.{seen_dylink, bare_subsection, id_of, sizes};
@@ -72,8 +72,7 @@ impl Dylink0Subsection<'_> {
 /// `( word size alignment )`, where the second token is the word; else 0 and 0.
 #[tactic(auto, unfolding(crate::specs::Dylink::sizes))]
 fn read_sizes<'a>(parser: &mut Parser<'a>, word: &str) -> Result<(u32, u32)>
-    ensures reads { ReadsLight (λ s. s) result ((sizes word.now).reads parser.old.left) parser.old
-        parser.new }
+    ensures reads { Reads (plain (λ s. s)) (sizes word.now) result parser.old parser.new }
 {
     if !parser.second_is(word) {
         return Ok((0, 0));
@@ -89,8 +88,7 @@ fn read_sizes<'a>(parser: &mut Parser<'a>, word: &str) -> Result<(u32, u32)>
 /// `( mem-info ( memory u32 u32 ) ( table u32 u32 ) )`, the inner groups there or not.
 #[tactic(auto, unfolding(crate::specs::Dylink::mem_info_entry))]
 fn read_mem_info<'a>(parser: &mut Parser<'a>) -> Result<Dylink0Subsection<'a>>
-    ensures reads { ReadsLight seen_subsection result (mem_info_entry.reads parser.old.left)
-        parser.old parser.new }
+    ensures reads { Reads (plain seen_subsection) mem_info_entry result parser.old parser.new }
 {
     parser.open()?;
     parser.keyword("mem-info")?;
@@ -108,8 +106,8 @@ fn read_mem_info<'a>(parser: &mut Parser<'a>) -> Result<Dylink0Subsection<'a>>
 /// The word and names, in parentheses.
 #[tactic(auto, unfolding(crate::specs::Dylink::names_entry))]
 fn read_names<'a>(parser: &mut Parser<'a>, word: &str) -> Result<Vec<&'a str>>
-    ensures reads { Reads no_items (λ v. map (λ x. x.now) v.items) result
-        ((names_entry word.now).reads parser.old.left) parser.old parser.new }
+    ensures reads { Reads (owning (λ v. map (λ x. x.now) v.items) no_items) (names_entry word.now)
+        result parser.old parser.new }
 {
     parser.open()?;
     parser.keyword(word)?;
@@ -122,8 +120,8 @@ fn read_names<'a>(parser: &mut Parser<'a>, word: &str) -> Result<Vec<&'a str>>
 /// An entry that is no export or import entry.
 #[tactic(auto, unfolding(crate::specs::Dylink::lone_entry))]
 fn read_lone<'a>(parser: &mut Parser<'a>) -> Result<Dylink0Subsection<'a>>
-    ensures reads { Reads bare_subsection seen_subsection result
-        (lone_entry.reads parser.old.left) parser.old parser.new }
+    ensures reads { Reads (owning seen_subsection bare_subsection) lone_entry result parser.old
+        parser.new }
 {
     if parser.group_is("mem-info") {
         return read_mem_info(parser);
@@ -147,9 +145,7 @@ struct ExportEntry;
 impl<'a> Part<'a, (&'a str, u32)> for ExportEntry {
     ghost Seen = { List ℕ × ℕ };
 
-    ghost seen = { seen_dylink_export };
-
-    ghost bare = { λ _. true };
+    ghost view = { plain seen_dylink_export };
 
     ghost grammar = { export_entry };
 
@@ -176,9 +172,7 @@ struct ImportEntry;
 impl<'a> Part<'a, (&'a str, &'a str, u32)> for ImportEntry {
     ghost Seen = { List ℕ × List ℕ × ℕ };
 
-    ghost seen = { seen_dylink_import };
-
-    ghost bare = { λ _. true };
+    ghost view = { plain seen_dylink_import };
 
     ghost grammar = { import_entry };
 
@@ -203,9 +197,8 @@ impl<'a> Part<'a, (&'a str, &'a str, u32)> for ImportEntry {
 /// An export entry, and all that stand behind it.
 #[tactic(auto, using(crate::specs::Laws::DylinkEntries::export_entry_eats, crate::proofs::Runs::run_not_bare))]
 fn read_exports<'a>(parser: &mut Parser<'a>) -> Result<Vec<(&'a str, u32)>>
-    ensures reads { Reads no_items (λ v. map seen_dylink_export v.items) result
-        ((run begins_export export_entry export_entry_eats).reads parser.old.left) parser.old
-        parser.new }
+    ensures reads { Reads (owning (λ v. map seen_dylink_export v.items) no_items)
+        (run begins_export export_entry export_entry_eats) result parser.old parser.new }
 {
     let mut entries = Vec::new(parser.alloc());
     entries.push(ExportEntry::take(parser)?)?;
@@ -216,9 +209,8 @@ fn read_exports<'a>(parser: &mut Parser<'a>) -> Result<Vec<(&'a str, u32)>>
 /// An import entry, and all that stand behind it.
 #[tactic(auto, using(crate::specs::Laws::DylinkEntries::import_entry_eats, crate::proofs::Runs::run_not_bare))]
 fn read_imports<'a>(parser: &mut Parser<'a>) -> Result<Vec<(&'a str, &'a str, u32)>>
-    ensures reads { Reads no_items (λ v. map seen_dylink_import v.items) result
-        ((run begins_import import_entry import_entry_eats).reads parser.old.left) parser.old
-        parser.new }
+    ensures reads { Reads (owning (λ v. map seen_dylink_import v.items) no_items)
+        (run begins_import import_entry import_entry_eats) result parser.old parser.new }
 {
     let mut entries = Vec::new(parser.alloc());
     entries.push(ImportEntry::take(parser)?)?;
@@ -232,11 +224,7 @@ struct Subsection;
 impl<'a> Part<'a, Dylink0Subsection<'a>> for Subsection {
     ghost Seen = { SubsectionTy };
 
-    ghost seen = { seen_subsection };
-
-    ghost light = { false };
-
-    ghost bare = { bare_subsection };
+    ghost view = { owning seen_subsection bare_subsection };
 
     ghost grammar = { subsection };
 
@@ -265,11 +253,7 @@ impl<'a> Part<'a, Dylink0Subsection<'a>> for Subsection {
 impl<'a> Parse<'a> for Dylink0<'a> {
     ghost Seen = { List SubsectionTy };
 
-    ghost seen = { seen_dylink };
-
-    ghost light = { false };
-
-    ghost bare = { no_items };
+    ghost view = { owning seen_dylink no_items };
 
     ghost grammar = { dylink };
 

@@ -1,8 +1,9 @@
 //! Flags of symbols in the `dylink.0` section.
 
 ghost use Rattle.std.specs.Prelude.{◌≡◌};
-ghost use Rattle.wat_tokens.specs.Reads.{ReadsLight};
+ghost use Rattle.wat_tokens.specs.Reads.{Reads};
 ghost use Rattle.wat_tokens.specs.Tests.{look_up, more};
+ghost use Rattle.wat_tokens.specs.Views.{plain};
 ghost use Rattle.wat_customs.specs.Flags.{symbol_flags};
 ghost use Rattle.wat_customs.specs.FlagBits.{flag_words, flag_bits};
 
@@ -30,8 +31,7 @@ fn bit_of(word: &str) -> Option<u32>
 /// Unexpected, at the word, and a number that is too large or has a `-` with Range.
 #[tactic(auto, using(crate::proofs::FlagReads::reads_number, crate::proofs::FlagReads::reads_word, crate::proofs::FlagReads::reads_no_word), unfolding(crate::specs::FlagBits::flag_bits))]
 fn read_flag<'a>(parser: &mut Parser<'a>) -> Result<u32>
-    ensures reads { ReadsLight (λ n. n) result (flag_bits.reads parser.old.left) parser.old
-        parser.new }
+    ensures reads { Reads (plain (λ n. n)) flag_bits result parser.old parser.new }
 {
     if parser.peek::<u32>() {
         return u32::parse(parser);
@@ -45,8 +45,7 @@ fn read_flag<'a>(parser: &mut Parser<'a>) -> Result<u32>
 
 /// The flags of a symbol, up to the end of the group: numbers and words, joined by or.
 pub(crate) fn read_flags<'a>(parser: &mut Parser<'a>) -> Result<u32>
-    ensures reads { ReadsLight (λ n. n) result (symbol_flags.reads parser.old.left) parser.old
-        parser.new }
+    ensures reads { Reads (plain (λ n. n)) symbol_flags result parser.old parser.new }
 {
     let mut flags = 0;
     'flags: while !parser.is_empty() {

@@ -1,8 +1,8 @@
 //! Where a custom section stands.
 
-ghost use Rattle.std.specs.Prelude.{true};
-ghost use Rattle.wat_tokens.specs.Reads.{ReadsLight};
 ghost use Rattle.wat_customs.specs.Place.{anchor_words, before, after};
+ghost use Rattle.wat_tokens.specs.Reads.{Reads};
+ghost use Rattle.wat_tokens.specs.Views.{plain};
 
 use wat_tokens::words::{Named, take_named};
 use wat_tokens::{Parse, Parser, Result};
@@ -81,9 +81,7 @@ impl<'a> Parse<'a> for CustomPlaceAnchor {
 
     ghost Seen = { CustomPlaceAnchor };
 
-    ghost seen = { λ a. a };
-
-    ghost bare = { λ _. true };
+    ghost view = { plain (λ a. a) };
 
     ghost grammar = { section };
 
@@ -96,8 +94,7 @@ impl<'a> Parse<'a> for CustomPlaceAnchor {
 /// `before first` or `before` and a section.
 #[tactic(auto, unfolding(crate::specs::Place::before))]
 fn read_before<'a>(parser: &mut Parser<'a>) -> Result<CustomPlace>
-    ensures reads { ReadsLight (λ p. p) result
-        (before.reads parser.old.left) parser.old parser.new }
+    ensures reads { Reads (plain (λ p. p)) before result parser.old parser.new }
 {
     parser.keyword("before")?;
     if parser.next_is("first") {
@@ -110,7 +107,7 @@ fn read_before<'a>(parser: &mut Parser<'a>) -> Result<CustomPlace>
 /// `after last` or `after` and a section.
 #[tactic(auto, unfolding(crate::specs::Place::after))]
 fn read_after<'a>(parser: &mut Parser<'a>) -> Result<CustomPlace>
-    ensures reads { ReadsLight (λ p. p) result (after.reads parser.old.left) parser.old parser.new }
+    ensures reads { Reads (plain (λ p. p)) after result parser.old parser.new }
 {
     parser.keyword("after")?;
     if parser.next_is("last") {
@@ -127,9 +124,7 @@ impl<'a> Parse<'a> for CustomPlace {
 
     ghost Seen = { CustomPlace };
 
-    ghost seen = { λ p. p };
-
-    ghost bare = { λ _. true };
+    ghost view = { plain (λ p. p) };
 
     ghost grammar = { custom_place };
 

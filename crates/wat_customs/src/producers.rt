@@ -1,7 +1,7 @@
 //! The `producers` section.
 
-ghost use Rattle.std.specs.Prelude.{◌≡◌, ◌++◌, ℕ, true, false, List, map, IfOk, IfErr};
-ghost use Rattle.wat_tokens.specs.Parses.{no_items};
+ghost use Rattle.std.specs.Prelude.{◌≡◌, ◌++◌, ℕ, false, List, map, IfOk, IfErr};
+ghost use Rattle.wat_tokens.specs.Views.{plain, owning, no_items};
 ghost use Rattle.wat_customs.specs.Producers.{word_of, same_field, seen_entry, seen_entries};
 ghost use Rattle.wat_customs.specs.Producers.{seen_names, seen_producers, field_entries};
 ghost use Rattle.wat_customs.specs.Producers.{field_with_entries};
@@ -87,9 +87,7 @@ impl<'a> Parse<'a> for Field {
 
     ghost Seen = { Field };
 
-    ghost seen = { λ f. f };
-
-    ghost bare = { λ _. true };
+    ghost view = { plain (λ f. f) };
 
     ghost grammar = { field_word };
 
@@ -103,9 +101,7 @@ impl<'a> Parse<'a> for Field {
 impl<'a> Parse<'a> for ProducerEntry<'a> {
     ghost Seen = { ProducerTy };
 
-    ghost seen = { seen_entry };
-
-    ghost bare = { λ _. true };
+    ghost view = { plain seen_entry };
 
     ghost grammar = { producer_entry };
 
@@ -186,11 +182,7 @@ fn fields_of<'a>(
 impl<'a> Parse<'a> for Producers<'a> {
     ghost Seen = { List (List ℕ × List Versioned) };
 
-    ghost seen = { seen_producers };
-
-    ghost light = { false };
-
-    ghost bare = { no_items };
+    ghost view = { owning seen_producers no_items };
 
     ghost grammar = { producers };
 

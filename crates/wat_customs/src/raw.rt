@@ -1,9 +1,10 @@
 //! Custom sections of any name, with their bytes.
 
-ghost use Rattle.std.specs.Prelude.{◌≡◌, false};
-ghost use Rattle.wat_tokens.specs.Reads.{ReadsLight};
+ghost use Rattle.std.specs.Prelude.{◌≡◌};
 ghost use Rattle.wat_customs.specs.Raw.{RawTy, seen_raw, bare_raw, raw_place, raw_custom};
+ghost use Rattle.wat_tokens.specs.Reads.{Reads};
 ghost use Rattle.wat_tokens.specs.Tests.{begins_lparen};
+ghost use Rattle.wat_tokens.specs.Views.{plain, owning};
 
 use crate::place::CustomPlace;
 use wat_tokens::repeat::rest_of_group;
@@ -33,8 +34,7 @@ fn lparen_next(parser: &Parser<'_>) -> bool
 /// `( place )`, where a `(` stands in front; else behind the last section.
 #[tactic(auto, unfolding(crate::specs::Raw::raw_place))]
 fn read_place<'a>(parser: &mut Parser<'a>) -> Result<CustomPlace>
-    ensures reads { ReadsLight (λ p. p) result (raw_place.reads parser.old.left) parser.old
-        parser.new }
+    ensures reads { Reads (plain (λ p. p)) raw_place result parser.old parser.new }
 {
     if !lparen_next(parser) {
         return Ok(CustomPlace::AfterLast);
@@ -49,11 +49,7 @@ fn read_place<'a>(parser: &mut Parser<'a>) -> Result<CustomPlace>
 impl<'a> Parse<'a> for RawCustomSection<'a> {
     ghost Seen = { RawTy };
 
-    ghost seen = { seen_raw };
-
-    ghost light = { false };
-
-    ghost bare = { bare_raw };
+    ghost view = { owning seen_raw bare_raw };
 
     ghost grammar = { raw_custom };
 

@@ -4,7 +4,7 @@ use Rattle.wat_tokens.specs.Token.{Tok, RParen}
 use Rattle.wat_instr.specs.Instruction.{Instr, else_instr, end_instr}
 use Rattle.wat_expr.specs.Expression.{Expr, expression_spells}
 use Rattle.wat_expr.specs.Laws.Facts.{reads_shorter}
-use Rattle.wat_expr.specs.Folded.{Groups, NoGroup, Group, groups, plain, folded_spells}
+use Rattle.wat_expr.specs.Folded.{Groups, NoGroup, Group, groups, unfolded_groups, folded_spells}
 use Rattle.wat_expr.specs.Items.{Items, Nil, Plain, Folded, Block, IfThen, IfElse, Hinted, lists, unfolded, hints, hints_behind, mark, count_hints}
 use Rattle.wat_expr.specs.Progress.{Fits}
 use Rattle.wat_expr.specs.Rising.{Rises}
@@ -137,12 +137,12 @@ spelled_fewer v c r (xs, l, k, e) =
     let f : length v.instrs ≡ length (unfolded xs) = ap (λ (x : Expr). length x.instrs) e in
     omega (arith, f, fewer_than_tokens xs (c ++ r) r l, length-append c r)
 
-groups_fewer : (gs : Groups) (t r : List Tok) → groups gs t r → length (plain gs) + length r ≤ length t
+groups_fewer : (gs : Groups) (t r : List Tok) → groups gs t r → length (unfolded_groups gs) + length r ≤ length t
 groups_fewer NoGroup t r l = rw l (omega arith)
 groups_fewer (Group i gs hs) t r (u, v, w, e, h, l, k) =
     omega (arith, ap length e, length-append {A = Instr}, reads_shorter i u v h, groups_fewer gs v (RParen ∷ w) l, groups_fewer hs w r k)
 
 pub folded_fewer : (v : Expr) (c r : List Tok) → folded_spells v c r → length v.instrs ≤ length c
 folded_fewer v c r (i, gs, (a, b, e, h, l), k) =
-    let f : length v.instrs ≡ length (plain gs ++ i ∷ []) = ap (λ (x : Expr). length x.instrs) k in
+    let f : length v.instrs ≡ length (unfolded_groups gs ++ i ∷ []) = ap (λ (x : Expr). length x.instrs) k in
     omega (arith, f, reads_shorter i a b h, groups_fewer gs b (RParen ∷ r) l, ap length e, length-append c r, length-append {A = Instr})

@@ -13,7 +13,7 @@ use Rattle.wat_instr.specs.Operand.{operand}
 use Rattle.wat_instr.specs.Operand as operands
 use Rattle.wat_expr.specs.Expression.{value_of, expression_spells}
 use Rattle.wat_expr.specs.FlatForm.{one_by_one, AreInstrs, own, flat_tokens, flat_groups, flat_folded, flat_value, how_many, PassesOwnAlone}
-use Rattle.wat_expr.specs.Folded.{Groups, NoGroup, Group, groups, is_folded, plain}
+use Rattle.wat_expr.specs.Folded.{Groups, NoGroup, Group, groups, is_folded, unfolded_groups}
 use Rattle.wat_expr.specs.Items.{Items, Nil, Plain, Folded, Block, IfThen, IfElse, Hinted, reads, lists, unfolded, hints, keyword, hint_name}
 
 -- ---- own tokens
@@ -102,7 +102,7 @@ module _ (stands : Stands) (follow : Follow) where
       both (both (items_flat ops b _ lo) (both (single i a b h) (both (items_flat th d _ lt) (both (spelled else_instr _ [] else_spelled) (both (items_flat el e _ le) end_flat))))) (items_flat xs f r lx)
   items_flat (Hinted v xs) ts r (d, e, lt, g, l) = items_flat xs d r l
 
-  groups_flat : (gs : Groups) (ts r : List Tok) (l : groups gs ts r) → IsFlat (plain gs) (flat_groups gs ts r l)
+  groups_flat : (gs : Groups) (ts r : List Tok) (l : groups gs ts r) → IsFlat (unfolded_groups gs) (flat_groups gs ts r l)
   groups_flat NoGroup ts r l = nothing
   groups_flat (Group i gs hs) ts r (a, b, d, e, h, l, k) = both (both (groups_flat gs b _ l) (single i a b h)) (groups_flat hs d r k)
 
@@ -120,7 +120,7 @@ module _ (stands : Stands) (follow : Follow) where
   at_end : (is : List Instr) (c : List Tok) → IsFlat is c → lists (one_by_one is) c []
   at_end is c p = subst (λ (t : List Tok). lists (one_by_one is) t []) (append-nil c) (p.before [] (inr refl, (refl, refl, refl))).0
 
-  pub folded_again : (i : Instr) (gs : Groups) (ts r : List Tok) (l : is_folded i gs ts r) → lists (one_by_one (plain gs ++ i ∷ [])) (flat_folded i gs ts r l) []
+  pub folded_again : (i : Instr) (gs : Groups) (ts r : List Tok) (l : is_folded i gs ts r) → lists (one_by_one (unfolded_groups gs ++ i ∷ [])) (flat_folded i gs ts r l) []
   folded_again i gs ts r (a, b, e, h, l) = at_end _ _ (both (groups_flat gs b _ l) (single i a b h))
 
   pub headed_again : (i : Instr) (xs : Items) (a b r : List Tok) (h : reads i a b) (l : lists xs b (RParen ∷ r)) → lists (one_by_one (unfolded xs ++ i ∷ [])) (flat_tokens xs b (RParen ∷ r) l ++ own a b) []

@@ -2,8 +2,6 @@
 use Rattle.std.proofs.Common.{◌≡◌, suc, List, [], ◌∷◌, length, Some, None, false, refl, sym, ap, ◌∙◌, arith, ◌⊎◌, inl, inr, ℕ, ◌+◌, ◌≤◌, ◌<◌, ◌++◌, Option, Bool, true, append_assoc}
 use Rattle.wat_tokens.specs.Token.{Tok, LParen, RParen}
 use Rattle.wat_tokens.specs.Laws.Filled.{filled_behind}
-use Rattle.wat_tokens.specs.Parses.{NotBare, no_items}
-use Rattle.wat_tokens.specs.PartSpells.{one_reads}
 use Rattle.wat_tokens.specs.Production.{Read, some_of}
 use Rattle.wat_tokens.specs.Laws.Production.{by_read, some_is, none_is_not}
 use Rattle.wat_tokens.specs.Tests.{as_lparen}
@@ -11,13 +9,16 @@ use Rattle.wat_instr.specs.Instruction.{Instr}
 use Rattle.wat_expr.specs.Expression.{Expr, bare_expression, seen_expression}
 use Rattle.wat_expr.specs.Laws.Facts.{read_of, reads_level, reads_shorter}
 use Rattle.wat_expr.specs.Items.{reads}
-use Rattle.wat_expr.specs.Folded.{Groups, plain, is_folded, folded_value, folded_reads, NoGroup, Group, groups, count_groups, depth_groups}
+use Rattle.wat_expr.specs.Folded.{Groups, unfolded_groups, is_folded, folded_value, folded_reads, NoGroup, Group, groups, count_groups, depth_groups}
 use Rattle.wat_expr.specs.Laws.Folded.{groups_at_complete, folded_sound}
 use Rattle.std.specs.Prelude.{MatchBool, max}
 use Rattle.std.proofs.lemmas.List.{append-nil}
 use Rattle.wat_tokens.specs.Counts.{Carries, Kept, Quiet, Stays}
 use Rattle.wat_tokens.specs.Parens.{opens, closes}
+use Rattle.wat_tokens.specs.Parses.{NotBare}
+use Rattle.wat_tokens.specs.PartSpells.{one_reads}
 use Rattle.wat_tokens.specs.State.{State}
+use Rattle.wat_tokens.specs.Views.{no_items}
 use Rattle.wat_expr.specs.Flat.{Flat, flat, no_output}
 use Rattle.wat_expr.specs.declared.expression.Expression.{Expression}
 use Rattle.wat_expr.specs.GroupTurn.{group_state, Opens, Closes, IsHalted}
@@ -48,7 +49,7 @@ not_bare_of None k = tt
 pub read_not_bare : (ts : List Tok) → NotBare bare_expression (folded_reads ts)
 read_not_bare ts =
     not_bare_of (folded_reads ts) (λ y e. (let s = (folded_sound ts y e).2 in
-    ap (λ (v : Expr). no_items v.instrs) s.3 ∙ filled_behind (plain s.1) (s.0 ∷ []) refl))
+    ap (λ (v : Expr). no_items v.instrs) s.3 ∙ filled_behind (unfolded_groups s.1) (s.0 ∷ []) refl))
 
 -- ---- the first tokens
 
@@ -131,7 +132,7 @@ halts (l ∷ s) ts f some open_ close_ o r u = u
 
 -- what groups come to, where k levels and h heads were noted already
 folds : (k h : ℕ) (gs : Groups) (f : Sum) → k ≤ f.peak → h ≤ f.held
-    → ((fold k h gs f).instrs ≡ f.instrs ++ plain gs) × (f.turns + count_groups gs ≤ (fold k h gs f).turns) × ((fold k h gs f).peak ≡ max f.peak (k + depth_groups gs)) × ((fold k h gs f).held ≡ max f.held (h + depth_groups gs))
+    → ((fold k h gs f).instrs ≡ f.instrs ++ unfolded_groups gs) × (f.turns + count_groups gs ≤ (fold k h gs f).turns) × ((fold k h gs f).peak ≡ max f.peak (k + depth_groups gs)) × ((fold k h gs f).held ≡ max f.held (h + depth_groups gs))
 folds k h NoGroup f p q = (sym (append-nil f.instrs), omega arith, omega arith, omega arith)
 folds k h (Group i gs hs) f p q =
     let g = opened (suc k) (suc h) f in
@@ -155,7 +156,7 @@ pub record Unwinding (ts : List Tok) (g : Sum) (s : List Level) (u : List Tok) (
   pub back : (o : Sum) (r : List Tok) → unwinds o r s u f → (i : Instr) × (gs : Groups) × is_folded i gs ts r × (o ≡ whole i gs g)
 
 whole_is : (i : Instr) (gs : Groups) (t p h : ℕ)
-    → ((whole i gs (start t p h)).instrs ≡ plain gs ++ i ∷ []) × (t + suc (count_groups gs) ≤ (whole i gs (start t p h)).turns) × (suc (depth_groups gs) ≤ (whole i gs (start t p h)).peak) × ((whole i gs (start t p h)).held ≡ max h (suc (depth_groups gs)))
+    → ((whole i gs (start t p h)).instrs ≡ unfolded_groups gs ++ i ∷ []) × (t + suc (count_groups gs) ≤ (whole i gs (start t p h)).turns) × (suc (depth_groups gs) ≤ (whole i gs (start t p h)).peak) × ((whole i gs (start t p h)).held ≡ max h (suc (depth_groups gs)))
 whole_is i gs t p h = let a = folds 1 1 gs (start t p h) (omega arith) (omega arith) in (ap (λ (l : List Instr). l ++ i ∷ []) a.0, omega (arith, a.1), omega (arith, a.2), omega (arith, a.3))
 
 begins : (i : Instr) (p : Option ℕ) (ts a b : List Tok) (g : Sum) → ts ≡ LParen ∷ a → reads i a b → Unwinding ts g (InFolded i p ∷ []) b g

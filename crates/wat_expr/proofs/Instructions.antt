@@ -3,6 +3,7 @@ use Rattle.std.proofs.Common.{◌≡◌, List, ◌∷◌, false, Result, Ok, Err
 use Rattle.wat_tokens.specs.Error.{Error}
 use Rattle.wat_tokens.specs.Parses.{Gives}
 use Rattle.wat_tokens.specs.Token.{Tok, LParen, RParen}
+use Rattle.wat_tokens.specs.Views.{owning}
 use Rattle.wat_instr.specs.Instruction.{Instr, Instruction, seen_instruction, bare_instruction, instruction}
 use Rattle.wat_expr.specs.Laws.Facts.{read_of, reads_of}
 use Rattle.wat_expr.specs.Flat.{Flat}
@@ -11,7 +12,7 @@ use Rattle.wat_expr.specs.Items.{reads}
 use Rattle.wat_expr.specs.Levels.{Level}
 use Rattle.wat_expr.specs.Taken.{ReadsInstr}
 
-pub reads_instr : (res : Result Instruction Error) (ts left : List Tok) → Gives false bare_instruction seen_instruction res (instruction.reads ts) left → ReadsInstr res ts left
+pub reads_instr : (res : Result Instruction Error) (ts left : List Tok) → Gives (owning seen_instruction bare_instruction) res (instruction.reads ts) left → ReadsInstr res ts left
 reads_instr (Ok i) ts left g = reads_of (seen_instruction i) ts left g
 reads_instr (Err e) ts left g = λ n i m h. (let none = g.0 n in let some = read_of i ts m h in absurd cc)
 

@@ -4,7 +4,6 @@ use Rattle.std.proofs.Common.{◌≡◌, ℕ, ◌+◌, ◌≤◌, List, [], ◌�
 use Rattle.std.proofs.lemmas.List.{length-map}
 use Rattle.wat_tokens.specs.Counts.{Carries, Kept, Stays}
 use Rattle.wat_tokens.specs.Error.{Error, Memory}
-use Rattle.wat_tokens.specs.Parses.{Gives, Accepts, NotBare, no_items}
 use Rattle.wat_tokens.specs.Production.{Read}
 use Rattle.wat_tokens.specs.State.{State}
 use Rattle.wat_tokens.specs.Tests.{ends}
@@ -12,6 +11,8 @@ use Rattle.wat_tokens.specs.Token.{Tok}
 use Rattle.wat_tokens.specs.Laws.Production.{by_read, some_is}
 use Rattle.wat_tokens.specs.Laws.Filled.{filled_before, filled_behind}
 use Rattle.wat_tokens.specs.Laws.Error.{by_fault}
+use Rattle.wat_tokens.specs.Parses.{Gives, Accepts, NotBare}
+use Rattle.wat_tokens.specs.Views.{owning, no_items}
 use Rattle.wat_instr.specs.Instruction.{seen_instruction}
 use Rattle.wat_expr.specs.declared.expression.Expression.{Expression}
 use Rattle.wat_expr.specs.declared.reader.Reader.{Reader}
@@ -176,24 +177,24 @@ found a b x l = reads_listed l.items a.left b.left l.listed l.ended ∙ ap (λ (
 
 -- where a turn was refused
 pub refused : (a b t : State) (r : Reader) (e : Error) → Reading a b r → t ≡ record b { turns = b.turns + 1 } → (r.levels ≡ [] → ends b.left ≡ true → ⊥) → (e.fault ≢ Memory → Stuck (stand r t.left))
-    → (e.fault ≢ Memory → expression.reads a.left ≡ None) × (e.fault ≡ Memory → (false ≡ false) × NotBare bare_expression (expression.reads a.left))
+    → (e.fault ≢ Memory → expression.reads a.left ≡ None) × (e.fault ≡ Memory → NotBare bare_expression (expression.reads a.left))
 refused a b t r e w tick undone stuck = (
   (λ n. reads_nothing_listed a.left (not_listed a b r w (rw (ap (λ (s : State). s.left) tick) at (stuck n)))),
-  (λ m. (refl, not_bare a.left (λ k. (let i = w.idle k in undone i.0 (ap ends i.1 ∙ k))))),
+  (λ m. (not_bare a.left (λ k. (let i = w.idle k in undone i.0 (ap ends i.1 ∙ k))))),
 )
 
 -- what is read is answered, or memory ran out and it isn't bare
-pub read_accepted : (res : Result Expression Error) (read : Read Expr) (left : List Tok) → Gives false bare_expression seen_expression res read left
-    → (v : Expr) (r : List Tok) → read ≡ Some (v, r) → Accepts seen_expression bare_expression res v left r
+pub read_accepted : (res : Result Expression Error) (read : Read Expr) (left : List Tok) → Gives (owning seen_expression bare_expression) res read left
+    → (v : Expr) (r : List Tok) → read ≡ Some (v, r) → Accepts (owning seen_expression bare_expression) res v left r
 read_accepted (Ok x) read left g v r e =
     let s = some_is (seen_expression x, left) (v, r) (sym g ∙ e) in
     (ap (λ (y : Expr × List Tok). y.0) s, ap (λ (y : Expr × List Tok). y.1) s)
 read_accepted (Err f) read left g v r e =
     by_fault f.fault
-    (λ m. (m, rw e at (g.1 m).1))
+    (λ m. (m, rw e at (g.1 m)))
     (λ not. (let none : read ≡ None = g.0 not in cc))
 
 -- the items that are listed are what is answered, or memory ran out
-pub accepted : (res : Result Expression Error) (ts left : List Tok) → Gives false bare_expression seen_expression res (expression.reads ts) left
-    → (xs : Items) (r : List Tok) → lists xs ts r → ends r ≡ true → Accepts seen_expression bare_expression res (value_of xs) left r
+pub accepted : (res : Result Expression Error) (ts left : List Tok) → Gives (owning seen_expression bare_expression) res (expression.reads ts) left
+    → (xs : Items) (r : List Tok) → lists xs ts r → ends r ≡ true → Accepts (owning seen_expression bare_expression) res (value_of xs) left r
 accepted res ts left g xs r l e = read_accepted res (expression.reads ts) left g (value_of xs) r (reads_listed xs ts r l e)

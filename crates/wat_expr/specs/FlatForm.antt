@@ -43,7 +43,7 @@ flat_tokens (IfElse i ops th el xs) ts r (a, b, d, e, f, q, s, h, g, lo, lt, le,
     ∷ []))))) ++ flat_tokens xs f r lx
 flat_tokens (Hinted v xs) ts r (d, e, lt, g, l) = flat_tokens xs d r l
 
--- the same of groups, as `plain` lists their instructions
+-- the same of groups, as `unfolded_groups` lists their instructions
 abbrev pub flat_groups : (gs : Groups) (ts r : List Tok) → groups gs ts r → List Tok
 flat_groups NoGroup ts r l = []
 flat_groups (Group i gs hs) ts r (a, b, d, e, h, l, k) =

@@ -19,9 +19,9 @@ groups (Group i gs hs) ts r =
     (a b d : List Tok) × (ts ≡ LParen ∷ a) × reads i a b × groups gs b (RParen ∷ d) × groups hs d r
 
 -- the instructions, each behind those of its groups
-abbrev pub plain : Groups → List Instr
-plain NoGroup = []
-plain (Group i gs hs) = (plain gs ++ i ∷ []) ++ plain hs
+abbrev pub unfolded_groups : Groups → List Instr
+unfolded_groups NoGroup = []
+unfolded_groups (Group i gs hs) = (unfolded_groups gs ++ i ∷ []) ++ unfolded_groups hs
 
 -- how many groups, and how deep they stand in each other
 abbrev pub count_groups : Groups → ℕ
@@ -38,7 +38,7 @@ is_folded i gs ts r = (a b : List Tok) × (ts ≡ LParen ∷ a) × reads i a b �
 
 -- what the group is as an expression
 abbrev pub folded_value : Instr → Groups → Expr
-folded_value i gs = record { instrs = plain gs ++ i ∷ []; hints = [] }
+folded_value i gs = record { instrs = unfolded_groups gs ++ i ∷ []; hints = [] }
 
 -- ---- the reader
 

@@ -9,8 +9,8 @@ use Rattle.wat_expr.specs.Items.{reads}
 use Rattle.wat_expr.specs.Progress.{suits}
 
 -- from ts to r the token was taken, or it doesn't stand in front and nothing was
-abbrev pub Takes : Tok → Bool → List Tok → List Tok → Type 0
-Takes t b ts r = MatchBool b (ts ≡ t ∷ r) ((r ≡ ts) × ((u : List Tok) → ts ≡ t ∷ u → ⊥))
+abbrev pub TakesIf : Tok → Bool → List Tok → List Tok → Type 0
+TakesIf t b ts r = MatchBool b (ts ≡ t ∷ r) ((r ≡ ts) × ((u : List Tok) → ts ≡ t ∷ u → ⊥))
 
 -- an instruction was read, or, unless memory ran out, none stands in front
 abbrev pub ReadsInstr : Result Instruction Error → List Tok → List Tok → Type 0

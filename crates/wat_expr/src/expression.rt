@@ -1,6 +1,6 @@
 //! Expressions.
 
-ghost use Rattle.std.specs.Prelude.{◌≡◌, [], ◌∷◌, ◌++◌, List, Option, map, None, true, false};
+ghost use Rattle.std.specs.Prelude.{◌≡◌, [], ◌∷◌, ◌++◌, List, Option, map, None, true};
 ghost use Rattle.std.specs.Prelude.{IfOk, IfErr, MatchResult};
 ghost use Rattle.wat_expr.specs.Expression.{Expr, seen_hint, seen_expression, bare_expression};
 ghost use Rattle.wat_expr.specs.Expression.{value_of, SpansAre, kept_spans, and_span};
@@ -9,10 +9,12 @@ ghost use Rattle.wat_expr.specs.Items.{Items, lists, mark};
 ghost use Rattle.wat_expr.specs.Listed.{IsListed};
 ghost use Rattle.wat_expr.specs.ExpressionProduction.{expression};
 ghost use Rattle.wat_instr.specs.Instruction.{seen_instruction, end_instr};
-ghost use Rattle.wat_tokens.specs.Parses.{Gives, Accepts};
-ghost use Rattle.wat_tokens.specs.Reads.{Parsed};
+ghost use Rattle.wat_tokens.specs.Cost.{turns_too};
+ghost use Rattle.wat_tokens.specs.Parses.{Accepts};
+ghost use Rattle.wat_tokens.specs.Reads.{ReadsAt};
 ghost use Rattle.wat_tokens.specs.Tests.{ends};
 ghost use Rattle.wat_tokens.specs.Token.{Tok};
+ghost use Rattle.wat_tokens.specs.Views.{owning};
 
 use crate::reader::Reader;
 use std::alloc::Global;
@@ -187,28 +189,22 @@ impl<'a> Expression<'a> {
 impl<'a> Parse<'a> for Expression<'a> {
     ghost Seen = { Expr };
 
-    ghost seen = { seen_expression };
+    ghost view = { owning seen_expression bare_expression };
 
-    ghost light = { false };
-
-    ghost bare = { bare_expression };
-
-    ghost quiet = { false };
-
-    ghost stays = { false };
+    ghost cost = { turns_too };
 
     ghost grammar = { expression };
 
     fn parse(parser: &mut Parser<'a>) -> Result<Self>
-        ensures reads { Parsed (Gives false bare_expression seen_expression result
-            (expression.reads parser.old.left) parser.new.left) false false result parser.old
-            parser.new }
+        ensures reads { ReadsAt turns_too (owning seen_expression bare_expression) expression result
+            parser.old parser.new }
         // The tokens that were taken list items, and these are their unfolding, their hints and
         // their counts.
         ensures listed { IfOk result (λ e. IsListed parser.old parser.new e) }
         // Where tokens in front list items, to the end, these are answered, unless memory ran out.
         ensures only { (xs : Items) (r : List Tok) → lists xs parser.old.left r → ends r ≡ true
-            → Accepts seen_expression bare_expression result (value_of xs) parser.new.left r }
+            → Accepts (owning seen_expression bare_expression) result (value_of xs) parser.new.left
+            r }
         ensures spans { IfOk result (λ e. SpansAre parser.old.tracks e) }
     {
         let mut reader = Reader::new(parser.alloc(), parser.tracks());

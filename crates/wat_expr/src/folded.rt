@@ -1,6 +1,6 @@
 //! Folded instructions of any kind, as element segments and inline tables have them.
 
-ghost use Rattle.std.specs.Prelude.{◌≡◌, List, false, IfOk};
+ghost use Rattle.std.specs.Prelude.{◌≡◌, List, IfOk};
 ghost use Rattle.wat_expr.specs.Expression.{Expr, seen_expression, bare_expression, SpansAre};
 ghost use Rattle.wat_expr.specs.Flat.{flat};
 ghost use Rattle.wat_expr.specs.Folded.{Groups, folded_value, is_folded};
@@ -8,10 +8,12 @@ ghost use Rattle.wat_expr.specs.FoldedProduction.{folded_instruction};
 ghost use Rattle.wat_expr.specs.GroupTurn.{GroupTurn, group_state};
 ghost use Rattle.wat_expr.specs.Listed.{IsFolded};
 ghost use Rattle.wat_instr.specs.Instruction.{Instr};
+ghost use Rattle.wat_tokens.specs.Cost.{turns_too};
 ghost use Rattle.wat_tokens.specs.Counts.{Counted, Kept};
 ghost use Rattle.wat_tokens.specs.Parses.{Gives, Accepts};
 ghost use Rattle.wat_tokens.specs.Steady.{Steady};
 ghost use Rattle.wat_tokens.specs.Token.{Tok};
+ghost use Rattle.wat_tokens.specs.Views.{owning};
 
 use crate::expression::Expression;
 use crate::level::{Head, Level, Levels};
@@ -65,12 +67,12 @@ impl<'a> Expression<'a> {
     pub fn parse_folded_instruction(parser: &mut Parser<'a>) -> Result<Expression<'a>>
         // What tokens in front spell is answered, and leaves what is behind them; memory alone may
         // refuse it.
-        ensures exact { Gives false bare_expression seen_expression result
+        ensures exact { Gives (owning seen_expression bare_expression) result
             (folded_instruction.reads parser.old.left) parser.new.left }
         // Where tokens in front list one group, it is the answer, unless memory ran out.
         ensures only { (i : Instr) (gs : Groups) (r : List Tok) → is_folded i gs parser.old.left r
-            → Accepts seen_expression bare_expression result
-            (folded_value i gs) parser.new.left r }
+            → Accepts (owning seen_expression bare_expression) result (folded_value i gs)
+            parser.new.left r }
         // What was read is one group, and these are its counts.
         ensures listed { IfOk result (λ e. IsFolded parser.old parser.new e) }
         ensures spans { IfOk result (λ e. SpansAre parser.old.tracks e) }
@@ -107,15 +109,9 @@ pub struct FoldedInstruction<'a>(pub Expression<'a>);
 impl<'a> Parse<'a> for FoldedInstruction<'a> {
     ghost Seen = { Expr };
 
-    ghost seen = { λ folded. seen_expression folded.0 };
+    ghost view = { owning (λ folded. seen_expression folded.0) bare_expression };
 
-    ghost light = { false };
-
-    ghost bare = { bare_expression };
-
-    ghost quiet = { false };
-
-    ghost stays = { false };
+    ghost cost = { turns_too };
 
     ghost grammar = { folded_instruction };
 

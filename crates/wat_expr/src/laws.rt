@@ -4,7 +4,7 @@ ghost use Rattle.std.specs.Prelude.{◌≡◌, ◌≤◌, ◌+◌, ◌∷◌, �
 ghost use Rattle.wat_expr.specs.Expression.{Expr};
 ghost use Rattle.wat_expr.specs.FlatForm.{one_by_one, AreInstrs, own, flat_tokens, flat_folded};
 ghost use Rattle.wat_expr.specs.FlatForm.{flat_value, how_many, PassesOwnAlone};
-ghost use Rattle.wat_expr.specs.Folded.{Groups, is_folded, plain};
+ghost use Rattle.wat_expr.specs.Folded.{Groups, is_folded, unfolded_groups};
 ghost use Rattle.wat_expr.specs.FoldedProduction.{folded_instruction};
 ghost use Rattle.wat_expr.specs.Items.{Items, reads, lists, unfolded, hints, count_hints};
 ghost use Rattle.wat_expr.specs.ExpressionProduction.{expression};
@@ -68,7 +68,7 @@ pub fn flat_again()
         (flat_tokens xs ts r l) r }
     // A folded instruction is listed again in front of nothing.
     ensures folded { (i : Instr) (gs : Groups) (ts r : List Tok) (l : is_folded i gs ts r)
-        → lists (one_by_one (plain gs ++ i ∷ [])) (flat_folded i gs ts r l) [] }
+        → lists (one_by_one (unfolded_groups gs ++ i ∷ [])) (flat_folded i gs ts r l) [] }
     // So is an instruction of any kind that stands in front of items in parentheses: behind them,
     // without an `end`.
     ensures headed { (i : Instr) (xs : Items) (a b r : List Tok) → reads i a b

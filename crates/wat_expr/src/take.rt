@@ -2,7 +2,7 @@
 
 ghost use Rattle.std.specs.Prelude.{◌≡◌, codes};
 ghost use Rattle.wat_expr.specs.Items.{hint_name, keyword};
-ghost use Rattle.wat_expr.specs.Taken.{Takes, TakesString, ReadsInstr};
+ghost use Rattle.wat_expr.specs.Taken.{TakesIf, TakesString, ReadsInstr};
 ghost use Rattle.wat_tokens.specs.Steady.{Steady};
 ghost use Rattle.wat_tokens.specs.Token.{LParen, RParen};
 
@@ -11,7 +11,7 @@ use wat_tokens::{Parse, Parser, Result};
 
 /// Takes a `(` where it stands in front, and answers whether it did.
 pub fn take_open(parser: &mut Parser<'_>) -> bool
-    ensures exact { Takes LParen result parser.old.left parser.new.left }
+    ensures exact { TakesIf LParen result parser.old.left parser.new.left }
     ensures steady { Steady parser.old parser.new }
 {
     parser.open().is_ok()
@@ -19,7 +19,7 @@ pub fn take_open(parser: &mut Parser<'_>) -> bool
 
 /// Takes a `)` where it stands in front, and answers whether it did.
 pub fn take_close(parser: &mut Parser<'_>) -> bool
-    ensures exact { Takes RParen result parser.old.left parser.new.left }
+    ensures exact { TakesIf RParen result parser.old.left parser.new.left }
     ensures steady { Steady parser.old parser.new }
 {
     parser.close().is_ok()
@@ -27,7 +27,7 @@ pub fn take_close(parser: &mut Parser<'_>) -> bool
 
 /// Takes the keyword where it stands in front, and answers whether it did.
 pub fn take_word(parser: &mut Parser<'_>, text: &str) -> bool
-    ensures exact { Takes (keyword text.now) result parser.old.left parser.new.left }
+    ensures exact { TakesIf (keyword text.now) result parser.old.left parser.new.left }
     ensures steady { Steady parser.old parser.new }
 {
     parser.keyword(text).is_ok()
@@ -35,7 +35,7 @@ pub fn take_word(parser: &mut Parser<'_>, text: &str) -> bool
 
 /// Takes the annotation of a branch hint where it stands in front, and answers whether it did.
 pub fn take_hint_name(parser: &mut Parser<'_>) -> bool
-    ensures exact { Takes hint_name result parser.old.left parser.new.left }
+    ensures exact { TakesIf hint_name result parser.old.left parser.new.left }
     ensures steady { Steady parser.old parser.new }
 {
     if parser.cursor().annotation().is_none() {

@@ -8,7 +8,8 @@ use Rattle.wat_tokens.specs.Laws.Many.{many_step, many_stop, many_fails}
 use Rattle.wat_tokens.specs.Laws.Production.{by_read}
 use Rattle.wat_tokens.specs.Many.{after_front}
 use Rattle.wat_tokens.specs.ManySpells.{many_at, many_reads}
-use Rattle.wat_tokens.specs.Parses.{NotBare, no_items}
+use Rattle.wat_tokens.specs.Parses.{NotBare}
+use Rattle.wat_tokens.specs.Views.{no_items}
 
 pub front_of_none : {A : Type 0} (read : Read (List A)) → after_front [] read ≡ read
 front_of_none (Some x) = refl

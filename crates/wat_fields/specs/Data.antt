@@ -7,7 +7,7 @@ use Rattle.wat_tokens.specs.Parts.{seq, made, where_else, opt, after_word}
 use Rattle.wat_tokens.specs.Groups.{group, paren}
 use Rattle.wat_tokens.specs.Index.{Idx, number, seen_index, index}
 use Rattle.wat_tokens.specs.Integers.{unsigned}
-use Rattle.wat_tokens.specs.Parses.{no_items}
+use Rattle.wat_tokens.specs.Views.{no_items}
 use Rattle.wat_types.specs.Label.{Label, seen_label, label}
 use Rattle.wat_expr.specs.Expression.{Expr, seen_expression, bare_expression}
 use Rattle.wat_fields.specs.Numbers.{begins_numbers}

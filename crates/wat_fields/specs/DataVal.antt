@@ -4,8 +4,8 @@ use Rattle.wat_tokens.specs.Tests.{begins_lparen}
 use Rattle.wat_tokens.specs.Production.{Production}
 use Rattle.wat_tokens.specs.Parts.{made, where_else}
 use Rattle.wat_tokens.specs.Groups.{paren}
-use Rattle.wat_tokens.specs.Parses.{no_items}
 use Rattle.wat_tokens.specs.Strings.{string}
+use Rattle.wat_tokens.specs.Views.{no_items}
 use Rattle.wat_fields.specs.Numbers.{number_list}
 use Rattle.wat_fields.specs.declared.data_val.DataVal.{DataVal}
 use Rattle.wat_fields.specs.declared.data_val.DataVal.TheVariants as code

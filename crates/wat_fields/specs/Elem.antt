@@ -7,7 +7,7 @@ use Rattle.wat_tokens.specs.Parts.{seq, made, where_else, opt, after_word}
 use Rattle.wat_tokens.specs.Groups.{group}
 use Rattle.wat_tokens.specs.Index.{Idx, number, seen_index, index}
 use Rattle.wat_tokens.specs.Integers.{unsigned}
-use Rattle.wat_tokens.specs.Parses.{seen_option}
+use Rattle.wat_tokens.specs.Views.{seen_option}
 use Rattle.wat_types.specs.Label.{Label, seen_label, label}
 use Rattle.wat_types.specs.Reference.{begins_ref}
 use Rattle.wat_expr.specs.Expression.{Expr, seen_expression, bare_expression}

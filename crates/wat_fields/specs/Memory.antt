@@ -5,7 +5,7 @@ use Rattle.wat_tokens.specs.Tests.{begins_word, second, begins_lparen}
 use Rattle.wat_tokens.specs.Production.{Production}
 use Rattle.wat_tokens.specs.Parts.{seq, made, where_else, after_word}
 use Rattle.wat_tokens.specs.Groups.{group}
-use Rattle.wat_tokens.specs.Parses.{no_items}
+use Rattle.wat_tokens.specs.Views.{no_items}
 use Rattle.wat_types.specs.Label.{seen_label}
 use Rattle.wat_types.specs.Limits.{is_64, pagesize_or_none, memory_type}
 use Rattle.wat_types.specs.declared.limits.MemoryType.{MemoryType}

@@ -6,7 +6,7 @@ use Rattle.wat_tokens.specs.Production.{Production}
 use Rattle.wat_tokens.specs.Parts.{seq, made, where_else, after_word}
 use Rattle.wat_tokens.specs.Many.{many}
 use Rattle.wat_tokens.specs.Index.{Idx, seen_index, index}
-use Rattle.wat_tokens.specs.Parses.{no_items}
+use Rattle.wat_tokens.specs.Views.{no_items}
 use Rattle.wat_types.specs.Heap.{HeapTy, abstract_}
 use Rattle.wat_types.specs.Reference.{RefTy, seen_ref, ref_type, begins_ref}
 use Rattle.wat_types.specs.declared.heap.AbstractHeapType.TheVariants as heap_word

@@ -5,7 +5,7 @@ use Rattle.wat_tokens.specs.Tests.{begins_word, begins_integer, more, second}
 use Rattle.wat_tokens.specs.Production.{Production}
 use Rattle.wat_tokens.specs.Parts.{seq, made, where_else, opt, flag, after_word}
 use Rattle.wat_tokens.specs.Groups.{group}
-use Rattle.wat_tokens.specs.Parses.{seen_option, bare_option}
+use Rattle.wat_tokens.specs.Views.{seen_option, bare_option}
 use Rattle.wat_types.specs.Label.{seen_label}
 use Rattle.wat_types.specs.Limits.{is_64, TableTy, seen_table_type, table_type}
 use Rattle.wat_types.specs.Reference.{RefTy, seen_ref, ref_type, begins_ref}

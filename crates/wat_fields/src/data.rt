@@ -1,9 +1,10 @@
 //! Data segments.
 
-ghost use Rattle.std.specs.Prelude.{◌≡◌, false, IfOk};
+ghost use Rattle.std.specs.Prelude.{◌≡◌, IfOk};
+ghost use Rattle.wat_tokens.specs.Cost.{turns_too};
 ghost use Rattle.wat_tokens.specs.Index.{seen_index};
-ghost use Rattle.wat_tokens.specs.Parses.{Gives};
-ghost use Rattle.wat_tokens.specs.Reads.{Parsed, ReadsIf, ReadsLight};
+ghost use Rattle.wat_tokens.specs.Reads.{Reads, ReadsAt};
+ghost use Rattle.wat_tokens.specs.Views.{plain, owning};
 ghost use Rattle.wat_fields.specs.Data.{seen_data_kind, bare_data_kind, begins_passive};
 ghost use Rattle.wat_fields.specs.Data.{data_memory, data_active, data_kind, DataTy, seen_data};
 ghost use Rattle.wat_fields.specs.Data.{bare_data, data_segment};
@@ -50,8 +51,7 @@ pub enum DataKind<'a> {
 /// The memory that a segment is put into; `span` is where a memory stands that isn't written.
 #[tactic(auto, unfolding(crate::specs::Data::data_memory))]
 fn read_memory<'a>(parser: &mut Parser<'a>, span: Span) -> Result<Index<'a>>
-    ensures reads { ReadsLight seen_index result (data_memory.reads parser.old.left) parser.old
-        parser.new }
+    ensures reads { Reads (plain seen_index) data_memory result parser.old parser.new }
 {
     if parser.peek::<u32>() {
         let number = u32::parse(parser)?;
@@ -78,8 +78,7 @@ fn passive_next(parser: &Parser<'_>) -> bool
 /// A memory and an offset.
 #[tactic(auto, unfolding(crate::specs::Data::data_active))]
 fn read_active<'a>(parser: &mut Parser<'a>, span: Span) -> Result<DataKind<'a>>
-    ensures reads { ReadsIf false false bare_data_kind seen_data_kind result
-        (data_active.reads parser.old.left) parser.old parser.new }
+    ensures reads { ReadsAt turns_too (owning seen_data_kind bare_data_kind) data_active result parser.old parser.new }
     ensures spans { IfOk result (λ k. DataSpansAre (offset_behind
         (data_memory.reads parser.old.left)) parser.old.tracks k) }
 {
@@ -93,8 +92,7 @@ fn read_active<'a>(parser: &mut Parser<'a>, span: Span) -> Result<DataKind<'a>>
 /// Passive, where that stands in front, else active.
 #[tactic(auto, unfolding(crate::specs::Data::data_kind))]
 fn read_kind<'a>(parser: &mut Parser<'a>, span: Span) -> Result<DataKind<'a>>
-    ensures reads { ReadsIf false false bare_data_kind seen_data_kind result
-        (data_kind.reads parser.old.left) parser.old parser.new }
+    ensures reads { ReadsAt turns_too (owning seen_data_kind bare_data_kind) data_kind result parser.old parser.new }
     ensures spans { IfOk result (λ k. DataSpansAre (offset_behind
         (data_memory.reads parser.old.left)) parser.old.tracks k) }
 {
@@ -116,23 +114,15 @@ fn read_kind<'a>(parser: &mut Parser<'a>, span: Span) -> Result<DataKind<'a>>
 impl<'a> Parse<'a> for Data<'a> {
     ghost Seen = { DataTy };
 
-    ghost seen = { seen_data };
+    ghost view = { owning seen_data bare_data };
 
-    ghost light = { false };
-
-    ghost bare = { bare_data };
-
-    ghost quiet = { false };
-
-    ghost stays = { false };
+    ghost cost = { turns_too };
 
     ghost grammar = { data_segment };
 
     #[tactic(auto, unfolding(crate::specs::Data::data_segment, wat_types::specs::Label::label))]
     fn parse(parser: &mut Parser<'a>) -> Result<Self>
-        ensures reads { Parsed (Gives false bare_data seen_data result
-            (data_segment.reads parser.old.left) parser.new.left) false false result parser.old
-            parser.new }
+        ensures reads { ReadsAt turns_too (owning seen_data bare_data) data_segment result parser.old parser.new }
         ensures spans { IfOk result (λ d. DataSpansAre (is_offset_written parser.old.left)
             parser.old.tracks d.kind) }
     {

@@ -1,9 +1,9 @@
 //! Values of data segments.
 
 ghost use Rattle.std.specs.Prelude.{◌≡◌, ◌+◌, ◌++◌, length, false, IfOk, IfErr, MatchResult};
-ghost use Rattle.wat_tokens.specs.Tests.{begins_lparen};
-ghost use Rattle.wat_tokens.specs.Parses.{no_items};
 ghost use Rattle.wat_tokens.specs.Reads.{Reads};
+ghost use Rattle.wat_tokens.specs.Tests.{begins_lparen};
+ghost use Rattle.wat_tokens.specs.Views.{owning, no_items};
 ghost use Rattle.wat_fields.specs.DataVal.{DataValTy, bytes_in, seen_data_val, seen_data_vals};
 ghost use Rattle.wat_fields.specs.DataVal.{bare_val, data_val};
 ghost use Rattle.wat_fields.specs.DataVals.{data_vals};
@@ -78,11 +78,7 @@ fn lparen_next(parser: &Parser<'_>) -> bool
 impl<'a> Parse<'a> for DataVal<'a> {
     ghost Seen = { DataValTy };
 
-    ghost seen = { seen_data_val };
-
-    ghost light = { false };
-
-    ghost bare = { bare_val };
+    ghost view = { owning seen_data_val bare_val };
 
     ghost grammar = { data_val };
 
@@ -101,8 +97,8 @@ impl<'a> Parse<'a> for DataVal<'a> {
 /// Values, to the end.
 #[tactic(auto, using(crate::specs::Laws::DataVal::data_val_eats), unfolding(crate::specs::DataVals::data_vals))]
 pub(crate) fn read_vals<'a>(parser: &mut Parser<'a>) -> Result<Vec<DataVal<'a>>>
-    ensures reads { Reads no_items (λ v. seen_data_vals v.items) result
-        (data_vals.reads parser.old.left) parser.old parser.new }
+    ensures reads { Reads (owning (λ v. seen_data_vals v.items) no_items) data_vals result
+        parser.old parser.new }
 {
     all_to_end::<DataVal>(parser)
 }

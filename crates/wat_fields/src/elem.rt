@@ -1,9 +1,10 @@
 //! Element segments.
 
-ghost use Rattle.std.specs.Prelude.{◌≡◌, ◌&&◌, true, false, IfOk};
-ghost use Rattle.wat_tokens.specs.Parses.{Gives, seen_option};
+ghost use Rattle.std.specs.Prelude.{◌≡◌, IfOk};
+ghost use Rattle.wat_tokens.specs.Cost.{turns_too};
 ghost use Rattle.wat_tokens.specs.Index.{seen_index};
-ghost use Rattle.wat_tokens.specs.Reads.{Parsed, ReadsLight, ReadsIf};
+ghost use Rattle.wat_tokens.specs.Reads.{Reads, ReadsAt};
+ghost use Rattle.wat_tokens.specs.Views.{plain, owning};
 ghost use Rattle.wat_expr.specs.Expression.{seen_expression, bare_expression, SpansAre};
 ghost use Rattle.wat_fields.specs.Payload.{seen_payload};
 ghost use Rattle.wat_fields.specs.Elem.{seen_elem_kind, bare_segment, elem_offset, in_table};
@@ -57,8 +58,7 @@ type Segment<'a> = (ElemKind<'a>, ElemPayload<'a>);
 /// `( offset Expression )` where the second token is `offset`, else a folded instruction.
 #[tactic(auto, unfolding(crate::specs::Elem::elem_offset))]
 fn read_offset<'a>(parser: &mut Parser<'a>) -> Result<Expression<'a>>
-    ensures reads { ReadsIf false false bare_expression seen_expression result
-        (elem_offset.reads parser.old.left) parser.old parser.new }
+    ensures reads { ReadsAt turns_too (owning seen_expression bare_expression) elem_offset result parser.old parser.new }
     ensures spans { IfOk result (λ e. SpansAre parser.old.tracks e) }
 {
     read_written_or_folded(parser, "offset")
@@ -67,9 +67,7 @@ fn read_offset<'a>(parser: &mut Parser<'a>) -> Result<Expression<'a>>
 /// `( table idx )`, an offset and a payload.
 #[tactic(auto, unfolding(crate::specs::Elem::in_table))]
 fn read_in_table<'a>(parser: &mut Parser<'a>) -> Result<Segment<'a>>
-    ensures reads { ReadsIf false false bare_segment (λ s.
-        (seen_elem_kind s.0, seen_payload s.1)) result
-        (in_table.reads parser.old.left) parser.old parser.new }
+    ensures reads { ReadsAt turns_too (owning (λ s. (seen_elem_kind s.0, seen_payload s.1)) bare_segment) in_table result parser.old parser.new }
     ensures spans { IfOk result (λ s. ElemSpansAre parser.old.tracks s) }
 {
     parser.open()?;
@@ -85,8 +83,7 @@ fn read_in_table<'a>(parser: &mut Parser<'a>) -> Result<Segment<'a>>
 /// The table of a number, where one stands in front; `span` is where it is said to stand.
 #[tactic(auto, unfolding(crate::specs::Elem::table_number))]
 fn read_table_number<'a>(parser: &mut Parser<'a>, span: Span) -> Result<Option<Index<'a>>>
-    ensures reads { ReadsLight (λ o. seen_option seen_index o) result
-        (table_number.reads parser.old.left) parser.old parser.new }
+    ensures reads { Reads (plain (λ o. seen_option seen_index o)) table_number result parser.old parser.new }
 {
     if !parser.peek::<u32>() {
         return Ok(None);
@@ -98,9 +95,7 @@ fn read_table_number<'a>(parser: &mut Parser<'a>, span: Span) -> Result<Option<I
 /// A table's number or nothing, an offset, and a payload, which may be indices alone.
 #[tactic(auto, unfolding(crate::specs::Elem::in_some_table))]
 fn read_in_some_table<'a>(parser: &mut Parser<'a>, span: Span) -> Result<Segment<'a>>
-    ensures reads { ReadsIf false false bare_segment (λ s.
-        (seen_elem_kind s.0, seen_payload s.1)) result
-        (in_some_table.reads parser.old.left) parser.old parser.new }
+    ensures reads { ReadsAt turns_too (owning (λ s. (seen_elem_kind s.0, seen_payload s.1)) bare_segment) in_some_table result parser.old parser.new }
     ensures spans { IfOk result (λ s. ElemSpansAre parser.old.tracks s) }
 {
     let table = read_table_number(parser, span)?;
@@ -112,9 +107,7 @@ fn read_in_some_table<'a>(parser: &mut Parser<'a>, span: Span) -> Result<Segment
 /// An active segment.
 #[tactic(auto, unfolding(crate::specs::Elem::active_segment))]
 fn read_active<'a>(parser: &mut Parser<'a>, span: Span) -> Result<Segment<'a>>
-    ensures reads { ReadsIf false false bare_segment (λ s.
-        (seen_elem_kind s.0, seen_payload s.1)) result
-        (active_segment.reads parser.old.left) parser.old parser.new }
+    ensures reads { ReadsAt turns_too (owning (λ s. (seen_elem_kind s.0, seen_payload s.1)) bare_segment) active_segment result parser.old parser.new }
     ensures spans { IfOk result (λ s. ElemSpansAre parser.old.tracks s) }
 {
     if parser.group_is("table") {
@@ -126,9 +119,7 @@ fn read_active<'a>(parser: &mut Parser<'a>, span: Span) -> Result<Segment<'a>>
 /// `declare`, and a payload.
 #[tactic(auto, unfolding(crate::specs::Elem::declared_segment))]
 fn read_declared<'a>(parser: &mut Parser<'a>) -> Result<Segment<'a>>
-    ensures reads { ReadsIf false false bare_segment (λ s.
-        (seen_elem_kind s.0, seen_payload s.1)) result
-        (declared_segment.reads parser.old.left) parser.old parser.new }
+    ensures reads { ReadsAt turns_too (owning (λ s. (seen_elem_kind s.0, seen_payload s.1)) bare_segment) declared_segment result parser.old parser.new }
     ensures spans { IfOk result (λ s. ElemSpansAre parser.old.tracks s) }
 {
     parser.keyword("declare")?;
@@ -139,9 +130,7 @@ fn read_declared<'a>(parser: &mut Parser<'a>) -> Result<Segment<'a>>
 /// A payload alone.
 #[tactic(auto, unfolding(crate::specs::Elem::passive_segment))]
 fn read_passive<'a>(parser: &mut Parser<'a>) -> Result<Segment<'a>>
-    ensures reads { ReadsIf false false bare_segment (λ s.
-        (seen_elem_kind s.0, seen_payload s.1)) result
-        (passive_segment.reads parser.old.left) parser.old parser.new }
+    ensures reads { ReadsAt turns_too (owning (λ s. (seen_elem_kind s.0, seen_payload s.1)) bare_segment) passive_segment result parser.old parser.new }
     ensures spans { IfOk result (λ s. ElemSpansAre parser.old.tracks s) }
 {
     let payload = read_payload(parser)?;
@@ -161,9 +150,7 @@ fn active_next(parser: &Parser<'_>) -> bool
 /// A kind, and what the segment holds; `span` is where the word `elem` begins.
 #[tactic(auto, unfolding(crate::specs::Elem::segment))]
 fn read_segment<'a>(parser: &mut Parser<'a>, span: Span) -> Result<Segment<'a>>
-    ensures reads { ReadsIf false false bare_segment (λ s.
-        (seen_elem_kind s.0, seen_payload s.1)) result
-        (segment.reads parser.old.left) parser.old parser.new }
+    ensures reads { ReadsAt turns_too (owning (λ s. (seen_elem_kind s.0, seen_payload s.1)) bare_segment) segment result parser.old parser.new }
     ensures spans { IfOk result (λ s. ElemSpansAre parser.old.tracks s) }
 {
     if parser.next_is("declare") {
@@ -189,23 +176,15 @@ fn read_segment<'a>(parser: &mut Parser<'a>, span: Span) -> Result<Segment<'a>>
 impl<'a> Parse<'a> for Elem<'a> {
     ghost Seen = { ElemTy };
 
-    ghost seen = { seen_elem };
+    ghost view = { owning seen_elem bare_elem };
 
-    ghost light = { false };
-
-    ghost bare = { bare_elem };
-
-    ghost quiet = { false };
-
-    ghost stays = { false };
+    ghost cost = { turns_too };
 
     ghost grammar = { elem };
 
     #[tactic(auto, unfolding(crate::specs::Elem::elem, wat_types::specs::Label::label))]
     fn parse(parser: &mut Parser<'a>) -> Result<Self>
-        ensures reads { Parsed (Gives false bare_elem seen_elem result
-            (elem.reads parser.old.left) parser.new.left) false false result parser.old
-            parser.new }
+        ensures reads { ReadsAt turns_too (owning seen_elem bare_elem) elem result parser.old parser.new }
         ensures spans { IfOk result (λ e. ElemSpansAre parser.old.tracks (e.kind, e.payload)) }
     {
         let span = parser.keyword("elem")?;

@@ -1,9 +1,10 @@
 //! Functions.
 
-ghost use Rattle.std.specs.Prelude.{◌≡◌, false, IfOk};
-ghost use Rattle.wat_tokens.specs.Parses.{Gives};
-ghost use Rattle.wat_tokens.specs.Reads.{Parsed, Reads, ReadsIf};
+ghost use Rattle.std.specs.Prelude.{◌≡◌, IfOk};
+ghost use Rattle.wat_tokens.specs.Cost.{turns_too};
+ghost use Rattle.wat_tokens.specs.Reads.{Reads, ReadsAt};
 ghost use Rattle.wat_fields.specs.Func.{FuncFieldTy, seen_func_use, bare_func_use, exact_use};
+ghost use Rattle.wat_tokens.specs.Views.{owning};
 ghost use Rattle.wat_fields.specs.Func.{seen_defined_func, bare_defined_func, func_import};
 ghost use Rattle.wat_fields.specs.Func.{func_inline, func_defined, seen_func, bare_func, func};
 ghost use Rattle.wat_fields.specs.Spans.{FuncSpansAre};
@@ -52,8 +53,7 @@ type Defined<'a> = (TypeUse<'a, FunctionType<'a>>, FuncKind<'a>);
 /// is exact.
 #[tactic(auto, unfolding(crate::specs::Func::exact_use))]
 fn read_exact_use<'a>(parser: &mut Parser<'a>) -> Result<(TypeUse<'a, FunctionType<'a>>, bool)>
-    ensures reads { Reads (λ u. bare_func_use u.0) (λ u. (seen_func_use u.0, u.1)) result
-        (exact_use.reads parser.old.left) parser.old parser.new }
+    ensures reads { Reads (owning (λ u. (seen_func_use u.0, u.1)) (λ u. bare_func_use u.0)) exact_use result parser.old parser.new }
 {
     if !parser.second_is("exact") {
         return Ok((TypeUse::parse(parser)?, false));
@@ -68,8 +68,7 @@ fn read_exact_use<'a>(parser: &mut Parser<'a>) -> Result<(TypeUse<'a, FunctionTy
 /// An import in line, and a type use, exact or not.
 #[tactic(auto, unfolding(crate::specs::Func::func_import))]
 fn read_import<'a>(parser: &mut Parser<'a>) -> Result<Defined<'a>>
-    ensures reads { Reads bare_defined_func seen_defined_func result
-        (func_import.reads parser.old.left) parser.old parser.new }
+    ensures reads { Reads (owning seen_defined_func bare_defined_func) func_import result parser.old parser.new }
     ensures spans { IfOk result (λ d. FuncSpansAre parser.old.tracks d.1) }
 {
     let import = InlineImport::parse(parser)?;
@@ -80,8 +79,7 @@ fn read_import<'a>(parser: &mut Parser<'a>) -> Result<Defined<'a>>
 /// A type use, locals and a body.
 #[tactic(auto, unfolding(crate::specs::Func::func_inline))]
 fn read_inline<'a>(parser: &mut Parser<'a>) -> Result<Defined<'a>>
-    ensures reads { ReadsIf false false bare_defined_func seen_defined_func result
-        (func_inline.reads parser.old.left) parser.old parser.new }
+    ensures reads { ReadsAt turns_too (owning seen_defined_func bare_defined_func) func_inline result parser.old parser.new }
     ensures spans { IfOk result (λ d. FuncSpansAre parser.old.tracks d.1) }
 {
     let ty = TypeUse::parse(parser)?;
@@ -93,8 +91,7 @@ fn read_inline<'a>(parser: &mut Parser<'a>) -> Result<Defined<'a>>
 /// What stands behind the head.
 #[tactic(auto, unfolding(crate::specs::Func::func_defined))]
 fn read_defined<'a>(parser: &mut Parser<'a>) -> Result<Defined<'a>>
-    ensures reads { ReadsIf false false bare_defined_func seen_defined_func result
-        (func_defined.reads parser.old.left) parser.old parser.new }
+    ensures reads { ReadsAt turns_too (owning seen_defined_func bare_defined_func) func_defined result parser.old parser.new }
     ensures spans { IfOk result (λ d. FuncSpansAre parser.old.tracks d.1) }
 {
     if parser.peek::<InlineImport>() {
@@ -114,23 +111,15 @@ fn read_defined<'a>(parser: &mut Parser<'a>) -> Result<Defined<'a>>
 impl<'a> Parse<'a> for Func<'a> {
     ghost Seen = { FuncFieldTy };
 
-    ghost seen = { seen_func };
+    ghost view = { owning seen_func bare_func };
 
-    ghost light = { false };
-
-    ghost bare = { bare_func };
-
-    ghost quiet = { false };
-
-    ghost stays = { false };
+    ghost cost = { turns_too };
 
     ghost grammar = { func };
 
     #[tactic(auto, unfolding(crate::specs::Func::func))]
     fn parse(parser: &mut Parser<'a>) -> Result<Self>
-        ensures reads { Parsed (Gives false bare_func seen_func result
-            (func.reads parser.old.left) parser.new.left) false false result parser.old
-            parser.new }
+        ensures reads { ReadsAt turns_too (owning seen_func bare_func) func result parser.old parser.new }
         ensures spans { IfOk result (λ f. FuncSpansAre parser.old.tracks f.kind) }
     {
         let span = parser.keyword("func")?;

@@ -1,8 +1,9 @@
 //! Globals.
 
-ghost use Rattle.std.specs.Prelude.{◌≡◌, false, IfOk};
-ghost use Rattle.wat_tokens.specs.Parses.{Gives};
-ghost use Rattle.wat_tokens.specs.Reads.{Parsed, ReadsIf};
+ghost use Rattle.std.specs.Prelude.{◌≡◌, IfOk};
+ghost use Rattle.wat_tokens.specs.Cost.{turns_too};
+ghost use Rattle.wat_tokens.specs.Reads.{ReadsAt};
+ghost use Rattle.wat_tokens.specs.Views.{owning};
 ghost use Rattle.wat_fields.specs.Global.{GlobalFieldTy, seen_defined_global, bare_defined_global};
 ghost use Rattle.wat_fields.specs.Global.{global_defined, seen_global, bare_global, global};
 ghost use Rattle.wat_fields.specs.Spans.{GlobalSpansAre};
@@ -41,8 +42,7 @@ pub enum GlobalKind<'a> {
 /// What stands behind the head: the type, and how the global is defined.
 #[tactic(auto, unfolding(crate::specs::Global::global_defined))]
 fn read_defined<'a>(parser: &mut Parser<'a>) -> Result<(GlobalType<'a>, GlobalKind<'a>)>
-    ensures reads { ReadsIf false false bare_defined_global seen_defined_global result
-        (global_defined.reads parser.old.left) parser.old parser.new }
+    ensures reads { ReadsAt turns_too (owning seen_defined_global bare_defined_global) global_defined result parser.old parser.new }
     ensures spans { IfOk result (λ d. GlobalSpansAre parser.old.tracks d.1) }
 {
     if parser.peek::<InlineImport>() {
@@ -64,23 +64,15 @@ fn read_defined<'a>(parser: &mut Parser<'a>) -> Result<(GlobalType<'a>, GlobalKi
 impl<'a> Parse<'a> for Global<'a> {
     ghost Seen = { GlobalFieldTy };
 
-    ghost seen = { seen_global };
+    ghost view = { owning seen_global bare_global };
 
-    ghost light = { false };
-
-    ghost bare = { bare_global };
-
-    ghost quiet = { false };
-
-    ghost stays = { false };
+    ghost cost = { turns_too };
 
     ghost grammar = { global };
 
     #[tactic(auto, unfolding(crate::specs::Global::global))]
     fn parse(parser: &mut Parser<'a>) -> Result<Self>
-        ensures reads { Parsed (Gives false bare_global seen_global result
-            (global.reads parser.old.left) parser.new.left) false false result parser.old
-            parser.new }
+        ensures reads { ReadsAt turns_too (owning seen_global bare_global) global result parser.old parser.new }
         ensures spans { IfOk result (λ g. GlobalSpansAre parser.old.tracks g.kind) }
     {
         let span = parser.keyword("global")?;

@@ -1,10 +1,11 @@
 //! Locals of functions.
 
-ghost use Rattle.std.specs.Prelude.{◌≡◌, true, false, List};
+ghost use Rattle.std.specs.Prelude.{◌≡◌, List};
+ghost use Rattle.wat_tokens.specs.Cost.{tokens_alone};
 ghost use Rattle.wat_tokens.specs.Many.{after_front};
-ghost use Rattle.wat_tokens.specs.Parses.{no_items};
-ghost use Rattle.wat_tokens.specs.Reads.{Reads};
+ghost use Rattle.wat_tokens.specs.Reads.{Call, Reads};
 ghost use Rattle.wat_tokens.specs.Tests.{more};
+ghost use Rattle.wat_tokens.specs.Views.{plain, owning, no_items};
 ghost use Rattle.wat_fields.specs.Local.{LocalTy, seen_local, seen_locals, seen_local_parser};
 ghost use Rattle.wat_fields.specs.Local.{plain_local, labelled_local, listed_locals, local_parser};
 ghost use Rattle.wat_fields.specs.Local.{local_group, local_follows};
@@ -39,9 +40,7 @@ struct PlainLocal;
 impl<'a> Part<'a, Local<'a>> for PlainLocal {
     ghost Seen = { LocalTy };
 
-    ghost seen = { seen_local };
-
-    ghost bare = { λ _. true };
+    ghost view = { plain seen_local };
 
     ghost grammar = { plain_local };
 
@@ -64,9 +63,9 @@ impl<'a> Part<'a, Local<'a>> for PlainLocal {
 /// A local with an identifier or a name, put behind those that are there.
 #[tactic(auto, unfolding(crate::specs::Local::labelled_local, wat_types::specs::Label::label))]
 fn read_labelled<'a>(parser: &mut Parser<'a>, out: &mut Vec<Local<'a>>) -> Result<()>
-    ensures reads { Reads no_items (λ _. seen_locals out.new.items) result (after_front
-        (seen_locals out.old.items) (labelled_local.reads parser.old.left)) parser.old
-        parser.new }
+    ensures reads { Call tokens_alone (owning (λ _. seen_locals out.new.items) no_items)
+        (after_front (seen_locals out.old.items) (labelled_local.reads parser.old.left)) result
+        parser.old parser.new }
 {
     let id = Option::<Id>::parse(parser)?;
     let name = Option::<NameAnnotation>::parse(parser)?;
@@ -78,8 +77,9 @@ fn read_labelled<'a>(parser: &mut Parser<'a>, out: &mut Vec<Local<'a>>) -> Resul
 /// The locals behind the word `local`, each put behind those that are there.
 #[tactic(auto, using(wat_types::specs::Laws::Value::val_type_eats), unfolding(crate::specs::Local::listed_locals, crate::specs::Local::plain_locals))]
 fn read_listed<'a>(parser: &mut Parser<'a>, out: &mut Vec<Local<'a>>) -> Result<()>
-    ensures reads { Reads no_items (λ _. seen_locals out.new.items) result (after_front
-        (seen_locals out.old.items) (listed_locals.reads parser.old.left)) parser.old parser.new }
+    ensures reads { Call tokens_alone (owning (λ _. seen_locals out.new.items) no_items)
+        (after_front (seen_locals out.old.items) (listed_locals.reads parser.old.left)) result
+        parser.old parser.new }
 {
     if parser.peek::<Id>() || parser.peek::<NameAnnotation>() {
         return read_labelled(parser, out);
@@ -92,11 +92,7 @@ fn read_listed<'a>(parser: &mut Parser<'a>, out: &mut Vec<Local<'a>>) -> Result<
 impl<'a> Parse<'a> for LocalParser<'a> {
     ghost Seen = { List LocalTy };
 
-    ghost seen = { seen_local_parser };
-
-    ghost light = { false };
-
-    ghost bare = { no_items };
+    ghost view = { owning seen_local_parser no_items };
 
     ghost grammar = { local_parser };
 
@@ -115,7 +111,7 @@ struct LocalGroup;
 impl<'a> Group<'a, Local<'a>> for LocalGroup {
     ghost Seen = { LocalTy };
 
-    ghost seen = { seen_local };
+    ghost view = { plain seen_local };
 
     ghost grammar = { local_group };
 
@@ -140,8 +136,8 @@ impl<'a> Local<'a> {
     /// whatever the first is. Where that is no `(`, it is refused with Unexpected, at the first.
     #[tactic(auto, using(wat_tokens::specs::Laws::Joined::joined_reads, crate::specs::Laws::Local::local_group_eats), unfolding(crate::specs::Locals::locals))]
     pub(crate) fn parse_remainder(parser: &mut Parser<'a>) -> Result<Vec<Local<'a>>>
-        ensures reads { Reads no_items (λ ls. seen_locals ls.items) result
-            (locals.reads parser.old.left) parser.old parser.new }
+        ensures reads { Reads (owning (λ ls. seen_locals ls.items) no_items) locals result
+            parser.old parser.new }
     {
         all_groups::<_, LocalGroup>(parser)
     }

@@ -1,7 +1,8 @@
 //! Memories.
 
-ghost use Rattle.std.specs.Prelude.{◌≡◌, false};
+ghost use Rattle.std.specs.Prelude.{◌≡◌};
 ghost use Rattle.wat_tokens.specs.Reads.{Reads};
+ghost use Rattle.wat_tokens.specs.Views.{owning};
 ghost use Rattle.wat_fields.specs.Memory.{MemoryTy, seen_memory_kind, bare_memory_kind};
 ghost use Rattle.wat_fields.specs.Memory.{inline_memory, memory_kind, begins_inline_data};
 ghost use Rattle.wat_fields.specs.Memory.{seen_memory, bare_memory, memory};
@@ -69,8 +70,8 @@ fn inline_next(parser: &Parser<'_>) -> bool
 /// values `)`.
 #[tactic(auto, unfolding(crate::specs::Memory::inline_memory))]
 fn read_inline<'a>(parser: &mut Parser<'a>) -> Result<MemoryKind<'a>>
-    ensures reads { Reads bare_memory_kind seen_memory_kind result
-        (inline_memory.reads parser.old.left) parser.old parser.new }
+    ensures reads { Reads (owning seen_memory_kind bare_memory_kind) inline_memory result parser.old
+        parser.new }
 {
     let is64 = take_is64(parser)?;
     let page_size_log2 = page_size(parser)?;
@@ -88,8 +89,8 @@ fn read_inline<'a>(parser: &mut Parser<'a>) -> Result<MemoryKind<'a>>
 /// How a memory is defined, behind its head.
 #[tactic(auto, unfolding(crate::specs::Memory::memory_kind))]
 fn read_kind<'a>(parser: &mut Parser<'a>) -> Result<MemoryKind<'a>>
-    ensures reads { Reads bare_memory_kind seen_memory_kind result
-        (memory_kind.reads parser.old.left) parser.old parser.new }
+    ensures reads { Reads (owning seen_memory_kind bare_memory_kind) memory_kind result parser.old
+        parser.new }
 {
     if parser.peek::<InlineImport>() {
         let import = InlineImport::parse(parser)?;
@@ -111,11 +112,7 @@ fn read_kind<'a>(parser: &mut Parser<'a>) -> Result<MemoryKind<'a>>
 impl<'a> Parse<'a> for Memory<'a> {
     ghost Seen = { MemoryTy };
 
-    ghost seen = { seen_memory };
-
-    ghost light = { false };
-
-    ghost bare = { bare_memory };
+    ghost view = { owning seen_memory bare_memory };
 
     ghost grammar = { memory };
 

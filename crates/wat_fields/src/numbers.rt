@@ -2,9 +2,9 @@
 
 ghost use Rattle.std.specs.Prelude.{◌≡◌, ◌++◌, ℕ, false, IfErr, MatchResult};
 ghost use Rattle.std.specs.Int.{w8, w16, w32, w64};
-ghost use Rattle.wat_tokens.specs.Parses.{no_items};
 ghost use Rattle.wat_tokens.specs.Reads.{Reads};
 ghost use Rattle.wat_tokens.specs.Tests.{more};
+ghost use Rattle.wat_tokens.specs.Views.{plain, owning, no_items};
 ghost use Rattle.wat_fields.specs.Numbers.{integer_as_bytes, float_as_bytes, other_numbers};
 ghost use Rattle.wat_fields.specs.Numbers.{wide_numbers, number_list, begins_integers};
 ghost use Rattle.wat_fields.specs.Numbers.{begins_numbers};
@@ -31,7 +31,7 @@ struct I8Bytes;
 impl<'a> Group<'a, u8> for I8Bytes {
     ghost Seen = { ℕ };
 
-    ghost seen = { λ b. b };
+    ghost view = { plain (λ b. b) };
 
     ghost grammar = { integer_as_bytes w8 8 };
 
@@ -54,7 +54,7 @@ struct I16Bytes;
 impl<'a> Group<'a, u8> for I16Bytes {
     ghost Seen = { ℕ };
 
-    ghost seen = { λ b. b };
+    ghost view = { plain (λ b. b) };
 
     ghost grammar = { integer_as_bytes w16 16 };
 
@@ -77,7 +77,7 @@ struct I32Bytes;
 impl<'a> Group<'a, u8> for I32Bytes {
     ghost Seen = { ℕ };
 
-    ghost seen = { λ b. b };
+    ghost view = { plain (λ b. b) };
 
     ghost grammar = { integer_as_bytes w32 32 };
 
@@ -100,7 +100,7 @@ struct I64Bytes;
 impl<'a> Group<'a, u8> for I64Bytes {
     ghost Seen = { ℕ };
 
-    ghost seen = { λ b. b };
+    ghost view = { plain (λ b. b) };
 
     ghost grammar = { integer_as_bytes w64 64 };
 
@@ -123,7 +123,7 @@ struct F32Bytes;
 impl<'a> Group<'a, u8> for F32Bytes {
     ghost Seen = { ℕ };
 
-    ghost seen = { λ b. b };
+    ghost view = { plain (λ b. b) };
 
     ghost grammar = { float_as_bytes w32 };
 
@@ -146,7 +146,7 @@ struct F64Bytes;
 impl<'a> Group<'a, u8> for F64Bytes {
     ghost Seen = { ℕ };
 
-    ghost seen = { λ b. b };
+    ghost view = { plain (λ b. b) };
 
     ghost grammar = { float_as_bytes w64 };
 
@@ -169,7 +169,7 @@ struct V128Bytes;
 impl<'a> Group<'a, u8> for V128Bytes {
     ghost Seen = { ℕ };
 
-    ghost seen = { λ b. b };
+    ghost view = { plain (λ b. b) };
 
     ghost grammar = { vector_as_bytes };
 
@@ -189,8 +189,8 @@ impl<'a> Group<'a, u8> for V128Bytes {
 /// `f32` and `f64`, behind which no number can be read, or `v128` and constants.
 #[tactic(auto, using(wat_tokens::specs::Laws::Joined::joined_reads, crate::specs::Laws::Numbers::vector_eats, crate::proofs::Bytes::bytes_again), unfolding(crate::specs::Numbers::other_numbers))]
 fn read_other<'a>(parser: &mut Parser<'a>) -> Result<Vec<u8>>
-    ensures reads { Reads no_items (λ v. v.items) result
-        (other_numbers.reads parser.old.left) parser.old parser.new }
+    ensures reads { Reads (owning (λ v. v.items) no_items) other_numbers result parser.old
+        parser.new }
 {
     if parser.next_is("f32") {
         parser.keyword("f32")?;
@@ -207,8 +207,7 @@ fn read_other<'a>(parser: &mut Parser<'a>) -> Result<Vec<u8>>
 /// `i32` or `i64` and integers of so many bits, or other numbers.
 #[tactic(auto, using(wat_tokens::specs::Laws::Joined::joined_reads, crate::proofs::Bytes::bytes_again), unfolding(crate::specs::Numbers::wide_numbers))]
 fn read_wide<'a>(parser: &mut Parser<'a>) -> Result<Vec<u8>>
-    ensures reads { Reads no_items (λ v. v.items) result
-        (wide_numbers.reads parser.old.left) parser.old parser.new }
+    ensures reads { Reads (owning (λ v. v.items) no_items) wide_numbers result parser.old parser.new }
 {
     if parser.next_is("i32") {
         parser.keyword("i32")?;
@@ -228,8 +227,7 @@ fn read_wide<'a>(parser: &mut Parser<'a>) -> Result<Vec<u8>>
 /// with Unexpected, at the word.
 #[tactic(auto, using(wat_tokens::specs::Laws::Joined::joined_reads, crate::proofs::Bytes::bytes_again), unfolding(crate::specs::Numbers::number_list))]
 pub(crate) fn read_numbers<'a>(parser: &mut Parser<'a>) -> Result<Vec<u8>>
-    ensures reads { Reads no_items (λ v. v.items) result
-        (number_list.reads parser.old.left) parser.old parser.new }
+    ensures reads { Reads (owning (λ v. v.items) no_items) number_list result parser.old parser.new }
 {
     if parser.next_is("i8") {
         parser.keyword("i8")?;

@@ -1,11 +1,13 @@
 //! The offset of an active data segment.
 
 ghost use Rattle.std.specs.Prelude.{false, ◌&&◌, codes, IfOk};
+ghost use Rattle.wat_tokens.specs.Cost.{turns_too};
 ghost use Rattle.wat_expr.specs.Expression.{seen_expression, bare_expression, SpansAre};
 ghost use Rattle.wat_expr.specs.ExpressionProduction.{expression};
 ghost use Rattle.wat_tokens.specs.Parts.{seq};
-ghost use Rattle.wat_tokens.specs.Reads.{ReadsIf};
+ghost use Rattle.wat_tokens.specs.Reads.{ReadsAt};
 ghost use Rattle.wat_tokens.specs.Tests.{begins_word};
+ghost use Rattle.wat_tokens.specs.Views.{owning};
 ghost use Rattle.wat_fields.specs.Offset.{head_last, offset_inside};
 ghost use Rattle.wat_fields.specs.Spans.{OffsetSpansAre};
 
@@ -20,9 +22,7 @@ use wat_tokens::{Parse, Parser, Result};
 fn read_before_items<'a, T: Parse<'a> + Drop>(
     parser: &mut Parser<'a>,
 ) -> Result<(T, Expression<'a>)>
-    ensures reads { ReadsIf false false (λ v. T.bare v.0 && bare_expression v.1)
-        (λ v. (T.seen v.0, seen_expression v.1)) result
-        ((seq T.grammar expression).reads parser.old.left) parser.old parser.new }
+    ensures reads { ReadsAt turns_too (owning (λ v. (T.view.of v.0, seen_expression v.1)) (λ v. T.view.bare v.0 && bare_expression v.1)) (seq T.grammar expression) result parser.old parser.new }
     ensures spans { IfOk result (λ v. SpansAre parser.old.tracks v.1) }
 {
     let value = T::parse(parser)?;
@@ -35,8 +35,7 @@ fn read_before_items<'a, T: Parse<'a> + Drop>(
 /// which has no spans.
 #[tactic(auto, using(crate::proofs::Heads::never_bare), unfolding(crate::specs::Offset::head_last))]
 fn read_head_last<'a>(parser: &mut Parser<'a>) -> Result<Expression<'a>>
-    ensures reads { ReadsIf false false bare_expression seen_expression result
-        (head_last.reads parser.old.left) parser.old parser.new }
+    ensures reads { ReadsAt turns_too (owning seen_expression bare_expression) head_last result parser.old parser.new }
     ensures spans { IfOk result (λ e. OffsetSpansAre false parser.old.tracks e) }
 {
     let span = parser.cur_span();
@@ -52,8 +51,7 @@ fn read_head_last<'a>(parser: &mut Parser<'a>) -> Result<Expression<'a>>
 /// instruction and items.
 #[tactic(auto, unfolding(crate::specs::Offset::offset_inside))]
 pub(crate) fn read_offset<'a>(parser: &mut Parser<'a>) -> Result<Expression<'a>>
-    ensures reads { ReadsIf false false bare_expression seen_expression result
-        (offset_inside.reads parser.old.left) parser.old parser.new }
+    ensures reads { ReadsAt turns_too (owning seen_expression bare_expression) offset_inside result parser.old parser.new }
     ensures spans { IfOk result (λ e. OffsetSpansAre (begins_word (codes "offset") parser.old.left)
         parser.old.tracks e) }
 {

@@ -1,11 +1,12 @@
 //! What an element segment holds.
 
-ghost use Rattle.std.specs.Prelude.{◌≡◌, ◌&&◌, true, false, map, All, IfOk, IfErr};
+ghost use Rattle.std.specs.Prelude.{◌≡◌, ◌&&◌, false, map, All, IfOk, IfErr};
+ghost use Rattle.wat_tokens.specs.Cost.{tokens_alone, turns_too};
 ghost use Rattle.wat_tokens.specs.Index.{seen_index};
-ghost use Rattle.wat_tokens.specs.Parses.{no_items};
 ghost use Rattle.wat_tokens.specs.Parts.{made};
-ghost use Rattle.wat_tokens.specs.Reads.{Reads, ReadsIf};
+ghost use Rattle.wat_tokens.specs.Reads.{Reads, ReadsAt};
 ghost use Rattle.wat_tokens.specs.Tests.{begins_lparen};
+ghost use Rattle.wat_tokens.specs.Views.{owning, no_items};
 ghost use Rattle.wat_types.specs.Reference.{seen_ref};
 ghost use Rattle.wat_expr.specs.Expression.{Expr, seen_expression, bare_expression, SpansAre};
 ghost use Rattle.wat_fields.specs.Payload.{seen_payload, bare_payload, item_list, index_list};
@@ -45,8 +46,7 @@ pub(crate) fn read_written_or_folded<'a>(
     parser: &mut Parser<'a>,
     word: &str,
 ) -> Result<Expression<'a>>
-    ensures reads { ReadsIf false false bare_expression seen_expression result
-        ((written_or_folded word.now).reads parser.old.left) parser.old parser.new }
+    ensures reads { ReadsAt turns_too (owning seen_expression bare_expression) (written_or_folded word.now) result parser.old parser.new }
     ensures spans { IfOk result (λ e. SpansAre parser.old.tracks e) }
 {
     if !parser.second_is(word) {
@@ -65,11 +65,9 @@ struct Item;
 impl<'a> Spanned<'a, Expression<'a>> for Item {
     ghost Seen = { Expr };
 
-    ghost seen = { seen_expression };
+    ghost view = { owning seen_expression bare_expression };
 
-    ghost bare = { bare_expression };
-
-    ghost quiet = { false };
+    ghost cost = { turns_too };
 
     ghost grammar = { item };
 
@@ -84,8 +82,7 @@ impl<'a> Spanned<'a, Expression<'a>> for Item {
 /// Items, to the end.
 #[tactic(auto, using(crate::specs::Laws::Payload::item_eats), unfolding(crate::specs::Payload::item_list))]
 fn read_items<'a>(parser: &mut Parser<'a>) -> Result<Vec<Expression<'a>>>
-    ensures reads { ReadsIf false false no_items (λ v. map seen_expression v.items) result
-        (item_list.reads parser.old.left) parser.old parser.new }
+    ensures reads { ReadsAt turns_too (owning (λ v. map seen_expression v.items) no_items) item_list result parser.old parser.new }
     ensures spans { IfOk result (λ v. All (λ e. SpansAre parser.old.tracks e) v.items) }
 {
     all_spanned::<_, Item>(parser)
@@ -94,8 +91,7 @@ fn read_items<'a>(parser: &mut Parser<'a>) -> Result<Vec<Expression<'a>>>
 /// Indices, to the end.
 #[tactic(auto, unfolding(crate::specs::Payload::index_list))]
 fn read_indices<'a>(parser: &mut Parser<'a>) -> Result<Vec<Index<'a>>>
-    ensures reads { Reads no_items (λ v. map seen_index v.items) result
-        (index_list.reads parser.old.left) parser.old parser.new }
+    ensures reads { Reads (owning (λ v. map seen_index v.items) no_items) index_list result parser.old parser.new }
 {
     all_to_end::<Index>(parser)
 }
@@ -115,11 +111,9 @@ struct RefFunc;
 impl<'a> Spanned<'a, Expression<'a>> for RefFunc {
     ghost Seen = { Expr };
 
-    ghost seen = { seen_expression };
+    ghost view = { owning seen_expression bare_expression };
 
-    ghost bare = { bare_expression };
-
-    ghost quiet = { true };
+    ghost cost = { tokens_alone };
 
     ghost grammar = { ref_func };
 
@@ -135,8 +129,7 @@ impl<'a> Spanned<'a, Expression<'a>> for RefFunc {
 /// Indices, to the end, each as `ref.func` of it, as a payload of the type.
 #[tactic(auto, using(crate::specs::Laws::RefFuncs::ref_func_eats), unfolding(crate::specs::RefFuncs::ref_funcs_of, crate::specs::RefFuncs::ref_funcs))]
 fn read_ref_funcs<'a>(parser: &mut Parser<'a>, ty: RefType<'a>) -> Result<ElemPayload<'a>>
-    ensures reads { Reads bare_payload seen_payload result ((ref_funcs_of
-        (seen_ref ty.entry)).reads parser.old.left) parser.old parser.new }
+    ensures reads { Reads (owning seen_payload bare_payload) (ref_funcs_of (seen_ref ty.entry)) result parser.old parser.new }
     ensures spans { IfOk result (λ p. PayloadSpansAre false p) }
 {
     let exprs = all_spanned::<_, RefFunc>(parser)?;
@@ -146,8 +139,7 @@ fn read_ref_funcs<'a>(parser: &mut Parser<'a>, ty: RefType<'a>) -> Result<ElemPa
 /// Indices, to the end, as they are.
 #[tactic(auto, unfolding(crate::specs::RefFuncs::plain_indices))]
 fn read_plain_indices<'a>(parser: &mut Parser<'a>) -> Result<ElemPayload<'a>>
-    ensures reads { Reads bare_payload seen_payload result
-        (plain_indices.reads parser.old.left) parser.old parser.new }
+    ensures reads { Reads (owning seen_payload bare_payload) plain_indices result parser.old parser.new }
     ensures spans { IfOk result (λ p. PayloadSpansAre false p) }
 {
     read_indices(parser).map(ElemPayload::Indices)
@@ -169,8 +161,7 @@ fn is_funcref(ty: RefType<'_>) -> bool
 /// Indices, to the end, as a payload of the type.
 #[tactic(auto, using(crate::proofs::RefFuncs::indices_are, crate::proofs::RefFuncs::ref_funcs_are))]
 fn read_indices_of<'a>(parser: &mut Parser<'a>, ty: RefType<'a>) -> Result<ElemPayload<'a>>
-    ensures reads { Reads bare_payload seen_payload result ((indices_of
-        (seen_ref ty.entry)).reads parser.old.left) parser.old parser.new }
+    ensures reads { Reads (owning seen_payload bare_payload) (indices_of (seen_ref ty.entry)) result parser.old parser.new }
     ensures spans { IfOk result (λ p. PayloadSpansAre false p) }
 {
     if is_funcref(ty) {
@@ -183,8 +174,7 @@ fn read_indices_of<'a>(parser: &mut Parser<'a>, ty: RefType<'a>) -> Result<ElemP
 /// itself where the type is `funcref`, and else as an expression of the one instruction `ref.func`.
 #[tactic(auto, unfolding(crate::specs::Payload::listed, crate::specs::RefFuncs::indices_of))]
 pub(crate) fn read_listed<'a>(parser: &mut Parser<'a>, ty: RefType<'a>) -> Result<ElemPayload<'a>>
-    ensures reads { ReadsIf false false bare_payload seen_payload result ((made (of_type
-        (seen_ref ty.entry)) listed).reads parser.old.left) parser.old parser.new }
+    ensures reads { ReadsAt turns_too (owning seen_payload bare_payload) (made (of_type (seen_ref ty.entry)) listed) result parser.old parser.new }
     ensures spans { IfOk result (λ p. PayloadSpansAre (begins_lparen parser.old.left
         && parser.old.tracks) p) }
 {
@@ -198,8 +188,7 @@ pub(crate) fn read_listed<'a>(parser: &mut Parser<'a>, ty: RefType<'a>) -> Resul
 /// A type, and items to the end.
 #[tactic(auto, unfolding(crate::specs::Payload::typed_elems))]
 fn read_typed_items<'a>(parser: &mut Parser<'a>) -> Result<ElemPayload<'a>>
-    ensures reads { ReadsIf false false bare_payload seen_payload result
-        (typed_elems.reads parser.old.left) parser.old parser.new }
+    ensures reads { ReadsAt turns_too (owning seen_payload bare_payload) typed_elems result parser.old parser.new }
     ensures spans { IfOk result (λ p. PayloadSpansAre parser.old.tracks p) }
 {
     let ty = RefType::parse(parser)?;
@@ -210,8 +199,7 @@ fn read_typed_items<'a>(parser: &mut Parser<'a>) -> Result<ElemPayload<'a>>
 /// `func` and indices, or a type and items.
 #[tactic(auto, unfolding(crate::specs::Payload::payload))]
 pub(crate) fn read_payload<'a>(parser: &mut Parser<'a>) -> Result<ElemPayload<'a>>
-    ensures reads { ReadsIf false false bare_payload seen_payload result
-        (payload.reads parser.old.left) parser.old parser.new }
+    ensures reads { ReadsAt turns_too (owning seen_payload bare_payload) payload result parser.old parser.new }
     ensures spans { IfOk result (λ p. PayloadSpansAre parser.old.tracks p) }
 {
     if parser.next_is("func") {
@@ -224,8 +212,7 @@ pub(crate) fn read_payload<'a>(parser: &mut Parser<'a>) -> Result<ElemPayload<'a
 /// `func` and indices, a type and items, or indices alone.
 #[tactic(auto, unfolding(crate::specs::Payload::payload_or_indices))]
 pub(crate) fn read_payload_or_indices<'a>(parser: &mut Parser<'a>) -> Result<ElemPayload<'a>>
-    ensures reads { ReadsIf false false bare_payload seen_payload result
-        (payload_or_indices.reads parser.old.left) parser.old parser.new }
+    ensures reads { ReadsAt turns_too (owning seen_payload bare_payload) payload_or_indices result parser.old parser.new }
     ensures spans { IfOk result (λ p. PayloadSpansAre parser.old.tracks p) }
 {
     if parser.next_is("func") {

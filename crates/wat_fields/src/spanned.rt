@@ -3,12 +3,13 @@
 //!
 //! [`wat_tokens::repeat`] says nothing of spans: whether they are kept isn't told by the tokens.
 
-ghost use Rattle.std.specs.Prelude.{◌≤◌, map, Bool, false, All, IfOk};
+ghost use Rattle.std.specs.Prelude.{◌≤◌, map, Bool, All, IfOk};
+ghost use Rattle.wat_tokens.specs.Cost.{Cost};
 ghost use Rattle.wat_tokens.specs.ManySpells.{many_reads};
-ghost use Rattle.wat_tokens.specs.Parses.{no_items};
 ghost use Rattle.wat_tokens.specs.Production.{Production};
-ghost use Rattle.wat_tokens.specs.Reads.{ReadsIf};
+ghost use Rattle.wat_tokens.specs.Reads.{Call, ReadsAt};
 ghost use Rattle.wat_tokens.specs.Tests.{more};
+ghost use Rattle.wat_tokens.specs.Views.{View, owning, no_items};
 
 use wat_tokens::{Parser, Result};
 
@@ -17,13 +18,11 @@ pub(crate) trait Spanned<'a, V> {
     /// What contracts see of a value.
     ghost Seen: { Type 0 };
 
-    ghost seen: { V → Seen };
+    /// What is seen of a value, and whether it owns heap memory.
+    ghost view: { View V Seen };
 
-    /// Whether the value holds no box, and no vector that isn't empty.
-    ghost bare: { Seen → Bool };
-
-    /// Whether no instruction is read in it.
-    ghost quiet: { Bool };
+    /// What may be counted while it is read.
+    ghost cost: { Cost };
 
     /// Which tokens spell a value, and how it is read.
     ghost grammar: { Production Seen };
@@ -33,16 +32,15 @@ pub(crate) trait Spanned<'a, V> {
 
     /// Takes the value that stands in front, or refuses as [`wat_tokens::Parse::parse`] does.
     fn take(parser: &mut Parser<'a>) -> Result<V>
-        ensures reads { ReadsIf quiet false bare seen result (grammar.reads parser.old.left)
-            parser.old parser.new }
+        ensures reads { ReadsAt cost view grammar result parser.old parser.new }
         ensures spans { IfOk result (λ v. keeps parser.old.tracks v) };
 }
 
 /// Values up to the end of the group, as a list.
 pub(crate) fn all_spanned<'a, V: Drop, S: Spanned<'a, V>>(parser: &mut Parser<'a>) -> Result<Vec<V>>
     requires { 1 ≤ S.grammar.least }
-    ensures reads { ReadsIf S.quiet false no_items (λ v. map S.seen v.items) result
-        (many_reads more S.grammar parser.old.left) parser.old parser.new }
+    ensures reads { Call S.cost (owning (λ v. map S.view.of v.items) no_items)
+        (many_reads more S.grammar parser.old.left) result parser.old parser.new }
     ensures spans { IfOk result (λ v. All (S.keeps parser.old.tracks) v.items) }
 {
     let mut found = Vec::new(parser.alloc());

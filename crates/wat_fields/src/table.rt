@@ -1,8 +1,9 @@
 //! Tables.
 
-ghost use Rattle.std.specs.Prelude.{◌≡◌, true, false, IfOk};
-ghost use Rattle.wat_tokens.specs.Parses.{Gives};
-ghost use Rattle.wat_tokens.specs.Reads.{Parsed, ReadsLight, ReadsIf};
+ghost use Rattle.std.specs.Prelude.{◌≡◌, IfOk};
+ghost use Rattle.wat_tokens.specs.Cost.{turns_too};
+ghost use Rattle.wat_tokens.specs.Reads.{Reads, ReadsAt};
+ghost use Rattle.wat_tokens.specs.Views.{plain, owning};
 ghost use Rattle.wat_fields.specs.Table.{seen_table_kind, bare_table_kind, begins_prefix};
 ghost use Rattle.wat_fields.specs.Table.{begins_inline_elems, begins_normal, inline_table};
 ghost use Rattle.wat_fields.specs.Table.{normal_table, imported_table, table_kind, TableFieldTy};
@@ -65,8 +66,7 @@ pub enum TableKind<'a> {
 /// What it holds, behind the type of its elements.
 #[tactic(auto, unfolding(crate::specs::Table::inline_table))]
 fn read_inline<'a>(parser: &mut Parser<'a>) -> Result<TableKind<'a>>
-    ensures reads { ReadsIf false false bare_table_kind seen_table_kind result
-        (inline_table.reads parser.old.left) parser.old parser.new }
+    ensures reads { ReadsAt turns_too (owning seen_table_kind bare_table_kind) inline_table result parser.old parser.new }
     ensures spans { IfOk result (λ k. TableSpansAre (items_behind
         (inline_front.reads parser.old.left)) parser.old.tracks k) }
 {
@@ -88,8 +88,7 @@ fn read_inline<'a>(parser: &mut Parser<'a>) -> Result<TableKind<'a>>
 /// A type, and then an expression, where something is left.
 #[tactic(auto, unfolding(crate::specs::Table::normal_table))]
 fn read_normal<'a>(parser: &mut Parser<'a>) -> Result<TableKind<'a>>
-    ensures reads { ReadsIf false false bare_table_kind seen_table_kind result
-        (normal_table.reads parser.old.left) parser.old parser.new }
+    ensures reads { ReadsAt turns_too (owning seen_table_kind bare_table_kind) normal_table result parser.old parser.new }
     ensures spans { IfOk result (λ k. TableSpansAre (items_behind
         (inline_front.reads parser.old.left)) parser.old.tracks k) }
 {
@@ -105,8 +104,7 @@ fn read_normal<'a>(parser: &mut Parser<'a>) -> Result<TableKind<'a>>
 /// From where it is imported, and its type.
 #[tactic(auto, using(wat_links::specs::Laws::NoImport::no_import), unfolding(crate::specs::Table::imported_table))]
 fn read_imported<'a>(parser: &mut Parser<'a>) -> Result<TableKind<'a>>
-    ensures reads { ReadsLight seen_table_kind result (imported_table.reads parser.old.left)
-        parser.old parser.new }
+    ensures reads { Reads (plain seen_table_kind) imported_table result parser.old parser.new }
     ensures spans { IfOk result (λ k. TableSpansAre (items_behind
         (inline_front.reads parser.old.left)) parser.old.tracks k) }
 {
@@ -145,8 +143,7 @@ fn normal_next(parser: &Parser<'_>) -> bool
 /// How it is defined.
 #[tactic(auto, unfolding(crate::specs::Table::table_kind))]
 fn read_kind<'a>(parser: &mut Parser<'a>) -> Result<TableKind<'a>>
-    ensures reads { ReadsIf false false bare_table_kind seen_table_kind result
-        (table_kind.reads parser.old.left) parser.old parser.new }
+    ensures reads { ReadsAt turns_too (owning seen_table_kind bare_table_kind) table_kind result parser.old parser.new }
     ensures spans { IfOk result (λ k. TableSpansAre (items_behind
         (inline_front.reads parser.old.left)) parser.old.tracks k) }
 {
@@ -172,23 +169,15 @@ fn read_kind<'a>(parser: &mut Parser<'a>) -> Result<TableKind<'a>>
 impl<'a> Parse<'a> for Table<'a> {
     ghost Seen = { TableFieldTy };
 
-    ghost seen = { seen_table };
+    ghost view = { owning seen_table bare_table };
 
-    ghost light = { false };
-
-    ghost bare = { bare_table };
-
-    ghost quiet = { false };
-
-    ghost stays = { false };
+    ghost cost = { turns_too };
 
     ghost grammar = { table };
 
     #[tactic(auto, unfolding(crate::specs::Table::table))]
     fn parse(parser: &mut Parser<'a>) -> Result<Self>
-        ensures reads { Parsed (Gives false bare_table seen_table result
-            (table.reads parser.old.left) parser.new.left) false false result parser.old
-            parser.new }
+        ensures reads { ReadsAt turns_too (owning seen_table bare_table) table result parser.old parser.new }
         ensures spans { IfOk result (λ t. TableSpansAre (has_items parser.old.left)
             parser.old.tracks t.kind) }
     {

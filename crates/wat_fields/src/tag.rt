@@ -1,7 +1,7 @@
 //! Tags.
 
-ghost use Rattle.std.specs.Prelude.{◌≡◌, false};
-ghost use Rattle.wat_tokens.specs.Parses.{seen_option};
+ghost use Rattle.std.specs.Prelude.{◌≡◌};
+ghost use Rattle.wat_tokens.specs.Views.{owning, seen_option};
 ghost use Rattle.wat_links.specs.Import.{seen_inline_import};
 ghost use Rattle.wat_fields.specs.Tag.{TagTy, seen_tag_kind, seen_tag, bare_tag, tag};
 
@@ -50,11 +50,7 @@ fn kind_of(import: Option<InlineImport<'_>>) -> TagKind<'_>
 impl<'a> Parse<'a> for Tag<'a> {
     ghost Seen = { TagTy };
 
-    ghost seen = { seen_tag };
-
-    ghost light = { false };
-
-    ghost bare = { bare_tag };
+    ghost view = { owning seen_tag bare_tag };
 
     ghost grammar = { tag };
 

@@ -7,7 +7,8 @@ use Rattle.wat_tokens.specs.Many.{after_front}
 use Rattle.wat_tokens.specs.ManySpells.{many_reads, many_spells}
 use Rattle.wat_tokens.specs.Laws.Many.{many_stop, many_sound}
 use Rattle.wat_tokens.specs.Index.{Idx, index, begins_index}
-use Rattle.wat_tokens.specs.Parses.{no_items, NotBare}
+use Rattle.wat_tokens.specs.Parses.{NotBare}
+use Rattle.wat_tokens.specs.Views.{no_items}
 use Rattle.wat_immediates.specs.Branch.{BrTableTy, br_table_of, bare_br_table, split, split_list}
 use Rattle.wat_immediates.specs.Laws.Branch.{split_is}
 use Rattle.wat_immediates.specs.BranchTable.{br_table}

@@ -6,7 +6,7 @@ use Rattle.wat_tokens.specs.Production.{Production}
 use Rattle.wat_tokens.specs.Parts.{seq, made}
 use Rattle.wat_tokens.specs.Many.{many}
 use Rattle.wat_tokens.specs.Index.{Idx, seen_index, index, begins_index}
-use Rattle.wat_tokens.specs.Parses.{no_items}
+use Rattle.wat_tokens.specs.Views.{no_items}
 use Rattle.wat_tokens.specs.declared.index.Index.{Index}
 use Rattle.wat_immediates.specs.declared.branch.BrTableIndicesOf.{BrTableIndicesOf}
 

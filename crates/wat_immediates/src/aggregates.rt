@@ -1,7 +1,8 @@
 //! Operands of instructions on structures, arrays and continuations.
 
-ghost use Rattle.std.specs.Prelude.{ℕ, true};
+ghost use Rattle.std.specs.Prelude.{ℕ};
 ghost use Rattle.wat_tokens.specs.Index.{Idx, index};
+ghost use Rattle.wat_tokens.specs.Views.{plain};
 ghost use Rattle.wat_immediates.specs.Aggregates.{seen_struct_access, seen_cont_bind, seen_switch};
 ghost use Rattle.wat_immediates.specs.Aggregates.{seen_array_fill, seen_array_copy};
 ghost use Rattle.wat_immediates.specs.Aggregates.{seen_array_init, seen_array_new_fixed};
@@ -130,9 +131,7 @@ pub type ArrayNewElem<'a> = ArrayNewElemOf<Index<'a>>;
 impl<'a> Parse<'a> for StructAccess<'a> {
     ghost Seen = { Idx × Idx };
 
-    ghost seen = { seen_struct_access };
-
-    ghost bare = { λ _. true };
+    ghost view = { plain seen_struct_access };
 
     ghost grammar = { index_pair };
 
@@ -148,9 +147,7 @@ impl<'a> Parse<'a> for StructAccess<'a> {
 impl<'a> Parse<'a> for ContBind<'a> {
     ghost Seen = { Idx × Idx };
 
-    ghost seen = { seen_cont_bind };
-
-    ghost bare = { λ _. true };
+    ghost view = { plain seen_cont_bind };
 
     ghost grammar = { index_pair };
 
@@ -169,9 +166,7 @@ impl<'a> Parse<'a> for ContBind<'a> {
 impl<'a> Parse<'a> for Switch<'a> {
     ghost Seen = { Idx × Idx };
 
-    ghost seen = { seen_switch };
-
-    ghost bare = { λ _. true };
+    ghost view = { plain seen_switch };
 
     ghost grammar = { index_pair };
 
@@ -190,9 +185,7 @@ impl<'a> Parse<'a> for Switch<'a> {
 impl<'a> Parse<'a> for ArrayFill<'a> {
     ghost Seen = { Idx };
 
-    ghost seen = { seen_array_fill };
-
-    ghost bare = { λ _. true };
+    ghost view = { plain seen_array_fill };
 
     ghost grammar = { index };
 
@@ -206,9 +199,7 @@ impl<'a> Parse<'a> for ArrayFill<'a> {
 impl<'a> Parse<'a> for ArrayCopy<'a> {
     ghost Seen = { Idx × Idx };
 
-    ghost seen = { seen_array_copy };
-
-    ghost bare = { λ _. true };
+    ghost view = { plain seen_array_copy };
 
     ghost grammar = { index_pair };
 
@@ -227,9 +218,7 @@ impl<'a> Parse<'a> for ArrayCopy<'a> {
 impl<'a> Parse<'a> for ArrayInit<'a> {
     ghost Seen = { Idx × Idx };
 
-    ghost seen = { seen_array_init };
-
-    ghost bare = { λ _. true };
+    ghost view = { plain seen_array_init };
 
     ghost grammar = { index_pair };
 
@@ -246,9 +235,7 @@ impl<'a> Parse<'a> for ArrayInit<'a> {
 impl<'a> Parse<'a> for ArrayNewFixed<'a> {
     ghost Seen = { Idx × ℕ };
 
-    ghost seen = { seen_array_new_fixed };
-
-    ghost bare = { λ _. true };
+    ghost view = { plain seen_array_new_fixed };
 
     ghost grammar = { array_of_length };
 
@@ -264,9 +251,7 @@ impl<'a> Parse<'a> for ArrayNewFixed<'a> {
 impl<'a> Parse<'a> for ArrayNewData<'a> {
     ghost Seen = { Idx × Idx };
 
-    ghost seen = { seen_array_new_data };
-
-    ghost bare = { λ _. true };
+    ghost view = { plain seen_array_new_data };
 
     ghost grammar = { index_pair };
 
@@ -282,9 +267,7 @@ impl<'a> Parse<'a> for ArrayNewData<'a> {
 impl<'a> Parse<'a> for ArrayNewElem<'a> {
     ghost Seen = { Idx × Idx };
 
-    ghost seen = { seen_array_new_elem };
-
-    ghost bare = { λ _. true };
+    ghost view = { plain seen_array_new_elem };
 
     ghost grammar = { index_pair };
 

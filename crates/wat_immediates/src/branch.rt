@@ -1,7 +1,8 @@
 //! The labels of a table of branches.
 
-ghost use Rattle.std.specs.Prelude.{◌≡◌, ◌≢◌, [], ◌∷◌, ◌++◌, false};
+ghost use Rattle.std.specs.Prelude.{◌≡◌, ◌≢◌, [], ◌∷◌, ◌++◌};
 ghost use Rattle.wat_tokens.specs.Copies.{Copies};
+ghost use Rattle.wat_tokens.specs.Views.{owning};
 ghost use Rattle.wat_immediates.specs.Branch.{BrTableTy, seen_br_table, bare_br_table};
 ghost use Rattle.wat_immediates.specs.BranchTable.{br_table};
 
@@ -24,8 +25,8 @@ pub type BrTableIndices<'a> = BrTableIndicesOf<Index<'a>>;
 impl<'a> BrTableIndices<'a> {
     /// The same labels once more. Memory may be answered where there is one beside the default.
     pub fn clone(&self) -> Result<BrTableIndices<'a>>
-        ensures copies { Copies (λ x y. (y.labels.items ≡ x.labels.items)
-            × (y.default ≡ x.default)) seen_br_table bare_br_table result self.now }
+        ensures copies { Copies (λ x y. (y.labels.items ≡ x.labels.items) × (y.default ≡ x.default))
+            (owning seen_br_table bare_br_table) result self.now }
     {
         let mut labels = Vec::new(*self.labels.allocator());
         labels.extend_from_slice(&self.labels)?;
@@ -51,11 +52,7 @@ fn take_last<'a>(indices: &mut Vec<Index<'a>>) -> Index<'a>
 impl<'a> Parse<'a> for BrTableIndices<'a> {
     ghost Seen = { BrTableTy };
 
-    ghost seen = { seen_br_table };
-
-    ghost light = { false };
-
-    ghost bare = { bare_br_table };
+    ghost view = { owning seen_br_table bare_br_table };
 
     ghost grammar = { br_table };
 

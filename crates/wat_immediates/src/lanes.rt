@@ -1,8 +1,9 @@
 //! Lanes of vectors, and accesses to one lane.
 
-ghost use Rattle.std.specs.Prelude.{◌≡◌, true};
+ghost use Rattle.std.specs.Prelude.{◌≡◌};
 ghost use Rattle.wat_tokens.specs.Lookup.{in_front};
-ghost use Rattle.wat_tokens.specs.Reads.{ReadsLight};
+ghost use Rattle.wat_tokens.specs.Reads.{Reads};
+ghost use Rattle.wat_tokens.specs.Views.{plain};
 ghost use Rattle.wat_immediates.specs.Lanes.{lane_arg, goes_on, is_alone, seen_lane_access};
 ghost use Rattle.wat_immediates.specs.Lanes.{lane_access};
 
@@ -38,9 +39,7 @@ impl<'a> Parse<'a> for LaneArg {
 
     ghost Seen = { LaneArg };
 
-    ghost seen = { λ l. l };
-
-    ghost bare = { λ _. true };
+    ghost view = { plain (λ l. l) };
 
     ghost grammar = { lane_arg };
 
@@ -85,8 +84,8 @@ impl<'a> LoadOrStoreLane<'a> {
     /// (WebAssembly Core Specification, Text Format, Instructions, "Memory Instructions".)
     #[tactic(auto, unfolding(crate::specs::Lanes::lane_access))]
     pub fn read(parser: &mut Parser<'a>, align: u64) -> Result<LoadOrStoreLane<'a>>
-        ensures reads { ReadsLight seen_lane_access result
-            ((lane_access align).reads parser.old.left) parser.old parser.new }
+        ensures reads { Reads (plain seen_lane_access) (lane_access align) result parser.old
+            parser.new }
     {
         let memarg = if is_alone(parser.cursor()) {
             MemArg {

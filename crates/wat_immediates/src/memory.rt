@@ -4,7 +4,8 @@
 ghost use Rattle.std.specs.Prelude.{◌≡◌, ◌≢◌, None, Some, option_map, MatchResult};
 ghost use Rattle.wat_tokens.specs.Lookup.{in_front};
 ghost use Rattle.wat_tokens.specs.Number.{unsigned_value};
-ghost use Rattle.wat_tokens.specs.Reads.{ReadsLight};
+ghost use Rattle.wat_tokens.specs.Reads.{Reads};
+ghost use Rattle.wat_tokens.specs.Views.{plain};
 ghost use Rattle.wat_immediates.specs.Memory.{seen_target, target, begins_with, offset_or_0, align};
 ghost use Rattle.wat_immediates.specs.Memory.{align_or, seen_mem_arg, mem_arg, atomic_mem_arg};
 ghost use Rattle.wat_immediates.specs.Align.{past_front, field};
@@ -82,8 +83,7 @@ fn number(text: &str, span: Span) -> Result<u64>
 /// Takes a keyword that begins so, and answers the number behind that.
 #[tactic(auto, unfolding(crate::specs::Align::field))]
 fn take_field(parser: &mut Parser<'_>, front: &str) -> Result<u64>
-    ensures reads { ReadsLight (λ n. n) result ((field front.now).reads parser.old.left) parser.old
-        parser.new }
+    ensures reads { Reads (plain (λ n. n)) (field front.now) result parser.old parser.new }
 {
     let span = parser.cur_span();
     let word = parser.take_keyword()?;
@@ -96,8 +96,7 @@ fn take_field(parser: &mut Parser<'_>, front: &str) -> Result<u64>
 /// Takes the offset, where one is written, and else answers 0.
 #[tactic(auto, unfolding(crate::specs::Memory::offset_or_0))]
 fn read_offset(parser: &mut Parser<'_>) -> Result<u64>
-    ensures reads { ReadsLight (λ n. n) result (offset_or_0.reads parser.old.left) parser.old
-        parser.new }
+    ensures reads { Reads (plain (λ n. n)) offset_or_0 result parser.old parser.new }
 {
     if begins_with(parser.cursor(), "offset=") {
         take_field(parser, "offset=")
@@ -109,7 +108,7 @@ fn read_offset(parser: &mut Parser<'_>) -> Result<u64>
 /// Takes an alignment.
 #[tactic(auto, unfolding(crate::specs::Memory::align))]
 fn take_align(parser: &mut Parser<'_>) -> Result<u64>
-    ensures reads { ReadsLight (λ n. n) result (align.reads parser.old.left) parser.old parser.new }
+    ensures reads { Reads (plain (λ n. n)) align result parser.old parser.new }
 {
     let span = parser.cur_span();
     let align = take_field(parser, "align=")?;
@@ -123,8 +122,7 @@ fn take_align(parser: &mut Parser<'_>) -> Result<u64>
 /// Takes the alignment, where one is written, and else answers the default.
 #[tactic(auto, unfolding(crate::specs::Memory::align_or))]
 fn read_align(parser: &mut Parser<'_>, default: u64) -> Result<u64>
-    ensures reads { ReadsLight (λ n. n) result ((align_or default).reads parser.old.left) parser.old
-        parser.new }
+    ensures reads { Reads (plain (λ n. n)) (align_or default) result parser.old parser.new }
 {
     if begins_with(parser.cursor(), "align=") {
         take_align(parser)
@@ -136,8 +134,7 @@ fn read_align(parser: &mut Parser<'_>, default: u64) -> Result<u64>
 /// Takes the target: where the second token is `type`, an array, else a memory, whose default is 0.
 #[tactic(auto, unfolding(crate::specs::Memory::target))]
 fn read_target<'a>(parser: &mut Parser<'a>) -> Result<MemArgTarget<'a>>
-    ensures reads { ReadsLight seen_target result (target.reads parser.old.left) parser.old
-        parser.new }
+    ensures reads { Reads (plain seen_target) target result parser.old parser.new }
 {
     if !parser.second_is("type") {
         return index_or_zero(parser).map(MemArgTarget::Memory);
@@ -161,8 +158,7 @@ impl<'a> MemArg<'a> {
     /// two. (WebAssembly Core Specification, Text Format, Instructions, "Memory Instructions".)
     #[tactic(auto, unfolding(crate::specs::Memory::mem_arg))]
     pub fn read(parser: &mut Parser<'a>, align: u64) -> Result<MemArg<'a>>
-        ensures reads { ReadsLight seen_mem_arg result ((mem_arg align).reads parser.old.left)
-            parser.old parser.new }
+        ensures reads { Reads (plain seen_mem_arg) (mem_arg align) result parser.old parser.new }
     {
         let target = read_target(parser)?;
         let offset = read_offset(parser)?;
@@ -182,8 +178,8 @@ impl<'a> MemArg<'a> {
     /// threads.)
     #[tactic(auto, unfolding(crate::specs::Memory::atomic_mem_arg))]
     pub fn read_atomic(parser: &mut Parser<'a>, align: u64, rmw: bool) -> Result<MemArg<'a>>
-        ensures reads { ReadsLight seen_mem_arg result ((atomic_mem_arg align rmw).reads
-            parser.old.left) parser.old parser.new }
+        ensures reads { Reads (plain seen_mem_arg) (atomic_mem_arg align rmw) result parser.old
+            parser.new }
     {
         let mut access = MemArg::read(parser, align)?;
         access.ordering = match Option::<Ordering>::parse(parser)? {

@@ -1,8 +1,9 @@
 //! Orderings of atomic accesses.
 
-ghost use Rattle.std.specs.Prelude.{◌≡◌, true};
+ghost use Rattle.std.specs.Prelude.{◌≡◌};
 ghost use Rattle.wat_tokens.specs.Lookup.{in_front};
 ghost use Rattle.wat_tokens.specs.Tests.{begins_word};
+ghost use Rattle.wat_tokens.specs.Views.{plain, holding};
 ghost use Rattle.wat_immediates.specs.Ordering.{ordering, begins_ordering, seen_ordered, ordered};
 
 use wat_tokens::{Cursor, Parse, Parser, Peek, Result};
@@ -34,9 +35,7 @@ impl<'a> Parse<'a> for Ordering {
 
     ghost Seen = { Ordering };
 
-    ghost seen = { λ o. o };
-
-    ghost bare = { λ _. true };
+    ghost view = { plain (λ o. o) };
 
     ghost grammar = { ordering };
 
@@ -79,15 +78,9 @@ impl<'a, T: Parse<'a> + Drop> Parse<'a> for Ordered<T> {
 
     ghost Seen = { Ordering × T.Seen };
 
-    ghost seen = { seen_ordered T.seen };
+    ghost view = { holding T.view (seen_ordered T.view.of) (λ v. T.view.bare v.1) };
 
-    ghost light = { T.light };
-
-    ghost bare = { λ v. T.bare v.1 };
-
-    ghost quiet = { T.quiet };
-
-    ghost stays = { T.stays };
+    ghost cost = { T.cost };
 
     ghost grammar = { ordered T.grammar };
 

@@ -1,8 +1,9 @@
 //! Operands that name tables and memories.
 
-ghost use Rattle.std.specs.Prelude.{◌≡◌, true};
+ghost use Rattle.std.specs.Prelude.{◌≡◌};
 ghost use Rattle.wat_tokens.specs.Index.{Idx, number, seen_index};
-ghost use Rattle.wat_tokens.specs.Reads.{ReadsLight};
+ghost use Rattle.wat_tokens.specs.Reads.{Reads};
+ghost use Rattle.wat_tokens.specs.Views.{plain};
 ghost use Rattle.wat_immediates.specs.Tables.{index_or_0, seen_table_arg, seen_memory_arg, init};
 ghost use Rattle.wat_immediates.specs.Tables.{seen_table_init, seen_memory_init, copy};
 ghost use Rattle.wat_immediates.specs.Tables.{seen_table_copy, seen_memory_copy};
@@ -93,8 +94,7 @@ pub(crate) fn zero<'a>(parser: &Parser<'a>) -> Index<'a>
 /// Takes an index, where one begins in front, and else answers 0.
 #[tactic(auto, unfolding(crate::specs::Tables::index_or_0))]
 pub fn index_or_zero<'a>(parser: &mut Parser<'a>) -> Result<Index<'a>>
-    ensures reads { ReadsLight seen_index result (index_or_0.reads parser.old.left) parser.old
-        parser.new }
+    ensures reads { Reads (plain seen_index) index_or_0 result parser.old parser.new }
 {
     if parser.peek::<Index>() {
         Index::parse(parser)
@@ -107,8 +107,8 @@ pub fn index_or_zero<'a>(parser: &mut Parser<'a>) -> Result<Index<'a>>
 /// target is 0.
 #[tactic(auto, unfolding(crate::specs::Tables::init, crate::specs::Tables::index_pair))]
 fn target_and_segment<'a>(parser: &mut Parser<'a>) -> Result<(Index<'a>, Index<'a>)>
-    ensures reads { ReadsLight (λ p. (seen_index p.0, seen_index p.1)) result
-        (init.reads parser.old.left) parser.old parser.new }
+    ensures reads { Reads (plain (λ p. (seen_index p.0, seen_index p.1))) init result parser.old
+        parser.new }
 {
     let target = if parser.peek2::<Index>() {
         Index::parse(parser)?
@@ -122,8 +122,8 @@ fn target_and_segment<'a>(parser: &mut Parser<'a>) -> Result<(Index<'a>, Index<'
 /// Where an index begins, takes a destination and a source; else both are 0.
 #[tactic(auto, unfolding(crate::specs::Tables::copy, crate::specs::Tables::index_pair))]
 fn destination_and_source<'a>(parser: &mut Parser<'a>) -> Result<(Index<'a>, Index<'a>)>
-    ensures reads { ReadsLight (λ p. (seen_index p.0, seen_index p.1)) result
-        (copy.reads parser.old.left) parser.old parser.new }
+    ensures reads { Reads (plain (λ p. (seen_index p.0, seen_index p.1))) copy result parser.old
+        parser.new }
 {
     if !parser.peek::<Index>() {
         return Ok((zero(parser), zero(parser)));
@@ -137,9 +137,7 @@ fn destination_and_source<'a>(parser: &mut Parser<'a>) -> Result<(Index<'a>, Ind
 impl<'a> Parse<'a> for TableArg<'a> {
     ghost Seen = { Idx };
 
-    ghost seen = { seen_table_arg };
-
-    ghost bare = { λ _. true };
+    ghost view = { plain seen_table_arg };
 
     ghost grammar = { index_or_0 };
 
@@ -154,9 +152,7 @@ impl<'a> Parse<'a> for TableArg<'a> {
 impl<'a> Parse<'a> for MemoryArg<'a> {
     ghost Seen = { Idx };
 
-    ghost seen = { seen_memory_arg };
-
-    ghost bare = { λ _. true };
+    ghost view = { plain seen_memory_arg };
 
     ghost grammar = { index_or_0 };
 
@@ -172,9 +168,7 @@ impl<'a> Parse<'a> for MemoryArg<'a> {
 impl<'a> Parse<'a> for TableInit<'a> {
     ghost Seen = { Idx × Idx };
 
-    ghost seen = { seen_table_init };
-
-    ghost bare = { λ _. true };
+    ghost view = { plain seen_table_init };
 
     ghost grammar = { init };
 
@@ -189,9 +183,7 @@ impl<'a> Parse<'a> for TableInit<'a> {
 impl<'a> Parse<'a> for MemoryInit<'a> {
     ghost Seen = { Idx × Idx };
 
-    ghost seen = { seen_memory_init };
-
-    ghost bare = { λ _. true };
+    ghost view = { plain seen_memory_init };
 
     ghost grammar = { init };
 
@@ -205,9 +197,7 @@ impl<'a> Parse<'a> for MemoryInit<'a> {
 impl<'a> Parse<'a> for TableCopy<'a> {
     ghost Seen = { Idx × Idx };
 
-    ghost seen = { seen_table_copy };
-
-    ghost bare = { λ _. true };
+    ghost view = { plain seen_table_copy };
 
     ghost grammar = { copy };
 
@@ -221,9 +211,7 @@ impl<'a> Parse<'a> for TableCopy<'a> {
 impl<'a> Parse<'a> for MemoryCopy<'a> {
     ghost Seen = { Idx × Idx };
 
-    ghost seen = { seen_memory_copy };
-
-    ghost bare = { λ _. true };
+    ghost view = { plain seen_memory_copy };
 
     ghost grammar = { copy };
 

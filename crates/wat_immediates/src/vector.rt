@@ -1,8 +1,9 @@
 //! Constants of 128 bits, and lanes that are shuffled.
 
-ghost use Rattle.std.specs.Prelude.{◌≡◌, ◌%◌, [], ◌∷◌, ◌++◌, true, map, flat_map};
-ghost use Rattle.wat_tokens.specs.Reads.{ReadsIf, ReadsLight};
+ghost use Rattle.std.specs.Prelude.{◌≡◌, ◌%◌, [], ◌∷◌, ◌++◌, map, flat_map};
 ghost use Rattle.std.specs.Int.{w16, w32, w64, to_le_bytes};
+ghost use Rattle.wat_tokens.specs.Reads.{Reads, ReadsAt};
+ghost use Rattle.wat_tokens.specs.Views.{plain, holding};
 ghost use Rattle.wat_immediates.specs.Vector.{two, four, eight, sixteen, all_bare, float_const};
 ghost use Rattle.wat_immediates.specs.Vector.{wide_const, v128_const, bytes_of, lane_bits};
 ghost use Rattle.wat_immediates.specs.Vector.{SameShape, shuffle};
@@ -68,8 +69,8 @@ fn join_8<T: Copy>(a: [T; 8], b: [T; 8]) -> [T; 16]
 /// Takes two values.
 #[tactic(auto, unfolding(crate::specs::Vector::two))]
 fn two<'a, T: Parse<'a> + Copy>(parser: &mut Parser<'a>) -> Result<[T; 2]>
-    ensures reads { ReadsIf T.quiet T.light (all_bare T.bare) (map T.seen) result
-        ((two T.grammar).reads parser.old.left) parser.old parser.new }
+    ensures reads { ReadsAt T.cost (holding T.view (map T.view.of) (all_bare T.view.bare))
+        (two T.grammar) result parser.old parser.new }
 {
     let first = T::parse(parser)?;
     let second = T::parse(parser)?;
@@ -79,8 +80,8 @@ fn two<'a, T: Parse<'a> + Copy>(parser: &mut Parser<'a>) -> Result<[T; 2]>
 /// Takes four values.
 #[tactic(auto, using(crate::proofs::Again::map_both), unfolding(crate::specs::Vector::four))]
 fn four<'a, T: Parse<'a> + Copy>(parser: &mut Parser<'a>) -> Result<[T; 4]>
-    ensures reads { ReadsIf T.quiet T.light (all_bare T.bare) (map T.seen) result
-        ((four T.grammar).reads parser.old.left) parser.old parser.new }
+    ensures reads { ReadsAt T.cost (holding T.view (map T.view.of) (all_bare T.view.bare))
+        (four T.grammar) result parser.old parser.new }
 {
     let first = two::<T>(parser)?;
     let second = two::<T>(parser)?;
@@ -90,8 +91,8 @@ fn four<'a, T: Parse<'a> + Copy>(parser: &mut Parser<'a>) -> Result<[T; 4]>
 /// Takes eight values.
 #[tactic(auto, using(crate::proofs::Again::map_both), unfolding(crate::specs::Vector::eight))]
 fn eight<'a, T: Parse<'a> + Copy>(parser: &mut Parser<'a>) -> Result<[T; 8]>
-    ensures reads { ReadsIf T.quiet T.light (all_bare T.bare) (map T.seen) result
-        ((eight T.grammar).reads parser.old.left) parser.old parser.new }
+    ensures reads { ReadsAt T.cost (holding T.view (map T.view.of) (all_bare T.view.bare))
+        (eight T.grammar) result parser.old parser.new }
 {
     let first = four::<T>(parser)?;
     let second = four::<T>(parser)?;
@@ -101,8 +102,8 @@ fn eight<'a, T: Parse<'a> + Copy>(parser: &mut Parser<'a>) -> Result<[T; 8]>
 /// Takes sixteen values.
 #[tactic(auto, using(crate::proofs::Again::map_both), unfolding(crate::specs::Vector::sixteen))]
 fn sixteen<'a, T: Parse<'a> + Copy>(parser: &mut Parser<'a>) -> Result<[T; 16]>
-    ensures reads { ReadsIf T.quiet T.light (all_bare T.bare) (map T.seen) result
-        ((sixteen T.grammar).reads parser.old.left) parser.old parser.new }
+    ensures reads { ReadsAt T.cost (holding T.view (map T.view.of) (all_bare T.view.bare))
+        (sixteen T.grammar) result parser.old parser.new }
 {
     let first = eight::<T>(parser)?;
     let second = eight::<T>(parser)?;
@@ -112,8 +113,7 @@ fn sixteen<'a, T: Parse<'a> + Copy>(parser: &mut Parser<'a>) -> Result<[T; 16]>
 /// Takes a constant of floating-point lanes: its word stands, and then none can be read.
 #[tactic(auto, using(crate::proofs::Again::f32s_again, crate::proofs::Again::f64s_again), unfolding(crate::specs::Vector::float_const))]
 fn read_floats<'a>(parser: &mut Parser<'a>) -> Result<V128Const>
-    ensures reads { ReadsLight (λ v. v) result (float_const.reads parser.old.left) parser.old
-        parser.new }
+    ensures reads { Reads (plain (λ v. v)) float_const result parser.old parser.new }
 {
     if parser.next_is("f32x4") {
         parser.keyword("f32x4")?;
@@ -126,8 +126,7 @@ fn read_floats<'a>(parser: &mut Parser<'a>) -> Result<V128Const>
 /// Takes a constant whose lanes have 32 or 64 bits.
 #[tactic(auto, using(crate::proofs::Again::items_again), unfolding(crate::specs::Vector::wide_const))]
 fn read_wide<'a>(parser: &mut Parser<'a>) -> Result<V128Const>
-    ensures reads { ReadsLight (λ v. v) result (wide_const.reads parser.old.left) parser.old
-        parser.new }
+    ensures reads { Reads (plain (λ v. v)) wide_const result parser.old parser.new }
 {
     if parser.next_is("i32x4") {
         parser.keyword("i32x4")?;
@@ -149,9 +148,7 @@ impl<'a> Parse<'a> for V128Const {
 
     ghost Seen = { V128Const };
 
-    ghost seen = { λ v. v };
-
-    ghost bare = { λ _. true };
+    ghost view = { plain (λ v. v) };
 
     ghost grammar = { v128_const };
 
@@ -176,9 +173,7 @@ impl<'a> Parse<'a> for I8x16Shuffle {
 
     ghost Seen = { I8x16Shuffle };
 
-    ghost seen = { λ s. s };
-
-    ghost bare = { λ _. true };
+    ghost view = { plain (λ s. s) };
 
     ghost grammar = { shuffle };
 

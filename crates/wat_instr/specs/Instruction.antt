@@ -1,7 +1,6 @@
 -- Instructions.
 use Rattle.std.specs.Prelude.{ℕ, Bool, ◌||◌, ◌==◌, None}
 use Rattle.wat_tokens.specs.Index.{name_of, seen_index}
-use Rattle.wat_tokens.specs.Parses.{seen_option}
 use Rattle.wat_tokens.specs.Production.{Production}
 use Rattle.wat_tokens.specs.Parts.{made}
 use Rattle.wat_types.specs.Heap.{seen_heap}
@@ -31,6 +30,7 @@ use Rattle.wat_mnemonics.specs.declared.indexed.BlockOp.TheVariants as block
 use Rattle.wat_mnemonics.specs.declared.indexed.IndexedOp.TheVariants as indexed
 use Rattle.wat_mnemonics.specs.declared.indexed.LabelOp.TheVariants as label
 use Rattle.wat_tokens.specs.Followed.{followed}
+use Rattle.wat_tokens.specs.Views.{seen_option}
 use Rattle.wat_instr.specs.Operand.{Operand, bare_operand, operand}
 use Rattle.wat_instr.specs.Operand as operands
 use Rattle.wat_instr.specs.declared.instruction.InstructionOf.{InstructionOf}

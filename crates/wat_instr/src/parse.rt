@@ -1,9 +1,10 @@
 //! Instructions as they are read.
 
-ghost use Rattle.std.specs.Prelude.{◌≡◌, ◌+◌, ◌≤◌, ◌∷◌, ℕ, true, false, List, None, IfErr};
-ghost use Rattle.wat_tokens.specs.Parses.{Gives};
-ghost use Rattle.wat_tokens.specs.Reads.{Parsed};
+ghost use Rattle.std.specs.Prelude.{◌≡◌, ◌+◌, ◌≤◌, ◌∷◌, ℕ, List, None, IfErr};
+ghost use Rattle.wat_tokens.specs.Cost.{words_too};
+ghost use Rattle.wat_tokens.specs.Reads.{ReadsAt};
 ghost use Rattle.wat_tokens.specs.Token.{Tok, Keyword};
+ghost use Rattle.wat_tokens.specs.Views.{owning};
 ghost use Rattle.wat_mnemonics.specs.Probes.{AtMostTen};
 ghost use Rattle.wat_mnemonics.specs.Mnemonic.{mnemonic};
 ghost use Rattle.wat_instr.specs.Instruction.{Instr, seen_instruction, bare_instruction};
@@ -80,22 +81,17 @@ fn read_operand<'a>(head: Head, parser: &mut Parser<'a>) -> Result<Instruction<'
 impl<'a> Parse<'a> for Instruction<'a> {
     ghost Seen = { Instr };
 
-    ghost seen = { seen_instruction };
+    ghost view = { owning seen_instruction bare_instruction };
 
-    ghost light = { false };
-
-    ghost bare = { bare_instruction };
-
-    ghost quiet = { false };
+    ghost cost = { words_too };
 
     ghost grammar = { instruction };
 
     #[tactic(auto, unfolding(crate::specs::Reading::ReadsOperand, crate::specs::Instruction::instruction))]
     fn parse(parser: &mut Parser<'a>) -> Result<Self>
         // No turn and no height is counted.
-        ensures reads { Parsed (Gives false bare_instruction seen_instruction result
-            (instruction.reads parser.old.left) parser.new.left) false true result parser.old
-            parser.new }
+        ensures reads { ReadsAt words_too (owning seen_instruction bare_instruction) instruction
+            result parser.old parser.new }
         // The word is compared at most ten times, and at least once where a keyword stands in
         // front.
         ensures probes { AtMostTen parser.old parser.new }

@@ -2,7 +2,7 @@
 use Rattle.std.specs.Prelude.{ℕ, Bool, List, []}
 use Rattle.wat_tokens.specs.Production.{Production}
 use Rattle.wat_tokens.specs.Parts.{seq, made}
-use Rattle.wat_tokens.specs.Parses.{no_items}
+use Rattle.wat_tokens.specs.Views.{no_items}
 use Rattle.wat_types.specs.Label.{Label, no_label, seen_label, label}
 use Rattle.wat_links.specs.Export.{seen_inline_export, inline_export}
 use Rattle.wat_links.specs.declared.head.Head.{Head}

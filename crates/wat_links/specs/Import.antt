@@ -9,8 +9,8 @@ use Rattle.wat_tokens.specs.Production.{Production}
 use Rattle.wat_tokens.specs.Parts.{seq, made, made_where, where_else}
 use Rattle.wat_tokens.specs.Groups.{paren, group}
 use Rattle.wat_tokens.specs.Many.{many}
-use Rattle.wat_tokens.specs.Parses.{no_items}
 use Rattle.wat_tokens.specs.Strings.{text}
+use Rattle.wat_tokens.specs.Views.{no_items}
 use Rattle.wat_links.specs.Item.{SigTy, seen_sig, bare_sig, item_sig, SameSig}
 use Rattle.wat_links.specs.declared.item.ItemSig.{ItemSig}
 use Rattle.wat_links.specs.declared.import.ImportGroup1ItemOf.{ImportGroup1ItemOf}

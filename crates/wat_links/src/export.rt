@@ -1,9 +1,9 @@
 //! Exports.
 
-ghost use Rattle.std.specs.Prelude.{◌≡◌, ℕ, [], true, false, List};
+ghost use Rattle.std.specs.Prelude.{◌≡◌, ℕ, [], List};
 ghost use Rattle.wat_tokens.specs.Copies.{Copies};
 ghost use Rattle.wat_tokens.specs.Lookup.{in_front};
-ghost use Rattle.wat_tokens.specs.Parses.{no_items};
+ghost use Rattle.wat_tokens.specs.Views.{plain, owning, no_items};
 ghost use Rattle.wat_links.specs.Item.{SameSig};
 ghost use Rattle.wat_links.specs.Export.{kind_words, export_kind, begins_kind, ExportTy};
 ghost use Rattle.wat_links.specs.Export.{seen_export, export_, ExportTypeTy, seen_export_type};
@@ -88,9 +88,7 @@ impl<'a> Parse<'a> for ExportKind {
 
     ghost Seen = { ExportKind };
 
-    ghost seen = { λ k. k };
-
-    ghost bare = { λ _. true };
+    ghost view = { plain (λ k. k) };
 
     ghost grammar = { export_kind };
 
@@ -168,9 +166,7 @@ impl From<kw::tag> for ExportKind {
 impl<'a> Parse<'a> for Export<'a> {
     ghost Seen = { ExportTy };
 
-    ghost seen = { seen_export };
-
-    ghost bare = { λ _. true };
+    ghost view = { plain seen_export };
 
     ghost grammar = { export_ };
 
@@ -195,8 +191,8 @@ impl<'a> ExportType<'a> {
     /// The same once more. Memory may be answered where a type in it has a parameter or a result in
     /// line.
     pub fn clone(&self) -> Result<ExportType<'a>>
-        ensures copies { Copies (λ x y. (y.span ≡ x.span) × (y.name ≡ x.name)
-            × (SameSig x.item y.item)) seen_export_type bare_export_type result self.now }
+        ensures copies { Copies (λ x y. (y.span ≡ x.span) × (y.name ≡ x.name) ×
+            (SameSig x.item y.item)) (owning seen_export_type bare_export_type) result self.now }
     {
         Ok(ExportType {
             span: self.span,
@@ -210,11 +206,7 @@ impl<'a> ExportType<'a> {
 impl<'a> Parse<'a> for ExportType<'a> {
     ghost Seen = { ExportTypeTy };
 
-    ghost seen = { seen_export_type };
-
-    ghost light = { false };
-
-    ghost bare = { bare_export_type };
+    ghost view = { owning seen_export_type bare_export_type };
 
     ghost grammar = { export_type };
 
@@ -246,9 +238,7 @@ struct InlineName;
 impl<'a> Part<'a, &'a str> for InlineName {
     ghost Seen = { List ℕ };
 
-    ghost seen = { λ n. n.now };
-
-    ghost bare = { λ _. true };
+    ghost view = { plain (λ n. n.now) };
 
     ghost grammar = { inline_name };
 
@@ -272,11 +262,7 @@ impl<'a> Part<'a, &'a str> for InlineName {
 impl<'a> Parse<'a> for InlineExport<'a> {
     ghost Seen = { List (List ℕ) };
 
-    ghost seen = { seen_inline_export };
-
-    ghost light = { false };
-
-    ghost bare = { no_items };
+    ghost view = { owning seen_inline_export no_items };
 
     ghost grammar = { inline_export };
 

@@ -1,7 +1,7 @@
 //! What stands in front of a field's own part.
 
-ghost use Rattle.std.specs.Prelude.{false};
 ghost use Rattle.wat_links.specs.Head.{HeadTy, seen_head, bare_head, head};
+ghost use Rattle.wat_tokens.specs.Views.{owning};
 
 use crate::export::InlineExport;
 use wat_tokens::{Fault, Id, NameAnnotation, Parse, Parser, Result};
@@ -23,11 +23,7 @@ pub struct Head<'a> {
 impl<'a> Parse<'a> for Head<'a> {
     ghost Seen = { HeadTy };
 
-    ghost seen = { seen_head };
-
-    ghost light = { false };
-
-    ghost bare = { bare_head };
+    ghost view = { owning seen_head bare_head };
 
     ghost grammar = { head };
 

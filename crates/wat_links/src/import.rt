@@ -1,14 +1,14 @@
 //! Imports.
 
-ghost use Rattle.std.specs.Prelude.{◌≡◌, ◌&&◌, ℕ, true, false, List, map, length, replicate};
+ghost use Rattle.std.specs.Prelude.{◌≡◌, ℕ, true, List, map, length, replicate};
 ghost use Rattle.std.specs.Prelude.{slice_get, ◌<◌, IfOk, IfErr};
 ghost use Rattle.std.specs.Borrow.{sem};
 ghost use Rattle.std.specs.Option.{option_map};
 ghost use Rattle.wat_tokens.specs.Copies.{Copies};
 ghost use Rattle.wat_tokens.specs.Lookup.{in_front};
-ghost use Rattle.wat_tokens.specs.Parses.{no_items};
 ghost use Rattle.wat_tokens.specs.Reads.{Reads};
 ghost use Rattle.wat_tokens.specs.Tests.{begins_lparen};
+ghost use Rattle.wat_tokens.specs.Views.{plain, owning, no_items};
 ghost use Rattle.wat_links.specs.Item.{SigTy, seen_sig, bare_sig, SameSig};
 ghost use Rattle.wat_links.specs.Forms.{import_items, imports};
 ghost use Rattle.wat_links.specs.Import.{ItemsTy, ImportsTy, module_of, seen_typed, seen_named};
@@ -226,7 +226,7 @@ impl<'a> ImportGroup1Item<'a> {
     /// The same once more. Memory may be answered where a type in it has a parameter or a result in
     /// line.
     pub fn clone(&self) -> Result<ImportGroup1Item<'a>>
-        ensures copies { Copies SameTyped seen_typed (λ t. bare_sig t.1) result self.now }
+        ensures copies { Copies SameTyped (owning seen_typed (λ t. bare_sig t.1)) result self.now }
     {
         Ok(ImportGroup1ItemOf {
             span: self.span,
@@ -239,8 +239,8 @@ impl<'a> ImportGroup1Item<'a> {
 /// The same items once more. Memory may be answered where there is an item.
 #[tactic(auto, using(crate::proofs::Same::same_next, crate::proofs::Same::seen_next, crate::proofs::Same::some_items))]
 fn clone_items<'a>(items: &Vec<ImportGroup1Item<'a>>) -> Result<Vec<ImportGroup1Item<'a>>>
-    ensures copies { Copies (λ x y. SameAll x.items y.items)
-        (λ v. map seen_typed v.items) no_items result items.now }
+    ensures copies { Copies (λ x y. SameAll x.items y.items) (owning (λ v. map seen_typed v.items)
+        no_items) result items.now }
 {
     let mut copies = Vec::new(*items.allocator());
     'items: for item in items {
@@ -251,8 +251,8 @@ fn clone_items<'a>(items: &Vec<ImportGroup1Item<'a>>) -> Result<Vec<ImportGroup1
 
 /// The same items once more. Memory may be answered where there is an item.
 fn clone_names<'a>(items: &Vec<ImportGroup2Item<'a>>) -> Result<Vec<ImportGroup2Item<'a>>>
-    ensures copies { Copies (λ x y. y.items ≡ x.items) (λ v. map seen_named v.items) no_items result
-        items.now }
+    ensures copies { Copies (λ x y. y.items ≡ x.items) (owning (λ v. map seen_named v.items)
+        no_items) result items.now }
 {
     let mut copies = Vec::new(*items.allocator());
     'items: for item in items {
@@ -265,7 +265,7 @@ impl<'a> ImportItems<'a> {
     /// The same once more. Memory may be answered where there is an item in a group, or where a
     /// type has a parameter or a result in line.
     pub fn clone(&self) -> Result<ImportItems<'a>>
-        ensures copies { Copies SameItems seen_items bare_items result self.now }
+        ensures copies { Copies SameItems (owning seen_items bare_items) result self.now }
     {
         match self {
             ImportItemsOf::Single { module, name, sig } => Ok(ImportItemsOf::Single {
@@ -290,8 +290,8 @@ impl<'a> Imports<'a> {
     /// The same once more. Memory may be answered where there is an item in a group, or where a
     /// type has a parameter or a result in line.
     pub fn clone(&self) -> Result<Imports<'a>>
-        ensures copies { Copies (λ x y. (y.span ≡ x.span)
-            × (SameItems x.items y.items)) seen_imports bare_imports result self.now }
+        ensures copies { Copies (λ x y. (y.span ≡ x.span) × (SameItems x.items y.items))
+            (owning seen_imports bare_imports) result self.now }
     {
         Ok(ImportsOf {
             span: self.span,
@@ -302,8 +302,7 @@ impl<'a> Imports<'a> {
 
 /// `( ItemSig )`
 fn read_sig<'a>(parser: &mut Parser<'a>) -> Result<ItemSig<'a>>
-    ensures reads { Reads bare_sig seen_sig result (sig_group.reads parser.old.left) parser.old
-        parser.new }
+    ensures reads { Reads (owning seen_sig bare_sig) sig_group result parser.old parser.new }
 {
     parser.open()?;
     let sig = ItemSig::parse(parser)?;
@@ -317,11 +316,7 @@ struct TypedItem;
 impl<'a> Part<'a, ImportGroup1Item<'a>> for TypedItem {
     ghost Seen = { List ℕ × SigTy };
 
-    ghost seen = { seen_typed };
-
-    ghost light = { false };
-
-    ghost bare = { λ x. bare_sig x.1 };
+    ghost view = { owning seen_typed (λ x. bare_sig x.1) };
 
     ghost grammar = { typed_item };
 
@@ -359,11 +354,7 @@ struct NamedItem;
 impl<'a> Part<'a, ImportGroup2Item<'a>> for NamedItem {
     ghost Seen = { List ℕ };
 
-    ghost seen = { seen_named };
-
-    ghost light = { false };
-
-    ghost bare = { λ _. true };
+    ghost view = { owning seen_named (λ _. true) };
 
     ghost grammar = { named_item };
 
@@ -392,8 +383,7 @@ impl<'a> Part<'a, ImportGroup2Item<'a>> for NamedItem {
 /// the signature ends there, or the text.
 #[tactic(auto, using(crate::proofs::Ends::closes_none), unfolding(crate::specs::Import::shared_sig))]
 fn read_shared_sig<'a>(parser: &mut Parser<'a>) -> Result<ItemSig<'a>>
-    ensures reads { Reads bare_sig seen_sig result (shared_sig.reads parser.old.left) parser.old
-        parser.new }
+    ensures reads { Reads (owning seen_sig bare_sig) shared_sig result parser.old parser.new }
 {
     parser.open()?;
     let sig = ItemSig::parse(parser)?;
@@ -440,8 +430,7 @@ fn typed_next(parser: &Parser<'_>) -> bool
 /// A single item.
 #[tactic(auto, unfolding(crate::specs::Import::single_item))]
 fn read_single<'a>(parser: &mut Parser<'a>, module: &'a str) -> Result<ImportItems<'a>>
-    ensures reads { Reads bare_items seen_items result (single_item.reads parser.old.left) parser.old
-        parser.new }
+    ensures reads { Reads (owning seen_items bare_items) single_item result parser.old parser.new }
     ensures module { IfOk result (λ i. (module_of i).now ≡ «module».now) }
 {
     let name = <&str as Parse>::parse(parser)?;
@@ -452,8 +441,7 @@ fn read_single<'a>(parser: &mut Parser<'a>, module: &'a str) -> Result<ImportIte
 /// Items with signatures.
 #[tactic(auto, using(crate::specs::Laws::Import::typed_item_eats), unfolding(crate::specs::Import::typed_items, crate::specs::Import::typed_list))]
 fn read_typed<'a>(parser: &mut Parser<'a>, module: &'a str) -> Result<ImportItems<'a>>
-    ensures reads { Reads bare_items seen_items result (typed_items.reads parser.old.left) parser.old
-        parser.new }
+    ensures reads { Reads (owning seen_items bare_items) typed_items result parser.old parser.new }
     ensures module { IfOk result (λ i. (module_of i).now ≡ «module».now) }
 {
     let mut items = Vec::new(parser.alloc());
@@ -464,8 +452,7 @@ fn read_typed<'a>(parser: &mut Parser<'a>, module: &'a str) -> Result<ImportItem
 /// Items without signatures, and the one that they share.
 #[tactic(auto, using(crate::specs::Laws::Import::named_item_eats), unfolding(crate::specs::Import::named_items, crate::specs::Import::named_list))]
 fn read_named<'a>(parser: &mut Parser<'a>, module: &'a str) -> Result<ImportItems<'a>>
-    ensures reads { Reads bare_items seen_items result (named_items.reads parser.old.left) parser.old
-        parser.new }
+    ensures reads { Reads (owning seen_items bare_items) named_items result parser.old parser.new }
     ensures module { IfOk result (λ i. (module_of i).now ≡ «module».now) }
 {
     let mut items = Vec::new(parser.alloc());
@@ -477,8 +464,7 @@ fn read_named<'a>(parser: &mut Parser<'a>, module: &'a str) -> Result<ImportItem
 /// What is imported from the module.
 #[tactic(auto, unfolding(crate::specs::Forms::import_items, crate::specs::Import::import_choice))]
 fn read_items<'a>(parser: &mut Parser<'a>, module: &'a str) -> Result<ImportItems<'a>>
-    ensures reads { Reads bare_items seen_items result (import_items.reads parser.old.left) parser.old
-        parser.new }
+    ensures reads { Reads (owning seen_items bare_items) import_items result parser.old parser.new }
     ensures module { IfOk result (λ i. (module_of i).now ≡ «module».now) }
 {
     if typed_next(parser) {
@@ -499,11 +485,7 @@ fn read_items<'a>(parser: &mut Parser<'a>, module: &'a str) -> Result<ImportItem
 impl<'a> Parse<'a> for Imports<'a> {
     ghost Seen = { ImportsTy };
 
-    ghost seen = { seen_imports };
-
-    ghost light = { false };
-
-    ghost bare = { bare_imports };
+    ghost view = { owning seen_imports bare_imports };
 
     ghost grammar = { imports };
 
@@ -520,9 +502,7 @@ impl<'a> Parse<'a> for Imports<'a> {
 impl<'a> Parse<'a> for InlineImport<'a> {
     ghost Seen = { List ℕ × List ℕ };
 
-    ghost seen = { seen_inline_import };
-
-    ghost bare = { λ _. true };
+    ghost view = { plain seen_inline_import };
 
     ghost grammar = { inline_import };
 

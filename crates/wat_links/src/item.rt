@@ -1,8 +1,9 @@
 //! Signatures of items that are imported or exported.
 
-ghost use Rattle.std.specs.Prelude.{◌≡◌, false};
+ghost use Rattle.std.specs.Prelude.{◌≡◌};
 ghost use Rattle.wat_tokens.specs.Copies.{Copies};
-ghost use Rattle.wat_tokens.specs.Reads.{Reads, ReadsLight};
+ghost use Rattle.wat_tokens.specs.Reads.{Reads};
+ghost use Rattle.wat_tokens.specs.Views.{plain, owning};
 ghost use Rattle.wat_types.specs.Label.{seen_label, label};
 ghost use Rattle.wat_links.specs.Item.{seen_item_kind, bare_item_kind, SigTy, seen_sig, bare_sig};
 ghost use Rattle.wat_links.specs.Item.{func_kind};
@@ -47,7 +48,7 @@ impl<'a> ItemKind<'a> {
     /// The same once more. Memory may be answered where a type in it has a parameter or a result in
     /// line.
     pub fn clone(&self) -> Result<ItemKind<'a>>
-        ensures copies { Copies SameKind seen_item_kind bare_item_kind result self.now }
+        ensures copies { Copies SameKind (owning seen_item_kind bare_item_kind) result self.now }
     {
         match self {
             ItemKind::Func(ty) => Ok(ItemKind::Func(ty.clone()?)),
@@ -64,7 +65,7 @@ impl<'a> ItemSig<'a> {
     /// The same signature once more. Memory may be answered where a type in it has a parameter or a
     /// result in line.
     pub fn clone(&self) -> Result<ItemSig<'a>>
-        ensures copies { Copies SameSig seen_sig bare_sig result self.now }
+        ensures copies { Copies SameSig (owning seen_sig bare_sig) result self.now }
     {
         Ok(ItemSig {
             span: self.span,
@@ -78,8 +79,7 @@ impl<'a> ItemSig<'a> {
 /// An identifier and a name, each there or not.
 #[tactic(auto, unfolding(wat_types::specs::Label::label))]
 fn read_label<'a>(parser: &mut Parser<'a>) -> Result<(Option<Id<'a>>, Option<NameAnnotation<'a>>)>
-    ensures reads { ReadsLight (λ l. seen_label l.0 l.1) result
-        (label.reads parser.old.left) parser.old parser.new }
+    ensures reads { Reads (plain (λ l. seen_label l.0 l.1)) label result parser.old parser.new }
 {
     let id = Option::<Id>::parse(parser)?;
     let name = Option::<NameAnnotation>::parse(parser)?;
@@ -89,8 +89,8 @@ fn read_label<'a>(parser: &mut Parser<'a>) -> Result<(Option<Id<'a>>, Option<Nam
 /// Where the second token is `exact`, a type use in `( exact .. )`, else a type use.
 #[tactic(auto, unfolding(crate::specs::Item::func_kind))]
 fn read_func_kind<'a>(parser: &mut Parser<'a>) -> Result<ItemKind<'a>>
-    ensures reads { Reads bare_item_kind seen_item_kind result
-        (func_kind.reads parser.old.left) parser.old parser.new }
+    ensures reads { Reads (owning seen_item_kind bare_item_kind) func_kind result parser.old
+        parser.new }
 {
     if !parser.second_is("exact") {
         return TypeUse::parse(parser).map(ItemKind::Func);
@@ -105,8 +105,7 @@ fn read_func_kind<'a>(parser: &mut Parser<'a>) -> Result<ItemKind<'a>>
 /// `global` or `tag`, a label, and a type.
 #[tactic(auto, unfolding(crate::specs::Item::global_or_tag))]
 fn read_global_or_tag<'a>(parser: &mut Parser<'a>) -> Result<ItemSig<'a>>
-    ensures reads { Reads bare_sig seen_sig result (global_or_tag.reads parser.old.left) parser.old
-        parser.new }
+    ensures reads { Reads (owning seen_sig bare_sig) global_or_tag result parser.old parser.new }
 {
     if parser.next_is("global") {
         let span = parser.keyword("global")?;
@@ -136,11 +135,7 @@ fn read_global_or_tag<'a>(parser: &mut Parser<'a>) -> Result<ItemSig<'a>>
 impl<'a> Parse<'a> for ItemSig<'a> {
     ghost Seen = { SigTy };
 
-    ghost seen = { seen_sig };
-
-    ghost light = { false };
-
-    ghost bare = { bare_sig };
+    ghost view = { owning seen_sig bare_sig };
 
     ghost grammar = { item_sig };
 

@@ -1,10 +1,10 @@
 -- What is counted where a word is looked up.
 use Rattle.std.specs.Prelude.{◌+◌, ◌≤◌, Result}
-use Rattle.wat_tokens.specs.Counts.{Stays}
+use Rattle.wat_tokens.specs.Cost.{words_too}
 use Rattle.wat_tokens.specs.Error.{Error}
-use Rattle.wat_tokens.specs.Parses.{Exactly}
-use Rattle.wat_tokens.specs.Reads.{Call}
+use Rattle.wat_tokens.specs.Reads.{ReadsAt}
 use Rattle.wat_tokens.specs.State.{State}
+use Rattle.wat_tokens.specs.Views.{plain}
 use Rattle.wat_mnemonics.specs.Mnemonic.{mnemonic}
 use Rattle.wat_mnemonics.specs.declared.head.Head.{Head}
 
@@ -14,4 +14,4 @@ AtMostTen a b = (a.probes ≤ b.probes) × (b.probes ≤ a.probes + 10)
 
 -- it answers the head whose word stands in front, takes no memory, and counts no turn and no height
 abbrev pub ReadsWord : Result Head Error → State → State → Type 0
-ReadsWord r a b = Call (Exactly (λ h. h) r (mnemonic.reads a.left) b.left) (Stays a b) r a b
+ReadsWord r a b = ReadsAt words_too (plain (λ h. h)) mnemonic r a b

@@ -1,8 +1,8 @@
 -- A block type seen with the names known.
 use Rattle.std.specs.Prelude.{◌≡◌, Option, Some, None, option_map, refl}
 use Rattle.std.proofs.Common.{ap}
-use Rattle.wat_tokens.specs.Parses.{seen_option}
 use Rattle.wat_tokens.specs.Index.{seen_index}
+use Rattle.wat_tokens.specs.Views.{seen_option}
 use Rattle.wat_types.specs.Group.{FuncTy}
 use Rattle.wat_types.specs.Function.{seen_function, seen_unnamed}
 use Rattle.wat_types.specs.Use.{use_of, seen_use, with_names}

@@ -5,8 +5,8 @@ use Rattle.wat_tokens.specs.Tests.{begins_group}
 use Rattle.wat_tokens.specs.Production.{Production}
 use Rattle.wat_tokens.specs.Parts.{seq, made}
 use Rattle.wat_tokens.specs.Many.{many}
-use Rattle.wat_tokens.specs.Parses.{no_items}
 use Rattle.wat_tokens.specs.Index.{Idx, seen_index, index}
+use Rattle.wat_tokens.specs.Views.{no_items}
 use Rattle.wat_tokens.specs.declared.index.Index.{Index}
 use Rattle.wat_operands.specs.declared.handlers.HandleOf.{HandleOf}
 use Rattle.wat_operands.specs.declared.handlers.HandleOf.TheVariants as code

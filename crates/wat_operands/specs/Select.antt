@@ -6,7 +6,7 @@ use Rattle.wat_tokens.specs.Tests.{begins_word, second}
 use Rattle.wat_tokens.specs.Production.{Production}
 use Rattle.wat_tokens.specs.Parts.{opt}
 use Rattle.wat_tokens.specs.Joined.{joined}
-use Rattle.wat_tokens.specs.Parses.{seen_option, bare_option, no_items}
+use Rattle.wat_tokens.specs.Views.{no_items, seen_option, bare_option}
 use Rattle.wat_types.specs.Use.{SameOption}
 use Rattle.wat_types.specs.Value.{ValTy, seen_val}
 use Rattle.wat_types.specs.declared.value.ValType.{ValType}

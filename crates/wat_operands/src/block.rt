@@ -1,8 +1,9 @@
 //! Types of blocks.
 
-ghost use Rattle.std.specs.Prelude.{◌≡◌, false};
+ghost use Rattle.std.specs.Prelude.{◌≡◌};
 ghost use Rattle.wat_tokens.specs.Copies.{Copies};
 ghost use Rattle.wat_tokens.specs.Reads.{Reads};
+ghost use Rattle.wat_tokens.specs.Views.{owning};
 ghost use Rattle.wat_operands.specs.Block.{seen_signature, bare_signature, signature, BlockTy};
 ghost use Rattle.wat_operands.specs.Block.{seen_block, bare_block, block_type, SameBlock};
 
@@ -24,8 +25,8 @@ pub struct BlockType<'a> {
 /// A type use of a [`FunctionTypeNoNames`], as one of a [`FunctionType`].
 #[tactic(auto, using(crate::proofs::SeenNames::seen_with_names))]
 pub(crate) fn read_signature<'a>(parser: &mut Parser<'a>) -> Result<TypeUse<'a, FunctionType<'a>>>
-    ensures reads { Reads bare_signature seen_signature result
-        (signature.reads parser.old.left) parser.old parser.new }
+    ensures reads { Reads (owning seen_signature bare_signature) signature result parser.old
+        parser.new }
 {
     let found = TypeUse::<FunctionTypeNoNames>::parse(parser)?;
     Ok(TypeUse::from(found))
@@ -35,7 +36,7 @@ impl<'a> BlockType<'a> {
     /// The same type once more. Memory may be answered where its inline type has a parameter or a
     /// result.
     pub fn clone(&self) -> Result<BlockType<'a>>
-        ensures copies { Copies SameBlock seen_block bare_block result self.now }
+        ensures copies { Copies SameBlock (owning seen_block bare_block) result self.now }
     {
         Ok(BlockType {
             label: self.label,
@@ -49,11 +50,7 @@ impl<'a> BlockType<'a> {
 impl<'a> Parse<'a> for BlockType<'a> {
     ghost Seen = { BlockTy };
 
-    ghost seen = { seen_block };
-
-    ghost light = { false };
-
-    ghost bare = { bare_block };
+    ghost view = { owning seen_block bare_block };
 
     ghost grammar = { block_type };
 

@@ -1,7 +1,8 @@
 //! Indirect calls.
 
-ghost use Rattle.std.specs.Prelude.{◌≡◌, false};
+ghost use Rattle.std.specs.Prelude.{◌≡◌};
 ghost use Rattle.wat_tokens.specs.Copies.{Copies};
+ghost use Rattle.wat_tokens.specs.Views.{owning};
 ghost use Rattle.wat_operands.specs.Call.{CallTy, seen_call, bare_call, call_indirect, SameCall};
 
 use crate::block::read_signature;
@@ -23,7 +24,7 @@ impl<'a> CallIndirect<'a> {
     /// The same operand once more. Memory may be answered where its inline type has a parameter or
     /// a result.
     pub fn clone(&self) -> Result<CallIndirect<'a>>
-        ensures copies { Copies SameCall seen_call bare_call result self.now }
+        ensures copies { Copies SameCall (owning seen_call bare_call) result self.now }
     {
         Ok(CallIndirect {
             table: self.table,
@@ -36,11 +37,7 @@ impl<'a> CallIndirect<'a> {
 impl<'a> Parse<'a> for CallIndirect<'a> {
     ghost Seen = { CallTy };
 
-    ghost seen = { seen_call };
-
-    ghost light = { false };
-
-    ghost bare = { bare_call };
+    ghost view = { owning seen_call bare_call };
 
     ghost grammar = { call_indirect };
 

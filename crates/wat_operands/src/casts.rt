@@ -1,12 +1,12 @@
 //! Casts of references, and branches on them (WebAssembly Core Specification, Text Format,
 //! Instructions, "Reference Instructions" and "Control Instructions").
 
-ghost use Rattle.std.specs.Prelude.{true};
-ghost use Rattle.wat_tokens.specs.Reads.{ReadsLight};
 ghost use Rattle.wat_operands.specs.Casts.{seen_test, seen_cast, seen_cast_desc_eq, BranchTy};
 ghost use Rattle.wat_operands.specs.Casts.{seen_branch, seen_branch_fail, seen_branch_desc_eq};
 ghost use Rattle.wat_operands.specs.Casts.{seen_branch_desc_eq_fail, branch_between, cast_branch};
 ghost use Rattle.wat_types.specs.Reference.{RefTy, ref_type};
+ghost use Rattle.wat_tokens.specs.Reads.{Reads};
+ghost use Rattle.wat_tokens.specs.Views.{plain};
 
 use wat_tokens::{Index, Parse, Parser, Result};
 use wat_types::RefType;
@@ -80,9 +80,7 @@ pub struct BrOnCastDescEqFail<'a> {
 impl<'a> Parse<'a> for RefTest<'a> {
     ghost Seen = { RefTy };
 
-    ghost seen = { seen_test };
-
-    ghost bare = { λ _. true };
+    ghost view = { plain seen_test };
 
     ghost grammar = { ref_type };
 
@@ -97,9 +95,7 @@ impl<'a> Parse<'a> for RefTest<'a> {
 impl<'a> Parse<'a> for RefCast<'a> {
     ghost Seen = { RefTy };
 
-    ghost seen = { seen_cast };
-
-    ghost bare = { λ _. true };
+    ghost view = { plain seen_cast };
 
     ghost grammar = { ref_type };
 
@@ -114,9 +110,7 @@ impl<'a> Parse<'a> for RefCast<'a> {
 impl<'a> Parse<'a> for RefCastDescEq<'a> {
     ghost Seen = { RefTy };
 
-    ghost seen = { seen_cast_desc_eq };
-
-    ghost bare = { λ _. true };
+    ghost view = { plain seen_cast_desc_eq };
 
     ghost grammar = { ref_type };
 
@@ -130,8 +124,8 @@ impl<'a> Parse<'a> for RefCastDescEq<'a> {
 /// The label that a branch goes to, and the types that it casts from and to.
 #[tactic(auto, unfolding(crate::specs::Casts::cast_branch))]
 fn branch<'a>(parser: &mut Parser<'a>) -> Result<(Index<'a>, RefType<'a>, RefType<'a>)>
-    ensures reads { ReadsLight (λ b. branch_between b.0 b.1 b.2) result
-        (cast_branch.reads parser.old.left) parser.old parser.new }
+    ensures reads { Reads (plain (λ b. branch_between b.0 b.1 b.2)) cast_branch result parser.old
+        parser.new }
 {
     let label = Index::parse(parser)?;
     let from_type = RefType::parse(parser)?;
@@ -143,9 +137,7 @@ fn branch<'a>(parser: &mut Parser<'a>) -> Result<(Index<'a>, RefType<'a>, RefTyp
 impl<'a> Parse<'a> for BrOnCast<'a> {
     ghost Seen = { BranchTy };
 
-    ghost seen = { seen_branch };
-
-    ghost bare = { λ _. true };
+    ghost view = { plain seen_branch };
 
     ghost grammar = { cast_branch };
 
@@ -163,9 +155,7 @@ impl<'a> Parse<'a> for BrOnCast<'a> {
 impl<'a> Parse<'a> for BrOnCastFail<'a> {
     ghost Seen = { BranchTy };
 
-    ghost seen = { seen_branch_fail };
-
-    ghost bare = { λ _. true };
+    ghost view = { plain seen_branch_fail };
 
     ghost grammar = { cast_branch };
 
@@ -183,9 +173,7 @@ impl<'a> Parse<'a> for BrOnCastFail<'a> {
 impl<'a> Parse<'a> for BrOnCastDescEq<'a> {
     ghost Seen = { BranchTy };
 
-    ghost seen = { seen_branch_desc_eq };
-
-    ghost bare = { λ _. true };
+    ghost view = { plain seen_branch_desc_eq };
 
     ghost grammar = { cast_branch };
 
@@ -203,9 +191,7 @@ impl<'a> Parse<'a> for BrOnCastDescEq<'a> {
 impl<'a> Parse<'a> for BrOnCastDescEqFail<'a> {
     ghost Seen = { BranchTy };
 
-    ghost seen = { seen_branch_desc_eq_fail };
-
-    ghost bare = { λ _. true };
+    ghost view = { plain seen_branch_desc_eq_fail };
 
     ghost grammar = { cast_branch };
 

@@ -2,14 +2,15 @@
 
 ghost use Rattle.std.specs.Borrow.{sem};
 ghost use Rattle.std.specs.Option.{option_map};
-ghost use Rattle.std.specs.Prelude.{◌≡◌, true, false};
+ghost use Rattle.std.specs.Prelude.{◌≡◌, false};
 ghost use Rattle.wat_operands.specs.Catches.{caught_tag, LendsTag, seen_catch_kind, seen_catch};
 ghost use Rattle.wat_operands.specs.Catches.{begins_catch};
 ghost use Rattle.wat_operands.specs.Catches.{TryTy, seen_try, try_table, SameTry};
 ghost use Rattle.wat_operands.specs.CatchClause.{CatchTy, catch_kind, catch_clause};
 ghost use Rattle.wat_tokens.specs.Copies.{Copies};
 ghost use Rattle.wat_tokens.specs.Index.{seen_index};
-ghost use Rattle.wat_tokens.specs.Reads.{ReadsLight};
+ghost use Rattle.wat_tokens.specs.Reads.{Reads};
+ghost use Rattle.wat_tokens.specs.Views.{plain, owning};
 
 use crate::block::BlockType;
 use wat_tokens::repeat::{Part, parts};
@@ -71,8 +72,8 @@ pub struct TryTable<'a> {
 /// The word of a clause, and the tag where it has one.
 #[tactic(auto, unfolding(crate::specs::CatchClause::catch_kind))]
 fn read_kind<'a>(parser: &mut Parser<'a>) -> Result<TryTableCatchKind<'a>>
-    ensures reads { ReadsLight (seen_catch_kind seen_index) result
-        (catch_kind.reads parser.old.left) parser.old parser.new }
+    ensures reads { Reads (plain (seen_catch_kind seen_index)) catch_kind result parser.old
+        parser.new }
 {
     if parser.next_is("catch") {
         parser.keyword("catch")?;
@@ -97,9 +98,7 @@ struct Clause;
 impl<'a> Part<'a, TryTableCatch<'a>> for Clause {
     ghost Seen = { CatchTy };
 
-    ghost seen = { seen_catch };
-
-    ghost bare = { λ _. true };
+    ghost view = { plain seen_catch };
 
     ghost grammar = { catch_clause };
 
@@ -123,7 +122,7 @@ impl<'a> Part<'a, TryTableCatch<'a>> for Clause {
 impl<'a> TryTable<'a> {
     /// The same operand once more. Memory may be answered, since the block is in a box.
     pub fn clone(&self) -> Result<TryTable<'a>>
-        ensures copies { Copies SameTry seen_try (λ _. false) result self.now }
+        ensures copies { Copies SameTry (owning seen_try (λ _. false)) result self.now }
     {
         let alloc = *self.catches.allocator();
         let block = BlockType::clone(&self.block)?;
@@ -140,11 +139,7 @@ impl<'a> TryTable<'a> {
 impl<'a> Parse<'a> for TryTable<'a> {
     ghost Seen = { TryTy };
 
-    ghost seen = { seen_try };
-
-    ghost light = { false };
-
-    ghost bare = { λ _. false };
+    ghost view = { owning seen_try (λ _. false) };
 
     ghost grammar = { try_table };
 

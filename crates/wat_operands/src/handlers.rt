@@ -1,13 +1,13 @@
 //! Tables of handlers, and the operands that have one.
 
-ghost use Rattle.std.specs.Prelude.{◌≡◌, true, false, List};
+ghost use Rattle.std.specs.Prelude.{◌≡◌, List};
 ghost use Rattle.wat_operands.specs.Handlers.{seen_handle, begins_handler, seen_resume_table};
 ghost use Rattle.wat_operands.specs.Handlers.{resume_table, ResumeTy, seen_resume};
 ghost use Rattle.wat_operands.specs.Handlers.{seen_resume_throw_ref, bare_resume, resume, ThrowTy};
 ghost use Rattle.wat_operands.specs.Handlers.{seen_resume_throw, bare_throw, resume_throw};
 ghost use Rattle.wat_operands.specs.Handler.{HandleTy, handler};
 ghost use Rattle.wat_tokens.specs.Copies.{Copies};
-ghost use Rattle.wat_tokens.specs.Parses.{no_items};
+ghost use Rattle.wat_tokens.specs.Views.{plain, owning, no_items};
 
 use wat_tokens::repeat::{Part, parts};
 use wat_tokens::{Fault, Index, Parse, Parser, Result};
@@ -92,9 +92,7 @@ struct Handler;
 impl<'a> Part<'a, Handle<'a>> for Handler {
     ghost Seen = { HandleTy };
 
-    ghost seen = { seen_handle };
-
-    ghost bare = { λ _. true };
+    ghost view = { plain seen_handle };
 
     ghost grammar = { handler };
 
@@ -125,8 +123,8 @@ impl<'a> ResumeTable<'a> {
     /// The same table once more. Memory may be answered where it has a handler.
     #[tactic(auto, using(std::proofs::lemmas::List::Elements::same_from_all_zip))]
     pub fn clone(&self) -> Result<ResumeTable<'a>>
-        ensures copies { Copies (λ x y. y.handlers.items
-            ≡ x.handlers.items) seen_resume_table no_items result self.now }
+        ensures copies { Copies (λ x y. y.handlers.items ≡ x.handlers.items)
+            (owning seen_resume_table no_items) result self.now }
     {
         let mut handlers = Vec::new(*self.handlers.allocator());
         if self.handlers.is_empty() {
@@ -142,11 +140,7 @@ impl<'a> ResumeTable<'a> {
 impl<'a> Parse<'a> for ResumeTable<'a> {
     ghost Seen = { List HandleTy };
 
-    ghost seen = { seen_resume_table };
-
-    ghost light = { false };
-
-    ghost bare = { no_items };
+    ghost view = { owning seen_resume_table no_items };
 
     ghost grammar = { resume_table };
 
@@ -161,9 +155,9 @@ impl<'a> Parse<'a> for ResumeTable<'a> {
 impl<'a> Resume<'a> {
     /// The same operand once more. Memory may be answered where it has a handler.
     pub fn clone(&self) -> Result<Resume<'a>>
-        ensures copies { Copies (λ x y. (y.type_index ≡ x.type_index)
-            × (y.table.handlers.items ≡ x.table.handlers.items)) seen_resume bare_resume result
-            self.now }
+        ensures copies { Copies (λ x y. (y.type_index ≡ x.type_index) ×
+            (y.table.handlers.items ≡ x.table.handlers.items)) (owning seen_resume bare_resume)
+            result self.now }
     {
         Ok(Resume {
             type_index: self.type_index,
@@ -176,11 +170,7 @@ impl<'a> Resume<'a> {
 impl<'a> Parse<'a> for Resume<'a> {
     ghost Seen = { ResumeTy };
 
-    ghost seen = { seen_resume };
-
-    ghost light = { false };
-
-    ghost bare = { bare_resume };
+    ghost view = { owning seen_resume bare_resume };
 
     ghost grammar = { resume };
 
@@ -196,8 +186,8 @@ impl<'a> ResumeThrow<'a> {
     /// The same operand once more. Memory may be answered where it has a handler.
     pub fn clone(&self) -> Result<ResumeThrow<'a>>
         ensures copies { Copies (λ x y. (y.type_index ≡ x.type_index) × (y.tag_index ≡ x.tag_index)
-            × (y.table.handlers.items ≡ x.table.handlers.items)) seen_resume_throw bare_throw
-            result self.now }
+            × (y.table.handlers.items ≡ x.table.handlers.items))
+            (owning seen_resume_throw bare_throw) result self.now }
     {
         Ok(ResumeThrow {
             type_index: self.type_index,
@@ -211,11 +201,7 @@ impl<'a> ResumeThrow<'a> {
 impl<'a> Parse<'a> for ResumeThrow<'a> {
     ghost Seen = { ThrowTy };
 
-    ghost seen = { seen_resume_throw };
-
-    ghost light = { false };
-
-    ghost bare = { bare_throw };
+    ghost view = { owning seen_resume_throw bare_throw };
 
     ghost grammar = { resume_throw };
 
@@ -235,9 +221,9 @@ impl<'a> Parse<'a> for ResumeThrow<'a> {
 impl<'a> ResumeThrowRef<'a> {
     /// The same operand once more. Memory may be answered where it has a handler.
     pub fn clone(&self) -> Result<ResumeThrowRef<'a>>
-        ensures copies { Copies (λ x y. (y.type_index ≡ x.type_index)
-            × (y.table.handlers.items ≡ x.table.handlers.items)) seen_resume_throw_ref
-            bare_resume result self.now }
+        ensures copies { Copies (λ x y. (y.type_index ≡ x.type_index) ×
+            (y.table.handlers.items ≡ x.table.handlers.items))
+            (owning seen_resume_throw_ref bare_resume) result self.now }
     {
         Ok(ResumeThrowRef {
             type_index: self.type_index,
@@ -250,11 +236,7 @@ impl<'a> ResumeThrowRef<'a> {
 impl<'a> Parse<'a> for ResumeThrowRef<'a> {
     ghost Seen = { ResumeTy };
 
-    ghost seen = { seen_resume_throw_ref };
-
-    ghost light = { false };
-
-    ghost bare = { bare_resume };
+    ghost view = { owning seen_resume_throw_ref bare_resume };
 
     ghost grammar = { resume };
 

@@ -1,7 +1,8 @@
 //! The types of a `select`.
 
-ghost use Rattle.std.specs.Prelude.{◌≡◌, false, List, Option};
+ghost use Rattle.std.specs.Prelude.{◌≡◌, List, Option};
 ghost use Rattle.wat_tokens.specs.Copies.{Copies};
+ghost use Rattle.wat_tokens.specs.Views.{plain, owning};
 ghost use Rattle.wat_operands.specs.Select.{seen_select, bare_select, result_follows, select_types};
 ghost use Rattle.wat_operands.specs.Select.{SameTypes};
 ghost use Rattle.wat_operands.specs.ResultGroup.{result_group};
@@ -25,7 +26,7 @@ struct ResultGroup;
 impl<'a> Group<'a, ValType<'a>> for ResultGroup {
     ghost Seen = { ValTy };
 
-    ghost seen = { seen_val };
+    ghost view = { plain seen_val };
 
     ghost grammar = { result_group };
 
@@ -48,8 +49,8 @@ impl<'a> Group<'a, ValType<'a>> for ResultGroup {
 impl<'a> SelectTypes<'a> {
     /// The same operand once more. Memory may be answered where it has a type.
     pub fn clone(&self) -> Result<SelectTypes<'a>>
-        ensures copies { Copies (λ x y. SameTypes x.tys y.tys) seen_select bare_select result
-            self.now }
+        ensures copies { Copies (λ x y. SameTypes x.tys y.tys) (owning seen_select bare_select)
+            result self.now }
     {
         match &self.tys {
             Some(types) => {
@@ -67,11 +68,7 @@ impl<'a> SelectTypes<'a> {
 impl<'a> Parse<'a> for SelectTypes<'a> {
     ghost Seen = { Option (List ValTy) };
 
-    ghost seen = { seen_select };
-
-    ghost light = { false };
-
-    ghost bare = { bare_select };
+    ghost view = { owning seen_select bare_select };
 
     ghost grammar = { select_types };
 

@@ -12,12 +12,13 @@ use wat_core::Module;
 use wat_tokens::{Error, Parse, Parser, one_cut};
 
 /// Reads the value that the whole text spells. A token that is left over is Unexpected.
+#[tactic(auto, using(wat_tokens::specs::Laws::Refuses::refused_read))]
 pub fn read_whole<'a, T: Parse<'a> + Drop>(
     alloc: Global,
     text: &'a str,
     arena: &'a Bump,
 ) -> Result<T, Error>
-    ensures found { IfOk result (λ v. TextSpells T.grammar text.now (T.seen v)) }
+    ensures found { IfOk result (λ v. TextSpells T.grammar text.now (T.view.of v)) }
     ensures none { IfErr result (λ e. e.fault ≢ Memory → (v : T.Seen)
         → TextSpells T.grammar text.now v → ⊥) }
 {

@@ -3,12 +3,13 @@ use Rattle.std.proofs.Common.{◌≡◌, ◌≤◌, Bool, true, false, List, [],
 use Rattle.wat_lexer.specs.Token.{Tok}
 use Rattle.wat_tokens.specs.Production.{Production, Read}
 use Rattle.wat_tokens.specs.Laws.Production.{by_read}
-use Rattle.wat_tokens.specs.PartSpells.{with_rest}
 use Rattle.wat_tokens.specs.ManySpells.{many_reads}
 use Rattle.wat_tokens.specs.Adding.{add_all, add_read}
 use Rattle.wat_tokens.specs.Laws.Many.{adding_goes_on, adding_fails}
-use Rattle.wat_tokens.specs.Parses.{NotBare, no_items}
 use Rattle.wat_tokens.specs.Joined.{join, joined_behind}
+use Rattle.wat_tokens.specs.Parses.{NotBare}
+use Rattle.wat_tokens.specs.PartSpells.{with_rest}
+use Rattle.wat_tokens.specs.Views.{no_items}
 
 module _ {A : Type 0} where
   stays_filled : (gs : List (List A)) (before : List A) (r : List Tok) → no_items before ≡ false → NotBare no_items (with_rest (add_all join gs before) r)

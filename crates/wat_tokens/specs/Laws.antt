@@ -1,5 +1,6 @@
 -- Laws of the definitions: lemmas that definitions or other crates rest on.
 pub mod Begin
+pub mod Cost
 pub mod Counts
 pub mod Error
 pub mod Filled
@@ -14,5 +15,6 @@ pub mod Once
 pub mod Parens
 pub mod Parts
 pub mod Production
+pub mod Refuses
 pub mod Spelled
 pub mod State

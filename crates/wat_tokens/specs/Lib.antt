@@ -10,6 +10,7 @@ pub use Rattle.wat_lexer.specs.View
 pub mod Adding
 pub mod Begin
 pub mod Copies
+pub mod Cost
 pub mod Counts
 pub mod Error
 pub mod Floats
@@ -39,3 +40,4 @@ pub mod State
 pub mod Steady
 pub mod Strings
 pub mod Tests
+pub mod Views

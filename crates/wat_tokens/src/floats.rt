@@ -1,8 +1,9 @@
 //! Literals of floating-point numbers, which aren't read.
 
-ghost use Rattle.std.specs.Prelude.{◌≢◌, ℕ, true};
+ghost use Rattle.std.specs.Prelude.{◌≢◌, ℕ};
 ghost use Rattle.wat_tokens.specs.Error.{Memory};
 ghost use Rattle.wat_tokens.specs.Floats.{none};
+ghost use Rattle.wat_tokens.specs.Views.{plain};
 
 use crate::cursor::Cursor;
 use crate::parser::Parser;
@@ -50,9 +51,7 @@ fn refused(parser: &Parser<'_>) -> Error
 impl<'a> Parse<'a> for F32 {
     ghost Seen = { ℕ };
 
-    ghost seen = { λ x. x.bits };
-
-    ghost bare = { λ _. true };
+    ghost view = { plain (λ x. x.bits) };
 
     ghost grammar = { none };
 
@@ -65,9 +64,7 @@ impl<'a> Parse<'a> for F32 {
 impl<'a> Parse<'a> for F64 {
     ghost Seen = { ℕ };
 
-    ghost seen = { λ x. x.bits };
-
-    ghost bare = { λ _. true };
+    ghost view = { plain (λ x. x.bits) };
 
     ghost grammar = { none };
 

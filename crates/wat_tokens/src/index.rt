@@ -1,6 +1,6 @@
 //! Identifiers and indices.
 
-ghost use Rattle.std.specs.Prelude.{◌≡◌, ◌↔◌, List, ℕ, true, IsTrue};
+ghost use Rattle.std.specs.Prelude.{◌≡◌, ◌↔◌, List, ℕ, IsTrue};
 ghost use Rattle.std.specs.Cmp.{partial_equiv_from_equiv, on_equiv, decided};
 ghost use Rattle.std.specs.Cmp.Lexicographic.{bytes_decides, nat_list_eq_equiv};
 ghost use Rattle.std.specs.Hash as fed;
@@ -11,6 +11,7 @@ ghost use Rattle.wat_tokens.specs.Index.{begins_index, same_index, index_writes}
 ghost use Rattle.wat_tokens.specs.Laws.Index.{same_index_decides};
 ghost use Rattle.wat_tokens.specs.Lookup.{in_front};
 ghost use Rattle.wat_tokens.specs.Tests.{begins_id};
+ghost use Rattle.wat_tokens.specs.Views.{plain};
 
 use crate::cursor::Cursor;
 use crate::parser::Parser;
@@ -91,7 +92,8 @@ pub enum Index<'a> {
 impl PartialEq for Index<'_> {
     ghost eq = { λ a b. same_index (seen_index a) (seen_index b) };
 
-    ghost laws = { partial_equiv_from_equiv (on_equiv seen_index (decided same_index same_index_decides)) };
+    ghost laws = { partial_equiv_from_equiv (on_equiv seen_index
+        (decided same_index same_index_decides)) };
 
     fn eq(&self, other: &Self) -> bool
         ensures value { result ≡ same_index (seen_index self.now) (seen_index other.now) }
@@ -112,7 +114,8 @@ impl Eq for Index<'_> {
 impl Hash for Index<'_> {
     ghost hash_input = { λ i. index_writes (seen_index i) };
 
-    ghost respects_eq = { λ a b e. ap index_writes ((same_index_decides (seen_index a) (seen_index b)).0 e) };
+    ghost respects_eq = { λ a b e. ap index_writes ((same_index_decides (seen_index a)
+        (seen_index b)).0 e) };
 
     fn hash<H: Hasher>(&self, state: &mut H) {
         match self {
@@ -131,9 +134,7 @@ impl Hash for Index<'_> {
 impl<'a> Parse<'a> for Id<'a> {
     ghost Seen = { List ℕ };
 
-    ghost seen = { name_of };
-
-    ghost bare = { λ _. true };
+    ghost view = { plain name_of };
 
     ghost grammar = { identifier };
 
@@ -163,9 +164,7 @@ impl<'p> Peek for Id<'p> {
 impl<'a> Parse<'a> for Index<'a> {
     ghost Seen = { Idx };
 
-    ghost seen = { seen_index };
-
-    ghost bare = { λ _. true };
+    ghost view = { plain seen_index };
 
     ghost grammar = { index };
 

@@ -1,11 +1,12 @@
 //! Integers, and the numbers that they are read as.
 
-ghost use Rattle.std.specs.Prelude.{◌≡◌, List, ℕ, ℤ, true, IsTrue};
+ghost use Rattle.std.specs.Prelude.{◌≡◌, List, ℕ, ℤ, IsTrue};
 ghost use Rattle.wat_lexer.specs.Integer.{text_of};
 ghost use Rattle.wat_lexer.specs.Number.{is_width};
 ghost use Rattle.wat_tokens.specs.Integers.{integer, unsigned, signed};
-ghost use Rattle.wat_tokens.specs.Reads.{ReadsLight};
+ghost use Rattle.wat_tokens.specs.Reads.{Reads};
 ghost use Rattle.wat_tokens.specs.Tests.{begins_integer};
+ghost use Rattle.wat_tokens.specs.Views.{plain};
 
 use crate::cursor::Cursor;
 use crate::parser::Parser;
@@ -17,9 +18,7 @@ use wat_lexer::number::Integer;
 impl<'a> Parse<'a> for Integer<'a> {
     ghost Seen = { List ℕ };
 
-    ghost seen = { text_of };
-
-    ghost bare = { λ _. true };
+    ghost view = { plain text_of };
 
     ghost grammar = { integer };
 
@@ -33,8 +32,7 @@ impl<'a> Parse<'a> for Integer<'a> {
 /// too large or a `-` is written.
 fn unsigned(parser: &mut Parser<'_>, bits: u32) -> Result<u64, Error>
     requires { IsTrue (is_width bits) }
-    ensures reads { ReadsLight (λ n. n) result ((unsigned bits).reads parser.old.left) parser.old
-        parser.new }
+    ensures reads { Reads (plain (λ n. n)) (unsigned bits) result parser.old parser.new }
 {
     let span = parser.cur_span();
     let integer = parser.take_integer()?;
@@ -48,9 +46,7 @@ fn unsigned(parser: &mut Parser<'_>, bits: u32) -> Result<u64, Error>
 impl<'a> Parse<'a> for u8 {
     ghost Seen = { ℕ };
 
-    ghost seen = { λ n. n };
-
-    ghost bare = { λ _. true };
+    ghost view = { plain (λ n. n) };
 
     ghost grammar = { unsigned 8 };
 
@@ -75,9 +71,7 @@ impl Peek for u8 {
 impl<'a> Parse<'a> for u16 {
     ghost Seen = { ℕ };
 
-    ghost seen = { λ n. n };
-
-    ghost bare = { λ _. true };
+    ghost view = { plain (λ n. n) };
 
     ghost grammar = { unsigned 16 };
 
@@ -102,9 +96,7 @@ impl Peek for u16 {
 impl<'a> Parse<'a> for u32 {
     ghost Seen = { ℕ };
 
-    ghost seen = { λ n. n };
-
-    ghost bare = { λ _. true };
+    ghost view = { plain (λ n. n) };
 
     ghost grammar = { unsigned 32 };
 
@@ -129,9 +121,7 @@ impl Peek for u32 {
 impl<'a> Parse<'a> for u64 {
     ghost Seen = { ℕ };
 
-    ghost seen = { λ n. n };
-
-    ghost bare = { λ _. true };
+    ghost view = { plain (λ n. n) };
 
     ghost grammar = { unsigned 64 };
 
@@ -157,8 +147,7 @@ impl Peek for u64 {
 /// range.
 fn signed(parser: &mut Parser<'_>, bits: u32) -> Result<i64, Error>
     requires { IsTrue (is_width bits) }
-    ensures reads { ReadsLight (λ n. n) result ((signed bits).reads parser.old.left) parser.old
-        parser.new }
+    ensures reads { Reads (plain (λ n. n)) (signed bits) result parser.old parser.new }
 {
     let span = parser.cur_span();
     let integer = parser.take_integer()?;
@@ -172,9 +161,7 @@ fn signed(parser: &mut Parser<'_>, bits: u32) -> Result<i64, Error>
 impl<'a> Parse<'a> for i8 {
     ghost Seen = { ℤ };
 
-    ghost seen = { λ n. n };
-
-    ghost bare = { λ _. true };
+    ghost view = { plain (λ n. n) };
 
     ghost grammar = { signed 8 };
 
@@ -199,9 +186,7 @@ impl Peek for i8 {
 impl<'a> Parse<'a> for i16 {
     ghost Seen = { ℤ };
 
-    ghost seen = { λ n. n };
-
-    ghost bare = { λ _. true };
+    ghost view = { plain (λ n. n) };
 
     ghost grammar = { signed 16 };
 
@@ -226,9 +211,7 @@ impl Peek for i16 {
 impl<'a> Parse<'a> for i32 {
     ghost Seen = { ℤ };
 
-    ghost seen = { λ n. n };
-
-    ghost bare = { λ _. true };
+    ghost view = { plain (λ n. n) };
 
     ghost grammar = { signed 32 };
 
@@ -253,9 +236,7 @@ impl Peek for i32 {
 impl<'a> Parse<'a> for i64 {
     ghost Seen = { ℤ };
 
-    ghost seen = { λ n. n };
-
-    ghost bare = { λ _. true };
+    ghost view = { plain (λ n. n) };
 
     ghost grammar = { signed 64 };
 

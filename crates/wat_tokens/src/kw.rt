@@ -1,10 +1,11 @@
 //! Keywords whose place is kept. Each type has the name of its word.
 
-ghost use Rattle.std.specs.Prelude.{◌≡◌, codes, true};
+ghost use Rattle.std.specs.Prelude.{◌≡◌, codes};
 ghost use Rattle.wat_tokens.specs.Lookup.{in_front};
 ghost use Rattle.wat_tokens.specs.Parts.{word};
 ghost use Rattle.wat_tokens.specs.Place.{offset_of};
 ghost use Rattle.wat_tokens.specs.Tests.{begins_word};
+ghost use Rattle.wat_tokens.specs.Views.{plain};
 
 use crate::cursor::Cursor;
 use crate::parser::Parser;
@@ -37,9 +38,7 @@ impl Default for func {
 impl<'a> Parse<'a> for func {
     ghost Seen = { Unit {0} };
 
-    ghost seen = { λ _. tt };
-
-    ghost bare = { λ _. true };
+    ghost view = { plain (λ _. tt) };
 
     ghost grammar = { word (codes "func") };
 
@@ -75,9 +74,7 @@ impl Default for table {
 impl<'a> Parse<'a> for table {
     ghost Seen = { Unit {0} };
 
-    ghost seen = { λ _. tt };
-
-    ghost bare = { λ _. true };
+    ghost view = { plain (λ _. tt) };
 
     ghost grammar = { word (codes "table") };
 
@@ -113,9 +110,7 @@ impl Default for memory {
 impl<'a> Parse<'a> for memory {
     ghost Seen = { Unit {0} };
 
-    ghost seen = { λ _. tt };
-
-    ghost bare = { λ _. true };
+    ghost view = { plain (λ _. tt) };
 
     ghost grammar = { word (codes "memory") };
 
@@ -151,9 +146,7 @@ impl Default for global {
 impl<'a> Parse<'a> for global {
     ghost Seen = { Unit {0} };
 
-    ghost seen = { λ _. tt };
-
-    ghost bare = { λ _. true };
+    ghost view = { plain (λ _. tt) };
 
     ghost grammar = { word (codes "global") };
 
@@ -189,9 +182,7 @@ impl Default for tag {
 impl<'a> Parse<'a> for tag {
     ghost Seen = { Unit {0} };
 
-    ghost seen = { λ _. tt };
-
-    ghost bare = { λ _. true };
+    ghost view = { plain (λ _. tt) };
 
     ghost grammar = { word (codes "tag") };
 

@@ -1,8 +1,9 @@
 //! The annotation that gives a name.
 
-ghost use Rattle.std.specs.Prelude.{◌≡◌, List, ℕ, true};
+ghost use Rattle.std.specs.Prelude.{◌≡◌, List, ℕ};
 ghost use Rattle.wat_tokens.specs.Lookup.{in_front};
 ghost use Rattle.wat_tokens.specs.NameAnnotation.{name_annotation, begins_name};
+ghost use Rattle.wat_tokens.specs.Views.{plain};
 
 use crate::cursor::Cursor;
 use crate::parser::Parser;
@@ -20,9 +21,7 @@ pub struct NameAnnotation<'a> {
 impl<'a> Parse<'a> for NameAnnotation<'a> {
     ghost Seen = { List ℕ };
 
-    ghost seen = { λ a. a.name.now };
-
-    ghost bare = { λ _. true };
+    ghost view = { plain (λ a. a.name.now) };
 
     ghost grammar = { name_annotation };
 

@@ -1,7 +1,7 @@
 //! The parser: a place in the tokens, and what was counted.
 
 ghost use Rattle.std.specs.Prelude.{◌≡◌, ◌≢◌, ◌+◌, ◌≤◌, List, [], ◌∷◌, length, drop, max, IfOk};
-ghost use Rattle.std.specs.Prelude.{false, None, IfErr, MatchBool};
+ghost use Rattle.std.specs.Prelude.{None, IfErr, MatchBool};
 ghost use Rattle.wat_lexer.specs.Cut.{IsCut, FirstFault};
 ghost use Rattle.wat_lexer.specs.Integer.{text_of};
 ghost use Rattle.wat_lexer.specs.Place.{offset_of};
@@ -11,13 +11,14 @@ ghost use Rattle.wat_lexer.specs.View.{toks, AreLeaps};
 ghost use Rattle.wat_tokens.specs.Counts.{Carries, Counted, Quiet, Kept};
 ghost use Rattle.wat_tokens.specs.Lookup.{in_front, FirstIs};
 ghost use Rattle.wat_tokens.specs.Error.{Error};
-ghost use Rattle.wat_tokens.specs.Parts.{flag};
 ghost use Rattle.wat_tokens.specs.PartSpells.{one_reads};
-ghost use Rattle.wat_tokens.specs.Reads.{ReadsLight, Unmoved, BehindOne};
+ghost use Rattle.wat_tokens.specs.Parts.{flag};
+ghost use Rattle.wat_tokens.specs.Reads.{Reads, Takes, Unmoved, BehindOne};
 ghost use Rattle.wat_tokens.specs.State.{begun, IsFresh};
 ghost use Rattle.wat_tokens.specs.Tests.{as_lparen, as_rparen, as_keyword, as_id, as_integer};
 ghost use Rattle.wat_tokens.specs.Tests.{as_string, word_only, annotation_only, begins_word};
 ghost use Rattle.wat_tokens.specs.Tests.{begins_group, begins_annotation, none_left, ends, second};
+ghost use Rattle.wat_tokens.specs.Views.{plain};
 
 use crate::cursor::Cursor;
 use crate::tally::Tally;
@@ -74,9 +75,21 @@ impl<'a> Model for Parser<'a> {
     ghost use Rattle.wat_lexer.specs.View.{toks, AreLeaps};
     ghost use Rattle.wat_tokens.specs.Lookup.{IsFront};
 
-    ghost view = { λ p. record { rest = toks (drop p.at p.tokens); left = as_shown p.known (toks (drop p.at p.tokens)); known = p.known; tracks = p.tracks; taken = p.taken.count; turns = p.turns.count; probes = p.probes.count; peak = p.peak; held = p.held } };
+    ghost view = { λ p. record {
+      rest = toks (drop p.at p.tokens);
+      left = as_shown p.known
+          (toks (drop p.at p.tokens));
+      known = p.known;
+      tracks = p.tracks;
+      taken = p.taken.count;
+      turns = p.turns.count;
+      probes = p.probes.count;
+      peak = p.peak;
+      held = p.held;
+    } };
 
-    ghost invariant = { λ p. (p.at ≤ length p.tokens) × AreLeaps p.tokens × IsFront p.known p.at p.front p.tokens };
+    ghost invariant = { λ p. (p.at ≤ length p.tokens) × AreLeaps p.tokens × IsFront p.known p.at
+        p.front p.tokens };
 }
 
 impl<'a> Parser<'a> {
@@ -346,8 +359,7 @@ impl<'a> Parser<'a> {
 
     /// Takes a `(`, or refuses with Unexpected.
     pub fn open(&mut self) -> Result<(), Error>
-        ensures reads { ReadsLight (λ x. x) result (one_reads as_lparen self.old.left) self.old
-            self.new }
+        ensures reads { Takes (λ x. x) as_lparen result self.old self.new }
         ensures refused { Unmoved result self.old self.new }
         ensures stands { BehindOne result self.old self.new }
     {
@@ -360,8 +372,7 @@ impl<'a> Parser<'a> {
 
     /// Takes a `)`, or refuses with Unexpected.
     pub fn close(&mut self) -> Result<(), Error>
-        ensures reads { ReadsLight (λ x. x) result (one_reads as_rparen self.old.left) self.old
-            self.new }
+        ensures reads { Takes (λ x. x) as_rparen result self.old self.new }
         ensures refused { Unmoved result self.old self.new }
         ensures stands { BehindOne result self.old self.new }
     {
@@ -375,8 +386,7 @@ impl<'a> Parser<'a> {
     /// Takes the one keyword (Text Format, "Tokens") and answers where it begins, or refuses with
     /// Unexpected.
     pub fn keyword(&mut self, word: &str) -> Result<Span, Error>
-        ensures reads { ReadsLight (λ _. tt) result (one_reads
-            (word_only word.now) self.old.left) self.old self.new }
+        ensures reads { Takes (λ _. tt) (word_only word.now) result self.old self.new }
         ensures refused { Unmoved result self.old self.new }
         ensures stands { BehindOne result self.old self.new }
     {
@@ -393,8 +403,7 @@ impl<'a> Parser<'a> {
     /// Takes the one keyword (Text Format, "Tokens") where it stands in front, and answers whether
     /// it did.
     pub fn flag(&mut self, word: &str) -> bool
-        ensures reads { ReadsLight (λ b. b) (Ok result)
-            ((flag word.now).reads self.old.left) self.old self.new }
+        ensures reads { Reads (plain (λ b. b)) (flag word.now) (Ok result) self.old self.new }
     {
         let stands = self.next_is(word);
         if stands {
@@ -406,8 +415,7 @@ impl<'a> Parser<'a> {
     /// Takes the annotation of the name (Text Format, "Annotations"), given without its `@`, and
     /// answers where it begins, or refuses with Unexpected.
     pub fn take_annotation(&mut self, name: &str) -> Result<Span, Error>
-        ensures reads { ReadsLight (λ _. tt) result (one_reads
-            (annotation_only name.now) self.old.left) self.old self.new }
+        ensures reads { Takes (λ _. tt) (annotation_only name.now) result self.old self.new }
         ensures refused { Unmoved result self.old self.new }
         ensures stands { BehindOne result self.old self.new }
     {
@@ -423,8 +431,7 @@ impl<'a> Parser<'a> {
 
     /// Takes a keyword (Text Format, "Tokens"), whichever it is, or refuses with Unexpected.
     pub fn take_keyword(&mut self) -> Result<&'a str, Error>
-        ensures reads { ReadsLight (λ x. x.now) result (one_reads as_keyword self.old.left) self.old
-            self.new }
+        ensures reads { Takes (λ x. x.now) as_keyword result self.old self.new }
         ensures refused { Unmoved result self.old self.new }
         ensures stands { BehindOne result self.old self.new }
     {
@@ -440,8 +447,7 @@ impl<'a> Parser<'a> {
     /// Takes an identifier (Text Format, "Identifiers") and answers its name, without its `$`, or
     /// refuses with Unexpected.
     pub fn take_id(&mut self) -> Result<&'a str, Error>
-        ensures reads { ReadsLight (λ x. x.now) result (one_reads as_id self.old.left) self.old
-            self.new }
+        ensures reads { Takes (λ x. x.now) as_id result self.old self.new }
         ensures refused { Unmoved result self.old self.new }
         ensures stands { BehindOne result self.old self.new }
     {
@@ -456,8 +462,7 @@ impl<'a> Parser<'a> {
 
     /// Takes an integer (Text Format, "Integers") of any value, or refuses with Unexpected.
     pub fn take_integer(&mut self) -> Result<Integer<'a>, Error>
-        ensures reads { ReadsLight text_of result (one_reads as_integer self.old.left) self.old
-            self.new }
+        ensures reads { Takes text_of as_integer result self.old self.new }
         ensures refused { Unmoved result self.old self.new }
         ensures stands { BehindOne result self.old self.new }
     {
@@ -473,8 +478,7 @@ impl<'a> Parser<'a> {
     /// Takes a string (Text Format, "Strings") and answers its bytes, decoded, or refuses with
     /// Unexpected.
     pub fn take_string(&mut self) -> Result<&'a [u8], Error>
-        ensures reads { ReadsLight (λ x. x.now) result (one_reads as_string self.old.left) self.old
-            self.new }
+        ensures reads { Takes (λ x. x.now) as_string result self.old self.new }
         ensures refused { Unmoved result self.old self.new }
         ensures stands { BehindOne result self.old self.new }
     {

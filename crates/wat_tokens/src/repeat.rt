@@ -1,14 +1,15 @@
 //! Parts that stand one behind the other.
 
-ghost use Rattle.std.specs.Prelude.{◌≡◌, ◌≤◌, [], map, List, Bool, true, false};
+ghost use Rattle.std.specs.Prelude.{◌≡◌, ◌≤◌, [], map, List, Bool};
 ghost use Rattle.wat_lexer.specs.Token.{Tok};
+ghost use Rattle.wat_tokens.specs.Cost.{Cost, tokens_alone};
 ghost use Rattle.wat_tokens.specs.Joined.{joined_behind};
 ghost use Rattle.wat_tokens.specs.Many.{after_front};
 ghost use Rattle.wat_tokens.specs.ManySpells.{many_reads};
-ghost use Rattle.wat_tokens.specs.Parses.{no_items};
 ghost use Rattle.wat_tokens.specs.Production.{Production};
-ghost use Rattle.wat_tokens.specs.Reads.{ReadsIf};
+ghost use Rattle.wat_tokens.specs.Reads.{Call, ReadsAt};
 ghost use Rattle.wat_tokens.specs.Tests.{more};
+ghost use Rattle.wat_tokens.specs.Views.{View, owning, no_items};
 
 use crate::parser::Parser;
 use crate::traits::{Parse, Peek};
@@ -19,16 +20,11 @@ pub trait Part<'a, V> {
     /// What contracts see of a part.
     ghost Seen: { Type 0 };
 
-    ghost seen: { V → Seen };
+    /// How a part is seen, and whether it owns memory.
+    ghost view: { View V Seen };
 
-    /// Whether no part holds a vector or a box.
-    ghost light: { Bool } = { true };
-
-    /// Whether the part holds no box, and no vector that isn't empty.
-    ghost bare: { Seen → Bool };
-
-    /// Whether no instruction is in it.
-    ghost quiet: { Bool } = { true };
+    /// What is counted beside the tokens that are taken.
+    ghost cost: { Cost } = { tokens_alone };
 
     /// Which tokens spell a part, and how it is read.
     ghost grammar: { Production Seen };
@@ -42,8 +38,7 @@ pub trait Part<'a, V> {
 
     /// Takes the part that stands in front, or refuses as [`Parse::parse`] does.
     fn take(parser: &mut Parser<'a>) -> Result<V, Error>
-        ensures reads { ReadsIf quiet light bare seen result (grammar.reads parser.old.left)
-            parser.old parser.new };
+        ensures reads { ReadsAt cost view grammar result parser.old parser.new };
 }
 
 /// Takes parts as long as one has to follow, each put behind those that are there.
@@ -52,9 +47,9 @@ pub fn parts<'a, V: Drop, P: Part<'a, V>>(
     out: &mut Vec<V>,
 ) -> Result<(), Error>
     requires { 1 ≤ P.grammar.least }
-    ensures reads { ReadsIf P.quiet false no_items (λ _. map P.seen out.new.items) result
-        (after_front (map P.seen out.old.items) (many_reads P.follows P.grammar
-        parser.old.left)) parser.old parser.new }
+    ensures reads { Call P.cost (owning (λ _. map P.view.of out.new.items) no_items)
+        (after_front (map P.view.of out.old.items) (many_reads P.follows P.grammar parser.old.left))
+        result parser.old parser.new }
 {
     'parts: while P::follows(parser) {
         out.push(P::take(parser)?)?;
@@ -67,9 +62,11 @@ pub trait Group<'a, V> {
     /// What contracts see of a part.
     ghost Seen: { Type 0 };
 
-    ghost seen: { V → Seen };
+    /// How a part is seen, and whether it owns memory.
+    ghost view: { View V Seen };
 
-    ghost quiet: { Bool } = { true };
+    /// What is counted beside the tokens that are taken.
+    ghost cost: { Cost } = { tokens_alone };
 
     /// Which tokens spell a group, as the list of its parts, and how it is read.
     ghost grammar: { Production (List Seen) };
@@ -84,9 +81,9 @@ pub trait Group<'a, V> {
     /// Takes the group that stands in front, each part put behind those that are there, or refuses
     /// as [`Parse::parse`] does.
     fn take(parser: &mut Parser<'a>, out: &mut Vec<V>) -> Result<(), Error>
-        ensures reads { ReadsIf quiet false no_items (λ _. map seen out.new.items) result
-            (after_front (map seen out.old.items) (grammar.reads parser.old.left)) parser.old
-            parser.new };
+        ensures reads { Call cost (owning (λ _. map view.of out.new.items) no_items)
+            (after_front (map view.of out.old.items) (grammar.reads parser.old.left)) result
+            parser.old parser.new };
 }
 
 /// Takes groups as long as one has to follow, the parts of each put behind those that are there.
@@ -95,9 +92,9 @@ pub fn groups<'a, V: Drop, G: Group<'a, V>>(
     out: &mut Vec<V>,
 ) -> Result<(), Error>
     requires { 1 ≤ G.grammar.least }
-    ensures reads { ReadsIf G.quiet false no_items (λ _. map G.seen out.new.items) result
-        (joined_behind (map G.seen out.old.items) (many_reads G.follows G.grammar
-        parser.old.left)) parser.old parser.new }
+    ensures reads { Call G.cost (owning (λ _. map G.view.of out.new.items) no_items)
+        (joined_behind (map G.view.of out.old.items) (many_reads G.follows G.grammar
+        parser.old.left)) result parser.old parser.new }
 {
     'groups: while G::follows(parser) {
         G::take(parser, out)?;
@@ -111,13 +108,9 @@ struct ToEnd;
 impl<'a, T: Parse<'a>> Part<'a, T> for ToEnd {
     ghost Seen = { T.Seen };
 
-    ghost seen = { T.seen };
+    ghost view = { T.view };
 
-    ghost light = { T.light };
-
-    ghost bare = { T.bare };
-
-    ghost quiet = { T.quiet };
+    ghost cost = { T.cost };
 
     ghost grammar = { T.grammar };
 
@@ -138,13 +131,9 @@ struct WhileBegun;
 impl<'a, T: Parse<'a> + Peek> Part<'a, T> for WhileBegun {
     ghost Seen = { T.Seen };
 
-    ghost seen = { T.seen };
+    ghost view = { T.view };
 
-    ghost light = { T.light };
-
-    ghost bare = { T.bare };
-
-    ghost quiet = { T.quiet };
+    ghost cost = { T.cost };
 
     ghost grammar = { T.grammar };
 
@@ -165,9 +154,9 @@ pub fn rest_of_group<'a, T: Parse<'a> + Drop>(
     out: &mut Vec<T>,
 ) -> Result<(), Error>
     requires { 1 ≤ T.grammar.least }
-    ensures reads { ReadsIf T.quiet false no_items (λ _. map T.seen out.new.items) result
-        (after_front (map T.seen out.old.items) (many_reads more T.grammar parser.old.left))
-        parser.old parser.new }
+    ensures reads { Call T.cost (owning (λ _. map T.view.of out.new.items) no_items)
+        (after_front (map T.view.of out.old.items) (many_reads more T.grammar parser.old.left))
+        result parser.old parser.new }
 {
     parts::<T, ToEnd>(parser, out)
 }
@@ -178,9 +167,9 @@ pub fn while_begun<'a, T: Parse<'a> + Peek + Drop>(
     out: &mut Vec<T>,
 ) -> Result<(), Error>
     requires { 1 ≤ T.grammar.least }
-    ensures reads { ReadsIf T.quiet false no_items (λ _. map T.seen out.new.items) result
-        (after_front (map T.seen out.old.items) (many_reads T.begins T.grammar parser.old.left))
-        parser.old parser.new }
+    ensures reads { Call T.cost (owning (λ _. map T.view.of out.new.items) no_items)
+        (after_front (map T.view.of out.old.items) (many_reads T.begins T.grammar parser.old.left))
+        result parser.old parser.new }
 {
     parts::<T, WhileBegun>(parser, out)
 }
@@ -188,8 +177,8 @@ pub fn while_begun<'a, T: Parse<'a> + Peek + Drop>(
 /// Parts as long as one has to follow, as a list of their own.
 pub fn all_parts<'a, V: Drop, P: Part<'a, V>>(parser: &mut Parser<'a>) -> Result<Vec<V>, Error>
     requires { 1 ≤ P.grammar.least }
-    ensures reads { ReadsIf P.quiet false no_items (λ v. map P.seen v.items) result
-        (many_reads P.follows P.grammar parser.old.left) parser.old parser.new }
+    ensures reads { Call P.cost (owning (λ v. map P.view.of v.items) no_items)
+        (many_reads P.follows P.grammar parser.old.left) result parser.old parser.new }
 {
     let mut found = Vec::new(parser.alloc());
     parts::<V, P>(parser, &mut found)?;
@@ -200,8 +189,8 @@ pub fn all_parts<'a, V: Drop, P: Part<'a, V>>(parser: &mut Parser<'a>) -> Result
 /// The parts of groups, as long as one more group has to follow, as a list of their own.
 pub fn all_groups<'a, V: Drop, G: Group<'a, V>>(parser: &mut Parser<'a>) -> Result<Vec<V>, Error>
     requires { 1 ≤ G.grammar.least }
-    ensures reads { ReadsIf G.quiet false no_items (λ v. map G.seen v.items) result
-        (joined_behind [] (many_reads G.follows G.grammar parser.old.left)) parser.old
+    ensures reads { Call G.cost (owning (λ v. map G.view.of v.items) no_items)
+        (joined_behind [] (many_reads G.follows G.grammar parser.old.left)) result parser.old
         parser.new }
 {
     let mut found = Vec::new(parser.alloc());
@@ -213,8 +202,8 @@ pub fn all_groups<'a, V: Drop, G: Group<'a, V>>(parser: &mut Parser<'a>) -> Resu
 /// Values up to the end of the group, as a list of their own.
 pub fn all_to_end<'a, T: Parse<'a> + Drop>(parser: &mut Parser<'a>) -> Result<Vec<T>, Error>
     requires { 1 ≤ T.grammar.least }
-    ensures reads { ReadsIf T.quiet false no_items (λ v. map T.seen v.items) result
-        (many_reads more T.grammar parser.old.left) parser.old parser.new }
+    ensures reads { Call T.cost (owning (λ v. map T.view.of v.items) no_items)
+        (many_reads more T.grammar parser.old.left) result parser.old parser.new }
 {
     let mut found = Vec::new(parser.alloc());
     rest_of_group::<T>(parser, &mut found)?;

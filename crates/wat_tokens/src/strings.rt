@@ -1,9 +1,10 @@
 //! Strings.
 
-ghost use Rattle.std.specs.Prelude.{◌≡◌, List, ℕ, true};
+ghost use Rattle.std.specs.Prelude.{◌≡◌, List, ℕ};
 ghost use Rattle.wat_tokens.specs.Lookup.{in_front};
 ghost use Rattle.wat_tokens.specs.Strings.{string, text};
 ghost use Rattle.wat_tokens.specs.Tests.{begins_string};
+ghost use Rattle.wat_tokens.specs.Views.{plain};
 
 use crate::cursor::Cursor;
 use crate::parser::Parser;
@@ -14,9 +15,7 @@ use wat_lexer::fault::{Error, Fault};
 impl<'a> Parse<'a> for &'a [u8] {
     ghost Seen = { List ℕ };
 
-    ghost seen = { λ s. s.now };
-
-    ghost bare = { λ _. true };
+    ghost view = { plain (λ s. s.now) };
 
     ghost grammar = { string };
 
@@ -45,9 +44,7 @@ impl<'p> Peek for &'p [u8] {
 impl<'a> Parse<'a> for &'a str {
     ghost Seen = { List ℕ };
 
-    ghost seen = { λ s. s.now };
-
-    ghost bare = { λ _. true };
+    ghost view = { plain (λ s. s.now) };
 
     ghost grammar = { text };
 

@@ -1,17 +1,19 @@
 //! What can be parsed, and what can be looked for.
 
-ghost use Rattle.std.specs.Prelude.{◌≡◌, ◌≤◌, ◌+◌, max, length, List, ℕ, Bool, IsTrue, IfOk, IfErr};
-ghost use Rattle.std.specs.Prelude.{◌++◌, ◌≢◌, true, false};
+ghost use Rattle.std.specs.Prelude.{◌≡◌, ◌≤◌, ◌+◌, max, length, List, ℕ, Bool, IfOk, IfErr};
+ghost use Rattle.std.specs.Prelude.{◌++◌, ◌≢◌, true};
 ghost use Rattle.wat_lexer.specs.Token.{Tok};
-ghost use Rattle.wat_tokens.specs.Counts.{Counted, Turned, Grows, Quiet, Stays, Kept};
+ghost use Rattle.wat_tokens.specs.Cost.{Cost, tokens_alone, Costs};
+ghost use Rattle.wat_tokens.specs.Counts.{Counted, Turned, Grows, Kept};
 ghost use Rattle.wat_tokens.specs.Error.{Memory};
 ghost use Rattle.wat_tokens.specs.Lookup.{in_front};
 ghost use Rattle.wat_tokens.specs.Parens.{nest};
 ghost use Rattle.wat_tokens.specs.Parses.{Gives, Accepts};
 ghost use Rattle.wat_tokens.specs.Production.{Production, Front};
-ghost use Rattle.wat_tokens.specs.Reads.{Parsed};
+ghost use Rattle.wat_tokens.specs.Reads.{ReadsAt};
 ghost use Rattle.wat_tokens.specs.State.{behind};
 ghost use Rattle.wat_tokens.specs.Tests.{second};
+ghost use Rattle.wat_tokens.specs.Views.{View};
 
 use crate::cursor::Cursor;
 use crate::parser::Parser;
@@ -22,19 +24,11 @@ pub trait Parse<'a>: Sized {
     /// What contracts see of a value: no spans, no references.
     ghost Seen: { Type 0 };
 
-    ghost seen: { Self → Seen };
+    /// How a value is seen, and whether it owns memory.
+    ghost view: { View Self Seen };
 
-    /// Whether no value of the type holds a vector or a box.
-    ghost light: { Bool } = { true };
-
-    /// Whether the value holds no box, and no vector that isn't empty.
-    ghost bare: { Seen → Bool };
-
-    /// Whether no instruction is in it.
-    ghost quiet: { Bool } = { true };
-
-    /// Whether no expression is in it, so that no turn and no height is counted.
-    ghost stays: { Bool } = { true };
+    /// What a parse may count beside the tokens that it takes.
+    ghost cost: { Cost } = { tokens_alone };
 
     /// Which tokens spell a value, and how it is read.
     ghost grammar: { Production Seen };
@@ -44,9 +38,7 @@ pub trait Parse<'a>: Sized {
     /// Where none does, it is refused with the first fault that is met, and the parser then has
     /// some end of its tokens left. Memory may be answered where the value isn't bare.
     fn parse(parser: &mut Parser<'a>) -> Result<Self, Error>
-        ensures reads { Parsed (Gives light bare seen result
-            (grammar.reads parser.old.left) parser.new.left) quiet stays result parser.old
-            parser.new };
+        ensures reads { ReadsAt cost view grammar result parser.old parser.new };
 }
 
 /// A type whose values begin with tokens that tell them from what else may stand there.
@@ -81,15 +73,15 @@ impl<'a> Parser<'a> {
     pub fn parse<T: Parse<'a>>(&mut self) -> Result<T, Error>
         // The tokens that were taken spell the value.
         ensures sound { IfOk result (λ v. Front T.grammar.spells self.old.left
-            (T.seen v, self.new.left)) }
+            (T.view.of v, self.new.left)) }
         // Where tokens in front spell a value, it is that one, or memory ran out.
         ensures accepts { (v : T.Seen) (c r : List Tok) → self.old.left ≡ c ++ r
-            → T.grammar.spells v c r → Accepts T.seen T.bare result v self.new.left r }
+            → T.grammar.spells v c r → Accepts T.view result v self.new.left r }
         // A fault other than Memory means that no tokens in front spell a value.
         ensures refused { IfErr result (λ e. e.fault ≢ Memory → (v : T.Seen) (c r : List Tok)
             → self.old.left ≡ c ++ r → T.grammar.spells v c r → ⊥) }
         // Memory comes only of a type that can hold a vector or a box.
-        ensures memory { IfErr result (λ e. e.fault ≡ Memory → T.light ≡ false) }
+        ensures memory { IfErr result (λ e. e.fault ≡ Memory → T.view.may_own ≡ true) }
         // `taken` rises by the number of tokens that were taken, and never by more than stood in
         // front.
         ensures taken { (c : List Tok) → self.old.left ≡ c ++ self.new.left
@@ -108,11 +100,9 @@ impl<'a> Parser<'a> {
         // The parser stands directly behind the last token that was taken.
         ensures stands { (c : List Tok) → self.old.left ≡ c ++ self.new.left
             → self.new.rest ≡ behind self.old.known (length c) self.old.rest }
-        ensures exact { Gives T.light T.bare T.seen result
-            (T.grammar.reads self.old.left) self.new.left }
+        ensures exact { Gives T.view result (T.grammar.reads self.old.left) self.new.left }
         ensures counts { Counted result self.old self.new }
-        ensures quiet { IsTrue T.quiet → Quiet self.old self.new }
-        ensures stays { IsTrue T.stays → Stays self.old self.new }
+        ensures cost { Costs T.cost self.old self.new }
         ensures names { Kept self.old self.new }
     {
         T::parse(self)

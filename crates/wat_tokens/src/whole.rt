@@ -3,10 +3,11 @@
 //! A body that holds a value of a large type over a call that may refuse is proved slowly, since
 //! the value is dropped where that call refuses. Here the types are parameters.
 
-ghost use Rattle.std.specs.Prelude.{◌&&◌};
+ghost use Rattle.wat_tokens.specs.Cost.{dearer};
 ghost use Rattle.wat_tokens.specs.Groups.{paren};
 ghost use Rattle.wat_tokens.specs.Parts.{seq};
-ghost use Rattle.wat_tokens.specs.Reads.{ReadsIf};
+ghost use Rattle.wat_tokens.specs.Reads.{ReadsAt};
+ghost use Rattle.wat_tokens.specs.Views.{paired};
 
 use crate::parser::Parser;
 use crate::traits::Parse;
@@ -14,8 +15,7 @@ use wat_lexer::fault::Error;
 
 /// A value between `(` and `)`.
 pub fn in_group<'a, T: Parse<'a> + Drop>(parser: &mut Parser<'a>) -> Result<T, Error>
-    ensures reads { ReadsIf T.quiet T.light T.bare T.seen result
-        ((paren T.grammar).reads parser.old.left) parser.old parser.new }
+    ensures reads { ReadsAt T.cost T.view (paren T.grammar) result parser.old parser.new }
 {
     parser.open()?;
     let value = T::parse(parser)?;
@@ -27,9 +27,8 @@ pub fn in_group<'a, T: Parse<'a> + Drop>(parser: &mut Parser<'a>) -> Result<T, E
 pub fn both<'a, T: Parse<'a> + Drop, U: Parse<'a> + Drop>(
     parser: &mut Parser<'a>,
 ) -> Result<(T, U), Error>
-    ensures reads { ReadsIf (T.quiet && U.quiet) (T.light && U.light)
-        (λ v. T.bare v.0 && U.bare v.1) (λ v. (T.seen v.0, U.seen v.1)) result
-        ((seq T.grammar U.grammar).reads parser.old.left) parser.old parser.new }
+    ensures reads { ReadsAt (dearer T.cost U.cost) (paired T.view U.view) (seq T.grammar U.grammar)
+        result parser.old parser.new }
 {
     let first = T::parse(parser)?;
     let second = U::parse(parser)?;

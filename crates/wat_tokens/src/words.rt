@@ -3,8 +3,7 @@
 ghost use Rattle.std.specs.Prelude.{◌≡◌, ℕ, List};
 ghost use Rattle.wat_tokens.specs.Begin.{begins_one_of};
 ghost use Rattle.wat_tokens.specs.Lookup.{in_front};
-ghost use Rattle.wat_tokens.specs.PartSpells.{one_reads};
-ghost use Rattle.wat_tokens.specs.Reads.{ReadsLight};
+ghost use Rattle.wat_tokens.specs.Reads.{Takes};
 ghost use Rattle.wat_tokens.specs.Tests.{look_up, word_in};
 
 use crate::cursor::Cursor;
@@ -25,8 +24,7 @@ pub trait Named: Copy {
 /// what is no keyword, is refused with Unexpected, at the token in front.
 #[tactic(auto, using(crate::specs::Laws::Begin::reads_table, crate::specs::Laws::Begin::reads_no_table))]
 pub fn take_named<'a, T: Named>(parser: &mut Parser<'a>) -> Result<T, Error>
-    ensures reads { ReadsLight (λ v. v) result (one_reads (word_in T.words) parser.old.left)
-        parser.old parser.new }
+    ensures reads { Takes (λ v. v) (word_in T.words) result parser.old parser.new }
 {
     let span = parser.cur_span();
     match T::named(parser.take_keyword()?) {

@@ -1,8 +1,8 @@
 //! Optional and boxed values.
 
-ghost use Rattle.std.specs.Prelude.{true, false, Option};
-ghost use Rattle.wat_tokens.specs.Parses.{seen_option, bare_option};
+ghost use Rattle.std.specs.Prelude.{false, Option};
 ghost use Rattle.wat_tokens.specs.Parts.{opt};
+ghost use Rattle.wat_tokens.specs.Views.{owning, optional};
 
 use crate::parser::Parser;
 use crate::traits::{Parse, Peek};
@@ -12,15 +12,9 @@ use wat_lexer::fault::Error;
 impl<'a, T: Parse<'a> + Peek> Parse<'a> for Option<T> {
     ghost Seen = { Option T.Seen };
 
-    ghost seen = { seen_option T.seen };
+    ghost view = { optional T.view };
 
-    ghost light = { T.light };
-
-    ghost bare = { bare_option T.bare };
-
-    ghost quiet = { T.quiet };
-
-    ghost stays = { T.stays };
+    ghost cost = { T.cost };
 
     ghost grammar = { opt T.begins T.grammar };
 
@@ -37,15 +31,9 @@ impl<'a, T: Parse<'a> + Peek> Parse<'a> for Option<T> {
 impl<'a, T: Parse<'a> + Drop> Parse<'a> for Box<T> {
     ghost Seen = { T.Seen };
 
-    ghost seen = { λ b. T.seen b.value };
+    ghost view = { owning (λ b. T.view.of b.value) (λ _. false) };
 
-    ghost light = { false };
-
-    ghost bare = { λ _. false };
-
-    ghost quiet = { T.quiet };
-
-    ghost stays = { T.stays };
+    ghost cost = { T.cost };
 
     ghost grammar = { T.grammar };
 

@@ -11,7 +11,8 @@ use Rattle.wat_tokens.specs.Parts.{word, flag}
 use Rattle.wat_tokens.specs.Many.{after_front}
 use Rattle.wat_tokens.specs.ManySpells.{many_reads}
 use Rattle.wat_tokens.specs.Index.{Idx, index, begins_index}
-use Rattle.wat_tokens.specs.Parses.{NotBare, no_items}
+use Rattle.wat_tokens.specs.Parses.{NotBare}
+use Rattle.wat_tokens.specs.Views.{no_items}
 use Rattle.wat_types.specs.Define.{DefTy, bare_inner_kind, bare_def, described, maybe_shared, type_def}
 
 described_alone : (d : DefTy) (c r : List Tok) → described.spells d c r → d.parents ≡ []

@@ -5,10 +5,11 @@ use Rattle.std.proofs.lemmas.List.{append-nil}
 use Rattle.wat_tokens.specs.Token.{Tok}
 use Rattle.wat_tokens.specs.Production.{Read}
 use Rattle.wat_tokens.specs.Laws.Production.{by_test, by_read}
-use Rattle.wat_tokens.specs.PartSpells.{with_rest}
 use Rattle.wat_tokens.specs.Adding.{add_all, add_rest, add_read}
 use Rattle.wat_tokens.specs.Laws.Many.{adding_goes_on, adding_fails}
-use Rattle.wat_tokens.specs.Parses.{NotBare, no_items}
+use Rattle.wat_tokens.specs.Parses.{NotBare}
+use Rattle.wat_tokens.specs.PartSpells.{with_rest}
+use Rattle.wat_tokens.specs.Views.{no_items}
 use Rattle.wat_types.specs.Value.{ValTy}
 use Rattle.wat_types.specs.Group.{ParamTy, Group, param, result, FuncTy, function_of, func_group, group_follows}
 use Rattle.wat_types.specs.Laws.Group.{func_group_eats}

@@ -8,7 +8,7 @@ use Rattle.wat_tokens.specs.Parts.{seq, made, where_else, opt, flag, after_word}
 use Rattle.wat_tokens.specs.Many.{many}
 use Rattle.wat_tokens.specs.Groups.{paren, turn}
 use Rattle.wat_tokens.specs.Index.{Idx, seen_index, index, begins_index}
-use Rattle.wat_tokens.specs.Parses.{seen_option, no_items}
+use Rattle.wat_tokens.specs.Views.{no_items, seen_option}
 use Rattle.wat_types.specs.Label.{Label, seen_label, label}
 use Rattle.wat_types.specs.Group.{FuncTy}
 use Rattle.wat_types.specs.Function.{seen_function, bare_function, function_type}

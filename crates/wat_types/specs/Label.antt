@@ -4,9 +4,9 @@ use Rattle.wat_tokens.specs.Token.{Tok}
 use Rattle.wat_tokens.specs.Tests.{begins_id}
 use Rattle.wat_tokens.specs.Production.{Production}
 use Rattle.wat_tokens.specs.Parts.{seq, made, opt}
-use Rattle.wat_tokens.specs.Parses.{seen_option}
 use Rattle.wat_tokens.specs.Index.{name_of, identifier}
 use Rattle.wat_tokens.specs.NameAnnotation.{name_annotation, begins_name}
+use Rattle.wat_tokens.specs.Views.{seen_option}
 use Rattle.wat_tokens.specs.declared.index.Id.{Id}
 use Rattle.wat_tokens.specs.declared.name_annotation.NameAnnotation.{NameAnnotation}
 

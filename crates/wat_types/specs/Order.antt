@@ -1,7 +1,7 @@
 -- Proofs: a test of the order of groups, and what adding them one by one gives.
 use Rattle.std.specs.Prelude.{Bool, true, false, if◌then◌else◌, List, [], ◌∷◌, ◌++◌, Option, Some}
 use Rattle.std.specs.Prelude.{None}
-use Rattle.wat_tokens.specs.Parses.{no_items}
+use Rattle.wat_tokens.specs.Views.{no_items}
 use Rattle.wat_types.specs.Group.{Group, param, result, FuncTy, function_of}
 
 -- no param group

@@ -1,12 +1,12 @@
 //! Definitions of types, and recursion groups.
 
-ghost use Rattle.std.specs.Prelude.{◌≡◌, true, false, List};
+ghost use Rattle.std.specs.Prelude.{◌≡◌, List};
 ghost use Rattle.wat_tokens.specs.Index.{Idx, seen_index, index};
 ghost use Rattle.wat_tokens.specs.Lookup.{in_front};
 ghost use Rattle.wat_tokens.specs.Many.{after_front};
-ghost use Rattle.wat_tokens.specs.Parses.{no_items, seen_option};
-ghost use Rattle.wat_tokens.specs.Reads.{ReadsLight};
+ghost use Rattle.wat_tokens.specs.Reads.{Reads};
 ghost use Rattle.wat_tokens.specs.Tests.{second};
+ghost use Rattle.wat_tokens.specs.Views.{plain, owning, no_items, seen_option};
 ghost use Rattle.wat_types.specs.Define.{InnerKindTy, seen_inner_kind, bare_inner_kind, kind};
 ghost use Rattle.wat_types.specs.Define.{linked, DefTy};
 ghost use Rattle.wat_types.specs.Define.{seen_def, bare_def, type_def};
@@ -83,9 +83,7 @@ pub struct Rec<'a> {
 impl<'a> Parse<'a> for ContType<'a> {
     ghost Seen = { Idx };
 
-    ghost seen = { λ c. seen_index c.0 };
-
-    ghost bare = { λ _. true };
+    ghost view = { plain (λ c. seen_index c.0) };
 
     ghost grammar = { index };
 
@@ -98,11 +96,7 @@ impl<'a> Parse<'a> for ContType<'a> {
 impl<'a> Parse<'a> for InnerTypeKind<'a> {
     ghost Seen = { InnerKindTy };
 
-    ghost seen = { seen_inner_kind };
-
-    ghost light = { false };
-
-    ghost bare = { bare_inner_kind };
+    ghost view = { owning seen_inner_kind bare_inner_kind };
 
     ghost grammar = { kind };
 
@@ -124,8 +118,8 @@ impl<'a> Parse<'a> for InnerTypeKind<'a> {
 /// The index behind the word, where it stands, and then `) (`.
 #[tactic(auto, unfolding(crate::specs::Define::linked))]
 fn read_link<'a>(parser: &mut Parser<'a>, word: &str) -> Result<Option<Index<'a>>>
-    ensures reads { ReadsLight (seen_option seen_index) result
-        ((linked word.now).reads parser.old.left) parser.old parser.new }
+    ensures reads { Reads (plain (seen_option seen_index)) (linked word.now) result parser.old
+        parser.new }
 {
     if !parser.next_is(word) {
         return Ok(None);
@@ -146,11 +140,7 @@ impl<'a> Parse<'a> for Described<'a> {
 
     ghost Seen = { DefTy };
 
-    ghost seen = { λ d. seen_def d.0 };
-
-    ghost light = { false };
-
-    ghost bare = { bare_def };
+    ghost view = { owning (λ d. seen_def d.0) bare_def };
 
     ghost grammar = { described };
 
@@ -179,11 +169,7 @@ impl<'a> Parse<'a> for MaybeShared<'a> {
 
     ghost Seen = { DefTy };
 
-    ghost seen = { λ d. seen_def d.0 };
-
-    ghost light = { false };
-
-    ghost bare = { bare_def };
+    ghost view = { owning (λ d. seen_def d.0) bare_def };
 
     ghost grammar = { maybe_shared };
 
@@ -204,11 +190,7 @@ impl<'a> Parse<'a> for MaybeShared<'a> {
 impl<'a> Parse<'a> for TypeDef<'a> {
     ghost Seen = { DefTy };
 
-    ghost seen = { seen_def };
-
-    ghost light = { false };
-
-    ghost bare = { bare_def };
+    ghost view = { owning seen_def bare_def };
 
     ghost grammar = { type_def };
 
@@ -232,11 +214,7 @@ impl<'a> Parse<'a> for TypeDef<'a> {
 impl<'a> Parse<'a> for Type<'a> {
     ghost Seen = { TypeTy };
 
-    ghost seen = { seen_type };
-
-    ghost light = { false };
-
-    ghost bare = { bare_type };
+    ghost view = { owning seen_type bare_type };
 
     ghost grammar = { type_ };
 
@@ -278,11 +256,7 @@ struct GroupedType;
 impl<'a> Part<'a, Type<'a>> for GroupedType {
     ghost Seen = { TypeTy };
 
-    ghost seen = { seen_type };
-
-    ghost light = { false };
-
-    ghost bare = { bare_type };
+    ghost view = { owning seen_type bare_type };
 
     ghost grammar = { grouped_type };
 
@@ -301,11 +275,7 @@ impl<'a> Part<'a, Type<'a>> for GroupedType {
 impl<'a> Parse<'a> for Rec<'a> {
     ghost Seen = { List TypeTy };
 
-    ghost seen = { seen_rec };
-
-    ghost light = { false };
-
-    ghost bare = { no_items };
+    ghost view = { owning seen_rec no_items };
 
     ghost grammar = { rec };
 

@@ -1,15 +1,16 @@
 //! Function types.
 
-ghost use Rattle.std.specs.Prelude.{◌≡◌, [], codes, true, false};
+ghost use Rattle.std.specs.Prelude.{◌≡◌, [], codes};
 ghost use Rattle.wat_tokens.specs.Copies.{Copies};
 ghost use Rattle.wat_tokens.specs.Groups.{group};
 ghost use Rattle.wat_tokens.specs.Lookup.{in_front};
 ghost use Rattle.wat_tokens.specs.Many.{after_front};
 ghost use Rattle.wat_tokens.specs.Adding.{add_read};
-ghost use Rattle.wat_tokens.specs.Parses.{no_items};
+ghost use Rattle.wat_tokens.specs.Cost.{tokens_alone};
 ghost use Rattle.wat_tokens.specs.Parts.{made};
-ghost use Rattle.wat_tokens.specs.Reads.{Reads};
+ghost use Rattle.wat_tokens.specs.Reads.{Call, Reads};
 ghost use Rattle.wat_tokens.specs.Tests.{more};
+ghost use Rattle.wat_tokens.specs.Views.{plain, owning, no_items};
 ghost use Rattle.wat_types.specs.Function.{seen_param, seen_params, seen_function, seen_unnamed};
 ghost use Rattle.wat_types.specs.Function.{bare_function, function_groups, function_type};
 ghost use Rattle.wat_types.specs.FunctionNoNames.{function_type_no_names};
@@ -43,9 +44,7 @@ struct PlainParam;
 impl<'a> Part<'a, (Option<Id<'a>>, Option<NameAnnotation<'a>>, ValType<'a>)> for PlainParam {
     ghost Seen = { ParamTy };
 
-    ghost seen = { seen_param };
-
-    ghost bare = { λ _. true };
+    ghost view = { plain seen_param };
 
     ghost grammar = { plain_param_only };
 
@@ -70,9 +69,9 @@ fn read_params<'a>(
     labels: bool,
     out: &mut Vec<(Option<Id<'a>>, Option<NameAnnotation<'a>>, ValType<'a>)>,
 ) -> Result<()>
-    ensures reads { Reads no_items (λ _. seen_params out.new.items) result (after_front
-        (seen_params out.old.items) ((params labels).reads parser.old.left)) parser.old
-        parser.new }
+    ensures reads { Call tokens_alone (owning (λ _. seen_params out.new.items) no_items)
+        (after_front (seen_params out.old.items) ((params labels).reads parser.old.left)) result
+        parser.old parser.new }
 {
     if labels && (parser.peek::<Id>() || parser.peek::<NameAnnotation>()) {
         let (id, name) = take_label(parser)?;
@@ -89,9 +88,9 @@ fn read_param_group<'a>(
     labels: bool,
     out: &mut FunctionType<'a>,
 ) -> Result<()>
-    ensures reads { Reads bare_function (λ _. seen_function out.new) result (add_read add
-        (seen_function out.old) ((made in_param (group (codes "param") (params labels))).reads
-        parser.old.left)) parser.old parser.new }
+    ensures reads { Call tokens_alone (owning (λ _. seen_function out.new) bare_function)
+        (add_read add (seen_function out.old) ((made in_param (group (codes "param")
+        (params labels))).reads parser.old.left)) result parser.old parser.new }
 {
     parser.open()?;
     if !out.results.is_empty() {
@@ -106,9 +105,9 @@ fn read_param_group<'a>(
 /// A result group, put behind what is there.
 #[tactic(auto, using(crate::specs::Laws::Value::val_type_eats), unfolding(crate::specs::Group::val_types))]
 fn read_result_group<'a>(parser: &mut Parser<'a>, out: &mut FunctionType<'a>) -> Result<()>
-    ensures reads { Reads bare_function (λ _. seen_function out.new) result (add_read add
-        (seen_function out.old) ((made in_result (group (codes "result") val_types)).reads
-        parser.old.left)) parser.old parser.new }
+    ensures reads { Call tokens_alone (owning (λ _. seen_function out.new) bare_function)
+        (add_read add (seen_function out.old) ((made in_result
+        (group (codes "result") val_types)).reads parser.old.left)) result parser.old parser.new }
 {
     parser.open()?;
     parser.keyword("result")?;
@@ -120,9 +119,9 @@ fn read_result_group<'a>(parser: &mut Parser<'a>, out: &mut FunctionType<'a>) ->
 /// One group, put behind what is there.
 #[tactic(auto, unfolding(crate::specs::Group::func_group))]
 fn read_group<'a>(parser: &mut Parser<'a>, labels: bool, out: &mut FunctionType<'a>) -> Result<()>
-    ensures reads { Reads bare_function (λ _. seen_function out.new) result (add_read add
-        (seen_function out.old) ((func_group labels).reads parser.old.left)) parser.old
-        parser.new }
+    ensures reads { Call tokens_alone (owning (λ _. seen_function out.new) bare_function)
+        (add_read add (seen_function out.old) ((func_group labels).reads parser.old.left)) result
+        parser.old parser.new }
 {
     if parser.group_is("param") {
         read_param_group(parser, labels, out)
@@ -146,8 +145,8 @@ fn group_next(parser: &Parser<'_>) -> bool
 
 /// Groups, as long as one has to follow.
 fn read_groups<'a>(parser: &mut Parser<'a>, labels: bool) -> Result<FunctionType<'a>>
-    ensures reads { Reads bare_function seen_function result
-        ((function_groups labels).reads parser.old.left) parser.old parser.new }
+    ensures reads { Reads (owning seen_function bare_function) (function_groups labels) result
+        parser.old parser.new }
 {
     let mut found = FunctionType::empty(parser.alloc());
     'groups: while group_next(parser) {
@@ -173,8 +172,9 @@ impl<'a> FunctionType<'a> {
     /// The same function type once more. Memory may be answered where it has a parameter or a
     /// result.
     pub fn clone(&self) -> Result<FunctionType<'a>>
-        ensures copies { Copies (λ x y. (y.params.items ≡ x.params.items)
-            × (y.results.items ≡ x.results.items)) seen_function bare_function result self.now }
+        ensures copies { Copies (λ x y. (y.params.items ≡ x.params.items) ×
+            (y.results.items ≡ x.results.items)) (owning seen_function bare_function) result
+            self.now }
     {
         let mut copy = FunctionType::empty(*self.params.allocator());
         copy.params.extend_from_slice(&self.params)?;
@@ -190,11 +190,7 @@ impl<'a> FunctionType<'a> {
 impl<'a> Parse<'a> for FunctionType<'a> {
     ghost Seen = { FuncTy };
 
-    ghost seen = { seen_function };
-
-    ghost light = { false };
-
-    ghost bare = { bare_function };
+    ghost view = { owning seen_function bare_function };
 
     ghost grammar = { function_type };
 
@@ -236,8 +232,8 @@ impl<'a> FunctionTypeNoNames<'a> {
     /// The same function type once more. Memory may be answered where it has a parameter or a
     /// result.
     pub fn clone(&self) -> Result<FunctionTypeNoNames<'a>>
-        ensures copies { Copies (λ x y. (y.0.params.items ≡ x.0.params.items)
-            × (y.0.results.items ≡ x.0.results.items)) seen_unnamed bare_function result
+        ensures copies { Copies (λ x y. (y.0.params.items ≡ x.0.params.items) ×
+            (y.0.results.items ≡ x.0.results.items)) (owning seen_unnamed bare_function) result
             self.now }
     {
         Ok(FunctionTypeNoNames(self.0.clone()?))
@@ -248,11 +244,7 @@ impl<'a> FunctionTypeNoNames<'a> {
 impl<'a> Parse<'a> for FunctionTypeNoNames<'a> {
     ghost Seen = { FuncTy };
 
-    ghost seen = { seen_unnamed };
-
-    ghost light = { false };
-
-    ghost bare = { bare_function };
+    ghost view = { owning seen_unnamed bare_function };
 
     ghost grammar = { function_type_no_names };
 

@@ -6,16 +6,17 @@
 ghost use Rattle.std.specs.Prelude.{◌≡◌};
 ghost use Rattle.wat_tokens.specs.Groups.{paren, group};
 ghost use Rattle.wat_tokens.specs.Parts.{after_word};
+ghost use Rattle.wat_tokens.specs.Reads.{Reads, ReadsAt};
 ghost use Rattle.wat_tokens.specs.Tests.{begins_lparen};
-ghost use Rattle.wat_tokens.specs.Reads.{ReadsIf, ReadsLight};
+ghost use Rattle.wat_tokens.specs.Views.{plain};
 ghost use Rattle.wat_types.specs.Label.{label, seen_label};
 
 use wat_tokens::{Id, NameAnnotation, Parse, Parser, Result};
 
 /// `word T`
 pub(crate) fn behind<'a, T: Parse<'a>>(parser: &mut Parser<'a>, word: &str) -> Result<T>
-    ensures reads { ReadsIf T.quiet T.light T.bare T.seen result
-        ((after_word word.now T.grammar).reads parser.old.left) parser.old parser.new }
+    ensures reads { ReadsAt T.cost T.view (after_word word.now T.grammar) result parser.old
+        parser.new }
 {
     parser.keyword(word)?;
     T::parse(parser)
@@ -30,8 +31,7 @@ pub(crate) fn opens(parser: &Parser<'_>) -> bool
 
 /// `( T )`
 pub(crate) fn in_parens<'a, T: Parse<'a> + Drop>(parser: &mut Parser<'a>) -> Result<T>
-    ensures reads { ReadsIf T.quiet T.light T.bare T.seen result
-        ((paren T.grammar).reads parser.old.left) parser.old parser.new }
+    ensures reads { ReadsAt T.cost T.view (paren T.grammar) result parser.old parser.new }
 {
     parser.open()?;
     let found = T::parse(parser)?;
@@ -41,8 +41,7 @@ pub(crate) fn in_parens<'a, T: Parse<'a> + Drop>(parser: &mut Parser<'a>) -> Res
 
 /// `( word T )`
 pub(crate) fn in_group<'a, T: Parse<'a> + Drop>(parser: &mut Parser<'a>, word: &str) -> Result<T>
-    ensures reads { ReadsIf T.quiet T.light T.bare T.seen result
-        ((group word.now T.grammar).reads parser.old.left) parser.old parser.new }
+    ensures reads { ReadsAt T.cost T.view (group word.now T.grammar) result parser.old parser.new }
 {
     parser.open()?;
     parser.keyword(word)?;
@@ -56,8 +55,7 @@ pub(crate) fn in_group<'a, T: Parse<'a> + Drop>(parser: &mut Parser<'a>, word: &
 pub(crate) fn take_label<'a>(
     parser: &mut Parser<'a>,
 ) -> Result<(Option<Id<'a>>, Option<NameAnnotation<'a>>)>
-    ensures reads { ReadsLight (λ l. seen_label l.0 l.1) result (label.reads parser.old.left)
-        parser.old parser.new }
+    ensures reads { Reads (plain (λ l. seen_label l.0 l.1)) label result parser.old parser.new }
 {
     let id = Option::<Id>::parse(parser)?;
     let name = Option::<NameAnnotation>::parse(parser)?;

@@ -1,7 +1,8 @@
 //! Heap types.
 
-ghost use Rattle.std.specs.Prelude.{◌≡◌, true};
+ghost use Rattle.std.specs.Prelude.{◌≡◌};
 ghost use Rattle.wat_tokens.specs.Lookup.{in_front};
+ghost use Rattle.wat_tokens.specs.Views.{plain};
 ghost use Rattle.wat_types.specs.Heap.{abstract_words, abstract_heap_type, begins_abstract};
 ghost use Rattle.wat_types.specs.Heap.{heap_type, HeapTy, seen_heap, begins_heap};
 
@@ -90,9 +91,7 @@ impl<'a> Parse<'a> for AbstractHeapType {
 
     ghost Seen = { AbstractHeapType };
 
-    ghost seen = { λ t. t };
-
-    ghost bare = { λ _. true };
+    ghost view = { plain (λ t. t) };
 
     ghost grammar = { abstract_heap_type };
 
@@ -119,9 +118,7 @@ impl Peek for AbstractHeapType {
 impl<'a> Parse<'a> for HeapType<'a> {
     ghost Seen = { HeapTy };
 
-    ghost seen = { seen_heap };
-
-    ghost bare = { λ _. true };
+    ghost view = { plain seen_heap };
 
     ghost grammar = { heap_type };
 

@@ -1,7 +1,8 @@
 //! Limits, table types and memory types.
 
-ghost use Rattle.std.specs.Prelude.{◌≡◌, true};
-ghost use Rattle.wat_tokens.specs.Reads.{ReadsLight};
+ghost use Rattle.std.specs.Prelude.{◌≡◌};
+ghost use Rattle.wat_tokens.specs.Reads.{Reads};
+ghost use Rattle.wat_tokens.specs.Views.{plain};
 ghost use Rattle.wat_types.specs.Exponent.{exponent};
 ghost use Rattle.wat_types.specs.Limits.{is_64, page_exponent, pagesize_or_none, TableTy};
 ghost use Rattle.wat_types.specs.Limits.{seen_table_type, table_type};
@@ -47,7 +48,7 @@ pub struct MemoryType {
 /// Types, "Limits").
 #[tactic(auto, unfolding(crate::specs::Limits::is_64))]
 pub fn take_is64<'a>(parser: &mut Parser<'a>) -> Result<bool>
-    ensures reads { ReadsLight (λ b. b) result (is_64.reads parser.old.left) parser.old parser.new }
+    ensures reads { Reads (plain (λ b. b)) is_64 result parser.old parser.new }
 {
     if parser.next_is("i64") {
         parser.keyword("i64")?;
@@ -65,9 +66,7 @@ impl<'a> Parse<'a> for Limits {
 
     ghost Seen = { Limits };
 
-    ghost seen = { λ l. l };
-
-    ghost bare = { λ _. true };
+    ghost view = { plain (λ l. l) };
 
     ghost grammar = { limits_type };
 
@@ -100,8 +99,7 @@ fn exponent(number: u32) -> Option<u32>
 /// PageSize, at the number.
 #[tactic(auto, unfolding(crate::specs::Limits::page_exponent))]
 fn take_exponent<'a>(parser: &mut Parser<'a>) -> Result<u32>
-    ensures reads { ReadsLight (λ k. k) result (page_exponent.reads parser.old.left) parser.old
-        parser.new }
+    ensures reads { Reads (plain (λ k. k)) page_exponent result parser.old parser.new }
 {
     let span = parser.cur_span();
     match exponent(u32::parse(parser)?) {
@@ -118,8 +116,7 @@ fn take_exponent<'a>(parser: &mut Parser<'a>) -> Result<u32>
 /// large for 32 bits or has a `-` with Range.
 #[tactic(auto, unfolding(crate::specs::Limits::pagesize_or_none, crate::specs::Limits::pagesize))]
 pub fn page_size<'a>(parser: &mut Parser<'a>) -> Result<Option<u32>>
-    ensures reads { ReadsLight (λ k. k) result (pagesize_or_none.reads parser.old.left) parser.old
-        parser.new }
+    ensures reads { Reads (plain (λ k. k)) pagesize_or_none result parser.old parser.new }
 {
     if !parser.group_is("pagesize") {
         return Ok(None);
@@ -135,9 +132,7 @@ pub fn page_size<'a>(parser: &mut Parser<'a>) -> Result<Option<u32>>
 impl<'a> Parse<'a> for TableType<'a> {
     ghost Seen = { TableTy };
 
-    ghost seen = { seen_table_type };
-
-    ghost bare = { λ _. true };
+    ghost view = { plain seen_table_type };
 
     ghost grammar = { table_type };
 
@@ -161,9 +156,7 @@ impl<'a> Parse<'a> for MemoryType {
 
     ghost Seen = { MemoryType };
 
-    ghost seen = { λ m. m };
-
-    ghost bare = { λ _. true };
+    ghost view = { plain (λ m. m) };
 
     ghost grammar = { memory_type };
 

@@ -1,9 +1,9 @@
 //! Reference types.
 
-ghost use Rattle.std.specs.Prelude.{◌≡◌, true, IfSome};
+ghost use Rattle.std.specs.Prelude.{◌≡◌, IfSome};
 ghost use Rattle.wat_tokens.specs.Lookup.{in_front};
-ghost use Rattle.wat_tokens.specs.Reads.{ReadsLight};
 ghost use Rattle.wat_tokens.specs.Tests.{look_up};
+ghost use Rattle.wat_tokens.specs.Views.{plain};
 ghost use Rattle.wat_types.specs.Reference.{RefTy, ref_type, seen_ref, shorthand, shorthand_words};
 ghost use Rattle.wat_types.specs.Reference.{begins_shorthand, begins_long_ref, begins_ref};
 ghost use Rattle.wat_types.specs.Reference.{nullable_ref, shared_ref};
@@ -54,9 +54,7 @@ impl<'a> Parse<'a> for Shorthand {
 
     ghost Seen = { AbstractHeapType };
 
-    ghost seen = { λ s. s.0 };
-
-    ghost bare = { λ _. true };
+    ghost view = { plain (λ s. s.0) };
 
     ghost grammar = { shorthand };
 
@@ -84,9 +82,7 @@ impl<'a> Parse<'a> for LongRef<'a> {
 
     ghost Seen = { Bool × HeapTy };
 
-    ghost seen = { λ r. (r.nullable, seen_heap r.heap) };
-
-    ghost bare = { λ _. true };
+    ghost view = { plain (λ r. (r.nullable, seen_heap r.heap)) };
 
     ghost grammar = { seq (flag (codes "null")) heap_type };
 
@@ -247,9 +243,7 @@ impl<'a> RefType<'a> {
 impl<'a> Parse<'a> for RefType<'a> {
     ghost Seen = { RefTy };
 
-    ghost seen = { seen_ref };
-
-    ghost bare = { λ _. true };
+    ghost view = { plain seen_ref };
 
     ghost grammar = { ref_type };
 

@@ -1,6 +1,7 @@
 //! Storage types and global types.
 
-ghost use Rattle.std.specs.Prelude.{◌≡◌, true};
+ghost use Rattle.std.specs.Prelude.{◌≡◌};
+ghost use Rattle.wat_tokens.specs.Views.{plain};
 ghost use Rattle.wat_types.specs.Storage.{StorageTy, seen_storage, storage_type, GlobalTy};
 ghost use Rattle.wat_types.specs.Storage.{seen_global_type, global_type, long_global};
 
@@ -35,9 +36,7 @@ pub struct GlobalType<'a> {
 impl<'a> Parse<'a> for StorageType<'a> {
     ghost Seen = { StorageTy };
 
-    ghost seen = { seen_storage };
-
-    ghost bare = { λ _. true };
+    ghost view = { plain seen_storage };
 
     ghost grammar = { storage_type };
 
@@ -71,9 +70,7 @@ fn long_global_next(parser: &Parser<'_>) -> bool
 impl<'a> Parse<'a> for GlobalType<'a> {
     ghost Seen = { GlobalTy };
 
-    ghost seen = { seen_global_type };
-
-    ghost bare = { λ _. true };
+    ghost view = { plain seen_global_type };
 
     ghost grammar = { global_type };
 

@@ -1,11 +1,12 @@
 //! Structure and array types.
 
-ghost use Rattle.std.specs.Prelude.{◌≡◌, true, false, List};
+ghost use Rattle.std.specs.Prelude.{◌≡◌, List};
 ghost use Rattle.wat_tokens.specs.Copies.{Copies};
+ghost use Rattle.wat_tokens.specs.Cost.{tokens_alone};
 ghost use Rattle.wat_tokens.specs.Many.{after_front};
-ghost use Rattle.wat_tokens.specs.Parses.{no_items};
-ghost use Rattle.wat_tokens.specs.Reads.{Reads};
+ghost use Rattle.wat_tokens.specs.Reads.{Call};
 ghost use Rattle.wat_tokens.specs.Tests.{more};
+ghost use Rattle.wat_tokens.specs.Views.{plain, owning, no_items};
 ghost use Rattle.wat_types.specs.Struct.{seen_array, MemberTy, seen_member, seen_members};
 ghost use Rattle.wat_types.specs.Struct.{plain_member, members, member_group, seen_struct};
 ghost use Rattle.wat_types.specs.FieldType.{FieldTy, field_type};
@@ -50,9 +51,7 @@ pub struct StructType<'a> {
 impl<'a> Parse<'a> for ArrayType<'a> {
     ghost Seen = { FieldTy };
 
-    ghost seen = { seen_array };
-
-    ghost bare = { λ _. true };
+    ghost view = { plain seen_array };
 
     ghost grammar = { field_type };
 
@@ -73,9 +72,7 @@ struct PlainField;
 impl<'a> Part<'a, StructField<'a>> for PlainField {
     ghost Seen = { MemberTy };
 
-    ghost seen = { seen_member };
-
-    ghost bare = { λ _. true };
+    ghost view = { plain seen_member };
 
     ghost grammar = { plain_member };
 
@@ -99,8 +96,9 @@ impl<'a> Part<'a, StructField<'a>> for PlainField {
 /// The fields of a group, each put behind those that are there.
 #[tactic(auto, using(crate::specs::Laws::FieldType::field_type_eats), unfolding(crate::specs::Struct::members, crate::specs::Struct::plain_members))]
 fn read_fields<'a>(parser: &mut Parser<'a>, out: &mut Vec<StructField<'a>>) -> Result<()>
-    ensures reads { Reads no_items (λ _. seen_members out.new.items) result (after_front
-        (seen_members out.old.items) (members.reads parser.old.left)) parser.old parser.new }
+    ensures reads { Call tokens_alone (owning (λ _. seen_members out.new.items) no_items)
+        (after_front (seen_members out.old.items) (members.reads parser.old.left)) result parser.old
+        parser.new }
 {
     if parser.peek::<Id>() || parser.peek::<NameAnnotation>() {
         let (id, name) = take_label(parser)?;
@@ -122,7 +120,7 @@ struct FieldGroup;
 impl<'a> Group<'a, StructField<'a>> for FieldGroup {
     ghost Seen = { MemberTy };
 
-    ghost seen = { seen_member };
+    ghost view = { plain seen_member };
 
     ghost grammar = { member_group };
 
@@ -145,8 +143,8 @@ impl<'a> Group<'a, StructField<'a>> for FieldGroup {
 impl<'a> StructType<'a> {
     /// The same structure type once more. Memory may be answered where it has a field.
     pub fn clone(&self) -> Result<StructType<'a>>
-        ensures copies { Copies (λ x y. y.fields.items ≡ x.fields.items) seen_struct no_items result
-            self.now }
+        ensures copies { Copies (λ x y. y.fields.items ≡ x.fields.items)
+            (owning seen_struct no_items) result self.now }
     {
         let mut fields = Vec::new(*self.fields.allocator());
         'fields: for field in &self.fields {
@@ -162,11 +160,7 @@ impl<'a> StructType<'a> {
 impl<'a> Parse<'a> for StructType<'a> {
     ghost Seen = { List MemberTy };
 
-    ghost seen = { seen_struct };
-
-    ghost light = { false };
-
-    ghost bare = { no_items };
+    ghost view = { owning seen_struct no_items };
 
     ghost grammar = { struct_type };
 

@@ -1,7 +1,8 @@
 //! Types of tags.
 
-ghost use Rattle.std.specs.Prelude.{◌≡◌, false};
+ghost use Rattle.std.specs.Prelude.{◌≡◌};
 ghost use Rattle.wat_tokens.specs.Copies.{Copies};
+ghost use Rattle.wat_tokens.specs.Views.{owning};
 ghost use Rattle.wat_types.specs.Function.{bare_function};
 ghost use Rattle.wat_types.specs.Group.{FuncTy};
 ghost use Rattle.wat_types.specs.Tag.{SameTag, seen_tag_type, tag_type};
@@ -22,7 +23,8 @@ impl<'a> TagType<'a> {
     /// The same type once more. Memory may be answered where its inline type has a parameter or a
     /// result.
     pub fn clone(&self) -> Result<TagType<'a>>
-        ensures copies { Copies SameTag seen_tag_type (bare_use bare_function) result self.now }
+        ensures copies { Copies SameTag (owning seen_tag_type (bare_use bare_function)) result
+            self.now }
     {
         match self {
             TagType::Exception(ty) => Ok(TagType::Exception(ty.clone()?)),
@@ -34,11 +36,7 @@ impl<'a> TagType<'a> {
 impl<'a> Parse<'a> for TagType<'a> {
     ghost Seen = { UseTy FuncTy };
 
-    ghost seen = { seen_tag_type };
-
-    ghost light = { false };
-
-    ghost bare = { bare_use bare_function };
+    ghost view = { owning seen_tag_type (bare_use bare_function) };
 
     ghost grammar = { tag_type };
 

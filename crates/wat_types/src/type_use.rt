@@ -2,6 +2,7 @@
 
 ghost use Rattle.std.specs.Prelude.{◌≡◌, Some, None};
 ghost use Rattle.wat_tokens.specs.Copies.{Copies};
+ghost use Rattle.wat_tokens.specs.Views.{owning, holding};
 ghost use Rattle.wat_types.specs.Function.{seen_function, seen_unnamed, bare_function};
 ghost use Rattle.wat_types.specs.Use.{UseTy, seen_use, bare_use, type_use, SameFunction};
 ghost use Rattle.wat_types.specs.Use.{SameUnnamed, SameUse, with_names};
@@ -38,15 +39,9 @@ impl<'a, T> TypeUse<'a, T> {
 impl<'a, T: Parse<'a> + Peek> Parse<'a> for TypeUse<'a, T> {
     ghost Seen = { UseTy T.Seen };
 
-    ghost seen = { seen_use T.seen };
+    ghost view = { holding T.view (seen_use T.view.of) (bare_use T.view.bare) };
 
-    ghost light = { T.light };
-
-    ghost bare = { bare_use T.bare };
-
-    ghost quiet = { T.quiet };
-
-    ghost stays = { T.stays };
+    ghost cost = { T.cost };
 
     ghost grammar = { type_use T.begins T.grammar };
 
@@ -66,8 +61,8 @@ impl<'a> TypeUse<'a, FunctionType<'a>> {
     /// The same use once more. Memory may be answered where its inline type has a parameter or a
     /// result.
     pub fn clone(&self) -> Result<Self>
-        ensures copies { Copies (SameUse SameFunction) (seen_use seen_function)
-            (bare_use bare_function) result self.now }
+        ensures copies { Copies (SameUse SameFunction) (owning (seen_use seen_function)
+            (bare_use bare_function)) result self.now }
     {
         Ok(TypeUse {
             index: self.index,
@@ -80,8 +75,8 @@ impl<'a> TypeUse<'a, FunctionTypeNoNames<'a>> {
     /// The same use once more. Memory may be answered where its inline type has a parameter or a
     /// result.
     pub fn clone(&self) -> Result<Self>
-        ensures copies { Copies (SameUse SameUnnamed) (seen_use seen_unnamed)
-            (bare_use bare_function) result self.now }
+        ensures copies { Copies (SameUse SameUnnamed) (owning (seen_use seen_unnamed)
+            (bare_use bare_function)) result self.now }
     {
         Ok(TypeUse {
             index: self.index,

@@ -1,7 +1,8 @@
 //! Value types.
 
-ghost use Rattle.std.specs.Prelude.{◌≡◌, true};
+ghost use Rattle.std.specs.Prelude.{◌≡◌};
 ghost use Rattle.wat_tokens.specs.Lookup.{in_front};
+ghost use Rattle.wat_tokens.specs.Views.{plain};
 ghost use Rattle.wat_types.specs.Value.{ValTy, seen_val, val_type, IsPlain, begins_plain};
 ghost use Rattle.wat_types.specs.Value.{begins_val};
 
@@ -44,9 +45,7 @@ fn plain<'a>(word: &str) -> Option<ValType<'a>>
 impl<'a> Parse<'a> for ValType<'a> {
     ghost Seen = { ValTy };
 
-    ghost seen = { seen_val };
-
-    ghost bare = { λ _. true };
+    ghost view = { plain seen_val };
 
     ghost grammar = { val_type };
 

@@ -1,6 +1,6 @@
 -- Laws: lists that have an item, with another list behind them or before.
 use Rattle.std.proofs.Common.{◌≡◌, false, List, [], ◌∷◌, ◌++◌, refl}
-use Rattle.wat_tokens.specs.Parses.{no_items}
+use Rattle.wat_tokens.specs.Views.{no_items}
 
 pub filled_before : {A : Type 0} (xs ys : List A) → no_items xs ≡ false
     → no_items (xs ++ ys) ≡ false

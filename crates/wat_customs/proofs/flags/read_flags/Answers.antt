@@ -4,7 +4,7 @@ use Rattle.wat_customs.proofs.FlagList.{more_left, none_more, flags_begin, flags
 use Rattle.wat_customs.proofs.flags.read_flags.Goals as goal
 
 pub flags-init : goal.flags-init
-flags-init c = record { exact = flags_begin c.args.parser.now.left; counts = search rules; turned = search rules; quiet = search rules; names = search rules }
+flags-init c = record { exact = flags_begin c.args.parser.now.left; counts = search rules; turned = search rules; cost = search rules; names = search rules }
 
 pub flags-smaller : goal.flags-smaller
 flags-smaller c = flags_less _ c.flags.parser.left c.read_flag.new.parser.left c.in_ok-flags.ensures.reads.exact
@@ -14,7 +14,7 @@ flags-preserved c = record {
   exact = sym (flags_go_on c.flags.flags _ c.flags.parser.left c.read_flag.new.parser.left (more_left c.flags.parser.left c.is_empty.result c.is_empty.ensures c.flags-test.true) c.in_ok-flags.ensures.reads.exact) ∙ c.flags.invariant.exact;
   counts = search rules;
   turned = search rules;
-  quiet = search rules;
+  cost = search rules;
   names = search rules;
 }
 
@@ -23,7 +23,7 @@ returns c = record {
   reads = record {
     exact = sym c.flags.invariant.exact ∙ flags_end c.flags.flags c.flags.parser.left (none_more c.flags.parser.left c.is_empty.result c.is_empty.ensures c.flags-test.false);
     counts = search rules;
-    quiet = search rules;
+    cost = search rules;
     names = search rules;
   };
 }
@@ -35,7 +35,7 @@ returns-in_err-flags c =
       reads = record {
         exact = rw (p.1, p.2) (sym c.flags.invariant.exact ∙ flags_fail c.flags.flags c.flags.parser.left (more_left c.flags.parser.left c.is_empty.result c.is_empty.ensures c.flags-test.true) c.in_err-flags.ensures.reads.exact.0, c.in_err-flags.ensures.reads.exact.1);
         counts = search rules;
-        quiet = search rules;
+        cost = search rules;
         names = search rules;
       };
     }

@@ -10,7 +10,7 @@ invariant-flags l = record {
   exact : flags_from l.flags l.parser.left ≡ symbol_flags.reads l.fn.parser.left;
   counts : Carries l.fn.parser l.parser;
   turned : l.parser.turns + l.fn.parser.taken ≤ l.fn.parser.turns + l.parser.taken;
-  quiet : Quiet l.fn.parser l.parser;
+  cost : Quiet l.fn.parser l.parser;
   names : Kept l.fn.parser l.parser;
 }
 

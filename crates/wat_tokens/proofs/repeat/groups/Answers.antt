@@ -1,28 +1,29 @@
-use Rattle.std.proofs.Common.{rules, map, sym, ◌∙◌, refl}
+use Rattle.std.proofs.Common.{rules, map, sym, ◌∙◌}
 use Rattle.std.proofs.lemmas.Result.{err_from_is_err_and}
+use Rattle.wat_tokens.specs.Laws.Cost.{costs_then, quiet_costs}
 use Rattle.wat_tokens.specs.Joined.{join}
 use Rattle.wat_tokens.specs.Laws.Many.{adding_goes_on, adding_ends, adding_fails, adding_takes}
 use Rattle.wat_tokens.proofs.Joined.{joined_not_bare}
 use Rattle.wat_tokens.proofs.repeat.groups.Goals as goal
 
 pub groups-smaller : goal.groups-smaller
-groups-smaller g c = adding_takes join g.G.Group.follows g.G.Group.grammar c.requires (map g.G.Group.seen c.groups.out.items) c.groups.parser.left (map g.G.Group.seen c.take.new.out.items) c.take.new.parser.left c.in_ok-take.ensures.reads.exact
+groups-smaller g c = adding_takes join g.G.Group.follows g.G.Group.grammar c.requires (map g.G.Group.view.of c.groups.out.items) c.groups.parser.left (map g.G.Group.view.of c.take.new.out.items) c.take.new.parser.left c.in_ok-take.ensures.reads.exact
 
 pub groups-preserved : goal.groups-preserved
 groups-preserved g c = record {
-  exact = sym (adding_goes_on join g.G.Group.follows g.G.Group.grammar c.requires (map g.G.Group.seen c.groups.out.items) c.groups.parser.left (map g.G.Group.seen c.take.new.out.items) c.take.new.parser.left (sym c.follows.ensures ∙ c.groups-test.true) c.in_ok-take.ensures.reads.exact) ∙ c.groups.invariant.exact;
+  exact = sym (adding_goes_on join g.G.Group.follows g.G.Group.grammar c.requires (map g.G.Group.view.of c.groups.out.items) c.groups.parser.left (map g.G.Group.view.of c.take.new.out.items) c.take.new.parser.left (sym c.follows.ensures ∙ c.groups-test.true) c.in_ok-take.ensures.reads.exact) ∙ c.groups.invariant.exact;
   counts = search rules;
   turned = search rules;
-  quiet = search rules;
+  cost = search (rules, costs_then, quiet_costs);
   names = search rules;
 }
 
 pub returns : goal.returns
 returns g c = record {
   reads = record {
-    exact = sym c.groups.invariant.exact ∙ adding_ends join g.G.Group.follows g.G.Group.grammar c.requires (map g.G.Group.seen c.groups.out.items) c.groups.parser.left (sym c.follows.ensures ∙ c.groups-test.false);
+    exact = sym c.groups.invariant.exact ∙ adding_ends join g.G.Group.follows g.G.Group.grammar c.requires (map g.G.Group.view.of c.groups.out.items) c.groups.parser.left (sym c.follows.ensures ∙ c.groups-test.false);
     counts = search rules;
-    quiet = search rules;
+    cost = search (rules, costs_then, quiet_costs);
     names = search rules;
   };
 }
@@ -31,12 +32,12 @@ pub returns-in_err-take : goal.returns-in_err-take
 returns-in_err-take g c =
     let begun = sym c.follows.ensures ∙ c.groups-test.true in
     let p = err_from_is_err_and c.from_residual.result c.from_residual.ensures.1 in
-    let before = map g.G.Group.seen c.groups.out.items in
+    let before = map g.G.Group.view.of c.groups.out.items in
     record {
       reads = record {
-        exact = rw (p.1, p.2) ((λ not. sym c.groups.invariant.exact ∙ adding_fails join g.G.Group.follows g.G.Group.grammar c.requires before c.groups.parser.left begun (c.in_err-take.ensures.reads.exact.0 not)), (λ m. (refl, joined_not_bare g.G.Group.follows g.G.Group.grammar c.requires before c.groups.parser.left _ begun (c.in_err-take.ensures.reads.exact.1 m).1 c.groups.invariant.exact)));
+        exact = rw (p.1, p.2) ((λ not. sym c.groups.invariant.exact ∙ adding_fails join g.G.Group.follows g.G.Group.grammar c.requires before c.groups.parser.left begun (c.in_err-take.ensures.reads.exact.0 not)), (λ m. (joined_not_bare g.G.Group.follows g.G.Group.grammar c.requires before c.groups.parser.left _ begun (c.in_err-take.ensures.reads.exact.1 m) c.groups.invariant.exact)));
         counts = search rules;
-        quiet = search rules;
+        cost = search (rules, costs_then, quiet_costs);
         names = search rules;
       };
     }

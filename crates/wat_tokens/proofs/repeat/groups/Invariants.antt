@@ -1,16 +1,17 @@
 use Rattle.std.proofs.Common.{◌≡◌, length}
-use Rattle.std.specs.Prelude.{map, IsTrue, ◌≤◌, ◌+◌}
-use Rattle.wat_tokens.specs.Counts.{Carries, Quiet, Kept}
+use Rattle.std.specs.Prelude.{map, ◌≤◌, ◌+◌}
+use Rattle.wat_tokens.specs.Cost.{Costs}
+use Rattle.wat_tokens.specs.Counts.{Carries, Kept}
 use Rattle.wat_tokens.specs.Joined.{joined_behind}
 use Rattle.wat_tokens.specs.ManySpells.{many_reads}
 use Rattle.wat_tokens.proofs.repeat.groups.Given as goal
 
 abbrev pub invariant-groups : goal.invariant-groups
 invariant-groups g l = record {
-  exact : joined_behind (map g.G.Group.seen l.out.items) (many_reads g.G.Group.follows g.G.Group.grammar l.parser.left) ≡ joined_behind (map g.G.Group.seen l.fn.out.items) (many_reads g.G.Group.follows g.G.Group.grammar l.fn.parser.left);
+  exact : joined_behind (map g.G.Group.view.of l.out.items) (many_reads g.G.Group.follows g.G.Group.grammar l.parser.left) ≡ joined_behind (map g.G.Group.view.of l.fn.out.items) (many_reads g.G.Group.follows g.G.Group.grammar l.fn.parser.left);
   counts : Carries l.fn.parser l.parser;
   turned : l.parser.turns + l.fn.parser.taken ≤ l.fn.parser.turns + l.parser.taken;
-  quiet : IsTrue g.G.Group.quiet → Quiet l.fn.parser l.parser;
+  cost : Costs g.G.Group.cost l.fn.parser l.parser;
   names : Kept l.fn.parser l.parser;
 }
 

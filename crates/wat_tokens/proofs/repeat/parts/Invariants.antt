@@ -1,16 +1,17 @@
 use Rattle.std.proofs.Common.{◌≡◌, length}
-use Rattle.std.specs.Prelude.{map, IsTrue, ◌≤◌, ◌+◌}
-use Rattle.wat_tokens.specs.Counts.{Carries, Quiet}
+use Rattle.std.specs.Prelude.{map, ◌≤◌, ◌+◌}
+use Rattle.wat_tokens.specs.Cost.{Costs}
+use Rattle.wat_tokens.specs.Counts.{Carries}
 use Rattle.wat_tokens.specs.Many.{after_front}
 use Rattle.wat_tokens.specs.ManySpells.{many_reads}
 use Rattle.wat_tokens.proofs.repeat.parts.Given as goal
 
 abbrev pub invariant-parts : goal.invariant-parts
 invariant-parts g l = record {
-  exact : after_front (map g.P.Part.seen l.out.items) (many_reads g.P.Part.follows g.P.Part.grammar l.parser.left) ≡ after_front (map g.P.Part.seen l.fn.out.items) (many_reads g.P.Part.follows g.P.Part.grammar l.fn.parser.left);
+  exact : after_front (map g.P.Part.view.of l.out.items) (many_reads g.P.Part.follows g.P.Part.grammar l.parser.left) ≡ after_front (map g.P.Part.view.of l.fn.out.items) (many_reads g.P.Part.follows g.P.Part.grammar l.fn.parser.left);
   counts : Carries l.fn.parser l.parser;
   turned : l.parser.turns + l.fn.parser.taken ≤ l.fn.parser.turns + l.parser.taken;
-  quiet : IsTrue g.P.Part.quiet → Quiet l.fn.parser l.parser;
+  cost : Costs g.P.Part.cost l.fn.parser l.parser;
   names : (l.parser.known ≡ l.fn.parser.known) × (l.parser.tracks ≡ l.fn.parser.tracks);
 }
 

@@ -18,7 +18,7 @@ groups-init c =
       exact = ap (λ (u : FuncTy). add_rest add u ((func_groups c.args.labels).reads c.args.parser.now.left)) e ∙ function_begins_at c.args.labels c.args.parser.now.left;
       counts = search rules;
       turned = search rules;
-      quiet = search rules;
+      cost = search rules;
       names = search rules;
     }
 
@@ -31,7 +31,7 @@ groups-preserved c = record {
   exact = sym (adding_goes_on add group_follows (func_group c.args.labels) (func_group_eats c.args.labels) (seen_function c.groups.found) c.groups.parser.left (seen_function c.read_group.new.out) c.read_group.new.parser.left (sym c.group_next.ensures ∙ c.groups-test.true) c.in_ok-read_group.ensures.reads.exact) ∙ c.groups.invariant.exact;
   counts = search rules;
   turned = search rules;
-  quiet = search rules;
+  cost = search rules;
   names = search rules;
 }
 
@@ -42,9 +42,9 @@ returns-in_err-read_group c =
     let p = err_from_is_err_and c.from_residual.result c.from_residual.ensures.1 in
     record {
       reads = record {
-        exact = rw (p.1, p.2) ((λ not. sym c.groups.invariant.exact ∙ adding_fails add group_follows (func_group c.args.labels) (func_group_eats c.args.labels) (seen_function c.groups.found) c.groups.parser.left begun (c.in_err-read_group.ensures.reads.exact.0 not)), (λ m. (refl, groups_not_bare c.args.labels (seen_function c.groups.found) c.groups.parser.left _ begun (c.in_err-read_group.ensures.reads.exact.1 m).1 c.groups.invariant.exact)));
+        exact = rw (p.1, p.2) ((λ not. sym c.groups.invariant.exact ∙ adding_fails add group_follows (func_group c.args.labels) (func_group_eats c.args.labels) (seen_function c.groups.found) c.groups.parser.left begun (c.in_err-read_group.ensures.reads.exact.0 not)), (λ m. groups_not_bare c.args.labels (seen_function c.groups.found) c.groups.parser.left _ begun (c.in_err-read_group.ensures.reads.exact.1 m) c.groups.invariant.exact));
         counts = search rules;
-        quiet = search rules;
+        cost = search rules;
         names = search rules;
       };
     }
@@ -55,7 +55,7 @@ returns c = record {
   reads = record {
     exact = rw (c.shrink_to_fit.ensures.items, c.shrink_to_fit-2.ensures.items) (sym c.groups.invariant.exact ∙ adding_ends add group_follows (func_group c.args.labels) (func_group_eats c.args.labels) (seen_function c.groups.found) c.groups.parser.left (sym c.group_next.ensures ∙ c.groups-test.false));
     counts = search rules;
-    quiet = search rules;
+    cost = search rules;
     names = search rules;
   };
 }

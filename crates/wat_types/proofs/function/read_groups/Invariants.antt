@@ -12,7 +12,7 @@ invariant-groups l = record {
   exact : add_rest add (seen_function l.found) ((func_groups l.fn.labels).reads l.parser.left) ≡ (function_groups l.fn.labels).reads l.fn.parser.left;
   counts : Carries l.fn.parser l.parser;
   turned : l.parser.turns + l.fn.parser.taken ≤ l.fn.parser.turns + l.parser.taken;
-  quiet : Quiet l.fn.parser l.parser;
+  cost : Quiet l.fn.parser l.parser;
   names : Kept l.fn.parser l.parser;
 }
 

@@ -20,7 +20,7 @@ pub returns-in_err-instr-clause-exact : goal.returns-in_err-instr-clause-exact
 unfolding folded_instruction
 returns-in_err-instr-clause-exact c =
     let p = err_from_is_err_and c.from_residual-in_err-instr.result c.from_residual-in_err-instr.ensures.1 in
-    rw (p.1, p.2) ((λ not. no_word _ _ (begun _ _ _ c.in_ok-open.ensures.reads.exact) (c.in_err-instr.ensures.exact not)), (λ m. (refl, read_not_bare c.args.parser.now.left)))
+    rw (p.1, p.2) ((λ not. no_word _ _ (begun _ _ _ c.in_ok-open.ensures.reads.exact) (c.in_err-instr.ensures.exact not)), (λ m. read_not_bare c.args.parser.now.left))
 
 pub returns-in_err-instr-clause-only : goal.returns-in_err-instr-clause-only
 unfolding folded_instruction
@@ -29,13 +29,13 @@ returns-in_err-instr-clause-only c = λ i gs r l. read_accepted c.from_residual-
 pub returns-in_err-instr-clause-counts : goal.returns-in_err-instr-clause-counts
 returns-in_err-instr-clause-counts c =
     let p = err_from_is_err_and c.from_residual-in_err-instr.result c.from_residual-in_err-instr.ensures.1 in
-    (search rules, rw p.1 (refused_first c.args.parser.now c.open.new.self c.take_instr.new.parser c.in_ok-open.ensures.reads.counts.0 c.in_ok-open.ensures.reads.quiet.0 c.in_err-instr.ensures.steady.counts c.in_err-instr.ensures.steady.stays.0))
+    (search rules, rw p.1 (refused_first c.args.parser.now c.open.new.self c.take_instr.new.parser c.in_ok-open.ensures.reads.counts.0 c.in_ok-open.ensures.reads.cost.0 c.in_err-instr.ensures.steady.counts c.in_err-instr.ensures.steady.stays.0))
 
 pub returns-in_err-push-clause-exact : goal.returns-in_err-push-clause-exact
 unfolding folded_instruction
 returns-in_err-push-clause-exact c =
     let p = err_from_is_err_and c.from_residual-in_err-push.result c.from_residual-in_err-push.ensures.1 in
-    rw (p.1, p.2) ((λ not. absurd (not c.in_err-push.ensures)), (λ m. (refl, read_not_bare c.args.parser.now.left)))
+    rw (p.1, p.2) ((λ not. absurd (not c.in_err-push.ensures)), (λ m. read_not_bare c.args.parser.now.left))
 
 pub returns-in_err-push-clause-only : goal.returns-in_err-push-clause-only
 unfolding folded_instruction
@@ -44,13 +44,13 @@ returns-in_err-push-clause-only c = λ i gs r l. read_accepted c.from_residual-i
 pub returns-in_err-push-clause-counts : goal.returns-in_err-push-clause-counts
 returns-in_err-push-clause-counts c =
     let p = err_from_is_err_and c.from_residual-in_err-push.result c.from_residual-in_err-push.ensures.1 in
-    (search rules, rw p.1 (refused_first c.args.parser.now c.open.new.self c.take_instr.new.parser c.in_ok-open.ensures.reads.counts.0 c.in_ok-open.ensures.reads.quiet.0 c.in_ok-instr.ensures.steady.counts c.in_ok-instr.ensures.steady.stays.0))
+    (search rules, rw p.1 (refused_first c.args.parser.now c.open.new.self c.take_instr.new.parser c.in_ok-open.ensures.reads.counts.0 c.in_ok-open.ensures.reads.cost.0 c.in_ok-instr.ensures.steady.counts c.in_ok-instr.ensures.steady.stays.0))
 
 pub returns-in_err-turn-clause-exact : goal.returns-in_err-turn-clause-exact
 unfolding folded_instruction
 returns-in_err-turn-clause-exact c =
     let p = err_from_is_err_and c.from_residual-in_err-turn.result c.from_residual-in_err-turn.ensures.1 in
-    rw (p.1, p.2) ((λ not. going_halts _ _ _ _ _ c.tick.ensures.only c.groups.invariant (is_some _ _ c.is_empty.ensures c.groups-test.true) (c.in_err-turn.ensures.turned not)), (λ m. (refl, read_not_bare c.args.parser.now.left)))
+    rw (p.1, p.2) ((λ not. going_halts _ _ _ _ _ c.tick.ensures.only c.groups.invariant (is_some _ _ c.is_empty.ensures c.groups-test.true) (c.in_err-turn.ensures.turned not)), (λ m. read_not_bare c.args.parser.now.left))
 
 pub returns-in_err-turn-clause-only : goal.returns-in_err-turn-clause-only
 unfolding folded_instruction
@@ -64,7 +64,7 @@ returns-in_err-turn-clause-counts c =
 
 pub groups-init : goal.groups-init
 groups-init c =
-    going_begins _ _ _ _ _ _ None _ _ _ _ (rw c.new-levels.ensures at c.in_ok-push.ensures) (c.empty-out.ensures ∙ ap no_output c.tracks.ensures) c.height.ensures c.note_height.ensures c.held.ensures c.note_held.ensures.only (begun _ _ _ c.in_ok-open.ensures.reads.exact) c.in_ok-open.ensures.reads.counts.0 c.in_ok-open.ensures.reads.quiet c.in_ok-open.ensures.reads.names c.in_ok-instr.ensures.exact c.in_ok-instr.ensures.steady.counts c.in_ok-instr.ensures.steady.stays c.in_ok-instr.ensures.steady.names c.note_held.ensures.counts
+    going_begins _ _ _ _ _ _ None _ _ _ _ (rw c.new-levels.ensures at c.in_ok-push.ensures) (c.empty-out.ensures ∙ ap no_output c.tracks.ensures) c.height.ensures c.note_height.ensures c.held.ensures c.note_held.ensures.only (begun _ _ _ c.in_ok-open.ensures.reads.exact) c.in_ok-open.ensures.reads.counts.0 c.in_ok-open.ensures.reads.cost c.in_ok-open.ensures.reads.names c.in_ok-instr.ensures.exact c.in_ok-instr.ensures.steady.counts c.in_ok-instr.ensures.steady.stays c.in_ok-instr.ensures.steady.names c.note_held.ensures.counts
 
 pub groups-smaller : goal.groups-smaller
 groups-smaller c =

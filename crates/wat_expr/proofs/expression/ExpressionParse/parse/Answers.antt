@@ -13,8 +13,7 @@ returns-in_err-turn-clause-reads c =
     record {
       exact = rw (p.1, p.2) (refused _ _ _ _ c.in_err-turn.field-0.0 c.turns.invariant c.tick.ensures.only c.turns-test.ensures c.in_err-turn.ensures.turned);
       counts = rw p.1 (refused_counts _ _ _ _ _ c.tick.ensures.only c.turns.invariant c.turn.ensures.steady.counts c.turn.ensures.steady.stays c.tick.ensures.counts);
-      quiet = search rules;
-      stays = search rules;
+      cost = search rules;
       names = search rules;
     }
 
@@ -26,8 +25,7 @@ returns-in-Some-clause-reads c =
     record {
       exact = ((λ n. reads_nothing_listed _ (left_pending _ _ _ _ c.turns.invariant c.in-Some.is c.turns-test.ensures.1)), (λ m. absurd (cc)));
       counts = search rules;
-      quiet = search rules;
-      stays = search rules;
+      cost = search rules;
       names = search rules;
     }
 
@@ -52,8 +50,7 @@ returns-clause-reads c =
     record {
       exact = found _ _ _ (returns-clause-listed c);
       counts = search rules;
-      quiet = search rules;
-      stays = search rules;
+      cost = search rules;
       names = search rules;
     }
 

@@ -11,16 +11,16 @@ pub returns-in_err-first : goal.returns-in_err-first
 returns-in_err-first c =
     let p = err_from_is_err_and c.from_residual.result c.from_residual.ensures.1 in
     let q = c.in_err-first.ensures.reads.exact in
-    record { reads = record { exact = rw (p.1, p.2) ((λ not. first_fails c.args.parser.now.left (q.0 not)), (λ m. absurd (let f : true ≡ false = (q.1 m).0 in cc))); counts = search rules; quiet = search rules; stays = search rules; names = search rules } }
+    record { reads = record { exact = rw (p.1, p.2) ((λ not. first_fails c.args.parser.now.left q.0), (λ m. absurd (q.1 m))); counts = search rules; cost = search rules; names = search rules } }
 
 pub returns-then-not-peek : goal.returns-then-not-peek
 returns-then-not-peek c =
-    record { reads = record { exact = rw c.new-labels.ensures.items (first_only c.args.parser.now.left c.parse.new.parser.left (seen_index c.in_ok-first.first) c.in_ok-first.ensures.reads.exact (sym c.peek.ensures ∙ c.if-not-peek.true)); counts = search rules; quiet = search rules; stays = search rules; names = search rules } }
+    record { reads = record { exact = rw c.new-labels.ensures.items (first_only c.args.parser.now.left c.parse.new.parser.left (seen_index c.in_ok-first.first) c.in_ok-first.ensures.reads.exact (sym c.peek.ensures ∙ c.if-not-peek.true)); counts = search rules; cost = search rules; names = search rules } }
 
 pub returns-in_err-push : goal.returns-in_err-push
 returns-in_err-push c =
     let p = err_from_is_err_and c.from_residual-in_err-push.result c.from_residual-in_err-push.ensures.1 in
-    record { reads = record { exact = rw p.1 ((λ not. absurd (not (ap (λ (e : Error). e.fault) p.2))), (λ m. (refl, not_bare c.args.parser.now.left c.parse.new.parser.left (seen_index c.in_ok-first.first) c.in_ok-first.ensures.reads.exact (sym c.peek.ensures ∙ c.if-not-peek.false)))); counts = search rules; quiet = search rules; stays = search rules; names = search rules } }
+    record { reads = record { exact = rw p.1 ((λ not. absurd (not (ap (λ (e : Error). e.fault) p.2))), (λ m. (not_bare c.args.parser.now.left c.parse.new.parser.left (seen_index c.in_ok-first.first) c.in_ok-first.ensures.reads.exact (sym c.peek.ensures ∙ c.if-not-peek.false)))); counts = search rules; cost = search rules; names = search rules } }
 
 pub returns-in_err-while_begun : goal.returns-in_err-while_begun
 returns-in_err-while_begun c =
@@ -29,7 +29,7 @@ returns-in_err-while_begun c =
     let i = seen_index c.in_ok-first.first in
     let p = err_from_is_err_and c.from_residual-in_err-while_begun.result c.from_residual-in_err-while_begun.ensures.1 in
     let q = rw (c.in_ok-push.ensures.items, c.new-labels.ensures.items) at c.in_err-while_begun.ensures.reads.exact in
-    record { reads = record { exact = rw (p.1, p.2) ((λ not. others_fail t t1 i c.in_ok-first.ensures.reads.exact (q.0 not)), (λ m. (refl, not_bare t t1 i c.in_ok-first.ensures.reads.exact (sym c.peek.ensures ∙ c.if-not-peek.false)))); counts = search rules; quiet = search rules; stays = search rules; names = search rules } }
+    record { reads = record { exact = rw (p.1, p.2) ((λ not. others_fail t t1 i c.in_ok-first.ensures.reads.exact (q.0 not)), (λ m. (not_bare t t1 i c.in_ok-first.ensures.reads.exact (sym c.peek.ensures ∙ c.if-not-peek.false)))); counts = search rules; cost = search rules; names = search rules } }
 
 pub returns : goal.returns
 returns c =
@@ -38,4 +38,4 @@ returns c =
     let t2 = c.while_begun.new.parser.left in
     let read = rw (c.in_ok-push.ensures.items, c.new-labels.ensures.items) at c.in_ok-while_begun.ensures.reads.exact in
     let whole = ap (map seen_index) c.take_last-default.ensures ∙ map-append seen_index ls (d ∷ []) in
-    record { reads = record { exact = last_is_default c.args.parser.now.left c.parse.new.parser.left (seen_index c.in_ok-first.first) (map seen_index ls) (seen_index d) t2 c.in_ok-first.ensures.reads.exact (read ∙ ap (λ (u : List Idx). some_of (u, t2)) whole); counts = search rules; quiet = search rules; stays = search rules; names = search rules } }
+    record { reads = record { exact = last_is_default c.args.parser.now.left c.parse.new.parser.left (seen_index c.in_ok-first.first) (map seen_index ls) (seen_index d) t2 c.in_ok-first.ensures.reads.exact (read ∙ ap (λ (u : List Idx). some_of (u, t2)) whole); counts = search rules; cost = search rules; names = search rules } }

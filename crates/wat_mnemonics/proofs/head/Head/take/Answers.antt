@@ -9,6 +9,6 @@ returns-in-Some-clause-reads c = record {
   exact = reads_word c.args.parser.now.left c.in-Ok.word.now c.take_keyword.new.self.left c.in-Some.head c.in-Ok.ensures.reads.exact c.in-Some.ensures.found
       ∙ ap (λ (s : State). some_of (c.in-Some.head, s.left)) (sym c.find.ensures.only);
   counts = search rules;
-  quiet = search rules;
+  cost = search rules;
   names = search rules;
 }

@@ -15,4 +15,4 @@ returns-in_err-def c =
     let k : begins_word (codes "sub") t ≡ true = search rules in
     let g : after_front [] (many_reads begins_index index c.flag-is_final.new.self.left) ≡ Some (ps, c.while_begun.new.parser.left) = rw c.new-parents.ensures.items at c.in_ok-while_begun.ensures.reads.exact in
     let p = err_from_is_err_and c.from_residual-in_err-def.result c.from_residual-in_err-def.ensures.1 in
-    record { reads = record { exact = rw (p.1, p.2) ((λ not. sub_fails c.flag-is_final.result ps t c.keyword.new.self.left c.flag-is_final.new.self.left c.while_begun.new.parser.left k c.in_ok-keyword.ensures.reads.exact c.flag-is_final.ensures.reads.exact g (c.in_err-def.ensures.reads.exact.0 not)), (λ m. (refl, sub_not_bare c.flag-is_final.result ps t c.keyword.new.self.left c.flag-is_final.new.self.left c.while_begun.new.parser.left k c.in_ok-keyword.ensures.reads.exact c.flag-is_final.ensures.reads.exact g (c.in_err-def.ensures.reads.exact.1 m).1))); counts = search rules; quiet = search rules; stays = search rules; names = search rules } }
+    record { reads = record { exact = rw (p.1, p.2) ((λ not. sub_fails c.flag-is_final.result ps t c.keyword.new.self.left c.flag-is_final.new.self.left c.while_begun.new.parser.left k c.in_ok-keyword.ensures.reads.exact c.flag-is_final.ensures.reads.exact g (c.in_err-def.ensures.reads.exact.0 not)), (λ m. sub_not_bare c.flag-is_final.result ps t c.keyword.new.self.left c.flag-is_final.new.self.left c.while_begun.new.parser.left k c.in_ok-keyword.ensures.reads.exact c.flag-is_final.ensures.reads.exact g (c.in_err-def.ensures.reads.exact.1 m))); counts = search rules; cost = search rules; names = search rules } }

@@ -14,4 +14,4 @@ returns-in_err-in_group-2 c =
     let no_index : begins_index t ≡ false = search rules in
     let no_exact : begins_group (codes "exact") t ≡ false = search rules in
     let e = shared_heap t begun no_index no_exact in
-    record { reads = record { exact = rw (p.1, p.2) ((λ not. rw (e, c.in_err-in_group-2.ensures.reads.exact.0 not) refl), (λ m. let n = (c.in_err-in_group-2.ensures.reads.exact.1 m).0 in absurd cc)); counts = search rules; quiet = search rules; stays = search rules; names = search rules } }
+    record { reads = record { exact = rw (p.1, p.2) (rw (e, c.in_err-in_group-2.ensures.reads.exact.0) refl, c.in_err-in_group-2.ensures.reads.exact.1); counts = search rules; cost = search rules; names = search rules } }

@@ -1,0 +1,36 @@
+-- Laws: what a refusal means, where it isn't known whether values may own memory.
+use Rattle.std.proofs.Common.{◌≡◌, ◌≢◌, Bool, true, false, None, refl}
+use Rattle.wat_tokens.specs.Error.{Fault, Memory}
+use Rattle.wat_tokens.specs.Parses.{NotBare, Refuses}
+use Rattle.wat_tokens.specs.Production.{Read}
+
+-- what it means in any case
+pub refuses_none : {A : Type 0} (own : Bool) (bare : A → Bool) (f : Fault) (read : Read A)
+    → f ≢ Memory → read ≡ None → Refuses own bare f read
+refuses_none true bare f read n e = (λ _. e, λ m. absurd (n m))
+refuses_none false bare f read n e = (e, n)
+
+pub refused_read : {A : Type 0} (own : Bool) (bare : A → Bool) (f : Fault) (read : Read A)
+    → Refuses own bare f read → f ≢ Memory → read ≡ None
+refused_read true bare f read p n = p.0 n
+refused_read false bare f read p n = p.0
+
+pub refused_memory : {A : Type 0} (own : Bool) (bare : A → Bool) (f : Fault) (read : Read A)
+    → Refuses own bare f read → f ≡ Memory → (own ≡ true) × NotBare bare read
+refused_memory true bare f read p m = (refl, p.1 m)
+refused_memory false bare f read p m = absurd (p.1 m)
+
+-- a refusal of a part is one of the whole
+pub refuses_whole : {A B : Type 0} (own : Bool) (bare : A → Bool) (all : B → Bool) (f : Fault)
+    (read : Read A) (whole : Read B) → Refuses own bare f read → (read ≡ None → whole ≡ None)
+    → (NotBare bare read → NotBare all whole) → Refuses own all f whole
+refuses_whole true bare all f read whole p g h = (λ n. g (p.0 n), λ m. h (p.1 m))
+refuses_whole false bare all f read whole p g h = (g p.0, p.1)
+
+-- of a type whose values may own memory
+pub refuses_owning : {A B : Type 0} (own : Bool) (bare : A → Bool) (all : B → Bool) (f : Fault)
+    (read : Read A) (whole : Read B) → Refuses own bare f read → (read ≡ None → whole ≡ None)
+    → (f ≡ Memory → NotBare all whole) → Refuses true all f whole
+refuses_owning own bare all f read whole p g h = (λ n. g (refused_read own bare f read p n), h)
+
+pub ruleset refusals = (refuses_none, refuses_whole)
