@@ -4,7 +4,7 @@ use crate::reading::{parser_of, refusal, repeated};
 use bumpalo::Bump;
 use std::alloc::Global;
 use std::test::Fail;
-use wat_customs::{
+use wat_links::{
     Custom, CustomPlace, CustomPlaceAnchor, Dylink0, Dylink0Subsection, Producers, RawCustomSection,
 };
 use wat_tokens::{Error, Fault, Parse};

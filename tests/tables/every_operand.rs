@@ -7,15 +7,12 @@ use crate::reading::{read, repeated};
 use bumpalo::Bump;
 use std::alloc::Global;
 use std::test::Fail;
-use wat_immediates::{
-    BrTableIndices, I8x16Shuffle, LaneArg, Ordered, Ordering, TableArg, V128Const,
-};
 use wat_links::{
     Export, ExportKind, ExportType, ImportItems, Imports, InlineExport, InlineImport, ItemSig,
 };
 use wat_operands::{
-    BlockType, CallIndirect, Resume, ResumeTable, ResumeThrow, ResumeThrowRef, SelectTypes,
-    TryTable,
+    BlockType, BrTableIndices, CallIndirect, I8x16Shuffle, LaneArg, Ordered, Ordering, Resume,
+    ResumeTable, ResumeThrow, ResumeThrowRef, SelectTypes, TableArg, TryTable, V128Const,
 };
 use wat_tokens::Error;
 

@@ -4,7 +4,7 @@ use crate::reading::{name_of, number_of, refusal};
 use bumpalo::Bump;
 use std::alloc::Global;
 use std::test::Fail;
-use wat_immediates::{
+use wat_operands::{
     LaneArg, LoadOrStoreLane, MemArg, MemArgOrdering, MemArgTarget, Ordered, Ordering, TableArg,
 };
 use wat_tokens::{Error, Fault, Parse, Parser, Peek};

@@ -5,8 +5,8 @@ use bumpalo::Bump;
 use std::alloc::Global;
 use std::fmt::Write;
 use std::test::Fail;
-use wat_immediates::vector::equal_bytes;
-use wat_immediates::{
+use wat_operands::vector::equal_bytes;
+use wat_operands::{
     ArrayCopy, ArrayFill, ArrayInit, ArrayNewData, ArrayNewElem, ArrayNewFixed, BrTableIndices,
     ContBind, I8x16Shuffle, MemoryArg, MemoryCopy, MemoryInit, StructAccess, Switch, TableArg,
     TableCopy, TableInit, V128Const,

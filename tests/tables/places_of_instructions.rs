@@ -7,18 +7,14 @@ use crate::reading::{places_in, read};
 use bumpalo::Bump;
 use std::alloc::Global;
 use std::test::Fail;
-use wat_customs::{Custom, RawCustomSection};
-use wat_immediates::{
-    ArrayCopy, ArrayFill, ArrayInit, ArrayNewData, ArrayNewElem, ArrayNewFixed, BrTableIndices,
-    ContBind, LaneArg, MemoryArg, MemoryCopy, MemoryInit, Ordered, Ordering, StructAccess, Switch,
-    TableArg, TableCopy, TableInit,
-};
 use wat_instr::Instruction;
-use wat_links::{Export, ExportKind, ExportType, Imports, ItemSig};
+use wat_links::{Custom, Export, ExportKind, ExportType, Imports, ItemSig, RawCustomSection};
 use wat_operands::{
-    BlockType, BrOnCast, BrOnCastDescEq, BrOnCastDescEqFail, BrOnCastFail, CallIndirect, RefCast,
+    ArrayCopy, ArrayFill, ArrayInit, ArrayNewData, ArrayNewElem, ArrayNewFixed, BlockType,
+    BrOnCast, BrOnCastDescEq, BrOnCastDescEqFail, BrOnCastFail, BrTableIndices, CallIndirect,
+    ContBind, LaneArg, MemoryArg, MemoryCopy, MemoryInit, Ordered, Ordering, RefCast,
     RefCastDescEq, RefTest, Resume, ResumeTable, ResumeThrow, ResumeThrowRef, SelectTypes,
-    TryTable,
+    StructAccess, Switch, TableArg, TableCopy, TableInit, TryTable,
 };
 use wat_tokens::Fault::{
     Alignment, FloatLiteral, ImportId, ImportMixed, Operator, Range, Unexpected, Utf8,

@@ -6,8 +6,8 @@ use std::io;
 use std::io::{Read, Write};
 use std::process::Abort;
 use std::test::Fail;
-use wat_streams::input::read_all;
-use wat_streams::{RunError, Shows, Watched, run_shows};
+use wat_show::input::read_all;
+use wat_show::{RunError, Shows, Watched, run_shows};
 
 /// A call's failure.
 pub fn broken() -> io::Error {

@@ -18,8 +18,8 @@ use Rattle.wat_types.specs.Reference.{shorthand, begins_shorthand, ref_type}
 use Rattle.wat_types.specs.Storage.{global_type}
 use Rattle.wat_types.specs.Use.{type_use}
 use Rattle.wat_types.specs.Value.{val_type}
-use Rattle.wat_customs.specs.Custom.{custom}
-use Rattle.wat_customs.specs.Raw.{raw_place, raw_data, raw_custom}
+use Rattle.wat_links.specs.Custom.{custom}
+use Rattle.wat_links.specs.Raw.{raw_place, raw_data, raw_custom}
 use Rattle.wat_links.specs.Export.{export_kind, export_, inline_export}
 use Rattle.wat_links.specs.Forms.{import_items, imports}
 use Rattle.wat_links.specs.Head.{head}

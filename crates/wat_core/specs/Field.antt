@@ -7,7 +7,7 @@ use Rattle.wat_tokens.specs.Tests.{begins_word}
 use Rattle.wat_tokens.specs.Views.{no_items}
 use Rattle.wat_types.specs.Define.{TypeTy, seen_type, bare_type, type_}
 use Rattle.wat_types.specs.Recursion.{seen_rec, rec}
-use Rattle.wat_customs.specs.Custom.{CustomTy, seen_custom, bare_custom, custom}
+use Rattle.wat_links.specs.Custom.{CustomTy, seen_custom, bare_custom, custom}
 use Rattle.wat_links.specs.Export.{ExportTy, seen_export, export_}
 use Rattle.wat_links.specs.Forms.{imports}
 use Rattle.wat_links.specs.Import.{HeldName, ImportsTy, seen_imports, bare_imports}
@@ -21,7 +21,7 @@ use Rattle.wat_fields.specs.Tag.{TagTy, seen_tag, bare_tag, tag}
 use Rattle.wat_types.specs.declared.define.«Type».{«Type»}
 use Rattle.wat_types.specs.declared.define.Rec.{Rec}
 use Rattle.wat_tokens.specs.declared.index.Index.{Index}
-use Rattle.wat_customs.specs.declared.custom.Custom.{Custom}
+use Rattle.wat_links.specs.declared.custom.Custom.{Custom}
 use Rattle.wat_links.specs.declared.export.Export.{Export}
 use Rattle.wat_links.specs.declared.import.ImportsOf.{ImportsOf}
 use Rattle.wat_links.specs.declared.item.ItemSig.{ItemSig}

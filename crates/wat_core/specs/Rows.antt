@@ -12,9 +12,9 @@ use Rattle.wat_types.specs.Storage.{plain_global}
 use Rattle.wat_types.specs.Use.{use_of}
 use Rattle.wat_types.specs.Value.{i32}
 use Rattle.wat_types.specs.declared.heap.AbstractHeapType.TheVariants as heap_word
-use Rattle.wat_customs.specs.Custom.{raw}
-use Rattle.wat_customs.specs.Raw.{raw_of}
-use Rattle.wat_customs.specs.declared.place.CustomPlace.TheVariants.{AfterLast}
+use Rattle.wat_links.specs.Custom.{raw}
+use Rattle.wat_links.specs.Raw.{raw_of}
+use Rattle.wat_links.specs.declared.place.CustomPlace.TheVariants.{AfterLast}
 use Rattle.wat_links.specs.Export.{export_of}
 use Rattle.wat_links.specs.Head.{no_head}
 use Rattle.wat_links.specs.Import.{imports_of, single}

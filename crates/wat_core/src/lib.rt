@@ -12,195 +12,75 @@ pub mod field;
 pub mod laws;
 pub mod module;
 
-pub use field::ModuleField;
-pub use field::ModuleFieldOf;
-pub use module::Module;
-pub use module::ModuleKind;
-pub use module::ModuleKindOf;
-pub use wat_customs;
+// Modules and their fields.
+pub use field::{ModuleField, ModuleFieldOf};
+pub use module::{Module, ModuleKind, ModuleKindOf};
+
+// The parser, its tokens and its faults.
+pub use wat_tokens::{
+    Cursor, Error, Fault, Parse, Parser, Peek, Result, Span, Token, hand, kw, one_cut, one_outcome,
+    repeat, whole,
+};
+
+// What is read everywhere: names, indices, numbers.
+pub use wat_tokens::{F32, F64, Id, Index, Integer, NameAnnotation, Sign};
+
+// Types.
+pub use wat_types::{
+    AbstractHeapType, ArrayType, ContType, FunctionType, FunctionTypeNoNames, GlobalType, HeapType,
+    InnerTypeKind, Limits, MemoryType, Rec, RefType, StorageType, StructField, StructType,
+    TableType, TagType, Type, TypeDef, TypeUse, ValType, page_size,
+};
+
+// Imports and exports.
+pub use wat_links::{
+    Export, ExportKind, ExportType, Head, ImportGroup1Item, ImportGroup1ItemOf, ImportGroup2Item,
+    ImportGroup2ItemOf, ImportItems, ImportItemsOf, Imports, ImportsOf, InlineExport, InlineImport,
+    ItemKind, ItemSig,
+};
+
+// Custom sections.
+pub use wat_links::{
+    Custom, CustomPlace, CustomPlaceAnchor, Dylink0, Dylink0Subsection, Producers, RawCustomSection,
+};
+
+// Operands of instructions.
+pub use wat_operands::{
+    ArrayCopy, ArrayCopyOf, ArrayFill, ArrayFillOf, ArrayInit, ArrayInitOf, ArrayNewData,
+    ArrayNewDataOf, ArrayNewElem, ArrayNewElemOf, ArrayNewFixed, ArrayNewFixedOf, BlockType,
+    BrOnCast, BrOnCastDescEq, BrOnCastDescEqFail, BrOnCastFail, BrTableIndices, BrTableIndicesOf,
+    CallIndirect, CatchKind, ContBind, ContBindOf, Handle, HandleOf, I8x16Shuffle, LaneArg, LaneOf,
+    LoadOrStoreLane, MemArg, MemArgOrdering, MemArgTarget, MemoryArg, MemoryArgOf, MemoryCopy,
+    MemoryCopyOf, MemoryInit, MemoryInitOf, Ordered, Ordering, RefCast, RefCastDescEq, RefTest,
+    Resume, ResumeOf, ResumeTable, ResumeTableOf, ResumeThrow, ResumeThrowOf, ResumeThrowRef,
+    ResumeThrowRefOf, SelectTypes, StructAccess, StructAccessOf, Switch, SwitchOf, TableArg,
+    TableArgOf, TableCopy, TableCopyOf, TableInit, TableInitOf, TryTable, TryTableCatch,
+    TryTableCatchKind, V128Const,
+};
+
+// Instructions.
+pub use wat_instr::{
+    AccessOp, ArrayInitOp, AtomicAccessOp, BlockOp, CallIndirectOp, Head as Mnemonic, IndexedOp,
+    Instruction, InstructionOf, LabelOp, LaneAccessOp, LaneOp, MemoryOp, Opcode, OrderedIndexOp,
+    OrderedStructOp, OrderedTableOp, RmwAccessOp, ScalarOp, StructOp, TableOp, VectorOp,
+};
+
+// Expressions.
+pub use wat_expr::{BranchHint, Expression, FoldedInstruction};
+
+// What the fields of a module hold.
+pub use wat_fields::{
+    Data, DataKind, DataVal, Elem, ElemKind, ElemPayload, Func, FuncKind, Global, GlobalKind,
+    Local, LocalParser, Memory, MemoryKind, Table, TableKind, Tag, TagKind,
+};
+
+// The crates below by their names, for what else is public in them.
 pub use wat_expr;
-pub use wat_expr::BranchHint;
-pub use wat_expr::Expression;
-pub use wat_expr::FoldedInstruction;
 pub use wat_fields;
-pub use wat_fields::Data;
-pub use wat_fields::DataKind;
-pub use wat_fields::DataVal;
-pub use wat_fields::Elem;
-pub use wat_fields::ElemKind;
-pub use wat_fields::ElemPayload;
-pub use wat_fields::Func;
-pub use wat_fields::FuncKind;
-pub use wat_fields::Global;
-pub use wat_fields::GlobalKind;
-pub use wat_fields::Local;
-pub use wat_fields::LocalParser;
-pub use wat_fields::Memory;
-pub use wat_fields::MemoryKind;
-pub use wat_fields::Table;
-pub use wat_fields::TableKind;
-pub use wat_fields::Tag;
-pub use wat_fields::TagKind;
-pub use wat_immediates;
 pub use wat_instr;
-pub use wat_instr::AccessOp;
-pub use wat_instr::ArrayInitOp;
-pub use wat_instr::AtomicAccessOp;
-pub use wat_instr::BlockOp;
-pub use wat_instr::CallIndirectOp;
-pub use wat_instr::Head as Mnemonic;
-pub use wat_instr::IndexedOp;
-pub use wat_instr::Instruction;
-pub use wat_instr::InstructionOf;
-pub use wat_instr::LabelOp;
-pub use wat_instr::LaneAccessOp;
-pub use wat_instr::LaneOp;
-pub use wat_instr::MemoryOp;
-pub use wat_instr::Opcode;
-pub use wat_instr::OrderedIndexOp;
-pub use wat_instr::OrderedStructOp;
-pub use wat_instr::OrderedTableOp;
-pub use wat_instr::RmwAccessOp;
-pub use wat_instr::ScalarOp;
-pub use wat_instr::StructOp;
-pub use wat_instr::TableOp;
-pub use wat_instr::VectorOp;
 pub use wat_lexer;
 pub use wat_links;
-pub use wat_links::Custom;
-pub use wat_links::CustomPlace;
-pub use wat_links::CustomPlaceAnchor;
-pub use wat_links::Dylink0;
-pub use wat_links::Dylink0Subsection;
-pub use wat_links::Export;
-pub use wat_links::ExportKind;
-pub use wat_links::ExportType;
-pub use wat_links::Head;
-pub use wat_links::ImportGroup1Item;
-pub use wat_links::ImportGroup1ItemOf;
-pub use wat_links::ImportGroup2Item;
-pub use wat_links::ImportGroup2ItemOf;
-pub use wat_links::ImportItems;
-pub use wat_links::ImportItemsOf;
-pub use wat_links::Imports;
-pub use wat_links::ImportsOf;
-pub use wat_links::InlineExport;
-pub use wat_links::InlineImport;
-pub use wat_links::ItemKind;
-pub use wat_links::ItemSig;
-pub use wat_links::Producers;
-pub use wat_links::RawCustomSection;
 pub use wat_mnemonics;
 pub use wat_operands;
-pub use wat_operands::ArrayCopy;
-pub use wat_operands::ArrayCopyOf;
-pub use wat_operands::ArrayFill;
-pub use wat_operands::ArrayFillOf;
-pub use wat_operands::ArrayInit;
-pub use wat_operands::ArrayInitOf;
-pub use wat_operands::ArrayNewData;
-pub use wat_operands::ArrayNewDataOf;
-pub use wat_operands::ArrayNewElem;
-pub use wat_operands::ArrayNewElemOf;
-pub use wat_operands::ArrayNewFixed;
-pub use wat_operands::ArrayNewFixedOf;
-pub use wat_operands::BlockType;
-pub use wat_operands::BrOnCast;
-pub use wat_operands::BrOnCastDescEq;
-pub use wat_operands::BrOnCastDescEqFail;
-pub use wat_operands::BrOnCastFail;
-pub use wat_operands::BrTableIndices;
-pub use wat_operands::BrTableIndicesOf;
-pub use wat_operands::CallIndirect;
-pub use wat_operands::CatchKind;
-pub use wat_operands::ContBind;
-pub use wat_operands::ContBindOf;
-pub use wat_operands::Handle;
-pub use wat_operands::HandleOf;
-pub use wat_operands::I8x16Shuffle;
-pub use wat_operands::LaneArg;
-pub use wat_operands::LaneOf;
-pub use wat_operands::LoadOrStoreLane;
-pub use wat_operands::MemArg;
-pub use wat_operands::MemArgOrdering;
-pub use wat_operands::MemArgTarget;
-pub use wat_operands::MemoryArg;
-pub use wat_operands::MemoryArgOf;
-pub use wat_operands::MemoryCopy;
-pub use wat_operands::MemoryCopyOf;
-pub use wat_operands::MemoryInit;
-pub use wat_operands::MemoryInitOf;
-pub use wat_operands::Ordered;
-pub use wat_operands::Ordering;
-pub use wat_operands::RefCast;
-pub use wat_operands::RefCastDescEq;
-pub use wat_operands::RefTest;
-pub use wat_operands::Resume;
-pub use wat_operands::ResumeOf;
-pub use wat_operands::ResumeTable;
-pub use wat_operands::ResumeTableOf;
-pub use wat_operands::ResumeThrow;
-pub use wat_operands::ResumeThrowOf;
-pub use wat_operands::ResumeThrowRef;
-pub use wat_operands::ResumeThrowRefOf;
-pub use wat_operands::SelectTypes;
-pub use wat_operands::StructAccess;
-pub use wat_operands::StructAccessOf;
-pub use wat_operands::Switch;
-pub use wat_operands::SwitchOf;
-pub use wat_operands::TableArg;
-pub use wat_operands::TableArgOf;
-pub use wat_operands::TableCopy;
-pub use wat_operands::TableCopyOf;
-pub use wat_operands::TableInit;
-pub use wat_operands::TableInitOf;
-pub use wat_operands::TryTable;
-pub use wat_operands::TryTableCatch;
-pub use wat_operands::TryTableCatchKind;
-pub use wat_operands::V128Const;
 pub use wat_tokens;
-pub use wat_tokens::Cursor;
-pub use wat_tokens::Error;
-pub use wat_tokens::F32;
-pub use wat_tokens::F64;
-pub use wat_tokens::Fault;
-pub use wat_tokens::Id;
-pub use wat_tokens::Index;
-pub use wat_tokens::Integer;
-pub use wat_tokens::NameAnnotation;
-pub use wat_tokens::Parse;
-pub use wat_tokens::Parser;
-pub use wat_tokens::Peek;
-pub use wat_tokens::Result;
-pub use wat_tokens::Sign;
-pub use wat_tokens::Span;
-pub use wat_tokens::Token;
-pub use wat_tokens::hand;
-pub use wat_tokens::kw;
-pub use wat_tokens::one_cut;
-pub use wat_tokens::one_outcome;
-pub use wat_tokens::repeat;
-pub use wat_tokens::whole;
 pub use wat_types;
-pub use wat_types::AbstractHeapType;
-pub use wat_types::ArrayType;
-pub use wat_types::ContType;
-pub use wat_types::FunctionType;
-pub use wat_types::FunctionTypeNoNames;
-pub use wat_types::GlobalType;
-pub use wat_types::HeapType;
-pub use wat_types::InnerTypeKind;
-pub use wat_types::Limits;
-pub use wat_types::MemoryType;
-pub use wat_types::Rec;
-pub use wat_types::RefType;
-pub use wat_types::StorageType;
-pub use wat_types::StructField;
-pub use wat_types::StructType;
-pub use wat_types::TableType;
-pub use wat_types::TagType;
-pub use wat_types::Type;
-pub use wat_types::TypeDef;
-pub use wat_types::TypeUse;
-pub use wat_types::ValType;
-pub use wat_types::page_size;

@@ -3,12 +3,12 @@ use Rattle.std.specs.Prelude.{ℕ, List, [], ◌++◌, Option, Some, None, lengt
 use Rattle.std.specs.Prelude.{decimal}
 use Rattle.wat_core.specs.Field.{ModuleFieldTy, a_func, an_export}
 use Rattle.wat_core.specs.Module.{ModuleTy, ModuleKindTy, text, binary}
-use Rattle.wat_fields.specs.Func.{FuncFieldTy, FuncUse}
-use Rattle.wat_links.specs.Export.{ExportTy}
-use Rattle.wat_links.specs.declared.export.ExportKind.{ExportKind}
-use Rattle.wat_links.specs.declared.export.ExportKind.TheVariants.{Func}
-use Rattle.wat_tokens.specs.Index.{Idx, number, name}
-use Rattle.wat_types.specs.Group.{FuncTy}
+use Rattle.wat_core.specs.Func.{FuncFieldTy, FuncUse}
+use Rattle.wat_core.specs.Export.{ExportTy}
+use Rattle.wat_core.specs.ExportKind.{ExportKind}
+use Rattle.wat_core.specs.ExportKind.TheVariants.{Func}
+use Rattle.wat_core.specs.Index.{Idx, number, name}
+use Rattle.wat_core.specs.Group.{FuncTy}
 
 -- a name, a blank, and what is said of a type
 abbrev pub line_of : List ℕ → List ℕ → List ℕ

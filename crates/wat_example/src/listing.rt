@@ -4,9 +4,9 @@ ghost use Rattle.std.specs.Prelude.{◌≡◌, ◌++◌, OnOk, flat_map};
 ghost use Rattle.std.specs.String.{string_bytes};
 ghost use Rattle.wat_core.specs.Field.{seen_field};
 ghost use Rattle.wat_core.specs.Module.{seen_fields, seen_module};
-ghost use Rattle.wat_fields.specs.Func.{seen_func, seen_func_use};
-ghost use Rattle.wat_links.specs.Export.{seen_export};
-ghost use Rattle.wat_tokens.specs.Index.{seen_index};
+ghost use Rattle.wat_core.specs.Func.{seen_func, seen_func_use};
+ghost use Rattle.wat_core.specs.Export.{seen_export};
+ghost use Rattle.wat_core.specs.Index.{seen_index};
 ghost use Rattle.wat_example.specs.Listing.{indexed_line, use_line, func_lines, export_lines};
 ghost use Rattle.wat_example.specs.Listing.{field_lines, module_lines};
 

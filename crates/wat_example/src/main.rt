@@ -8,7 +8,7 @@ ghost use Rattle.std.specs.String.{string_bytes};
 ghost use Rattle.wat_core.specs.Module.{ModuleTy};
 ghost use Rattle.wat_example.specs.Listing.{module_lines};
 ghost use Rattle.wat_example.specs.Whole.{SpellsModule};
-ghost use Rattle.wat_tokens.specs.Error.{Memory};
+ghost use Rattle.wat_core.specs.Error.{Memory};
 
 mod listing;
 mod whole;

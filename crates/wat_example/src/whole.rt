@@ -3,7 +3,7 @@
 ghost use Rattle.std.specs.Prelude.{◌≡◌, IfOk, MatchResult};
 ghost use Rattle.wat_core.specs.Module.{ModuleTy, seen_module};
 ghost use Rattle.wat_example.specs.Whole.{SpellsModule};
-ghost use Rattle.wat_tokens.specs.Error.{Memory};
+ghost use Rattle.wat_core.specs.Error.{Memory};
 
 use bumpalo::Bump;
 use std::alloc::Global;

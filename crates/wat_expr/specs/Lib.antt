@@ -1,3 +1,12 @@
+pub use Rattle.wat_tokens.specs.Cost
+pub use Rattle.wat_tokens.specs.Counts
+pub use Rattle.wat_tokens.specs.Parses
+pub use Rattle.wat_tokens.specs.Reads
+pub use Rattle.wat_tokens.specs.Steady
+pub use Rattle.wat_tokens.specs.Tests
+pub use Rattle.wat_tokens.specs.Token
+pub use Rattle.wat_tokens.specs.Views
+pub use Rattle.wat_instr.specs.Follows
 pub use Rattle.wat_instr.specs.Instruction
 pub mod Alone
 pub mod Expression

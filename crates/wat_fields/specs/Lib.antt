@@ -1,5 +1,14 @@
+pub use Rattle.wat_tokens.specs.Cost
+pub use Rattle.wat_tokens.specs.Index
+pub use Rattle.wat_tokens.specs.Many
+pub use Rattle.wat_tokens.specs.Parts
+pub use Rattle.wat_tokens.specs.Reads
+pub use Rattle.wat_tokens.specs.Tests
+pub use Rattle.wat_tokens.specs.Views
 pub use Rattle.wat_types.specs.Production
+pub use Rattle.wat_types.specs.Reference
 pub use Rattle.wat_links.specs.Head
+pub use Rattle.wat_links.specs.Import
 pub use Rattle.wat_expr.specs.Expression
 pub mod Data
 pub mod DataVal

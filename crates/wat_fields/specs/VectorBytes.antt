@@ -2,7 +2,7 @@
 use Rattle.std.specs.Prelude.{ℕ, List}
 use Rattle.wat_tokens.specs.Production.{Production}
 use Rattle.wat_tokens.specs.Parts.{made}
-use Rattle.wat_immediates.specs.Vector.{v128_const, bytes_of}
+use Rattle.wat_operands.specs.Vector.{v128_const, bytes_of}
 
 -- ---- one number, as its bytes, the lowest first
 

@@ -70,7 +70,7 @@ fn lparen_next(parser: &Parser<'_>) -> bool
 
 /// A string, or a group of numbers: `i8`, `i16`, `i32`, `i64`, `f32`, `f64` or `v128`, and numbers
 /// of that type. An integer is read with or without a sign, a vector as
-/// [`V128Const`](wat_immediates::V128Const) is; no floating-point number is read.
+/// [`V128Const`](wat_operands::V128Const) is; no floating-point number is read.
 ///
 /// Refused are an integer that is out of range, with Range, and a floating-point number, with
 /// FloatLiteral, each at the number; another word behind the `(`, and anything else, with

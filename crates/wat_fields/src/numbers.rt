@@ -10,7 +10,7 @@ ghost use Rattle.wat_fields.specs.Numbers.{wide_numbers, number_list, begins_int
 ghost use Rattle.wat_fields.specs.Numbers.{begins_numbers};
 ghost use Rattle.wat_fields.specs.VectorBytes.{vector_as_bytes};
 
-use wat_immediates::V128Const;
+use wat_operands::V128Const;
 use wat_tokens::repeat::{Group, all_groups};
 use wat_tokens::{F32, F64, Fault, Parse, Parser, Result};
 

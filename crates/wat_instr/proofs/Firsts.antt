@@ -20,14 +20,14 @@ use Rattle.wat_types.specs.Group.{func_group, group_follows, begins_func}
 use Rattle.wat_types.specs.FunctionSpells.{func_groups}
 use Rattle.wat_types.specs.FunctionNoNames.{function_type_no_names}
 use Rattle.wat_types.specs.Use.{type_use, type_follows, type_index}
-use Rattle.wat_immediates.specs.Aggregates.{array_of_length}
-use Rattle.wat_immediates.specs.BranchTable.{br_table}
-use Rattle.wat_immediates.specs.Lanes.{lane_in, lane_arg, lane_access}
-use Rattle.wat_immediates.specs.Memory.{target, begins_with, offset_or_0, align, align_or, mem_arg, atomic_mem_arg}
-use Rattle.wat_immediates.specs.Align.{past_front, number_behind, field}
-use Rattle.wat_immediates.specs.Ordering.{ordering, begins_ordering, ordered}
-use Rattle.wat_immediates.specs.Tables.{index_or_0, index_pair, init, copy}
-use Rattle.wat_immediates.specs.Vector.{two, twice, four, eight, sixteen, float_const, wide_const, v128_const, shuffle}
+use Rattle.wat_operands.specs.Aggregates.{array_of_length}
+use Rattle.wat_operands.specs.BranchTable.{br_table}
+use Rattle.wat_operands.specs.Lanes.{lane_in, lane_arg, lane_access}
+use Rattle.wat_operands.specs.Memory.{target, begins_with, offset_or_0, align, align_or, mem_arg, atomic_mem_arg}
+use Rattle.wat_operands.specs.Align.{past_front, number_behind, field}
+use Rattle.wat_operands.specs.Ordering.{ordering, begins_ordering, ordered}
+use Rattle.wat_operands.specs.Tables.{index_or_0, index_pair, init, copy}
+use Rattle.wat_operands.specs.Vector.{two, twice, four, eight, sixteen, float_const, wide_const, v128_const, shuffle}
 use Rattle.wat_operands.specs.Block.{signature, block_type}
 use Rattle.wat_operands.specs.Call.{call_indirect}
 use Rattle.wat_operands.specs.Casts.{cast_branch}

@@ -5,8 +5,8 @@ use Rattle.wat_tokens.specs.Parens.{opens, closes, AreLevel}
 use Rattle.wat_tokens.specs.Laws.Parens.{opens-append, closes-append}
 use Rattle.wat_tokens.specs.Tests.{begins_word, begins_group, begins_annotation, begins_id, begins_integer}
 use Rattle.wat_tokens.specs.Index.{begins_index}
-use Rattle.wat_immediates.specs.Memory.{begins_with}
-use Rattle.wat_immediates.specs.Align.{past_front}
+use Rattle.wat_operands.specs.Memory.{begins_with}
+use Rattle.wat_operands.specs.Align.{past_front}
 use Rattle.wat_instr.specs.Follows.{NoTypeSecond}
 use Rattle.wat_instr.specs.Laws.Rests.{Rests, Fronted, fronted, fronted_behind}
 

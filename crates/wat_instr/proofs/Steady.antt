@@ -6,8 +6,8 @@ use Rattle.wat_tokens.specs.Parens.{opens, closes}
 use Rattle.wat_tokens.specs.Begin.{begins_one_of}
 use Rattle.wat_tokens.specs.Index.{begins_index}
 use Rattle.wat_types.specs.Value.{plain_words}
-use Rattle.wat_immediates.specs.Memory.{begins_with}
-use Rattle.wat_immediates.specs.Lanes.{goes_on, is_alone}
+use Rattle.wat_operands.specs.Memory.{begins_with}
+use Rattle.wat_operands.specs.Lanes.{goes_on, is_alone}
 use Rattle.wat_instr.specs.Laws.Rests.{Stable, Tested}
 use Rattle.wat_instr.specs.Laws.Sees.{Sees, begins_word_sees, begins_index_sees, begins_id_sees, begins_with_sees, one_of_sees, more_sees, begins_group_sees, begins_annotation_sees, second_sees, is_alone_sees}
 use Rattle.wat_instr.proofs.Rests.{Follows, Alike, following}

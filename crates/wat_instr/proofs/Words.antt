@@ -4,8 +4,8 @@ use Rattle.std.proofs.lemmas.Bool.{or_parts}
 use Rattle.wat_tokens.specs.Token.{Tok, Keyword}
 use Rattle.wat_tokens.specs.Tests.{begins_word, begins_group, begins_annotation, begins_id, begins_integer, ends}
 use Rattle.wat_tokens.specs.Index.{begins_index}
-use Rattle.wat_immediates.specs.Memory.{begins_with}
-use Rattle.wat_immediates.specs.Align.{past_front}
+use Rattle.wat_operands.specs.Memory.{begins_with}
+use Rattle.wat_operands.specs.Align.{past_front}
 use Rattle.wat_mnemonics.specs.Heads.{head_word}
 use Rattle.wat_mnemonics.specs.Order.{first}
 use Rattle.wat_mnemonics.specs.Places.{place}

@@ -4,16 +4,16 @@ use Rattle.wat_tokens.specs.Index.{name_of, seen_index}
 use Rattle.wat_tokens.specs.Production.{Production}
 use Rattle.wat_tokens.specs.Parts.{made}
 use Rattle.wat_types.specs.Heap.{seen_heap}
-use Rattle.wat_immediates.specs.Aggregates.{seen_struct_access, seen_cont_bind, seen_switch}
-use Rattle.wat_immediates.specs.Aggregates.{seen_array_fill, seen_array_copy, seen_array_init}
-use Rattle.wat_immediates.specs.Aggregates.{seen_array_new_fixed, seen_array_new_data}
-use Rattle.wat_immediates.specs.Aggregates.{seen_array_new_elem}
-use Rattle.wat_immediates.specs.Branch.{seen_br_table}
-use Rattle.wat_immediates.specs.Lanes.{seen_lane_access}
-use Rattle.wat_immediates.specs.Memory.{seen_mem_arg}
-use Rattle.wat_immediates.specs.Ordering.{seen_ordered}
-use Rattle.wat_immediates.specs.Tables.{seen_table_arg, seen_memory_arg, seen_table_init}
-use Rattle.wat_immediates.specs.Tables.{seen_memory_init, seen_table_copy, seen_memory_copy}
+use Rattle.wat_operands.specs.Aggregates.{seen_struct_access, seen_cont_bind, seen_switch}
+use Rattle.wat_operands.specs.Aggregates.{seen_array_fill, seen_array_copy, seen_array_init}
+use Rattle.wat_operands.specs.Aggregates.{seen_array_new_fixed, seen_array_new_data}
+use Rattle.wat_operands.specs.Aggregates.{seen_array_new_elem}
+use Rattle.wat_operands.specs.Branch.{seen_br_table}
+use Rattle.wat_operands.specs.Lanes.{seen_lane_access}
+use Rattle.wat_operands.specs.Memory.{seen_mem_arg}
+use Rattle.wat_operands.specs.Ordering.{seen_ordered}
+use Rattle.wat_operands.specs.Tables.{seen_table_arg, seen_memory_arg, seen_table_init}
+use Rattle.wat_operands.specs.Tables.{seen_memory_init, seen_table_copy, seen_memory_copy}
 use Rattle.wat_operands.specs.Block.{seen_block}
 use Rattle.wat_operands.specs.Call.{seen_call}
 use Rattle.wat_operands.specs.Casts.{seen_test, seen_cast, seen_cast_desc_eq, seen_branch}
@@ -39,7 +39,7 @@ use Rattle.wat_operands.specs.declared.block.BlockType.{BlockType}
 use Rattle.wat_tokens.specs.declared.index.Id.{Id}
 use Rattle.wat_tokens.specs.declared.index.Index.{Index}
 use Rattle.wat_operands.specs.declared.call.CallIndirect.{CallIndirect}
-use Rattle.wat_immediates.specs.declared.memory.MemArg.{MemArg}
+use Rattle.wat_operands.specs.declared.memory.MemArg.{MemArg}
 use Rattle.wat_operands.specs.declared.select.SelectTypes.{SelectTypes}
 use Rattle.wat_types.specs.declared.heap.HeapType.{HeapType}
 use Rattle.wat_operands.specs.declared.casts.RefTest.{RefTest}

@@ -1,3 +1,4 @@
+pub use Rattle.wat_tokens.specs.Token
 pub mod Follows
 pub mod Instruction
 pub mod Laws

@@ -9,19 +9,19 @@ use Rattle.wat_tokens.specs.Floats.{none}
 use Rattle.wat_types.specs.Heap.{HeapTy, heap_type}
 use Rattle.wat_types.specs.Reference.{RefTy, ref_type}
 use Rattle.wat_types.specs.Value.{ValTy}
-use Rattle.wat_immediates.specs.Aggregates.{array_of_length}
-use Rattle.wat_immediates.specs.Branch.{BrTableTy, bare_br_table}
-use Rattle.wat_immediates.specs.BranchTable.{br_table}
-use Rattle.wat_immediates.specs.Lanes.{LaneAccessTy, lane_arg}
-use Rattle.wat_immediates.specs.Lanes as lanes
-use Rattle.wat_immediates.specs.Memory.{MemArgTy, mem_arg, atomic_mem_arg}
-use Rattle.wat_immediates.specs.Ordering.{ordering, begins_ordering, ordered}
-use Rattle.wat_immediates.specs.Tables.{index_or_0, index_pair, init, copy}
-use Rattle.wat_immediates.specs.Vector.{v128_const, shuffle}
-use Rattle.wat_immediates.specs.declared.lanes.LaneArg.{LaneArg}
-use Rattle.wat_immediates.specs.declared.ordering.Ordering.{Ordering}
-use Rattle.wat_immediates.specs.declared.vector.I8x16Shuffle.{I8x16Shuffle}
-use Rattle.wat_immediates.specs.declared.vector.V128Const.{V128Const}
+use Rattle.wat_operands.specs.Aggregates.{array_of_length}
+use Rattle.wat_operands.specs.Branch.{BrTableTy, bare_br_table}
+use Rattle.wat_operands.specs.BranchTable.{br_table}
+use Rattle.wat_operands.specs.Lanes.{LaneAccessTy, lane_arg}
+use Rattle.wat_operands.specs.Lanes as lanes
+use Rattle.wat_operands.specs.Memory.{MemArgTy, mem_arg, atomic_mem_arg}
+use Rattle.wat_operands.specs.Ordering.{ordering, begins_ordering, ordered}
+use Rattle.wat_operands.specs.Tables.{index_or_0, index_pair, init, copy}
+use Rattle.wat_operands.specs.Vector.{v128_const, shuffle}
+use Rattle.wat_operands.specs.declared.lanes.LaneArg.{LaneArg}
+use Rattle.wat_operands.specs.declared.ordering.Ordering.{Ordering}
+use Rattle.wat_operands.specs.declared.vector.I8x16Shuffle.{I8x16Shuffle}
+use Rattle.wat_operands.specs.declared.vector.V128Const.{V128Const}
 use Rattle.wat_operands.specs.Block.{BlockTy, block_type}
 use Rattle.wat_operands.specs.Call.{CallTy, call_indirect}
 use Rattle.wat_operands.specs.Casts.{BranchTy, cast_branch}

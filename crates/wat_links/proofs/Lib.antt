@@ -1,5 +1,10 @@
+pub mod CustomRows
 pub mod Ends
+pub mod Fields
+pub mod FlagList
+pub mod FlagReads
+pub mod LinkRows
 pub mod Lookups
-pub mod Rows
+pub mod Runs
 pub mod Same
 pub mod Sigs

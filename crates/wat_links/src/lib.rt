@@ -3,15 +3,24 @@
 //! Annotation").
 //!
 //! Each is read from tokens by [`wat_tokens::Parse`]. Indices stay as they are written: nothing is
-//! resolved.
+//! resolved. Custom sections are written as annotations, which a parser sees only where they are
+//! known: it then stands in front of the annotation, directly behind its `(`.
 #![tactic(auto)]
 
+pub mod custom;
+pub mod dylink;
 pub mod export;
+pub mod flags;
 pub mod head;
 pub mod import;
 pub mod item;
 pub mod laws;
+pub mod place;
+pub mod producers;
+pub mod raw;
 
+pub use custom::Custom;
+pub use dylink::{Dylink0, Dylink0Subsection};
 pub use export::{Export, ExportKind, ExportType, InlineExport};
 pub use head::Head;
 pub use import::{
@@ -19,6 +28,6 @@ pub use import::{
     ImportItemsOf, Imports, ImportsOf, InlineImport,
 };
 pub use item::{ItemKind, ItemSig};
-pub use wat_customs::{
-    Custom, CustomPlace, CustomPlaceAnchor, Dylink0, Dylink0Subsection, Producers, RawCustomSection,
-};
+pub use place::{CustomPlace, CustomPlaceAnchor};
+pub use producers::Producers;
+pub use raw::RawCustomSection;

@@ -1,3 +1,5 @@
+pub use Rattle.wat_tokens.specs.Counts
+pub use Rattle.wat_tokens.specs.Token
 pub mod Access
 pub mod Heads
 pub mod Indexed

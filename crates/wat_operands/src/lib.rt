@@ -1,19 +1,33 @@
-//! Operands of instructions (WebAssembly Core Specification, Text Format, "Instructions").
+//! Operands of instructions in the WebAssembly text format (WebAssembly Core Specification, Text
+//! Format, "Instructions").
 //!
-//! Those that hold types or groups stand here; those of indices and numbers alone are
-//! `wat_immediates`', and named here too. Each is read from the tokens behind the instruction's
-//! word. Indices stay as they are written: nothing is resolved.
+//! Each is read from the tokens behind the instruction's word by [`wat_tokens::Parse`], or by a
+//! call of its own where a default alignment is wanted. Indices stay as they are written: nothing
+//! is resolved.
 #![tactic(auto)]
 
+pub mod aggregates;
 pub mod block;
+pub mod branch;
 pub mod call;
 pub mod casts;
 pub mod catches;
 pub mod handlers;
+pub mod lanes;
 pub mod laws;
+pub mod memory;
+pub mod ordering;
 pub mod select;
+pub mod tables;
+pub mod vector;
 
+pub use aggregates::{
+    ArrayCopy, ArrayCopyOf, ArrayFill, ArrayFillOf, ArrayInit, ArrayInitOf, ArrayNewData,
+    ArrayNewDataOf, ArrayNewElem, ArrayNewElemOf, ArrayNewFixed, ArrayNewFixedOf, ContBind,
+    ContBindOf, StructAccess, StructAccessOf, Switch, SwitchOf,
+};
 pub use block::BlockType;
+pub use branch::{BrTableIndices, BrTableIndicesOf};
 pub use call::CallIndirect;
 pub use casts::{
     BrOnCast, BrOnCastDescEq, BrOnCastDescEqFail, BrOnCastFail, RefCast, RefCastDescEq, RefTest,
@@ -23,12 +37,12 @@ pub use handlers::{
     Handle, HandleOf, Resume, ResumeOf, ResumeTable, ResumeTableOf, ResumeThrow, ResumeThrowOf,
     ResumeThrowRef, ResumeThrowRefOf,
 };
+pub use lanes::{LaneArg, LaneOf, LoadOrStoreLane};
+pub use memory::{MemArg, MemArgOrdering, MemArgTarget};
+pub use ordering::{Ordered, Ordering};
 pub use select::SelectTypes;
-pub use wat_immediates::{
-    ArrayCopy, ArrayCopyOf, ArrayFill, ArrayFillOf, ArrayInit, ArrayInitOf, ArrayNewData,
-    ArrayNewDataOf, ArrayNewElem, ArrayNewElemOf, ArrayNewFixed, ArrayNewFixedOf, BrTableIndices,
-    BrTableIndicesOf, ContBind, ContBindOf, I8x16Shuffle, LaneArg, LaneOf, LoadOrStoreLane, MemArg,
-    MemArgOrdering, MemArgTarget, MemoryArg, MemoryArgOf, MemoryCopy, MemoryCopyOf, MemoryInit,
-    MemoryInitOf, Ordered, Ordering, StructAccess, StructAccessOf, Switch, SwitchOf, TableArg,
-    TableArgOf, TableCopy, TableCopyOf, TableInit, TableInitOf, V128Const,
+pub use tables::{
+    MemoryArg, MemoryArgOf, MemoryCopy, MemoryCopyOf, MemoryInit, MemoryInitOf, TableArg,
+    TableArgOf, TableCopy, TableCopyOf, TableInit, TableInitOf,
 };
+pub use vector::{I8x16Shuffle, V128Const};

@@ -1,3 +1,6 @@
+mod Digits
 pub mod Enclosed
+pub mod InstructionText
+pub mod Lines
 pub mod Lists
 pub mod Showing

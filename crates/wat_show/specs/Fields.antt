@@ -3,7 +3,7 @@ use Rattle.std.specs.Prelude.{ℕ, List, [], ◌++◌, Option, Some, None, lengt
 use Rattle.std.specs.Prelude.{codes}
 use Rattle.wat_core.specs.Field.{ModuleFieldTy, a_type, a_rec, an_import, a_func, a_table, a_memory}
 use Rattle.wat_core.specs.Field.{a_global, an_export, a_start, an_elem, a_data, a_tag, a_custom}
-use Rattle.wat_customs.specs.Custom.{CustomTy, raw, produced, linked}
+use Rattle.wat_links.specs.Custom.{CustomTy, raw, produced, linked}
 use Rattle.wat_expr.specs.Expression.{Expr}
 use Rattle.wat_fields.specs.Data.{DataKindTy}
 use Rattle.wat_fields.specs.Data as segments
@@ -23,9 +23,9 @@ use Rattle.wat_links.specs.Import.{ItemsTy, single, group1, group2}
 use Rattle.wat_links.specs.declared.export.ExportKind.{ExportKind}
 use Rattle.wat_links.specs.declared.export.ExportKind.TheVariants as kind
 use Rattle.wat_tokens.specs.Index.{Idx}
-use Rattle.wat_listing.specs.Expressions.{below}
-use Rattle.wat_listing.specs.Listing.{index_text}
-use Rattle.wat_streams.specs.Written.{counted}
+use Rattle.wat_show.specs.Expressions.{below}
+use Rattle.wat_show.specs.Listing.{index_text}
+use Rattle.wat_show.specs.Written.{counted}
 
 -- ---- what lines are made of
 

@@ -3,14 +3,14 @@
 ghost use Rattle.std.specs.Prelude.{◌≡◌, ◌++◌, ℕ, List, OnOk, flat_map};
 ghost use Rattle.wat_core.specs.Field.{seen_field};
 ghost use Rattle.wat_expr.specs.Expression.{seen_expression};
-ghost use Rattle.wat_listing.specs.Expressions.{below};
+ghost use Rattle.wat_show.specs.Expressions.{below};
 ghost use Rattle.wat_show.specs.Fields.{field_text};
 
+use crate::expressions::add_below;
 use crate::fields::add_field;
 use std::alloc::AllocError;
 use wat_core::ModuleField;
 use wat_expr::Expression;
-use wat_listing::expressions::add_below;
 
 /// A value in a list of its kind.
 pub trait Entry {

@@ -2,7 +2,7 @@
 
 ghost use Rattle.std.specs.Prelude.{◌≡◌, ◌++◌, OnOk};
 ghost use Rattle.wat_core.specs.Field.{seen_field};
-ghost use Rattle.wat_customs.specs.Custom.{seen_custom};
+ghost use Rattle.wat_links.specs.Custom.{seen_custom};
 ghost use Rattle.wat_fields.specs.Data.{seen_data_kind};
 ghost use Rattle.wat_fields.specs.DataVal.{seen_data_vals};
 ghost use Rattle.wat_fields.specs.Elem.{seen_elem_kind};
@@ -20,16 +20,16 @@ ghost use Rattle.wat_show.specs.Fields.{offset_lines, elem_text, start_text, mem
 ghost use Rattle.wat_show.specs.Fields.{data_text, custom_text, field_text};
 
 use crate::entries::add_entries;
+use crate::expressions::add_below;
+use crate::listing::add_index;
 use crate::pieces::total;
+use crate::text::{add, add_counted};
 use std::alloc::AllocError;
 use wat_core::ModuleField;
 use wat_fields::{
     DataKind, DataVal, ElemKind, ElemPayload, FuncKind, GlobalKind, MemoryKind, TableKind, TagKind,
 };
 use wat_links::{Custom, ExportKind, ImportItems};
-use wat_listing::expressions::add_below;
-use wat_listing::listing::add_index;
-use wat_streams::text::{add, add_counted};
 use wat_tokens::Index;
 
 fn add_import(out: &mut Vec<u8>, items: &ImportItems) -> Result<(), AllocError>

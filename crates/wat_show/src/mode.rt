@@ -2,18 +2,18 @@
 
 ghost use Rattle.std.specs.Prelude.{◌≡◌, IsFalse, IfOk};
 ghost use Rattle.wat_show.specs.Modes.{mode_of, ModeShows, ShownText};
-ghost use Rattle.wat_streams.specs.Run.{Runs};
+ghost use Rattle.wat_show.specs.Run.{Runs};
 
+use crate::error::RunError;
+use crate::show::{Shows, run_shows};
 use crate::shown::refused;
 use crate::value::show_value;
+use crate::watched::Watched;
 use bumpalo::Bump;
 use std::alloc::{AllocError, Global};
 use std::io::{Read, Write};
 use wat_core::Module;
 use wat_expr::{Expression, FoldedInstruction};
-use wat_streams::error::RunError;
-use wat_streams::show::{Shows, run_shows};
-use wat_streams::watched::Watched;
 use wat_tokens::{Error, Fault, Span};
 use wat_types::FunctionType;
 

@@ -5,8 +5,8 @@ ghost use Rattle.wat_core.specs.Module.{ModuleTy, seen_module};
 ghost use Rattle.wat_expr.specs.Expression.{Expr, seen_expression};
 ghost use Rattle.wat_expr.specs.FoldedProduction.{folded_instruction};
 ghost use Rattle.wat_expr.specs.ExpressionProduction.{expression};
-ghost use Rattle.wat_listing.specs.Expressions.{expression_text};
-ghost use Rattle.wat_listing.specs.Listing.{function_text};
+ghost use Rattle.wat_show.specs.Expressions.{expression_text};
+ghost use Rattle.wat_show.specs.Listing.{function_text};
 ghost use Rattle.wat_show.specs.Modules.{module_text};
 ghost use Rattle.wat_show.specs.Shown.{ShowsText};
 ghost use Rattle.wat_show.specs.Whole.{TextSpells, SpelledModule};
@@ -14,6 +14,8 @@ ghost use Rattle.wat_tokens.specs.Error.{Memory};
 ghost use Rattle.wat_types.specs.Function.{seen_function, function_type};
 ghost use Rattle.wat_types.specs.Group.{FuncTy};
 
+use crate::expressions::add_expression;
+use crate::listing::add_function;
 use crate::modules::add_module;
 use crate::shown::refused;
 use crate::whole::{read_module, read_whole};
@@ -21,8 +23,6 @@ use bumpalo::Bump;
 use std::alloc::{AllocError, Global};
 use wat_core::Module;
 use wat_expr::{Expression, FoldedInstruction};
-use wat_listing::expressions::add_expression;
-use wat_listing::listing::add_function;
 use wat_tokens::Error;
 use wat_types::FunctionType;
 

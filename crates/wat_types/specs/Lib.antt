@@ -1,6 +1,16 @@
+pub use Rattle.wat_tokens.specs.Adding
+pub use Rattle.wat_tokens.specs.Copies
+pub use Rattle.wat_tokens.specs.Cost
+pub use Rattle.wat_tokens.specs.Groups
 pub use Rattle.wat_tokens.specs.Index
 pub use Rattle.wat_tokens.specs.Lookup
+pub use Rattle.wat_tokens.specs.Many
+pub use Rattle.wat_tokens.specs.Once
+pub use Rattle.wat_tokens.specs.Parts
 pub use Rattle.wat_tokens.specs.Production
+pub use Rattle.wat_tokens.specs.Reads
+pub use Rattle.wat_tokens.specs.Tests
+pub use Rattle.wat_tokens.specs.Views
 pub mod Define
 pub mod Exponent
 pub mod FieldType

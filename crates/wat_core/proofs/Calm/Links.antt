@@ -1,18 +1,18 @@
 -- Imports, exports and custom sections are calm.
 use Rattle.std.proofs.Common.{ℕ, true, List, refl}
 use Rattle.wat_tokens.specs.Production.{Production}
-use Rattle.wat_customs.specs.Custom.{custom}
-use Rattle.wat_customs.specs.Raw.{raw_place, raw_data, raw_custom}
+use Rattle.wat_links.specs.Custom.{custom}
+use Rattle.wat_links.specs.Raw.{raw_place, raw_data, raw_custom}
 use Rattle.wat_tokens.specs.Parts.{annotation}
-use Rattle.wat_customs.specs.Place.{section, before, after, custom_place}
-use Rattle.wat_customs.specs.Producers.{producer_entries, producers}
-use Rattle.wat_customs.specs.ProducerEntry.{field_word, producer_entry}
-use Rattle.wat_customs.specs.Flags.{flag_list, symbol_flags}
-use Rattle.wat_customs.specs.FlagBits.{flag_bits}
-use Rattle.wat_customs.specs.Dylink.{sizes, mem_info_entry, names_entry, lone_entry, subsection}
-use Rattle.wat_customs.specs.DylinkEntries.{export_entry, import_entry}
-use Rattle.wat_customs.specs.Subsections.{subsections}
-use Rattle.wat_customs.specs.Cutting.{cut_subsections, dylink}
+use Rattle.wat_links.specs.Place.{section, before, after, custom_place}
+use Rattle.wat_links.specs.Producers.{producer_entries, producers}
+use Rattle.wat_links.specs.ProducerEntry.{field_word, producer_entry}
+use Rattle.wat_links.specs.Flags.{flag_list, symbol_flags}
+use Rattle.wat_links.specs.FlagBits.{flag_bits}
+use Rattle.wat_links.specs.Dylink.{sizes, mem_info_entry, names_entry, lone_entry, subsection}
+use Rattle.wat_links.specs.DylinkEntries.{export_entry, import_entry}
+use Rattle.wat_links.specs.Subsections.{subsections}
+use Rattle.wat_links.specs.Cutting.{cut_subsections, dylink}
 use Rattle.wat_links.specs.Item.{ItemKindTy, func_use, func_kind, item_of, global_or_tag, item_sig}
 use Rattle.wat_links.specs.Import.{shared_sig, single_item, typed_list, named_list, typed_items, named_items, import_choice, inline_import}
 use Rattle.wat_links.specs.ImportItem.{typed_item, named_item}

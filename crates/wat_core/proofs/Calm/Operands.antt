@@ -1,6 +1,6 @@
 -- Vectors and instructions are calm.
 use Rattle.std.proofs.Common.{true}
-use Rattle.wat_immediates.specs.Vector.{v128_const}
+use Rattle.wat_operands.specs.Vector.{v128_const}
 use Rattle.wat_instr.specs.Instruction.{instruction}
 use Rattle.wat_instr.specs.Laws.Immediates.{v128_const_stands}
 use Rattle.wat_instr.specs.Laws.Operands.{instruction_stands}

@@ -4,12 +4,12 @@ use Rattle.wat_tokens.specs.Token.{Tok, LParen, RParen, Keyword, Id, Annotation,
 use Rattle.wat_tokens.specs.Tests.{begins_word, begins_group, begins_annotation, begins_id, begins_integer, ends, more, second, begins_lparen, word_in}
 use Rattle.wat_tokens.specs.Begin.{begins_one_of}
 use Rattle.wat_tokens.specs.Index.{begins_index}
-use Rattle.wat_immediates.specs.Memory.{begins_with}
-use Rattle.wat_immediates.specs.Lanes.{goes_on, is_alone}
+use Rattle.wat_operands.specs.Memory.{begins_with}
+use Rattle.wat_operands.specs.Lanes.{goes_on, is_alone}
 use Rattle.wat_types.specs.Value.{plain_words}
 use Rattle.wat_instr.specs.Laws.Rests.{Rests, Fronted, fronted, fronted_behind, Stable, Tested}
 use Rattle.wat_instr.specs.Laws.Sees.{Sees, begins_word_sees, begins_index_sees, begins_id_sees, begins_integer_sees, begins_with_sees, one_of_sees, fails_at_end}
-use Rattle.wat_customs.specs.Custom.{begins_annotated}
+use Rattle.wat_links.specs.Custom.{begins_annotated}
 use Rattle.wat_links.specs.Import.{opens_typed, typed, begins_inline_import}
 use Rattle.wat_links.specs.Export.{begins_inline_export}
 use Rattle.wat_fields.specs.Data.{begins_passive}

@@ -1,8 +1,8 @@
 -- Laws: numbers of data segments, as their bytes.
 use Rattle.std.specs.Prelude.{◌≤◌}
 use Rattle.std.proofs.Common.{lit≤}
-use Rattle.wat_immediates.specs.Vector.{two, four, eight, sixteen, float_const, wide_const}
-use Rattle.wat_immediates.specs.Vector.{v128_const}
+use Rattle.wat_operands.specs.Vector.{two, four, eight, sixteen, float_const, wide_const}
+use Rattle.wat_operands.specs.Vector.{v128_const}
 use Rattle.wat_fields.specs.VectorBytes.{vector_as_bytes}
 
 -- ---- one number, as its bytes, the lowest first

@@ -8,18 +8,18 @@ use Rattle.wat_tokens.specs.Parts.{seq, made, opt}
 use Rattle.wat_tokens.specs.PartSpells.{opt_spells}
 use Rattle.wat_tokens.specs.Groups.{group}
 use Rattle.wat_tokens.specs.Index.{Idx, index, begins_index}
-use Rattle.wat_immediates.specs.Aggregates.{array_of_length}
-use Rattle.wat_immediates.specs.Laws.Branch.{br_table_to, br_table_from}
-use Rattle.wat_immediates.specs.BranchTable.{br_table}
-use Rattle.wat_immediates.specs.Lanes.{lane_in, lane_arg, access_of, is_alone, lane_access}
-use Rattle.wat_immediates.specs.Memory.{TargetTy, MemArgTy, target, offset_or_0, align, align_or}
-use Rattle.wat_immediates.specs.Memory.{mem_arg, atomic_mem_arg}
-use Rattle.wat_immediates.specs.Align.{field}
-use Rattle.wat_immediates.specs.Laws.Memory.{align_to, align_from}
-use Rattle.wat_immediates.specs.Ordering.{ordering, begins_ordering, ordered}
-use Rattle.wat_immediates.specs.Tables.{index_or_0, index_pair, init, copy}
-use Rattle.wat_immediates.specs.Vector.{two, four, eight, sixteen, float_const, wide_const}
-use Rattle.wat_immediates.specs.Vector.{v128_const, shuffle}
+use Rattle.wat_operands.specs.Aggregates.{array_of_length}
+use Rattle.wat_operands.specs.Laws.Branch.{br_table_to, br_table_from}
+use Rattle.wat_operands.specs.BranchTable.{br_table}
+use Rattle.wat_operands.specs.Lanes.{lane_in, lane_arg, access_of, is_alone, lane_access}
+use Rattle.wat_operands.specs.Memory.{TargetTy, MemArgTy, target, offset_or_0, align, align_or}
+use Rattle.wat_operands.specs.Memory.{mem_arg, atomic_mem_arg}
+use Rattle.wat_operands.specs.Align.{field}
+use Rattle.wat_operands.specs.Laws.Memory.{align_to, align_from}
+use Rattle.wat_operands.specs.Ordering.{ordering, begins_ordering, ordered}
+use Rattle.wat_operands.specs.Tables.{index_or_0, index_pair, init, copy}
+use Rattle.wat_operands.specs.Vector.{two, four, eight, sixteen, float_const, wide_const}
+use Rattle.wat_operands.specs.Vector.{v128_const, shuffle}
 use Rattle.wat_instr.specs.Laws.Rests.{Rests, Stable, Tested, either_steady}
 use Rattle.wat_instr.specs.Laws.Stands.{Stands, AtLeast, one_stands, none_stands, made_stands}
 use Rattle.wat_instr.specs.Laws.Stands.{both_stand, restated_stands, choice_stands, where_stands}

@@ -11,8 +11,8 @@ use Rattle.wat_tokens.specs.Begin.{begins_one_of}
 use Rattle.wat_tokens.specs.Index.{begins_index}
 use Rattle.wat_tokens.specs.Laws.Production.{by_test}
 use Rattle.wat_types.specs.Value.{plain_words}
-use Rattle.wat_immediates.specs.Memory.{begins_with}
-use Rattle.wat_immediates.specs.Lanes.{is_alone}
+use Rattle.wat_operands.specs.Memory.{begins_with}
+use Rattle.wat_operands.specs.Lanes.{is_alone}
 
 -- Alike n t u: a front of n tokens or more stands in both t and u, and what they have behind it
 -- counts as alike. So do t and u behind level tokens, and behind what closes a group.

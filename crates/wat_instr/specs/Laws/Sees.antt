@@ -7,8 +7,8 @@ use Rattle.wat_tokens.specs.Tests.{begins_word, begins_group, begins_annotation,
 use Rattle.wat_tokens.specs.Tests.{begins_integer, ends, more, second}
 use Rattle.wat_tokens.specs.Begin.{begins_one_of}
 use Rattle.wat_tokens.specs.Index.{begins_index}
-use Rattle.wat_immediates.specs.Memory.{begins_with}
-use Rattle.wat_immediates.specs.Lanes.{goes_on, is_alone}
+use Rattle.wat_operands.specs.Memory.{begins_with}
+use Rattle.wat_operands.specs.Lanes.{goes_on, is_alone}
 
 -- the test looks at n tokens at most
 abbrev pub Sees : ℕ → (List Tok → Bool) → Type 0

@@ -1,7 +1,7 @@
 use Rattle.std.proofs.Common.{◌≡◌, ◌++◌, take}
 use Rattle.std.specs.Prelude.{flat_map, map}
 use Rattle.std.specs.String.{string_bytes}
-use Rattle.wat_fields.specs.Func.{seen_func_use}
+use Rattle.wat_core.specs.Func.{seen_func_use}
 use Rattle.wat_example.specs.Listing.{use_line}
 use Rattle.wat_example.proofs.listing.add_func.Given as goal
 

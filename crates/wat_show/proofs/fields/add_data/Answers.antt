@@ -3,8 +3,8 @@ use Rattle.std.proofs.lemmas.Simd.{map-map}
 use Rattle.std.specs.Prelude.{OnOk, codes}
 use Rattle.wat_fields.specs.DataVal.{bytes_in, seen_data_val, seen_data_vals}
 use Rattle.wat_show.specs.Fields.{byte_count, vals_count}
-use Rattle.wat_streams.specs.Laws.Written.{added_both}
-use Rattle.wat_streams.specs.Written.{counted}
+use Rattle.wat_show.specs.Laws.Written.{added_both}
+use Rattle.wat_show.specs.Written.{counted}
 use Rattle.wat_show.proofs.fields.add_data.Goals as goal
 
 pub returns-in-Passive : goal.returns-in-Passive

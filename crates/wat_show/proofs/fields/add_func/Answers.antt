@@ -2,8 +2,8 @@ use Rattle.std.proofs.Common.{ℕ, ◌≡◌, ◌++◌, ◌∙◌, ap, arith, le
 use Rattle.std.proofs.lemmas.List.{length-map}
 use Rattle.std.specs.Prelude.{codes, map}
 use Rattle.wat_fields.specs.Local.{seen_local}
-use Rattle.wat_streams.specs.Laws.Written.{added_both}
-use Rattle.wat_streams.specs.Written.{counted}
+use Rattle.wat_show.specs.Laws.Written.{added_both}
+use Rattle.wat_show.specs.Written.{counted}
 use Rattle.wat_show.proofs.fields.add_func.Goals as goal
 
 pub returns-in_ok-add_counted-in-Inline : goal.returns-in_ok-add_counted-in-Inline

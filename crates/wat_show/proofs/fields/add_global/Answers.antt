@@ -1,4 +1,4 @@
-use Rattle.wat_streams.specs.Laws.Written.{added_both}
+use Rattle.wat_show.specs.Laws.Written.{added_both}
 use Rattle.wat_show.proofs.fields.add_global.Goals as goal
 
 pub returns-in_ok-add-in-Inline : goal.returns-in_ok-add-in-Inline

@@ -1,7 +1,0 @@
--- Laws of the definitions: lemmas that definitions or other crates rest on.
-pub mod Cutting
-pub mod DylinkEntries
-pub mod Entries
-pub mod Flags
-pub mod Producers
-pub mod Subsections

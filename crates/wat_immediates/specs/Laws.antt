@@ -1,4 +1,0 @@
--- Laws of the definitions: lemmas that definitions or other crates rest on.
-pub mod Branch
-pub mod Memory
-pub mod Power

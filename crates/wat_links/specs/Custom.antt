@@ -1,0 +1,58 @@
+-- Custom sections.
+use Rattle.std.specs.Prelude.{ℕ, Bool, false, List, ◌∷◌, codes}
+use Rattle.std.specs.Str.{bytes_eq}
+use Rattle.wat_tokens.specs.Token.{Tok, Annotation}
+use Rattle.wat_tokens.specs.Production.{Production}
+use Rattle.wat_tokens.specs.Parts.{made, where_else}
+use Rattle.wat_tokens.specs.Views.{no_items}
+use Rattle.wat_links.specs.Raw.{RawTy, seen_raw, bare_raw, raw_custom}
+use Rattle.wat_links.specs.Producers.{seen_producers, producers}
+use Rattle.wat_links.specs.ProducerEntry.{Versioned}
+use Rattle.wat_links.specs.Dylink.{SubsectionTy, seen_dylink}
+use Rattle.wat_links.specs.Cutting.{dylink}
+use Rattle.wat_links.specs.declared.place.CustomPlace.{CustomPlace}
+use Rattle.wat_links.specs.declared.place.CustomPlace.TheVariants.{BeforeFirst, AfterLast}
+use Rattle.wat_links.specs.declared.custom.Custom.{Custom}
+use Rattle.wat_links.specs.declared.custom.Custom.TheVariants as code
+
+-- the bytes of one of any name, the fields of a `producers` section, or the subsections of a
+-- `dylink.0` section
+pub data CustomTy : Type 0 where
+  raw : RawTy → CustomTy
+  produced : List (List ℕ × List Versioned) → CustomTy
+  linked : List SubsectionTy → CustomTy
+
+abbrev pub seen_custom : Custom → CustomTy
+seen_custom (code.Raw r) = raw (seen_raw r)
+seen_custom (code.Producers p) = produced (seen_producers p)
+seen_custom (code.Dylink0 d) = linked (seen_dylink d)
+
+-- no bytes, no field, no subsection
+abbrev pub bare_custom : CustomTy → Bool
+bare_custom (raw r) = bare_raw r
+bare_custom (produced fs) = no_items fs
+bare_custom (linked ss) = no_items ss
+
+-- where it stands
+abbrev pub place_of : Custom → CustomPlace
+place_of (code.Raw r) = r.place
+place_of (code.Producers p) = AfterLast
+place_of (code.Dylink0 d) = BeforeFirst
+
+-- its name
+abbrev pub custom_name : Custom → List ℕ
+custom_name (code.Raw r) = r.name.now
+custom_name (code.Producers p) = codes "producers"
+custom_name (code.Dylink0 d) = codes "dylink.0"
+
+-- the annotation of the name
+abbrev pub begins_annotated : List ℕ → List Tok → Bool
+begins_annotated name (Annotation n ∷ r) = bytes_eq n name
+begins_annotated name _ = false
+
+-- @producers .. | @dylink.0 .. | @custom ..
+unfoldable pub custom : Production CustomTy
+custom =
+    where_else (begins_annotated (codes "producers")) (made produced producers)
+    (where_else (begins_annotated (codes "dylink.0")) (made linked dylink)
+    (made raw raw_custom))

@@ -1,0 +1,18 @@
+-- What the subsections of a dylink section spell: its entries, cut into lists.
+use Rattle.std.specs.Prelude.{List, flat_map}
+use Rattle.wat_tokens.specs.Token.{Tok}
+use Rattle.wat_tokens.specs.Tests.{more}
+use Rattle.wat_tokens.specs.Production.{Production}
+use Rattle.wat_tokens.specs.Many.{many}
+use Rattle.wat_links.specs.Dylink.{SubsectionTy}
+use Rattle.wat_links.specs.Entries.{EntryTy, entry, entries_in, AreCut}
+use Rattle.wat_links.specs.Laws.Entries.{entry_eats}
+
+-- entries, to the end
+unfoldable pub entries : Production (List EntryTy)
+entries = many more entry entry_eats
+
+-- the tokens spell the entries of all subsections, one behind the other, and the subsections are
+-- cut
+abbrev pub CutSpells : List SubsectionTy → List Tok → List Tok → Type 0
+CutSpells ss c r = entries.spells (flat_map entries_in ss) c r × AreCut ss

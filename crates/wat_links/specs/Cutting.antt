@@ -1,0 +1,19 @@
+-- A `dylink.0` section is read as subsections that its entries are cut into.
+use Rattle.std.specs.Prelude.{List, codes}
+use Rattle.wat_tokens.specs.Production.{Production}
+use Rattle.wat_tokens.specs.Restated.{restated}
+use Rattle.wat_tokens.specs.Parts.{annotation}
+use Rattle.wat_links.specs.Dylink.{SubsectionTy}
+use Rattle.wat_links.specs.Subsections.{subsections}
+use Rattle.wat_links.specs.CutForm.{CutSpells}
+use Rattle.wat_links.specs.Laws.Cutting.{cut_to, cut_from}
+
+-- ---- the section
+
+-- entries to the end, cut into subsections
+unfoldable pub cut_subsections : Production (List SubsectionTy)
+cut_subsections = restated subsections CutSpells cut_to cut_from
+
+-- @dylink.0 entries
+unfoldable pub dylink : Production (List SubsectionTy)
+dylink = annotation (codes "dylink.0") cut_subsections

@@ -1,0 +1,114 @@
+-- The `dylink.0` section.
+use Rattle.std.specs.Prelude.{◌≤◌, ℕ, Bool, true, List, ◌∷◌, codes, map, unwrap_or}
+use Rattle.std.specs.Borrow.{Bor}
+use Rattle.std.proofs.Common.{lit≤}
+use Rattle.wat_tokens.specs.Token.{Tok}
+use Rattle.wat_tokens.specs.Tests.{begins_group, begins_word, second, more}
+use Rattle.wat_tokens.specs.Production.{Production}
+use Rattle.wat_tokens.specs.Parts.{seq, made, where_else, opt}
+use Rattle.wat_tokens.specs.Groups.{group}
+use Rattle.wat_tokens.specs.Many.{many}
+use Rattle.wat_tokens.specs.Integers.{unsigned}
+use Rattle.wat_tokens.specs.Strings.{text}
+use Rattle.wat_tokens.specs.Views.{no_items}
+use Rattle.wat_links.specs.declared.dylink.Dylink0.{Dylink0}
+use Rattle.wat_links.specs.declared.dylink.Dylink0Subsection.{Dylink0Subsection}
+use Rattle.wat_links.specs.declared.dylink.Dylink0Subsection.TheVariants as code
+use Rattle.wat_links.specs.DylinkEntries.{export_entry, import_entry}
+use Rattle.wat_links.specs.Laws.DylinkEntries.{export_entry_eats, import_entry_eats}
+
+-- ---- what contracts see
+
+pub data SubsectionTy : Type 0 where
+  mem_info : ℕ → ℕ → ℕ → ℕ → SubsectionTy
+  needed : List (List ℕ) → SubsectionTy
+  export_info : List (List ℕ × ℕ) → SubsectionTy
+  import_info : List (List ℕ × List ℕ × ℕ) → SubsectionTy
+  runtime_path : List (List ℕ) → SubsectionTy
+  target_arch : List ℕ → SubsectionTy
+
+abbrev pub seen_dylink_export : Bor (List ℕ) × ℕ → List ℕ × ℕ
+seen_dylink_export e = (e.0.now, e.1)
+
+abbrev pub seen_dylink_import : Bor (List ℕ) × Bor (List ℕ) × ℕ → List ℕ × List ℕ × ℕ
+seen_dylink_import e = (e.0.now, e.1.now, e.2)
+
+abbrev pub seen_subsection : Dylink0Subsection → SubsectionTy
+seen_subsection (code.MemInfo ms ma ts ta) = mem_info ms ma ts ta
+seen_subsection (code.Needed xs) = needed (map (λ x. x.now) xs.items)
+seen_subsection (code.ExportInfo es) = export_info (map seen_dylink_export es.items)
+seen_subsection (code.ImportInfo es) = import_info (map seen_dylink_import es.items)
+seen_subsection (code.RuntimePath xs) = runtime_path (map (λ x. x.now) xs.items)
+seen_subsection (code.TargetArch x) = target_arch x.now
+
+abbrev pub seen_dylink : Dylink0 → List SubsectionTy
+seen_dylink d = map seen_subsection d.subsections.items
+
+-- no name and no entry
+abbrev pub bare_subsection : SubsectionTy → Bool
+bare_subsection (mem_info ms ma ts ta) = true
+bare_subsection (needed xs) = no_items xs
+bare_subsection (export_info es) = no_items es
+bare_subsection (import_info es) = no_items es
+bare_subsection (runtime_path xs) = no_items xs
+bare_subsection (target_arch x) = true
+
+-- the number that a binary module gives to its kind
+abbrev pub id_of : Dylink0Subsection → ℕ
+id_of (code.MemInfo ms ma ts ta) = 1
+id_of (code.Needed xs) = 2
+id_of (code.ExportInfo es) = 3
+id_of (code.ImportInfo es) = 4
+id_of (code.RuntimePath xs) = 5
+id_of (code.TargetArch x) = 6
+
+-- ---- entries that stand alone
+
+abbrev pub no_size : ℕ × ℕ
+no_size = (0, 0)
+
+-- ( word size alignment ), where the second token is the word; else 0 and 0
+unfoldable pub sizes : List ℕ → Production (ℕ × ℕ)
+sizes w = made (λ o. unwrap_or o no_size)
+    (opt (second (begins_word w)) (group w (seq (unsigned 32) (unsigned 32))))
+
+-- ( mem-info ( memory u32 u32 )? ( table u32 u32 )? )
+unfoldable pub mem_info_entry : Production SubsectionTy
+mem_info_entry =
+    group (codes "mem-info") (made (λ v. mem_info v.0.0 v.0.1 v.1.0 v.1.1)
+    (seq (sizes (codes "memory")) (sizes (codes "table"))))
+
+-- ( word name* )
+unfoldable pub names_entry : List ℕ → Production (List (List ℕ))
+names_entry w = group w (many more text (lit≤ tt))
+
+-- ( mem-info .. ) | ( needed name* ) | ( runtime-path name* ) | ( target-arch name )
+unfoldable pub lone_entry : Production SubsectionTy
+lone_entry =
+    where_else (begins_group (codes "mem-info")) mem_info_entry
+    (where_else (begins_group (codes "needed")) (made needed (names_entry (codes "needed")))
+    (where_else (begins_group (codes "runtime-path"))
+    (made runtime_path (names_entry (codes "runtime-path")))
+    (made target_arch (group (codes "target-arch") text))))
+
+-- ---- entries of exports and of imports
+
+abbrev pub begins_export : List Tok → Bool
+begins_export t = begins_group (codes "export-info") t
+
+abbrev pub begins_import : List Tok → Bool
+begins_import t = begins_group (codes "import-info") t
+
+-- an entry, and all others of its kind that stand behind it
+abbrev pub run : {A : Type 0} → (List Tok → Bool) → (g : Production A) → 1 ≤ g.least
+    → Production (List A)
+run begins g eats = made (λ v. v.0 ∷ v.1) (seq g (many begins g eats))
+
+-- ---- subsections
+
+-- a run of export entries, a run of import entries, or another entry alone
+unfoldable pub subsection : Production SubsectionTy
+subsection =
+    where_else begins_export (made export_info (run begins_export export_entry export_entry_eats))
+    (where_else begins_import (made import_info (run begins_import import_entry import_entry_eats))
+    lone_entry)

@@ -1,0 +1,41 @@
+-- The subsections of a `dylink.0` section, as its entries are cut into them.
+use Rattle.std.specs.Prelude.{ℕ, List, [], ◌∷◌, map, ⊤}
+use Rattle.wat_tokens.specs.Production.{Production}
+use Rattle.wat_tokens.specs.Parts.{made, where_else}
+use Rattle.wat_links.specs.Dylink.{SubsectionTy, export_info, import_info, begins_export}
+use Rattle.wat_links.specs.Dylink.{begins_import, lone_entry}
+use Rattle.wat_links.specs.DylinkEntries.{export_entry, import_entry}
+
+-- an entry: of an export, of an import, or another
+pub data EntryTy : Type 0 where
+  of_export : List ℕ × ℕ → EntryTy
+  of_import : List ℕ × List ℕ × ℕ → EntryTy
+  other : SubsectionTy → EntryTy
+
+-- ( export-info .. ) | ( import-info .. ) | another entry
+unfoldable pub entry : Production EntryTy
+entry = where_else begins_export (made of_export export_entry)
+    (where_else begins_import (made of_import import_entry) (made other lone_entry))
+
+-- the entries that a subsection holds
+abbrev pub entries_in : SubsectionTy → List EntryTy
+entries_in (export_info xs) = map of_export xs
+entries_in (import_info xs) = map of_import xs
+entries_in s = other s ∷ []
+
+-- a subsection of exports or of imports has an entry at least
+abbrev pub IsFilled : SubsectionTy → Type 0
+IsFilled (export_info []) = ⊥
+IsFilled (import_info []) = ⊥
+IsFilled _ = ⊤
+
+-- it isn't of exports as the first of the others, nor of imports as that
+abbrev pub IsApart : SubsectionTy → List SubsectionTy → Type 0
+IsApart (export_info xs) (export_info ys ∷ ss) = ⊥
+IsApart (import_info xs) (import_info ys ∷ ss) = ⊥
+IsApart _ _ = ⊤
+
+-- none is empty, and no two neighbours are both of exports or both of imports
+abbrev pub AreCut : List SubsectionTy → Type 0
+AreCut [] = ⊤
+AreCut (s ∷ ss) = IsFilled s × IsApart s ss × AreCut ss

@@ -1,0 +1,17 @@
+-- Flags of symbols in the `dylink.0` section.
+use Rattle.std.specs.Prelude.{ℕ, List, fold}
+use Rattle.std.specs.Int.Bits.{bit_or}
+use Rattle.wat_tokens.specs.Tests.{more}
+use Rattle.wat_tokens.specs.Production.{Production}
+use Rattle.wat_tokens.specs.Parts.{made}
+use Rattle.wat_tokens.specs.Many.{many}
+use Rattle.wat_links.specs.FlagBits.{flag_bits}
+use Rattle.wat_links.specs.Laws.Flags.{flag_bits_eats}
+
+-- ( u32 | a word of flags )*, to the end
+unfoldable pub flag_list : Production (List ℕ)
+flag_list = many more flag_bits flag_bits_eats
+
+-- the bits of all, joined by or
+unfoldable pub symbol_flags : Production ℕ
+symbol_flags = made (λ ns. fold bit_or 0 ns) flag_list

@@ -1,0 +1,15 @@
+-- Laws: entries of the dylink section: an export, an import.
+use Rattle.std.specs.Prelude.{◌≤◌}
+use Rattle.std.proofs.Common.{lit≤}
+use Rattle.wat_links.specs.Flags.{flag_list, symbol_flags}
+use Rattle.wat_links.specs.DylinkEntries.{export_entry, import_entry}
+
+-- ---- entries of exports and of imports
+
+pub export_entry_eats : 1 ≤ export_entry.least
+unfolding export_entry symbol_flags flag_list
+export_entry_eats = lit≤ tt
+
+pub import_entry_eats : 1 ≤ import_entry.least
+unfolding import_entry symbol_flags flag_list
+import_entry_eats = lit≤ tt

@@ -1,0 +1,12 @@
+-- Laws: the subsections of a `dylink.0` section, as its entries are cut into them.
+use Rattle.std.specs.Prelude.{◌≤◌}
+use Rattle.std.proofs.Common.{lit≤}
+use Rattle.wat_links.specs.Flags.{flag_list, symbol_flags}
+use Rattle.wat_links.specs.Dylink.{lone_entry, mem_info_entry, sizes, names_entry}
+use Rattle.wat_links.specs.DylinkEntries.{export_entry, import_entry}
+use Rattle.wat_links.specs.Entries.{entry}
+
+pub entry_eats : 1 ≤ entry.least
+unfolding entry export_entry import_entry symbol_flags flag_list lone_entry mem_info_entry sizes
+    names_entry
+entry_eats = lit≤ tt

@@ -1,0 +1,8 @@
+-- Laws: flags of symbols in the `dylink.0` section.
+use Rattle.std.specs.Prelude.{◌≤◌}
+use Rattle.std.proofs.Common.{lit≤}
+use Rattle.wat_links.specs.FlagBits.{flag_bits}
+
+pub flag_bits_eats : 1 ≤ flag_bits.least
+unfolding flag_bits
+flag_bits_eats = lit≤ tt

@@ -1,0 +1,10 @@
+-- Laws: the `producers` section.
+use Rattle.std.specs.Prelude.{◌≤◌}
+use Rattle.std.proofs.Common.{lit≤}
+use Rattle.wat_links.specs.ProducerEntry.{field_word, producer_entry}
+
+-- ---- entries
+
+pub producer_entry_eats : 1 ≤ producer_entry.least
+unfolding producer_entry field_word
+producer_entry_eats = lit≤ tt

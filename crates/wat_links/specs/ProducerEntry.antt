@@ -1,0 +1,32 @@
+-- One entry of the producers section.
+use Rattle.std.specs.Prelude.{ℕ, List, [], ◌∷◌, codes, refl}
+use Rattle.wat_tokens.specs.Tests.{word_in}
+use Rattle.wat_tokens.specs.Production.{Production}
+use Rattle.wat_tokens.specs.Parts.{one, seq}
+use Rattle.wat_tokens.specs.Groups.{paren}
+use Rattle.wat_tokens.specs.Strings.{text}
+use Rattle.wat_links.specs.declared.producers.Field.{Field}
+use Rattle.wat_links.specs.declared.producers.Field.TheVariants.{Language, Sdk, ProcessedBy}
+
+-- ---- entries
+
+-- the fields, by their words
+abbrev pub field_words : List (List ℕ × Field)
+field_words =
+    (codes "language", Language) ∷ (codes "sdk", Sdk) ∷ (codes "processed-by", ProcessedBy) ∷ []
+
+-- a name and a version
+abbrev pub Versioned : Type 0
+Versioned = List ℕ × List ℕ
+
+-- the field that it is of, its name and its version
+abbrev pub ProducerTy : Type 0
+ProducerTy = Field × Versioned
+
+-- the word of a field
+unfoldable pub field_word : Production Field
+field_word = one (word_in field_words) (refl, refl)
+
+-- ( `language` | `sdk` | `processed-by` , name version )
+unfoldable pub producer_entry : Production ProducerTy
+producer_entry = paren (seq field_word (seq text text))

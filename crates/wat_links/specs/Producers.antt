@@ -1,0 +1,67 @@
+-- The `producers` section.
+use Rattle.std.specs.Prelude.{ℕ, Bool, true, false, List, [], ◌∷◌, ◌++◌, codes, map, filter}
+use Rattle.std.specs.Borrow.{Bor}
+use Rattle.wat_tokens.specs.Tests.{more}
+use Rattle.wat_tokens.specs.Production.{Production}
+use Rattle.wat_tokens.specs.Parts.{made, annotation}
+use Rattle.wat_tokens.specs.Many.{many}
+use Rattle.wat_links.specs.declared.producers.Field.{Field}
+use Rattle.wat_links.specs.declared.producers.Field.TheVariants.{Language, Sdk, ProcessedBy}
+use Rattle.wat_links.specs.declared.producers.ProducerEntry.{ProducerEntry}
+use Rattle.wat_links.specs.declared.producers.Producers.{Producers}
+use Rattle.wat_links.specs.ProducerEntry.{ProducerTy, producer_entry, Versioned}
+use Rattle.wat_links.specs.Laws.Producers.{producer_entry_eats}
+
+-- ---- entries
+
+abbrev pub word_of : Field → List ℕ
+word_of Language = codes "language"
+word_of Sdk = codes "sdk"
+word_of ProcessedBy = codes "processed-by"
+
+abbrev pub same_field : Field → Field → Bool
+same_field Language Language = true
+same_field Sdk Sdk = true
+same_field ProcessedBy ProcessedBy = true
+same_field _ _ = false
+
+abbrev pub seen_entry : ProducerEntry → ProducerTy
+seen_entry e = (e.field, (e.name.now, e.version.now))
+
+-- entries, to the end
+unfoldable pub producer_entries : Production (List ProducerTy)
+producer_entries = many more producer_entry producer_entry_eats
+
+-- ---- fields
+
+-- the entries of the field, in order
+abbrev pub field_entries : Field → List ProducerTy → List Versioned
+field_entries f es = map (λ e. e.1) (filter (λ e. same_field e.0 f) es)
+
+-- a field with its entries, where it has any
+abbrev pub with_entries : List ℕ → List Versioned → List (List ℕ × List Versioned)
+with_entries w [] = []
+with_entries w (x ∷ xs) = (w, x ∷ xs) ∷ []
+
+abbrev pub field_with_entries : Field → List ProducerTy → List (List ℕ × List Versioned)
+field_with_entries f es = with_entries (word_of f) (field_entries f es)
+
+-- the three fields in this order, each with its entries; those without any are left out
+abbrev pub fields_of : List ProducerTy → List (List ℕ × List Versioned)
+fields_of es =
+    (field_with_entries Language es ++ field_with_entries Sdk es)
+    ++ field_with_entries ProcessedBy es
+
+-- what contracts see of names with versions
+abbrev pub seen_names : List (Bor (List ℕ) × Bor (List ℕ)) → List Versioned
+seen_names xs = map (λ x. (x.0.now, x.1.now)) xs
+
+abbrev pub seen_entries : List ProducerEntry → List ProducerTy
+seen_entries es = map seen_entry es
+
+abbrev pub seen_producers : Producers → List (List ℕ × List Versioned)
+seen_producers p = map (λ f. (f.0.now, seen_names f.1.items)) p.fields.items
+
+-- @producers entries
+unfoldable pub producers : Production (List (List ℕ × List Versioned))
+producers = annotation (codes "producers") (made fields_of producer_entries)

@@ -1,0 +1,44 @@
+-- Custom sections of any name, with their bytes.
+use Rattle.std.specs.Prelude.{ℕ, Bool, List, codes, map, unwrap_or}
+use Rattle.std.proofs.Common.{lit≤}
+use Rattle.wat_tokens.specs.Tests.{more, begins_lparen}
+use Rattle.wat_tokens.specs.Production.{Production}
+use Rattle.wat_tokens.specs.Parts.{seq, made, opt, annotation}
+use Rattle.wat_tokens.specs.Groups.{paren}
+use Rattle.wat_tokens.specs.Many.{many}
+use Rattle.wat_tokens.specs.Strings.{string, text}
+use Rattle.wat_tokens.specs.Views.{no_items}
+use Rattle.wat_links.specs.Place.{custom_place}
+use Rattle.wat_links.specs.declared.place.CustomPlace.{CustomPlace}
+use Rattle.wat_links.specs.declared.place.CustomPlace.TheVariants.{AfterLast}
+use Rattle.wat_links.specs.declared.raw.RawCustomSection.{RawCustomSection}
+
+-- a raw custom section, without its place in the text
+pub record RawTy : Type 0 where
+  pub name : List ℕ
+  pub place : CustomPlace
+  pub «data» : List (List ℕ)
+
+abbrev pub raw_of : List ℕ → CustomPlace → List (List ℕ) → RawTy
+raw_of n p d = record { name = n; place = p; «data» = d }
+
+abbrev pub seen_raw : RawCustomSection → RawTy
+seen_raw r = raw_of r.name.now r.place (map (λ s. s.now) r.data.items)
+
+-- no string of bytes
+abbrev pub bare_raw : RawTy → Bool
+bare_raw r = no_items r.data
+
+-- ( place )?, without it behind the last section
+unfoldable pub raw_place : Production CustomPlace
+raw_place = made (λ p. unwrap_or p AfterLast) (opt begins_lparen (paren custom_place))
+
+-- bytes*, to the end
+unfoldable pub raw_data : Production (List (List ℕ))
+raw_data = many more string (lit≤ tt)
+
+-- @custom name ( place )? bytes*
+unfoldable pub raw_custom : Production RawTy
+raw_custom =
+    annotation (codes "custom") (made (λ v. raw_of v.0 v.1.0 v.1.1)
+    (seq text (seq raw_place raw_data)))

@@ -1,0 +1,79 @@
+//! Custom sections.
+
+ghost use Rattle.std.specs.Prelude.{◌≡◌};
+ghost use Rattle.wat_tokens.specs.Views.{owning};
+ghost use Rattle.wat_links.specs.Custom.{CustomTy, seen_custom, bare_custom, place_of};
+ghost use Rattle.wat_links.specs.Custom.{custom_name, begins_annotated, custom};
+
+use crate::dylink::Dylink0;
+use crate::place::CustomPlace;
+use crate::producers::Producers;
+use crate::raw::RawCustomSection;
+use wat_tokens::{Parse, Parser, Result};
+
+/// A custom section (WebAssembly Core Specification, Text Format, "Custom Annotation").
+#[derive(Debug, Drop)]
+pub enum Custom<'a> {
+    /// One of any name, as its bytes.
+    Raw(RawCustomSection<'a>),
+    /// The `producers` section.
+    Producers(Producers<'a>),
+    /// The `dylink.0` section.
+    Dylink0(Dylink0<'a>),
+}
+
+impl<'a> Custom<'a> {
+    /// Where it stands: a `producers` section behind the last section, a `dylink.0` section before
+    /// the first.
+    pub fn place(&self) -> CustomPlace
+        ensures { result ≡ place_of self.now }
+    {
+        match self {
+            Custom::Raw(section) => section.place,
+            Custom::Producers(_) => CustomPlace::AfterLast,
+            Custom::Dylink0(_) => CustomPlace::BeforeFirst,
+        }
+    }
+
+    /// Its name.
+    pub fn name(&self) -> &'a str
+        ensures { result.now ≡ custom_name self.now }
+    {
+        match self {
+            Custom::Raw(section) => section.name,
+            Custom::Producers(_) => "producers",
+            Custom::Dylink0(_) => "dylink.0",
+        }
+    }
+}
+
+/// Whether the annotation of the name, given without its `@`, stands in front.
+fn annotation_next(parser: &Parser<'_>, name: &str) -> bool
+    ensures { result ≡ begins_annotated name.now parser.now.left }
+{
+    match parser.cursor().annotation() {
+        Some((text, _)) => text == name,
+        None => false,
+    }
+}
+
+/// A [`Producers`] where the annotation `producers` stands in front, a [`Dylink0`] where `dylink.0`
+/// does, else a [`RawCustomSection`]. The parser stands behind the `(` of the annotation's group.
+impl<'a> Parse<'a> for Custom<'a> {
+    ghost Seen = { CustomTy };
+
+    ghost view = { owning seen_custom bare_custom };
+
+    ghost grammar = { custom };
+
+    #[tactic(auto, unfolding(crate::specs::Custom::custom))]
+    fn parse(parser: &mut Parser<'a>) -> Result<Self> {
+        if annotation_next(parser, "producers") {
+            return Producers::parse(parser).map(Custom::Producers);
+        }
+        if annotation_next(parser, "dylink.0") {
+            return Ok(Custom::Dylink0(Dylink0::parse(parser)?));
+        }
+        RawCustomSection::parse(parser).map(Custom::Raw)
+    }
+}

@@ -1,0 +1,267 @@
+//! The `dylink.0` section.
+
+ghost use Rattle.std.specs.Prelude.{◌≡◌, ℕ, codes, List, map};
+ghost use Rattle.wat_tokens.specs.Reads.{Reads};
+ghost use Rattle.wat_tokens.specs.Tests.{more};
+ghost use Rattle.wat_tokens.specs.Views.{plain, owning, no_items};
+ghost use Rattle.wat_links.specs.Dylink.{SubsectionTy, seen_dylink_export, seen_dylink_import};
+ghost use Rattle.wat_links.specs.Dylink.{seen_subsection};
+ghost use Rattle.wat_links.specs.Dylink.{seen_dylink, bare_subsection, id_of, sizes};
+ghost use Rattle.wat_links.specs.Dylink.{mem_info_entry, names_entry, lone_entry, begins_export};
+ghost use Rattle.wat_links.specs.Dylink.{begins_import, run, subsection};
+ghost use Rattle.wat_links.specs.DylinkEntries.{export_entry, import_entry};
+ghost use Rattle.wat_links.specs.Laws.DylinkEntries.{export_entry_eats, import_entry_eats};
+ghost use Rattle.wat_links.specs.Cutting.{dylink};
+
+use crate::flags::read_flags;
+use wat_tokens::repeat::{Part, parts, rest_of_group};
+use wat_tokens::{Parse, Parser, Result};
+
+/// The `dylink.0` section, which a dynamically linked module carries (WebAssembly Core
+/// Specification, Text Format, "Custom Annotation", and the tool conventions on dynamic linking).
+#[derive(Debug, Drop)]
+pub struct Dylink0<'a> {
+    /// Its subsections: export entries that stand side by side make one, and so do import entries;
+    /// every other entry is one of its own.
+    pub subsections: Vec<Dylink0Subsection<'a>>,
+}
+
+/// A subsection of the `dylink.0` section.
+#[derive(Debug, Drop)]
+pub enum Dylink0Subsection<'a> {
+    /// `mem-info`: what the module needs of the memory and of the table, 0 where that isn't
+    /// written.
+    MemInfo {
+        /// How many bytes of the memory.
+        memory_size: u32,
+        /// The k for which the place in the memory is aligned to 2 to the k bytes.
+        memory_align: u32,
+        /// How many elements of the table.
+        table_size: u32,
+        /// The k for which the place in the table is aligned to 2 to the k elements.
+        table_align: u32,
+    },
+    /// `needed`: the names of the modules that it needs.
+    Needed(Vec<&'a str>),
+    /// `export-info`: the names of exports, each with its flags.
+    ExportInfo(Vec<(&'a str, u32)>),
+    /// `import-info`: the modules and names of imports, each with its flags.
+    ImportInfo(Vec<(&'a str, &'a str, u32)>),
+    /// `runtime-path`: the paths where modules are looked for.
+    RuntimePath(Vec<&'a str>),
+    /// `target-arch`: the architecture that it is for.
+    TargetArch(&'a str),
+}
+
+impl Dylink0Subsection<'_> {
+    /// The number of its kind in a binary module: 1 to 6, in the order of the variants.
+    pub fn id(&self) -> u8
+        ensures { result ≡ id_of self.now }
+    {
+        match self {
+            Dylink0Subsection::MemInfo { .. } => 1,
+            Dylink0Subsection::Needed(_) => 2,
+            Dylink0Subsection::ExportInfo(_) => 3,
+            Dylink0Subsection::ImportInfo(_) => 4,
+            Dylink0Subsection::RuntimePath(_) => 5,
+            Dylink0Subsection::TargetArch(_) => 6,
+        }
+    }
+}
+
+/// `( word size alignment )`, where the second token is the word; else 0 and 0.
+#[tactic(auto, unfolding(crate::specs::Dylink::sizes))]
+fn read_sizes<'a>(parser: &mut Parser<'a>, word: &str) -> Result<(u32, u32)>
+    ensures reads { Reads (plain (λ s. s)) (sizes word.now) result parser.old parser.new }
+{
+    if !parser.second_is(word) {
+        return Ok((0, 0));
+    }
+    parser.open()?;
+    parser.keyword(word)?;
+    let size = u32::parse(parser)?;
+    let align = u32::parse(parser)?;
+    parser.close()?;
+    Ok((size, align))
+}
+
+/// `( mem-info ( memory u32 u32 ) ( table u32 u32 ) )`, the inner groups there or not.
+#[tactic(auto, unfolding(crate::specs::Dylink::mem_info_entry))]
+fn read_mem_info<'a>(parser: &mut Parser<'a>) -> Result<Dylink0Subsection<'a>>
+    ensures reads { Reads (plain seen_subsection) mem_info_entry result parser.old parser.new }
+{
+    parser.open()?;
+    parser.keyword("mem-info")?;
+    let (memory_size, memory_align) = read_sizes(parser, "memory")?;
+    let (table_size, table_align) = read_sizes(parser, "table")?;
+    parser.close()?;
+    Ok(Dylink0Subsection::MemInfo {
+        memory_size,
+        memory_align,
+        table_size,
+        table_align,
+    })
+}
+
+/// The word and names, in parentheses.
+#[tactic(auto, unfolding(crate::specs::Dylink::names_entry))]
+fn read_names<'a>(parser: &mut Parser<'a>, word: &str) -> Result<Vec<&'a str>>
+    ensures reads { Reads (owning (λ v. map (λ x. x.now) v.items) no_items) (names_entry word.now)
+        result parser.old parser.new }
+{
+    parser.open()?;
+    parser.keyword(word)?;
+    let mut names = Vec::new(parser.alloc());
+    rest_of_group::<&str>(parser, &mut names)?;
+    parser.close()?;
+    Ok(names)
+}
+
+/// An entry that is no export or import entry.
+#[tactic(auto, unfolding(crate::specs::Dylink::lone_entry))]
+fn read_lone<'a>(parser: &mut Parser<'a>) -> Result<Dylink0Subsection<'a>>
+    ensures reads { Reads (owning seen_subsection bare_subsection) lone_entry result parser.old
+        parser.new }
+{
+    if parser.group_is("mem-info") {
+        return read_mem_info(parser);
+    }
+    if parser.group_is("needed") {
+        return Ok(Dylink0Subsection::Needed(read_names(parser, "needed")?));
+    }
+    if parser.group_is("runtime-path") {
+        return Ok(Dylink0Subsection::RuntimePath(read_names(parser, "runtime-path")?));
+    }
+    parser.open()?;
+    parser.keyword("target-arch")?;
+    let name = <&str as Parse>::parse(parser)?;
+    parser.close()?;
+    Ok(Dylink0Subsection::TargetArch(name))
+}
+
+/// `( export-info name flags )`
+struct ExportEntry;
+
+impl<'a> Part<'a, (&'a str, u32)> for ExportEntry {
+    ghost Seen = { List ℕ × ℕ };
+
+    ghost view = { plain seen_dylink_export };
+
+    ghost grammar = { export_entry };
+
+    ghost follows = { begins_export };
+
+    fn follows(parser: &Parser<'a>) -> bool {
+        parser.group_is("export-info")
+    }
+
+    #[tactic(auto, unfolding(crate::specs::DylinkEntries::export_entry))]
+    fn take(parser: &mut Parser<'a>) -> Result<(&'a str, u32)> {
+        parser.open()?;
+        parser.keyword("export-info")?;
+        let name = <&str as Parse>::parse(parser)?;
+        let flags = read_flags(parser)?;
+        parser.close()?;
+        Ok((name, flags))
+    }
+}
+
+/// `( import-info module name flags )`
+struct ImportEntry;
+
+impl<'a> Part<'a, (&'a str, &'a str, u32)> for ImportEntry {
+    ghost Seen = { List ℕ × List ℕ × ℕ };
+
+    ghost view = { plain seen_dylink_import };
+
+    ghost grammar = { import_entry };
+
+    ghost follows = { begins_import };
+
+    fn follows(parser: &Parser<'a>) -> bool {
+        parser.group_is("import-info")
+    }
+
+    #[tactic(auto, unfolding(crate::specs::DylinkEntries::import_entry))]
+    fn take(parser: &mut Parser<'a>) -> Result<(&'a str, &'a str, u32)> {
+        parser.open()?;
+        parser.keyword("import-info")?;
+        let module = <&str as Parse>::parse(parser)?;
+        let name = <&str as Parse>::parse(parser)?;
+        let flags = read_flags(parser)?;
+        parser.close()?;
+        Ok((module, name, flags))
+    }
+}
+
+/// An export entry, and all that stand behind it.
+#[tactic(auto, using(crate::specs::Laws::DylinkEntries::export_entry_eats, crate::proofs::Runs::run_not_bare))]
+fn read_exports<'a>(parser: &mut Parser<'a>) -> Result<Vec<(&'a str, u32)>>
+    ensures reads { Reads (owning (λ v. map seen_dylink_export v.items) no_items)
+        (run begins_export export_entry export_entry_eats) result parser.old parser.new }
+{
+    let mut entries = Vec::new(parser.alloc());
+    entries.push(ExportEntry::take(parser)?)?;
+    parts::<_, ExportEntry>(parser, &mut entries)?;
+    Ok(entries)
+}
+
+/// An import entry, and all that stand behind it.
+#[tactic(auto, using(crate::specs::Laws::DylinkEntries::import_entry_eats, crate::proofs::Runs::run_not_bare))]
+fn read_imports<'a>(parser: &mut Parser<'a>) -> Result<Vec<(&'a str, &'a str, u32)>>
+    ensures reads { Reads (owning (λ v. map seen_dylink_import v.items) no_items)
+        (run begins_import import_entry import_entry_eats) result parser.old parser.new }
+{
+    let mut entries = Vec::new(parser.alloc());
+    entries.push(ImportEntry::take(parser)?)?;
+    parts::<_, ImportEntry>(parser, &mut entries)?;
+    Ok(entries)
+}
+
+/// A subsection, up to the end of the group.
+struct Subsection;
+
+impl<'a> Part<'a, Dylink0Subsection<'a>> for Subsection {
+    ghost Seen = { SubsectionTy };
+
+    ghost view = { owning seen_subsection bare_subsection };
+
+    ghost grammar = { subsection };
+
+    ghost follows = { more };
+
+    fn follows(parser: &Parser<'a>) -> bool {
+        !parser.is_empty()
+    }
+
+    #[tactic(auto, unfolding(crate::specs::Dylink::subsection))]
+    fn take(parser: &mut Parser<'a>) -> Result<Dylink0Subsection<'a>> {
+        if parser.group_is("export-info") {
+            return Ok(Dylink0Subsection::ExportInfo(read_exports(parser)?));
+        }
+        if parser.group_is("import-info") {
+            return Ok(Dylink0Subsection::ImportInfo(read_imports(parser)?));
+        }
+        read_lone(parser)
+    }
+}
+
+/// `@dylink.0`, and entries up to the end of the group: `( mem-info ( memory u32 u32 ) ( table u32
+/// u32 ) )`, where each inner group may be left out, `( needed name* )`, `( export-info name flags
+/// )`, `( import-info module name flags )`, `( runtime-path name* )` and `( target-arch name )`.
+/// Flags are numbers and words, joined by or; another word is refused with Unexpected, at the word.
+impl<'a> Parse<'a> for Dylink0<'a> {
+    ghost Seen = { List SubsectionTy };
+
+    ghost view = { owning seen_dylink no_items };
+
+    ghost grammar = { dylink };
+
+    #[tactic(auto, using(crate::specs::Laws::Subsections::subsection_eats), unfolding(crate::specs::Cutting::dylink, crate::specs::Cutting::cut_subsections, crate::specs::Subsections::subsections))]
+    fn parse(parser: &mut Parser<'a>) -> Result<Self> {
+        parser.take_annotation("dylink.0")?;
+        let mut subsections = Vec::new(parser.alloc());
+        parts::<_, Subsection>(parser, &mut subsections)?;
+        Ok(Dylink0 { subsections })
+    }
+}

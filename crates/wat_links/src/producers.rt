@@ -1,0 +1,197 @@
+//! The `producers` section.
+
+ghost use Rattle.std.specs.Prelude.{◌≡◌, ◌++◌, ℕ, false, List, map, IfOk, IfErr};
+ghost use Rattle.wat_tokens.specs.Views.{plain, owning, no_items};
+ghost use Rattle.wat_links.specs.Producers.{word_of, same_field, seen_entry, seen_entries};
+ghost use Rattle.wat_links.specs.Producers.{seen_names, seen_producers, field_entries};
+ghost use Rattle.wat_links.specs.Producers.{field_with_entries};
+ghost use Rattle.wat_links.specs.Producers.{fields_of, producers};
+ghost use Rattle.wat_links.specs.ProducerEntry.{field_words, Versioned, ProducerTy, field_word};
+ghost use Rattle.wat_links.specs.ProducerEntry.{producer_entry};
+
+use std::alloc::Global;
+use wat_tokens::repeat::rest_of_group;
+use wat_tokens::words::{Named, take_named};
+use wat_tokens::{Error, Fault, Parse, Parser, Result};
+
+/// The `producers` section: by which languages and tools a module was made (WebAssembly Core
+/// Specification, Text Format, "Custom Annotation", and the tool conventions on this section).
+#[derive(Debug, Drop)]
+pub struct Producers<'a> {
+    /// The fields `language`, `sdk` and `processed-by`, in this order, each with its entries in the
+    /// order of the text: a name and a version. A field without an entry is left out.
+    pub fields: Vec<(&'a str, Vec<(&'a str, &'a str)>)>,
+}
+
+/// A field of the section.
+#[derive(Clone, Copy, Debug)]
+enum Field {
+    /// `language`
+    Language,
+    /// `sdk`
+    Sdk,
+    /// `processed-by`
+    ProcessedBy,
+}
+
+/// An entry of the section.
+#[derive(Clone, Copy, Debug)]
+struct ProducerEntry<'a> {
+    field: Field,
+    name: &'a str,
+    version: &'a str,
+}
+
+/// The field that a word names.
+impl Named for Field {
+    ghost words = { field_words };
+
+    fn named(word: &str) -> Option<Self> {
+        match word {
+            "language" => Some(Field::Language),
+            "sdk" => Some(Field::Sdk),
+            "processed-by" => Some(Field::ProcessedBy),
+            _ => None,
+        }
+    }
+}
+
+impl Field {
+    /// Its word.
+    fn word(self) -> &'static str
+        ensures { result.now ≡ word_of self }
+    {
+        match self {
+            Field::Language => "language",
+            Field::Sdk => "sdk",
+            Field::ProcessedBy => "processed-by",
+        }
+    }
+
+    /// Whether it is the other one.
+    fn is(self, other: Field) -> bool
+        ensures { result ≡ same_field self other }
+    {
+        match (self, other) {
+            (Field::Language, Field::Language) => true,
+            (Field::Sdk, Field::Sdk) => true,
+            (Field::ProcessedBy, Field::ProcessedBy) => true,
+            _ => false,
+        }
+    }
+}
+
+/// The word of a field.
+impl<'a> Parse<'a> for Field {
+    ghost use Rattle.wat_links.specs.declared.producers.Field.{Field};
+
+    ghost Seen = { Field };
+
+    ghost view = { plain (λ f. f) };
+
+    ghost grammar = { field_word };
+
+    #[tactic(auto, unfolding(crate::specs::ProducerEntry::field_word))]
+    fn parse(parser: &mut Parser<'a>) -> Result<Self> {
+        take_named(parser)
+    }
+}
+
+/// A field's word, a name and a version, in parentheses.
+impl<'a> Parse<'a> for ProducerEntry<'a> {
+    ghost Seen = { ProducerTy };
+
+    ghost view = { plain seen_entry };
+
+    ghost grammar = { producer_entry };
+
+    #[tactic(auto, unfolding(crate::specs::ProducerEntry::producer_entry))]
+    fn parse(parser: &mut Parser<'a>) -> Result<Self> {
+        parser.open()?;
+        let field = Field::parse(parser)?;
+        let name = <&str as Parse>::parse(parser)?;
+        let version = <&str as Parse>::parse(parser)?;
+        parser.close()?;
+        Ok(ProducerEntry {
+            field,
+            name,
+            version,
+        })
+    }
+}
+
+/// The entries of the field.
+fn field_entries<'a>(
+    alloc: Global,
+    entries: &[ProducerEntry<'a>],
+    field: Field,
+) -> Result<Vec<(&'a str, &'a str)>>
+    ensures ok { IfOk result (λ v. seen_names v.items ≡ field_entries field
+        (seen_entries entries.now)) }
+    ensures memory { IfErr result (λ e. e.fault ≡ Fault.Memory) }
+{
+    let mut found = Vec::new(alloc);
+    'entries: for entry in entries {
+        if entry.field.is(field) {
+            found.push((entry.name, entry.version))?;
+        }
+    }
+    Ok(found)
+}
+
+/// Puts the field, with its entries, behind those that are there, where it has any.
+fn add_field<'a>(
+    fields: &mut Vec<(&'a str, Vec<(&'a str, &'a str)>)>,
+    entries: &[ProducerEntry<'a>],
+    field: Field,
+) -> Result<()>
+    ensures ok { IfOk result (λ _. map (λ f. (f.0.now, seen_names f.1.items)) fields.new.items ≡ map
+        (λ f. (f.0.now, seen_names f.1.items)) fields.old.items ++ field_with_entries field
+        (seen_entries entries.now)) }
+    ensures memory { IfErr result (λ e. e.fault ≡ Fault.Memory) }
+{
+    let found = field_entries(*fields.allocator(), entries, field)?;
+    if !found.is_empty() {
+        fields.push((field.word(), found))?;
+    }
+    Ok(())
+}
+
+/// The fields that the entries make. Memory may be answered where there is an entry.
+fn fields_of<'a>(
+    alloc: Global,
+    entries: &[ProducerEntry<'a>],
+) -> Result<Vec<(&'a str, Vec<(&'a str, &'a str)>)>>
+    ensures ok { IfOk result (λ v. map (λ f. (f.0.now, seen_names f.1.items)) v.items ≡ fields_of
+        (seen_entries entries.now)) }
+    ensures memory { IfErr result (λ e. (e.fault ≡ Fault.Memory)
+        × (no_items (seen_entries entries.now) ≡ false)) }
+{
+    let mut fields = Vec::new(alloc);
+    if entries.is_empty() {
+        return Ok(fields);
+    }
+    add_field(&mut fields, entries, Field::Language)?;
+    add_field(&mut fields, entries, Field::Sdk)?;
+    add_field(&mut fields, entries, Field::ProcessedBy)?;
+    Ok(fields)
+}
+
+/// `@producers`, and entries up to the end of the group. Each is the word of a field, a name and a
+/// version, in parentheses.
+impl<'a> Parse<'a> for Producers<'a> {
+    ghost Seen = { List (List ℕ × List Versioned) };
+
+    ghost view = { owning seen_producers no_items };
+
+    ghost grammar = { producers };
+
+    #[tactic(auto, using(crate::specs::Laws::Producers::producer_entry_eats, crate::proofs::Fields::fields_not_bare, crate::proofs::Fields::entries_not_bare), unfolding(crate::specs::Producers::producers, crate::specs::Producers::producer_entries))]
+    fn parse(parser: &mut Parser<'a>) -> Result<Self> {
+        parser.take_annotation("producers")?;
+        let mut entries = Vec::new(parser.alloc());
+        rest_of_group::<ProducerEntry>(parser, &mut entries)?;
+        let fields = fields_of(parser.alloc(), &entries)?;
+        Ok(Producers { fields })
+    }
+}

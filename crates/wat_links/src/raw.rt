@@ -1,0 +1,70 @@
+//! Custom sections of any name, with their bytes.
+
+ghost use Rattle.std.specs.Prelude.{◌≡◌};
+ghost use Rattle.wat_links.specs.Raw.{RawTy, seen_raw, bare_raw, raw_place, raw_custom};
+ghost use Rattle.wat_tokens.specs.Reads.{Reads};
+ghost use Rattle.wat_tokens.specs.Tests.{begins_lparen};
+ghost use Rattle.wat_tokens.specs.Views.{plain, owning};
+
+use crate::place::CustomPlace;
+use wat_tokens::repeat::rest_of_group;
+use wat_tokens::{Parse, Parser, Result, Span};
+
+/// A custom section, as its bytes (WebAssembly Core Specification, Text Format, "Custom
+/// Annotation").
+#[derive(Debug, Drop)]
+pub struct RawCustomSection<'a> {
+    /// Where the annotation begins.
+    pub span: Span,
+    /// The name of the section.
+    pub name: &'a str,
+    /// Where it stands: behind the last section, where that isn't written.
+    pub place: CustomPlace,
+    /// Its bytes, in pieces, each a string.
+    pub data: Vec<&'a [u8]>,
+}
+
+/// Whether a `(` stands in front.
+fn lparen_next(parser: &Parser<'_>) -> bool
+    ensures { result ≡ begins_lparen parser.now.left }
+{
+    parser.cursor().lparen().is_some()
+}
+
+/// `( place )`, where a `(` stands in front; else behind the last section.
+#[tactic(auto, unfolding(crate::specs::Raw::raw_place))]
+fn read_place<'a>(parser: &mut Parser<'a>) -> Result<CustomPlace>
+    ensures reads { Reads (plain (λ p. p)) raw_place result parser.old parser.new }
+{
+    if !lparen_next(parser) {
+        return Ok(CustomPlace::AfterLast);
+    }
+    parser.open()?;
+    let place = CustomPlace::parse(parser)?;
+    parser.close()?;
+    Ok(place)
+}
+
+/// `@custom`, a name, a place in parentheses or none, and strings up to the end of the group.
+impl<'a> Parse<'a> for RawCustomSection<'a> {
+    ghost Seen = { RawTy };
+
+    ghost view = { owning seen_raw bare_raw };
+
+    ghost grammar = { raw_custom };
+
+    #[tactic(auto, unfolding(crate::specs::Raw::raw_custom, crate::specs::Raw::raw_data))]
+    fn parse(parser: &mut Parser<'a>) -> Result<Self> {
+        let span = parser.take_annotation("custom")?;
+        let name = <&str as Parse>::parse(parser)?;
+        let place = read_place(parser)?;
+        let mut data = Vec::new(parser.alloc());
+        rest_of_group::<&[u8]>(parser, &mut data)?;
+        Ok(RawCustomSection {
+            span,
+            name,
+            place,
+            data,
+        })
+    }
+}

@@ -1,2 +1,0 @@
-pub mod InstructionText
-pub mod Lines

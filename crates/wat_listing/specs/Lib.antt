@@ -1,3 +1,0 @@
-pub mod Expressions
-pub mod Instructions
-pub mod Listing

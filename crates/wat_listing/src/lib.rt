@@ -1,6 +1,0 @@
-//! How function types, instructions and expressions are listed.
-#![tactic(auto)]
-
-pub mod expressions;
-pub mod instructions;
-pub mod listing;

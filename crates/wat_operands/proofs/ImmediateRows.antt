@@ -1,0 +1,61 @@
+-- Texts as tokens, and the operands that they spell: what is read of them.
+use Rattle.std.proofs.Common.{◌≡◌, true, false, List, [], ◌∷◌, ◌++◌, Some, None, refl}
+use Rattle.std.specs.Prelude.{codes}
+use Rattle.wat_tokens.specs.Index.{name}
+use Rattle.wat_tokens.specs.Token.{Tok, Keyword, Id}
+use Rattle.wat_tokens.specs.Spelled.{in_parens, Spelled}
+use Rattle.wat_tokens.specs.Laws.Spelled.{spelled_whole}
+use Rattle.wat_tokens.specs.ManySpells.{many_at, many_reads}
+use Rattle.wat_tokens.specs.Number.{read}
+use Rattle.wat_operands.specs.Lanes.{lane_arg, lane_access}
+use Rattle.wat_operands.specs.Memory.{MemArgTy, array, target, offset_or_0, align, align_or, mem_arg, atomic_mem_arg}
+use Rattle.wat_operands.specs.Align.{past_front, field}
+use Rattle.wat_operands.specs.Ordering.{ordering, ordered}
+use Rattle.wat_operands.specs.ImmediateRows.{Accesses, AtomicAccesses, LaneAccesses, TableInits, TableCopies, Vector, OrderedTable}
+use Rattle.wat_operands.specs.Tables.{index_or_0, index_pair, init, copy}
+use Rattle.wat_operands.specs.Vector.{two, four, wide_const, v128_const}
+
+abbrev align_word : List Tok
+align_word = Keyword (codes "align=2") ∷ []
+
+align_is_2 : align.reads align_word ≡ Some (2, [])
+unfolding align field past_front read
+align_is_2 = align.complete 2 align_word [] ((Keyword (codes "align=2"), refl, refl), (1, refl))
+
+abbrev in_array : List Tok
+in_array = in_parens (Keyword (codes "type") ∷ Id (codes "a") ∷ []) ++ Keyword (codes "offset=1") ∷ align_word
+
+abbrev access_in_array : MemArgTy
+access_in_array = record { target = array (name (codes "a")); offset = 1; align = 2; ordering = None }
+
+array_access : Spelled (mem_arg 4) in_array access_in_array
+unfolding mem_arg target offset_or_0 align_or field past_front read
+array_access = spelled_whole (mem_arg 4) in_array access_in_array (rw align_is_2 refl)
+
+pub accesses : Accesses
+unfolding mem_arg target index_or_0 offset_or_0 align_or field past_front read
+accesses = (array_access, spelled_whole (mem_arg 4) _ _ refl)
+
+pub atomic_accesses : AtomicAccesses
+unfolding atomic_mem_arg mem_arg target index_or_0 offset_or_0 align_or align field past_front ordering many_at many_reads read
+atomic_accesses = (spelled_whole (atomic_mem_arg 4 true) _ _ refl, spelled_whole (atomic_mem_arg 4 false) _ _ refl)
+
+pub lane_accesses : LaneAccesses
+unfolding lane_access lane_arg mem_arg target index_or_0 offset_or_0 align_or align field past_front many_at many_reads read
+lane_accesses = (spelled_whole (lane_access 1) _ _ refl, spelled_whole lane_arg _ _ refl)
+
+pub table_inits : TableInits
+unfolding init index_pair many_at many_reads read
+table_inits = (spelled_whole init _ _ refl, spelled_whole init _ _ refl)
+
+pub table_copies : TableCopies
+unfolding copy index_pair many_at many_reads read
+table_copies = (spelled_whole copy _ _ refl, spelled_whole copy _ _ refl)
+
+pub vector : Vector
+unfolding v128_const wide_const four two many_at many_reads read
+vector = (_, spelled_whole v128_const _ _ refl, refl)
+
+pub ordered_table : OrderedTable
+unfolding ordering index_or_0 many_at many_reads read
+ordered_table = spelled_whole (ordered index_or_0) _ _ refl

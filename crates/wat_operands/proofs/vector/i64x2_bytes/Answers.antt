@@ -1,0 +1,9 @@
+use Rattle.std.proofs.Common.{flat_map, arith, rules, ap, ◌∙◌}
+use Rattle.std.specs.Int.{w64, cast_unsigned, to_le_bytes}
+use Rattle.wat_operands.proofs.Again.{two_items}
+use Rattle.wat_operands.proofs.Bytes.{mapped}
+use Rattle.wat_operands.proofs.vector.i64x2_bytes.Goals as goal
+
+pub returns : goal.returns
+returns c =
+    c.bytes_of_2.ensures ∙ ap (flat_map (to_le_bytes w64)) (two_items c.map.result 0 0 c.map.ensures.items.long ∙ mapped _ (cast_unsigned w64) (λ p q x y k. search rules) _ c.args.lanes _ 2 (omega arith) c.map.ensures.items)

@@ -1,0 +1,38 @@
+-- What an alignment spells.
+use Rattle.std.specs.Prelude.{ℕ, ◌==◌, if◌then◌else◌, List, [], ◌∷◌, codes, Option, None, Some}
+use Rattle.std.specs.Prelude.{refl}
+use Rattle.std.specs.Int.{is_power_of_two}
+use Rattle.wat_tokens.specs.Number.{unsigned_value}
+use Rattle.wat_tokens.specs.Token.{Tok, Keyword}
+use Rattle.wat_tokens.specs.Production.{Production}
+use Rattle.wat_tokens.specs.Parts.{one, made_where}
+use Rattle.wat_operands.specs.Power.{IsPowerOfTwo}
+
+-- ---- words that hold a number
+
+-- what stands behind the front of a text, where it begins so
+unfoldable pub past_front : List ℕ → List ℕ → Option (List ℕ)
+past_front [] text = Some text
+past_front (b ∷ bs) [] = None
+past_front (b ∷ bs) (c ∷ text) = if b == c then past_front bs text else None
+
+abbrev pub number_in : Option (List ℕ) → Option ℕ
+number_in (Some text) = unsigned_value 64 text
+number_in None = None
+
+-- a keyword that begins so and goes on with an integer: what this reads as without a sign, in 64
+-- bits
+abbrev pub number_behind : List ℕ → Tok → Option ℕ
+number_behind front (Keyword w) = number_in (past_front front w)
+number_behind front _ = None
+
+-- a word `front`n
+unfoldable pub field : List ℕ → Production ℕ
+field front = one (number_behind front) (refl, refl)
+
+-- `align=`n, where n is a power of two
+abbrev pub AlignSpells : ℕ → List Tok → List Tok → Type 0
+AlignSpells n c r = (field (codes "align=")).spells n c r × IsPowerOfTwo n
+
+abbrev pub align_tested : Production ℕ
+align_tested = made_where is_power_of_two (λ n. n) (field (codes "align="))

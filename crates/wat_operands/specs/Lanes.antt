@@ -1,0 +1,60 @@
+-- Lanes of vectors, and accesses to one lane.
+use Rattle.std.specs.Prelude.{ℕ, Bool, false, not, ◌||◌, List, ◌∷◌, codes, Option, None, is_none}
+use Rattle.std.specs.Prelude.{if◌then◌else◌, refl}
+use Rattle.wat_tokens.specs.Number.{sign_of, unsigned_value}
+use Rattle.wat_tokens.specs.Token.{Tok, Integer}
+use Rattle.wat_tokens.specs.Tests.{begins_integer}
+use Rattle.wat_tokens.specs.Production.{Production}
+use Rattle.wat_tokens.specs.Parts.{one, seq, made, where_else}
+use Rattle.wat_tokens.specs.Index.{number}
+use Rattle.wat_operands.specs.Memory.{MemArgTy, memory, mem_arg_of, mem_arg, seen_mem_arg}
+use Rattle.wat_operands.specs.Memory.{begins_with}
+use Rattle.wat_operands.specs.declared.lanes.LaneArg.{LaneArg}
+use Rattle.wat_operands.specs.declared.lanes.LaneOf.{LaneOf}
+use Rattle.wat_operands.specs.declared.memory.MemArg.{MemArg}
+
+-- ---- lanes
+
+abbrev pub lane_of : ℕ → LaneArg
+lane_of n = record { lane = n }
+
+-- the lane that the token is: an integer without a sign, 0 to 255
+abbrev pub lane_in : Tok → Option ℕ
+lane_in (Integer text) = if is_none (sign_of text) then unsigned_value 8 text else None
+lane_in _ = None
+
+-- an Integer without a sign, 0 to 255
+unfoldable pub lane_arg : Production LaneArg
+lane_arg = made lane_of (one lane_in (refl, refl))
+
+-- ---- accesses to one lane
+
+-- an access and its lane, without the place of the index
+pub record LaneAccessTy : Type 0 where
+  pub memarg : MemArgTy
+  pub lane : LaneArg
+
+abbrev pub seen_lane_access : LaneOf MemArg → LaneAccessTy
+seen_lane_access l = record { memarg = seen_mem_arg l.memarg; lane = l.lane }
+
+abbrev pub access_of : MemArgTy × LaneArg → LaneAccessTy
+access_of v = record { memarg = v.0; lane = v.1 }
+
+-- the lane alone: memory 0, offset 0, align a
+abbrev pub lane_alone : ℕ → LaneArg → LaneAccessTy
+lane_alone a lane = access_of (mem_arg_of (memory (number 0), (0, a)), lane)
+
+-- an Integer, or a Keyword that begins with `offset=` or `align=`
+abbrev pub goes_on : List Tok → Bool
+goes_on t = begins_integer t || (begins_with (codes "offset=") t || begins_with (codes "align=") t)
+
+-- the first token is an Integer, and the next is neither an Integer nor a Keyword that begins with
+-- `offset=` or `align=`
+abbrev pub is_alone : List Tok → Bool
+is_alone (Integer text ∷ r) = not (goes_on r)
+is_alone _ = false
+
+-- where is_alone: a LaneArg alone, memory 0, offset 0, align a; else MemArg, LaneArg
+unfoldable pub lane_access : ℕ → Production LaneAccessTy
+lane_access a =
+    where_else is_alone (made (lane_alone a) lane_arg) (made access_of (seq (mem_arg a) lane_arg))

@@ -1,0 +1,96 @@
+-- What an access to a memory or an array is given: its target, an offset, an alignment and an
+-- ordering.
+use Rattle.std.specs.Prelude.{ℕ, Bool, false, if◌then◌else◌, List, ◌∷◌, codes, Option, None}
+use Rattle.std.specs.Prelude.{is_some, option_map, unwrap_or}
+use Rattle.wat_tokens.specs.Token.{Tok, Keyword}
+use Rattle.wat_tokens.specs.Tests.{begins_word, second}
+use Rattle.wat_tokens.specs.Production.{Production}
+use Rattle.wat_tokens.specs.Parts.{seq, made, where_else, opt}
+use Rattle.wat_tokens.specs.Groups.{group}
+use Rattle.wat_tokens.specs.Index.{Idx, seen_index, index}
+use Rattle.wat_tokens.specs.Restated.{restated}
+use Rattle.wat_operands.specs.Ordering.{ordering, begins_ordering}
+use Rattle.wat_operands.specs.Tables.{index_or_0}
+use Rattle.wat_operands.specs.declared.memory.MemArg.{MemArg}
+use Rattle.wat_operands.specs.declared.memory.MemArgOrdering.{MemArgOrdering}
+use Rattle.wat_operands.specs.declared.memory.MemArgOrdering.TheVariants.{Op, Rmw}
+use Rattle.wat_operands.specs.declared.memory.MemArgTarget.{MemArgTarget}
+use Rattle.wat_operands.specs.declared.memory.MemArgTarget.TheVariants as code
+use Rattle.wat_operands.specs.declared.ordering.Ordering.{Ordering}
+use Rattle.wat_operands.specs.Align.{past_front, field, AlignSpells, align_tested}
+use Rattle.wat_operands.specs.Laws.Memory.{align_to, align_from}
+
+-- ---- targets
+
+-- a memory, or an array of a type, without the place of the index
+pub data TargetTy : Type 0 where
+  memory : Idx → TargetTy
+  array : Idx → TargetTy
+
+abbrev pub seen_target : MemArgTarget → TargetTy
+seen_target (code.Memory i) = memory (seen_index i)
+seen_target (code.Array i) = array (seen_index i)
+
+-- the second token is `type`, whatever the first is
+abbrev pub array_follows : List Tok → Bool
+array_follows t = second (begins_word (codes "type")) t
+
+-- where the second token is `type`, ( type idx ), an array; else idx?, a memory, default 0
+unfoldable pub target : Production TargetTy
+target = where_else array_follows (made array (group (codes "type") index)) (made memory index_or_0)
+
+-- ---- words that hold a number
+
+-- a keyword that begins so
+abbrev pub begins_with : List ℕ → List Tok → Bool
+begins_with front (Keyword w ∷ r) = is_some (past_front front w)
+begins_with front _ = false
+
+-- `offset=`n?, default 0
+unfoldable pub offset_or_0 : Production ℕ
+offset_or_0 =
+    made (λ o. unwrap_or o 0) (opt (begins_with (codes "offset=")) (field (codes "offset=")))
+
+unfoldable pub align : Production ℕ
+align = restated align_tested AlignSpells align_to align_from
+
+-- `align=`n?, default a
+unfoldable pub align_or : ℕ → Production ℕ
+align_or a = made (λ o. unwrap_or o a) (opt (begins_with (codes "align=")) align)
+
+-- ---- the whole
+
+-- an access, without the place of its index
+pub record MemArgTy : Type 0 where
+  pub align : ℕ
+  pub offset : ℕ
+  pub target : TargetTy
+  pub ordering : Option MemArgOrdering
+
+abbrev pub seen_mem_arg : MemArg → MemArgTy
+seen_mem_arg m =
+    record {
+      align = m.align;
+      offset = m.offset;
+      target = seen_target m.target;
+      ordering =
+          m.ordering;
+    }
+
+abbrev pub mem_arg_of : TargetTy × (ℕ × ℕ) → MemArgTy
+mem_arg_of v = record { target = v.0; offset = v.1.0; align = v.1.1; ordering = None }
+
+-- a target; then a word `offset=`n?, default 0; then a word `align=`n?, default a
+unfoldable pub mem_arg : ℕ → Production MemArgTy
+mem_arg a = made mem_arg_of (seq target (seq offset_or_0 (align_or a)))
+
+-- as the ordering of a read-modify-write instruction, or of a load or a store
+abbrev pub ordering_as : Bool → Ordering → MemArgOrdering
+ordering_as rmw o = if rmw then Rmw o else Op o
+
+abbrev pub with_ordering : Bool → MemArgTy × Option Ordering → MemArgTy
+with_ordering rmw v = record v.0 { ordering = option_map (ordering_as rmw) v.1 }
+
+-- a MemArg, then Ordering?, kept as Op or Rmw
+unfoldable pub atomic_mem_arg : ℕ → Bool → Production MemArgTy
+atomic_mem_arg a rmw = made (with_ordering rmw) (seq (mem_arg a) (opt begins_ordering ordering))

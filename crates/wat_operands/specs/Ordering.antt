@@ -1,0 +1,26 @@
+-- Orderings of atomic accesses, and what an ordering stands in front of.
+use Rattle.std.specs.Prelude.{Bool, ◌||◌, List, codes}
+use Rattle.wat_tokens.specs.Token.{Tok}
+use Rattle.wat_tokens.specs.Tests.{begins_word}
+use Rattle.wat_tokens.specs.Production.{Production}
+use Rattle.wat_tokens.specs.Parts.{word, seq, made, where_else}
+use Rattle.wat_operands.specs.declared.ordering.Ordered.{Ordered}
+use Rattle.wat_operands.specs.declared.ordering.Ordering.{Ordering}
+use Rattle.wat_operands.specs.declared.ordering.Ordering.TheVariants.{AcqRel, SeqCst}
+
+-- seqcst | acqrel
+unfoldable pub ordering : Production Ordering
+ordering =
+    where_else (begins_word (codes "seqcst")) (made (λ _. SeqCst) (word (codes "seqcst")))
+    (made (λ _. AcqRel) (word (codes "acqrel")))
+
+abbrev pub begins_ordering : List Tok → Bool
+begins_ordering t = begins_word (codes "seqcst") t || begins_word (codes "acqrel") t
+
+-- the ordering, and what it stands in front of, seen by view
+abbrev pub seen_ordered : {T A : Type 0} → (T → A) → Ordered T → Ordering × A
+seen_ordered view o = (o.ordering, view o.inner)
+
+-- Ordering, and then T
+abbrev pub ordered : {A : Type 0} → Production A → Production (Ordering × A)
+ordered g = seq ordering g

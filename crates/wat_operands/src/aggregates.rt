@@ -1,0 +1,280 @@
+//! Operands of instructions on structures, arrays and continuations.
+
+ghost use Rattle.std.specs.Prelude.{ℕ};
+ghost use Rattle.wat_tokens.specs.Index.{Idx, index};
+ghost use Rattle.wat_tokens.specs.Views.{plain};
+ghost use Rattle.wat_operands.specs.Aggregates.{seen_struct_access, seen_cont_bind, seen_switch};
+ghost use Rattle.wat_operands.specs.Aggregates.{seen_array_fill, seen_array_copy};
+ghost use Rattle.wat_operands.specs.Aggregates.{seen_array_init, seen_array_new_fixed};
+ghost use Rattle.wat_operands.specs.Aggregates.{seen_array_new_data, seen_array_new_elem};
+ghost use Rattle.wat_operands.specs.Aggregates.{array_of_length};
+ghost use Rattle.wat_operands.specs.Tables.{index_pair};
+
+use wat_tokens::{Index, Parse, Parser, Result};
+
+/// The operands of `struct.get`, `struct.set` and the like, with each index as an `I` (WebAssembly
+/// Core Specification, Text Format, Instructions, "Aggregate Instructions").
+#[derive(Clone, Debug, Drop)]
+pub struct StructAccessOf<I> {
+    /// The structure type.
+    pub struct_: I,
+    /// Which of its fields.
+    pub field: I,
+}
+
+/// The operands of `struct.get`, `struct.set` and the like.
+pub type StructAccess<'a> = StructAccessOf<Index<'a>>;
+
+/// The operands of `cont.bind`, with each index as an `I` (WebAssembly Core Specification, Text
+/// Format, Instructions, "Control Instructions", with the proposal on stack switching).
+#[derive(Clone, Debug, Drop)]
+pub struct ContBindOf<I> {
+    /// The continuation type that is taken.
+    pub argument_index: I,
+    /// The continuation type that is made.
+    pub result_index: I,
+}
+
+/// The operands of `cont.bind`.
+pub type ContBind<'a> = ContBindOf<Index<'a>>;
+
+/// The operands of `switch`, with each index as an `I` (WebAssembly Core Specification, Text
+/// Format, Instructions, "Control Instructions", with the proposal on stack switching).
+#[derive(Clone, Debug, Drop)]
+pub struct SwitchOf<I> {
+    /// The continuation type.
+    pub type_index: I,
+    /// The tag.
+    pub tag_index: I,
+}
+
+/// The operands of `switch`.
+pub type Switch<'a> = SwitchOf<Index<'a>>;
+
+/// The operand of `array.fill`, with its index as an `I` (WebAssembly Core Specification, Text
+/// Format, Instructions, "Aggregate Instructions").
+#[derive(Clone, Debug, Drop)]
+pub struct ArrayFillOf<I> {
+    /// The array type.
+    pub array: I,
+}
+
+/// The operand of `array.fill`.
+pub type ArrayFill<'a> = ArrayFillOf<Index<'a>>;
+
+/// The operands of `array.copy`, with each index as an `I` (WebAssembly Core Specification, Text
+/// Format, Instructions, "Aggregate Instructions").
+#[derive(Clone, Debug, Drop)]
+pub struct ArrayCopyOf<I> {
+    /// The type of the array that is written.
+    pub dest_array: I,
+    /// The type of the array that is read.
+    pub src_array: I,
+}
+
+/// The operands of `array.copy`.
+pub type ArrayCopy<'a> = ArrayCopyOf<Index<'a>>;
+
+/// The operands of `array.init_data` and `array.init_elem`, with each index as an `I` (WebAssembly
+/// Core Specification, Text Format, Instructions, "Aggregate Instructions").
+#[derive(Clone, Debug, Drop)]
+pub struct ArrayInitOf<I> {
+    /// The array type.
+    pub array: I,
+    /// The segment that is read.
+    pub segment: I,
+}
+
+/// The operands of `array.init_data` and `array.init_elem`.
+pub type ArrayInit<'a> = ArrayInitOf<Index<'a>>;
+
+/// The operands of `array.new_fixed`, with its index as an `I` (WebAssembly Core Specification,
+/// Text Format, Instructions, "Aggregate Instructions").
+#[derive(Clone, Debug, Drop)]
+pub struct ArrayNewFixedOf<I> {
+    /// The array type.
+    pub array: I,
+    /// How many elements the array has.
+    pub length: u32,
+}
+
+/// The operands of `array.new_fixed`.
+pub type ArrayNewFixed<'a> = ArrayNewFixedOf<Index<'a>>;
+
+/// The operands of `array.new_data`, with each index as an `I` (WebAssembly Core Specification,
+/// Text Format, Instructions, "Aggregate Instructions").
+#[derive(Clone, Debug, Drop)]
+pub struct ArrayNewDataOf<I> {
+    /// The array type.
+    pub array: I,
+    /// The data segment that is read.
+    pub data_idx: I,
+}
+
+/// The operands of `array.new_data`.
+pub type ArrayNewData<'a> = ArrayNewDataOf<Index<'a>>;
+
+/// The operands of `array.new_elem`, with each index as an `I` (WebAssembly Core Specification,
+/// Text Format, Instructions, "Aggregate Instructions").
+#[derive(Clone, Debug, Drop)]
+pub struct ArrayNewElemOf<I> {
+    /// The array type.
+    pub array: I,
+    /// The element segment that is read.
+    pub elem_idx: I,
+}
+
+/// The operands of `array.new_elem`.
+pub type ArrayNewElem<'a> = ArrayNewElemOf<Index<'a>>;
+
+/// A structure type, and a field.
+impl<'a> Parse<'a> for StructAccess<'a> {
+    ghost Seen = { Idx × Idx };
+
+    ghost view = { plain seen_struct_access };
+
+    ghost grammar = { index_pair };
+
+    #[tactic(auto, unfolding(crate::specs::Tables::index_pair))]
+    fn parse(parser: &mut Parser<'a>) -> Result<Self> {
+        let struct_ = Index::parse(parser)?;
+        let field = Index::parse(parser)?;
+        Ok(StructAccess { struct_, field })
+    }
+}
+
+/// The continuation type that is taken, and the one that is made.
+impl<'a> Parse<'a> for ContBind<'a> {
+    ghost Seen = { Idx × Idx };
+
+    ghost view = { plain seen_cont_bind };
+
+    ghost grammar = { index_pair };
+
+    #[tactic(auto, unfolding(crate::specs::Tables::index_pair))]
+    fn parse(parser: &mut Parser<'a>) -> Result<Self> {
+        let argument_index = Index::parse(parser)?;
+        let result_index = Index::parse(parser)?;
+        Ok(ContBind {
+            argument_index,
+            result_index,
+        })
+    }
+}
+
+/// A continuation type, and a tag.
+impl<'a> Parse<'a> for Switch<'a> {
+    ghost Seen = { Idx × Idx };
+
+    ghost view = { plain seen_switch };
+
+    ghost grammar = { index_pair };
+
+    #[tactic(auto, unfolding(crate::specs::Tables::index_pair))]
+    fn parse(parser: &mut Parser<'a>) -> Result<Self> {
+        let type_index = Index::parse(parser)?;
+        let tag_index = Index::parse(parser)?;
+        Ok(Switch {
+            type_index,
+            tag_index,
+        })
+    }
+}
+
+/// An array type.
+impl<'a> Parse<'a> for ArrayFill<'a> {
+    ghost Seen = { Idx };
+
+    ghost view = { plain seen_array_fill };
+
+    ghost grammar = { index };
+
+    fn parse(parser: &mut Parser<'a>) -> Result<Self> {
+        let array = Index::parse(parser)?;
+        Ok(ArrayFill { array })
+    }
+}
+
+/// The type of the array that is written, and that of the one that is read.
+impl<'a> Parse<'a> for ArrayCopy<'a> {
+    ghost Seen = { Idx × Idx };
+
+    ghost view = { plain seen_array_copy };
+
+    ghost grammar = { index_pair };
+
+    #[tactic(auto, unfolding(crate::specs::Tables::index_pair))]
+    fn parse(parser: &mut Parser<'a>) -> Result<Self> {
+        let dest_array = Index::parse(parser)?;
+        let src_array = Index::parse(parser)?;
+        Ok(ArrayCopy {
+            dest_array,
+            src_array,
+        })
+    }
+}
+
+/// An array type, and a segment.
+impl<'a> Parse<'a> for ArrayInit<'a> {
+    ghost Seen = { Idx × Idx };
+
+    ghost view = { plain seen_array_init };
+
+    ghost grammar = { index_pair };
+
+    #[tactic(auto, unfolding(crate::specs::Tables::index_pair))]
+    fn parse(parser: &mut Parser<'a>) -> Result<Self> {
+        let array = Index::parse(parser)?;
+        let segment = Index::parse(parser)?;
+        Ok(ArrayInit { array, segment })
+    }
+}
+
+/// An array type, and a number, which is read without a sign in 32 bits: it is refused with Range,
+/// at the number, where it is too large or a `-` is written.
+impl<'a> Parse<'a> for ArrayNewFixed<'a> {
+    ghost Seen = { Idx × ℕ };
+
+    ghost view = { plain seen_array_new_fixed };
+
+    ghost grammar = { array_of_length };
+
+    #[tactic(auto, unfolding(crate::specs::Aggregates::array_of_length))]
+    fn parse(parser: &mut Parser<'a>) -> Result<Self> {
+        let array = Index::parse(parser)?;
+        let length = u32::parse(parser)?;
+        Ok(ArrayNewFixed { array, length })
+    }
+}
+
+/// An array type, and a data segment.
+impl<'a> Parse<'a> for ArrayNewData<'a> {
+    ghost Seen = { Idx × Idx };
+
+    ghost view = { plain seen_array_new_data };
+
+    ghost grammar = { index_pair };
+
+    #[tactic(auto, unfolding(crate::specs::Tables::index_pair))]
+    fn parse(parser: &mut Parser<'a>) -> Result<Self> {
+        let array = Index::parse(parser)?;
+        let data_idx = Index::parse(parser)?;
+        Ok(ArrayNewData { array, data_idx })
+    }
+}
+
+/// An array type, and an element segment.
+impl<'a> Parse<'a> for ArrayNewElem<'a> {
+    ghost Seen = { Idx × Idx };
+
+    ghost view = { plain seen_array_new_elem };
+
+    ghost grammar = { index_pair };
+
+    #[tactic(auto, unfolding(crate::specs::Tables::index_pair))]
+    fn parse(parser: &mut Parser<'a>) -> Result<Self> {
+        let array = Index::parse(parser)?;
+        let elem_idx = Index::parse(parser)?;
+        Ok(ArrayNewElem { array, elem_idx })
+    }
+}

@@ -1,0 +1,73 @@
+//! The labels of a table of branches.
+
+ghost use Rattle.std.specs.Prelude.{◌≡◌, ◌≢◌, [], ◌∷◌, ◌++◌};
+ghost use Rattle.wat_tokens.specs.Copies.{Copies};
+ghost use Rattle.wat_tokens.specs.Views.{owning};
+ghost use Rattle.wat_operands.specs.Branch.{BrTableTy, seen_br_table, bare_br_table};
+ghost use Rattle.wat_operands.specs.BranchTable.{br_table};
+
+use wat_tokens::repeat::while_begun;
+use wat_tokens::{Fault, Index, Parse, Parser, Result};
+
+/// The labels that `br_table` may branch to, with each index as an `I` (WebAssembly Core
+/// Specification, Text Format, Instructions, "Control Instructions").
+#[derive(Debug, Drop)]
+pub struct BrTableIndicesOf<I> {
+    /// The labels that a number chooses from.
+    pub labels: Vec<I>,
+    /// The label for any greater number.
+    pub default: I,
+}
+
+/// The labels that `br_table` may branch to.
+pub type BrTableIndices<'a> = BrTableIndicesOf<Index<'a>>;
+
+impl<'a> BrTableIndices<'a> {
+    /// The same labels once more. Memory may be answered where there is one beside the default.
+    pub fn clone(&self) -> Result<BrTableIndices<'a>>
+        ensures copies { Copies (λ x y. (y.labels.items ≡ x.labels.items) × (y.default ≡ x.default))
+            (owning seen_br_table bare_br_table) result self.now }
+    {
+        let mut labels = Vec::new(*self.labels.allocator());
+        labels.extend_from_slice(&self.labels)?;
+        Ok(BrTableIndices {
+            labels,
+            default: self.default,
+        })
+    }
+}
+
+/// Takes the last of the indices off.
+fn take_last<'a>(indices: &mut Vec<Index<'a>>) -> Index<'a>
+    requires { indices.old.items ≢ [] }
+    ensures { indices.old.items ≡ indices.new.items ++ result ∷ [] }
+{
+    let last = indices.len() - 1;
+    let index = indices[last];
+    indices.truncate(last);
+    index
+}
+
+/// One or more indices: the last is the default, and the others are the labels.
+impl<'a> Parse<'a> for BrTableIndices<'a> {
+    ghost Seen = { BrTableTy };
+
+    ghost view = { owning seen_br_table bare_br_table };
+
+    ghost grammar = { br_table };
+
+    fn parse(parser: &mut Parser<'a>) -> Result<Self> {
+        let first = Index::parse(parser)?;
+        let mut labels = Vec::new(parser.alloc());
+        if !parser.peek::<Index>() {
+            return Ok(BrTableIndices {
+                labels,
+                default: first,
+            });
+        }
+        labels.push(first)?;
+        while_begun::<Index>(parser, &mut labels)?;
+        let default = take_last(&mut labels);
+        Ok(BrTableIndices { labels, default })
+    }
+}

@@ -1,0 +1,92 @@
+//! Orderings of atomic accesses.
+
+ghost use Rattle.std.specs.Prelude.{◌≡◌};
+ghost use Rattle.wat_tokens.specs.Lookup.{in_front};
+ghost use Rattle.wat_tokens.specs.Tests.{begins_word};
+ghost use Rattle.wat_tokens.specs.Views.{plain, holding};
+ghost use Rattle.wat_operands.specs.Ordering.{ordering, begins_ordering, seen_ordered, ordered};
+
+use wat_tokens::{Cursor, Parse, Parser, Peek, Result};
+
+/// In which order other threads may see an atomic access (WebAssembly Core Specification, Text
+/// Format, Instructions, "Memory Instructions", with the proposals on threads).
+#[derive(Clone, Copy, Debug, PartialEq, Eq, Hash)]
+pub enum Ordering {
+    /// `acqrel`: a load acquires, which orders all operations before the last store that releases;
+    /// a store releases, which orders all operations before it at the next load that acquires.
+    AcqRel,
+    /// `seqcst`: as `acqrel`, and all threads see all accesses of this ordering in one order.
+    SeqCst,
+}
+
+/// An operand with the ordering of its access in front (WebAssembly Core Specification, Text
+/// Format, "Instructions", with the proposals on threads).
+#[derive(Clone, Debug, Drop)]
+pub struct Ordered<T> {
+    /// The ordering.
+    pub ordering: Ordering,
+    /// The operand.
+    pub inner: T,
+}
+
+/// `seqcst` or `acqrel`.
+impl<'a> Parse<'a> for Ordering {
+    ghost use Rattle.wat_operands.specs.declared.ordering.Ordering.{Ordering};
+
+    ghost Seen = { Ordering };
+
+    ghost view = { plain (λ o. o) };
+
+    ghost grammar = { ordering };
+
+    #[tactic(auto, unfolding(crate::specs::Ordering::ordering))]
+    fn parse(parser: &mut Parser<'a>) -> Result<Self> {
+        if parser.flag("seqcst") {
+            return Ok(Ordering::SeqCst);
+        }
+        parser.keyword("acqrel")?;
+        Ok(Ordering::AcqRel)
+    }
+}
+
+/// Whether the keyword stands there.
+fn stands(cursor: Cursor<'_>, word: &str) -> bool
+    ensures { result ≡ begins_word word.now (in_front cursor.entry) }
+{
+    match cursor.keyword() {
+        Some((text, _)) => text == word,
+        None => false,
+    }
+}
+
+/// One of the two words.
+impl Peek for Ordering {
+    ghost begins = { begins_ordering };
+
+    fn peek(cursor: Cursor<'_>) -> bool {
+        stands(cursor, "seqcst") || stands(cursor, "acqrel")
+    }
+
+    fn display() -> &'static str {
+        "ordering"
+    }
+}
+
+/// An ordering, and then the operand.
+impl<'a, T: Parse<'a> + Drop> Parse<'a> for Ordered<T> {
+    ghost use Rattle.wat_operands.specs.declared.ordering.Ordering.{Ordering};
+
+    ghost Seen = { Ordering × T.Seen };
+
+    ghost view = { holding T.view (seen_ordered T.view.of) (λ v. T.view.bare v.1) };
+
+    ghost cost = { T.cost };
+
+    ghost grammar = { ordered T.grammar };
+
+    fn parse(parser: &mut Parser<'a>) -> Result<Self> {
+        let ordering = Ordering::parse(parser)?;
+        let inner = T::parse(parser)?;
+        Ok(Ordered { ordering, inner })
+    }
+}

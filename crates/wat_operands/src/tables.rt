@@ -1,0 +1,222 @@
+//! Operands that name tables and memories.
+
+ghost use Rattle.std.specs.Prelude.{◌≡◌};
+ghost use Rattle.wat_tokens.specs.Index.{Idx, number, seen_index};
+ghost use Rattle.wat_tokens.specs.Reads.{Reads};
+ghost use Rattle.wat_tokens.specs.Views.{plain};
+ghost use Rattle.wat_operands.specs.Tables.{index_or_0, seen_table_arg, seen_memory_arg, init};
+ghost use Rattle.wat_operands.specs.Tables.{seen_table_init, seen_memory_init, copy};
+ghost use Rattle.wat_operands.specs.Tables.{seen_table_copy, seen_memory_copy};
+
+use wat_tokens::{Index, Parse, Parser, Result};
+
+/// The table of an instruction that names one, with its index as an `I` (WebAssembly Core
+/// Specification, Text Format, Instructions, "Table Instructions").
+#[derive(Clone, Debug, Drop)]
+pub struct TableArgOf<I> {
+    /// The table.
+    pub dst: I,
+}
+
+/// The table of an instruction that names one.
+pub type TableArg<'a> = TableArgOf<Index<'a>>;
+
+/// The memory of an instruction that names one, with its index as an `I` (WebAssembly Core
+/// Specification, Text Format, Instructions, "Memory Instructions").
+#[derive(Clone, Debug, Drop)]
+pub struct MemoryArgOf<I> {
+    /// The memory.
+    pub mem: I,
+}
+
+/// The memory of an instruction that names one.
+pub type MemoryArg<'a> = MemoryArgOf<Index<'a>>;
+
+/// The operands of `table.init`, with each index as an `I` (WebAssembly Core Specification, Text
+/// Format, Instructions, "Table Instructions").
+#[derive(Clone, Debug, Drop)]
+pub struct TableInitOf<I> {
+    /// The table that is written.
+    pub table: I,
+    /// The element segment that is read.
+    pub elem: I,
+}
+
+/// The operands of `table.init`.
+pub type TableInit<'a> = TableInitOf<Index<'a>>;
+
+/// The operands of `memory.init`, with each index as an `I` (WebAssembly Core Specification, Text
+/// Format, Instructions, "Memory Instructions").
+#[derive(Clone, Debug, Drop)]
+pub struct MemoryInitOf<I> {
+    /// The data segment that is read.
+    pub data: I,
+    /// The memory that is written.
+    pub mem: I,
+}
+
+/// The operands of `memory.init`.
+pub type MemoryInit<'a> = MemoryInitOf<Index<'a>>;
+
+/// The operands of `table.copy`, with each index as an `I` (WebAssembly Core Specification, Text
+/// Format, Instructions, "Table Instructions").
+#[derive(Clone, Debug, Drop)]
+pub struct TableCopyOf<I> {
+    /// The table that is written.
+    pub dst: I,
+    /// The table that is read.
+    pub src: I,
+}
+
+/// The operands of `table.copy`.
+pub type TableCopy<'a> = TableCopyOf<Index<'a>>;
+
+/// The operands of `memory.copy`, with each index as an `I` (WebAssembly Core Specification, Text
+/// Format, Instructions, "Memory Instructions").
+#[derive(Clone, Debug, Drop)]
+pub struct MemoryCopyOf<I> {
+    /// The memory that is read.
+    pub src: I,
+    /// The memory that is written.
+    pub dst: I,
+}
+
+/// The operands of `memory.copy`.
+pub type MemoryCopy<'a> = MemoryCopyOf<Index<'a>>;
+
+/// The index 0 that is meant where none is written. It stands at the token that was taken last.
+pub(crate) fn zero<'a>(parser: &Parser<'a>) -> Index<'a>
+    ensures { seen_index result ≡ number 0 }
+{
+    Index::Num(0, parser.prev_span())
+}
+
+/// Takes an index, where one begins in front, and else answers 0.
+#[tactic(auto, unfolding(crate::specs::Tables::index_or_0))]
+pub fn index_or_zero<'a>(parser: &mut Parser<'a>) -> Result<Index<'a>>
+    ensures reads { Reads (plain seen_index) index_or_0 result parser.old parser.new }
+{
+    if parser.peek::<Index>() {
+        Index::parse(parser)
+    } else {
+        Ok(zero(parser))
+    }
+}
+
+/// Where the second token is an index, takes a target and a segment; else takes a segment, and the
+/// target is 0.
+#[tactic(auto, unfolding(crate::specs::Tables::init, crate::specs::Tables::index_pair))]
+fn target_and_segment<'a>(parser: &mut Parser<'a>) -> Result<(Index<'a>, Index<'a>)>
+    ensures reads { Reads (plain (λ p. (seen_index p.0, seen_index p.1))) init result parser.old
+        parser.new }
+{
+    let target = if parser.peek2::<Index>() {
+        Index::parse(parser)?
+    } else {
+        zero(parser)
+    };
+    let segment = Index::parse(parser)?;
+    Ok((target, segment))
+}
+
+/// Where an index begins, takes a destination and a source; else both are 0.
+#[tactic(auto, unfolding(crate::specs::Tables::copy, crate::specs::Tables::index_pair))]
+fn destination_and_source<'a>(parser: &mut Parser<'a>) -> Result<(Index<'a>, Index<'a>)>
+    ensures reads { Reads (plain (λ p. (seen_index p.0, seen_index p.1))) copy result parser.old
+        parser.new }
+{
+    if !parser.peek::<Index>() {
+        return Ok((zero(parser), zero(parser)));
+    }
+    let destination = Index::parse(parser)?;
+    let source = Index::parse(parser)?;
+    Ok((destination, source))
+}
+
+/// An index, or none: table 0.
+impl<'a> Parse<'a> for TableArg<'a> {
+    ghost Seen = { Idx };
+
+    ghost view = { plain seen_table_arg };
+
+    ghost grammar = { index_or_0 };
+
+    fn parse(parser: &mut Parser<'a>) -> Result<Self> {
+        Ok(TableArg {
+            dst: index_or_zero(parser)?,
+        })
+    }
+}
+
+/// An index, or none: memory 0.
+impl<'a> Parse<'a> for MemoryArg<'a> {
+    ghost Seen = { Idx };
+
+    ghost view = { plain seen_memory_arg };
+
+    ghost grammar = { index_or_0 };
+
+    fn parse(parser: &mut Parser<'a>) -> Result<Self> {
+        Ok(MemoryArg {
+            mem: index_or_zero(parser)?,
+        })
+    }
+}
+
+/// Where the second token is an identifier or an integer, a table and an element segment; else an
+/// element segment, and table 0.
+impl<'a> Parse<'a> for TableInit<'a> {
+    ghost Seen = { Idx × Idx };
+
+    ghost view = { plain seen_table_init };
+
+    ghost grammar = { init };
+
+    fn parse(parser: &mut Parser<'a>) -> Result<Self> {
+        let (table, elem) = target_and_segment(parser)?;
+        Ok(TableInit { table, elem })
+    }
+}
+
+/// Where the second token is an identifier or an integer, a memory and a data segment; else a data
+/// segment, and memory 0.
+impl<'a> Parse<'a> for MemoryInit<'a> {
+    ghost Seen = { Idx × Idx };
+
+    ghost view = { plain seen_memory_init };
+
+    ghost grammar = { init };
+
+    fn parse(parser: &mut Parser<'a>) -> Result<Self> {
+        let (mem, data) = target_and_segment(parser)?;
+        Ok(MemoryInit { data, mem })
+    }
+}
+
+/// A destination and a source, or nothing: table 0 for both.
+impl<'a> Parse<'a> for TableCopy<'a> {
+    ghost Seen = { Idx × Idx };
+
+    ghost view = { plain seen_table_copy };
+
+    ghost grammar = { copy };
+
+    fn parse(parser: &mut Parser<'a>) -> Result<Self> {
+        let (dst, src) = destination_and_source(parser)?;
+        Ok(TableCopy { dst, src })
+    }
+}
+
+/// A destination and a source, or nothing: memory 0 for both.
+impl<'a> Parse<'a> for MemoryCopy<'a> {
+    ghost Seen = { Idx × Idx };
+
+    ghost view = { plain seen_memory_copy };
+
+    ghost grammar = { copy };
+
+    fn parse(parser: &mut Parser<'a>) -> Result<Self> {
+        let (dst, src) = destination_and_source(parser)?;
+        Ok(MemoryCopy { src, dst })
+    }
+}

@@ -1,0 +1,40 @@
+//! How instructions are listed.
+ghost use Rattle.std.specs.Prelude.{◌≡◌, ◌++◌, OnOk};
+ghost use Rattle.wat_instr.specs.Instruction.{head_in, operand_in, seen_instruction};
+ghost use Rattle.wat_show.specs.Instructions.{shown_operand, instr_text};
+
+use crate::listing::add_index;
+use crate::text::{add, add_signed};
+use std::alloc::AllocError;
+use wat_instr::Instruction;
+
+/// Adds a space and the operand, where that is an index, an i32 or an i64.
+fn add_operand(out: &mut Vec<u8>, instr: &Instruction) -> Result<(), AllocError>
+    ensures { OnOk result (out.new.items ≡ out.old.items ++ shown_operand (head_in instr.now)
+        (operand_in instr.now)) }
+{
+    match instr {
+        Instruction::Indexed(_, index) => {
+            add(out, " ")?;
+            add_index(out, index)
+        }
+        Instruction::i32_const(number) => {
+            add(out, " ")?;
+            add_signed(out, i64::from(*number))
+        }
+        Instruction::i64_const(number) => {
+            add(out, " ")?;
+            add_signed(out, *number)
+        }
+        _ => Ok(()),
+    }
+}
+
+/// Adds the mnemonic, and the operand where it is shown.
+pub fn add_instruction(out: &mut Vec<u8>, instr: &Instruction) -> Result<(), AllocError>
+    ensures { OnOk result (out.new.items ≡ out.old.items ++ instr_text
+        (seen_instruction instr.now)) }
+{
+    add(out, instr.mnemonic())?;
+    add_operand(out, instr)
+}

@@ -1,0 +1,99 @@
+//! A reader or a writer that remembers whether one of its calls failed.
+ghost use Rattle.std.specs.Prelude.{◌≡◌, ◌↔◌, ◌⊎◌, false, IsTrue, IsErr};
+ghost use Rattle.std.specs.Io.{ReadsAtMost, WritesAtMost};
+ghost use Rattle.std.specs.Io.KnownBytes.{Keeps, ReadConsumes, WriteAppends};
+ghost use Rattle.wat_show.specs.Streams.{IsFailedWrite};
+
+use std::io;
+use std::io::{Read, Write};
+
+/// A reader or a writer, and whether a call of it has failed.
+#[derive(Drop)]
+pub struct Watched<T> {
+    inner: T,
+    failed: bool,
+}
+
+impl<T> Watched<T> {
+    /// Watches `inner`, of which no call has failed yet.
+    pub fn new(inner: T) -> Watched<T>
+        ensures inner { result.inner ≡ inner }
+        ensures failed { result.failed ≡ false }
+    {
+        Watched {
+            inner,
+            failed: false,
+        }
+    }
+
+    /// Whether a call has failed.
+    pub fn failed(&self) -> bool
+        ensures { result ≡ self.now.failed }
+    {
+        self.failed
+    }
+
+    /// Gives back what was watched.
+    pub fn into_inner(self) -> T
+        ensures { result ≡ self.inner }
+    {
+        self.inner
+    }
+}
+
+impl<R: Read> Read for Watched<R> {
+    ghost remaining = { λ watched. R.remaining watched.inner };
+
+    /// One read of the inner reader, whose answer is passed on. Sets `failed` where that is an
+    /// error.
+    fn read(&mut self, buf: &mut [u8]) -> io::Result<usize>
+        ensures bound { ReadsAtMost result buf.new }
+        ensures bytes { ReadConsumes (R.remaining self.old.inner) (R.remaining self.new.inner)
+            result buf.new }
+        ensures failed { IsTrue self.new.failed ↔ (IsTrue self.old.failed ⊎ IsErr result) }
+    {
+        let outcome = self.inner.read(buf);
+        if outcome.is_err() {
+            self.failed = true;
+        }
+        outcome
+    }
+}
+
+impl<W: Write> Write for Watched<W> {
+    ghost contents = { λ watched. W.contents watched.inner };
+
+    /// One write of the inner writer, whose answer is passed on. Sets `failed` where that is an
+    /// error, or takes nothing of a piece that isn't empty.
+    fn write(&mut self, buf: &[u8]) -> io::Result<usize>
+        ensures bound { WritesAtMost result buf.now }
+        ensures bytes { WriteAppends (W.contents self.old.inner) (W.contents self.new.inner)
+            result buf.now }
+        ensures failed { IsTrue self.new.failed
+            ↔ (IsTrue self.old.failed ⊎ IsFailedWrite result buf.now) }
+    {
+        let outcome = self.inner.write(buf);
+        match outcome {
+            Err(_) => self.failed = true,
+            Ok(count) => {
+                if count == 0 && !buf.is_empty() {
+                    self.failed = true;
+                }
+            }
+        }
+        outcome
+    }
+
+    /// One flush of the inner writer, whose answer is passed on. Sets `failed` where that is an
+    /// error.
+    fn flush(&mut self) -> io::Result<()>
+        ensures bytes { Keeps (W.contents self.old.inner) (W.contents self.new.inner) }
+        ensures failed { IsTrue self.new.failed ↔ (IsTrue self.old.failed ⊎ IsErr result) }
+    {
+        let outcome = self.inner.flush();
+        if outcome.is_err() {
+            self.failed = true;
+        }
+        outcome
+    }
+}

@@ -1,4 +1,0 @@
-pub mod Laws
-pub mod Run
-pub mod Streams
-pub mod Written
