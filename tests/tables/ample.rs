@@ -53,7 +53,7 @@ pub fn add_unread<'a, T: Parse<'a> + Drop>(
     Ok(())
 }
 
-/// The texts in which each part stands between the first text and the last.
+/// The texts in which each part is between the first text and the last.
 fn texts_between<'a>(
     alloc: Global,
     arena: &'a Bump,
@@ -68,7 +68,7 @@ fn texts_between<'a>(
     Ok(texts)
 }
 
-/// The same, where each part stands between the first text and the last.
+/// The same, where each part is between the first text and the last.
 pub fn add_unread_between<'a, T: Parse<'a> + Drop>(
     wrong: &mut String,
     arena: &'a Bump,
@@ -133,7 +133,7 @@ pub fn add_uncloned<'a, T: Parse<'a> + Debug + Drop, C: Clones<T>>(
     Ok(())
 }
 
-/// The same, where each part stands between the first text and the last.
+/// The same, where each part is between the first text and the last.
 pub fn add_uncloned_between<'a, T: Parse<'a> + Debug + Drop, C: Clones<T>>(
     wrong: &mut String,
     arena: &'a Bump,

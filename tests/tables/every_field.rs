@@ -155,8 +155,8 @@ fn every_expression(rt: HostRuntime) -> Result<(), Fail> {
     Ok(())
 }
 
-/// What may stand behind the word of a field with a head.
-const HEADS: &[&str] = &[
+/// What may be behind the word of a field with a head.
+const MNEMONICS: &[&str] = &[
     "",
     " $x",
     " (@name \"n\")",
@@ -265,7 +265,7 @@ fn every_field(rt: HostRuntime) -> Result<(), Fail> {
         ("(module (table", " 1 funcref))"),
         ("(module (table", " funcref (elem)))"),
     ] {
-        add_refused(out, Mode::Module, first, HEADS, last)?;
+        add_refused(out, Mode::Module, first, MNEMONICS, last)?;
     }
     add_refused(
         out,

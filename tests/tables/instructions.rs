@@ -6,35 +6,42 @@ use crate::reading::{number_of, read, refusal, repeated};
 use bumpalo::Bump;
 use std::alloc::Global;
 use std::test::Fail;
-use wat_instr::{AccessOp, Head, IndexedOp, Instruction, LabelOp, ScalarOp, VectorOp};
-use wat_mnemonics::table::HEADS;
+use wat_instr::{AccessOp, IndexedOp, Instruction, LabelOp, Mnemonic, ScalarOp, VectorOp};
+use wat_mnemonics::table::MNEMONICS;
 use wat_operands::{MemArg, MemArgTarget};
 use wat_tokens::{Error, F32, F64, Fault, Index};
 
 /// The shortest operand of an instruction, or None where no literal is read.
-fn least(head: Head) -> Option<&'static str> {
+fn least(head: Mnemonic) -> Option<&'static str> {
     match head {
-        Head::f32_const | Head::f64_const => None,
-        Head::i8x16_shuffle => Some("0 0 0 0 0 0 0 0 0 0 0 0 0 0 0 0"),
-        Head::v128_const => Some("i64x2 0 0"),
-        Head::ref_null => Some("func"),
-        Head::ref_test | Head::ref_cast | Head::ref_cast_desc_eq => Some("funcref"),
-        Head::br_on_cast | Head::br_on_cast_fail => Some("0 funcref funcref"),
-        Head::br_on_cast_desc_eq | Head::br_on_cast_desc_eq_fail => Some("0 funcref funcref"),
-        Head::OrderedIndex(_) => Some("seqcst 0"),
-        Head::OrderedTable(_) => Some("seqcst"),
-        Head::OrderedStruct(_) => Some("seqcst 0 0"),
-        Head::Struct(_) | Head::ArrayInit(_) | Head::cont_bind | Head::switch => Some("0 0"),
-        Head::array_new_fixed | Head::array_new_data | Head::array_new_elem => Some("0 0"),
-        Head::array_copy | Head::resume_throw => Some("0 0"),
-        Head::Indexed(_) | Head::LaneAccess(_) | Head::Lane(_) | Head::br_table => Some("0"),
-        Head::memory_init | Head::table_init | Head::array_fill | Head::resume => Some("0"),
-        Head::resume_throw_ref | Head::i32_const | Head::i64_const => Some("0"),
+        Mnemonic::f32_const | Mnemonic::f64_const => None,
+        Mnemonic::i8x16_shuffle => Some("0 0 0 0 0 0 0 0 0 0 0 0 0 0 0 0"),
+        Mnemonic::v128_const => Some("i64x2 0 0"),
+        Mnemonic::ref_null => Some("func"),
+        Mnemonic::ref_test | Mnemonic::ref_cast | Mnemonic::ref_cast_desc_eq => Some("funcref"),
+        Mnemonic::br_on_cast | Mnemonic::br_on_cast_fail => Some("0 funcref funcref"),
+        Mnemonic::br_on_cast_desc_eq | Mnemonic::br_on_cast_desc_eq_fail => Some(
+            "0 funcref funcref",
+        ),
+        Mnemonic::OrderedIndex(_) => Some("seqcst 0"),
+        Mnemonic::OrderedTable(_) => Some("seqcst"),
+        Mnemonic::OrderedStruct(_) => Some("seqcst 0 0"),
+        Mnemonic::Struct(_) | Mnemonic::ArrayInit(_) | Mnemonic::cont_bind | Mnemonic::switch =>
+            Some("0 0"),
+        Mnemonic::array_new_fixed | Mnemonic::array_new_data | Mnemonic::array_new_elem => Some(
+            "0 0",
+        ),
+        Mnemonic::array_copy | Mnemonic::resume_throw => Some("0 0"),
+        Mnemonic::Indexed(_) | Mnemonic::LaneAccess(_) | Mnemonic::Lane(_) | Mnemonic::br_table =>
+            Some("0"),
+        Mnemonic::memory_init | Mnemonic::table_init | Mnemonic::array_fill | Mnemonic::resume =>
+            Some("0"),
+        Mnemonic::resume_throw_ref | Mnemonic::i32_const | Mnemonic::i64_const => Some("0"),
         _ => Some(""),
     }
 }
 
-/// The word of the instruction that is read, and cloned, where the word and the operand stand in a
+/// The word of the instruction that is read, and cloned, where the word and the operand are in a
 /// text.
 fn word_of(alloc: Global, word: &str, operand: &str) -> Result<&'static str, Fail> {
     let arena = Bump::new(alloc);
@@ -52,8 +59,8 @@ fn word_of(alloc: Global, word: &str, operand: &str) -> Result<&'static str, Fai
 fn every_mnemonic(rt: HostRuntime) -> Result<(), Fail> {
     let alloc = rt.alloc();
     let mut heads = Vec::new(alloc);
-    for i in 0..HEADS.len() {
-        let head = HEADS[i];
+    for i in 0..MNEMONICS.len() {
+        let head = MNEMONICS[i];
         if let Some(operand) = least(head) {
             assert_eq!(rt; word_of(alloc, head.mnemonic(), operand)?, head.mnemonic());
             heads.push(head)?;

@@ -4,20 +4,20 @@ use crate::reading::refusal;
 use bumpalo::Bump;
 use std::alloc::Global;
 use std::test::Fail;
-use wat_mnemonics::table::HEADS;
+use wat_mnemonics::table::MNEMONICS;
 use wat_mnemonics::{
-    AccessOp, AtomicAccessOp, Head, IndexedOp, LaneAccessOp, RmwAccessOp, ScalarOp, VectorOp,
+    AccessOp, AtomicAccessOp, IndexedOp, LaneAccessOp, Mnemonic, RmwAccessOp, ScalarOp, VectorOp,
 };
 use wat_tokens::{Error, Fault, Parser};
 
 /// Takes the word of an instruction in front of a text.
-fn take(alloc: Global, text: &str, arena: &Bump) -> Result<Head, Error> {
+fn take(alloc: Global, text: &str, arena: &Bump) -> Result<Mnemonic, Error> {
     let mut parser = Parser::new(alloc, text, arena)?;
-    Head::take(&mut parser)
+    Mnemonic::take(&mut parser)
 }
 
 /// The bytes of an opcode, where it has some.
-fn bytes_of(alloc: Global, head: Head) -> Result<Option<Vec<u8>>, Error> {
+fn bytes_of(alloc: Global, head: Mnemonic) -> Result<Option<Vec<u8>>, Error> {
     let mut out = Vec::new(alloc);
     match head.opcode().write(&mut out)? {
         Some(_) => Ok(Some(out)),
@@ -31,18 +31,18 @@ fn words(rt: HostRuntime) -> Result<(), Fail> {
     let arena = Bump::new(alloc);
     assert_eq!(rt;
         take(alloc, "any.convert_extern", &arena)?,
-        Head::Scalar(ScalarOp::any_convert_extern)
+        Mnemonic::Scalar(ScalarOp::any_convert_extern)
     );
     assert_eq!(rt;
         take(alloc, "v128.xor", &arena)?,
-        Head::Vector(VectorOp::v128_xor)
+        Mnemonic::Vector(VectorOp::v128_xor)
     );
     assert_eq!(rt;
         take(alloc, " br_on_non_null 0", &arena)?,
-        Head::Indexed(IndexedOp::br_on_non_null)
+        Mnemonic::Indexed(IndexedOp::br_on_non_null)
     );
     assert_eq!(rt; take(alloc, "if", &arena)?.mnemonic(), "if");
-    assert_eq!(rt; take(alloc, "f64.const 1", &arena)?, Head::f64_const);
+    assert_eq!(rt; take(alloc, "f64.const 1", &arena)?, Mnemonic::f64_const);
     for text in [
         "a.b", "zzz", "try_", "try_tabl", "i32.addx", "i32_add", "(", ")", "$i32.add", "0",
         "\"nop\"", "=", "",
@@ -61,13 +61,13 @@ fn words(rt: HostRuntime) -> Result<(), Fail> {
 fn opcodes_and_alignments(rt: HostRuntime) -> Result<(), Fail> {
     let alloc = rt.alloc();
     let mut found = Vec::new(alloc);
-    for i in 0..HEADS.len() {
-        if let Some(bytes) = bytes_of(alloc, HEADS[i])? {
+    for i in 0..MNEMONICS.len() {
+        if let Some(bytes) = bytes_of(alloc, MNEMONICS[i])? {
             found.push(bytes)?;
         }
     }
     assert_eq!(rt; found.len(), 339);
-    let add = bytes_of(alloc, Head::Scalar(ScalarOp::i32_add))?;
+    let add = bytes_of(alloc, Mnemonic::Scalar(ScalarOp::i32_add))?;
     assert_eq!(rt; add.as_deref(), Some(&[0x6a][..]));
     assert_eq!(rt; AccessOp::i64_load.align(), 8);
     assert_eq!(rt; AccessOp::i64_store32.align(), 4);

@@ -7,7 +7,7 @@ use wat_core::wat_mnemonics::find::find;
 use wat_core::wat_types::limits::take_is64;
 use wat_core::{
     Custom, ElemPayload, Expression, Fault, FuncKind, Imports, InnerTypeKind, Instruction, MemArg,
-    MemoryKind, Mnemonic, Module, ModuleField, ModuleKind, Parser, ScalarOp, hand,
+    MemoryKind, Mnemonic, Module, ModuleField, ModuleKind, Parser, ScalarOp, ownership,
 };
 
 /// The word of a field's kind.
@@ -145,7 +145,7 @@ fn refusal_of(alloc: Allocator, text: &str) -> Result<Option<(Fault, usize)>, Fa
     parser.open()?;
     match Module::parse(&mut parser) {
         Ok(module) => {
-            hand::let_go(module);
+            ownership::discard(module);
             Ok(None)
         }
         Err(error) => Ok(Some((error.fault, error.span.offset()))),
@@ -160,7 +160,7 @@ fn known_behind(alloc: Allocator, known: bool) -> Result<(bool, bool), Fail> {
     let mut parser = Parser::new(alloc, text, &arena)?;
     parser.with_standard_annotations(known);
     parser.open()?;
-    hand::let_go(Module::parse(&mut parser)?);
+    ownership::discard(Module::parse(&mut parser)?);
     parser.close()?;
     Ok((parser.known(), parser.annotation_is("custom")))
 }
@@ -240,8 +240,8 @@ fn other_texts_are_refused(rt: HostRuntime) -> Result<(), Fail> {
     Ok(())
 }
 
-/// The mnemonic that a word is, found by a call that stands in a crate below, and whether flags of
-/// 64 bits are in front of a text.
+/// The mnemonic that a word is, found by a call that is in a crate below, and whether flags of 64
+/// bits are in front of a text.
 fn found_below(alloc: Allocator, word: &str) -> Result<(Option<Mnemonic>, bool), Fail> {
     let arena = Bump::new(alloc);
     let mut parser = Parser::new(alloc, "i64 nop", &arena)?;

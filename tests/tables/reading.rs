@@ -3,7 +3,7 @@
 use bumpalo::Bump;
 use std::alloc::{AllocError, Global};
 use std::fmt::Debug;
-use wat_tokens::whole::in_group;
+use wat_tokens::whole::in_parens;
 use wat_tokens::{Error, Fault, Index, Parse, Parser};
 
 /// A parser in front of a text; the standard annotations are known.
@@ -84,7 +84,7 @@ pub fn behind_blanks(alloc: Global, text: &str) -> Result<String, AllocError> {
     repeated(alloc, "   ", text, 1, "")
 }
 
-/// What a text is refused with where three blanks stand in front of it, with the place three less.
+/// What a text is refused with where three blanks are in front of it, with the place three less.
 fn refusal_behind_blanks<'a, T: Parse<'a> + Drop>(
     alloc: Global,
     text: &str,
@@ -129,7 +129,7 @@ pub fn shown<'a, T: Parse<'a> + Debug + Drop>(
     let mut parser = parser_of(alloc, text, arena)?;
     parser.track_instr_spans(true);
     let found = if is_group {
-        in_group::<T>(&mut parser)?
+        in_parens::<T>(&mut parser)?
     } else {
         parser.parse::<T>()?
     };

@@ -7,12 +7,12 @@ use crate::rows::ROWS;
 use bumpalo::Bump;
 use std::alloc::Global;
 use std::test::Fail;
-use wat_instr::{Head, Instruction};
+use wat_instr::{Instruction, Mnemonic};
 use wat_operands::MemArg;
 use wat_tokens::{F32, F64, Parser};
 
 /// Adds the bytes of an opcode, or a dash where there is none.
-fn add_opcode(alloc: Global, out: &mut String, head: Head) -> Result<(), Fail> {
+fn add_opcode(alloc: Global, out: &mut String, head: Mnemonic) -> Result<(), Fail> {
     let mut bytes = Vec::new(alloc);
     match head.opcode().write(&mut bytes)? {
         Some(count) if count == bytes.len() => {}
@@ -38,7 +38,7 @@ fn access_of<'f, 'a>(found: &'f Instruction<'a>) -> Option<&'f MemArg<'a>> {
 
 /// Adds the alignment and the ordering of an access, and whether the instruction is another than
 /// the word's.
-fn add_instruction(out: &mut String, head: Head, found: &Instruction<'_>) -> Result<(), Fail> {
+fn add_instruction(out: &mut String, head: Mnemonic, found: &Instruction<'_>) -> Result<(), Fail> {
     if let Some(access) = access_of(found) {
         let align = access.align;
         let ordering = access.ordering;
@@ -50,8 +50,8 @@ fn add_instruction(out: &mut String, head: Head, found: &Instruction<'_>) -> Res
     Ok(add_if_instruction_unlike(out, found)?)
 }
 
-/// Adds what is read from the front of a parser's text, and whether more stands behind it.
-fn add_read(out: &mut String, head: Head, parser: &mut Parser<'_>) -> Result<(), Fail> {
+/// Adds what is read from the front of a parser's text, and whether more is behind it.
+fn add_read(out: &mut String, head: Mnemonic, parser: &mut Parser<'_>) -> Result<(), Fail> {
     match parser.parse::<Instruction>() {
         Ok(found) => {
             add_instruction(out, head, &found)?;
@@ -67,7 +67,7 @@ fn add_read(out: &mut String, head: Head, parser: &mut Parser<'_>) -> Result<(),
 /// A text and, behind a colon, what it is as an instruction.
 fn row_of(alloc: Global, text: &str) -> Result<String, Fail> {
     let arena = Bump::new(alloc);
-    let head = Head::take(&mut parser_of(alloc, text, &arena)?)?;
+    let head = Mnemonic::take(&mut parser_of(alloc, text, &arena)?)?;
     let mut row = String::from_str(alloc, text)?;
     write!(row, " : {head:?} ")?;
     add_opcode(alloc, &mut row, head)?;

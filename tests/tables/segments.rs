@@ -6,7 +6,7 @@ use std::alloc::Global;
 use std::test::Fail;
 use wat_expr::Expression;
 use wat_fields::{Data, DataKind, DataVal, Memory, MemoryKind};
-use wat_tokens::whole::in_group;
+use wat_tokens::whole::in_parens;
 use wat_tokens::{Error, Fault, Id, Index, NameAnnotation, Parse};
 use wat_types::MemoryType;
 
@@ -19,7 +19,7 @@ fn read_group<'a, T: Parse<'a> + Drop>(
 ) -> Result<T, Error> {
     let mut parser = parser_of(alloc, text, arena)?;
     parser.track_instr_spans(tracks);
-    in_group::<T>(&mut parser)
+    in_parens::<T>(&mut parser)
 }
 
 /// Adds what names a field.

@@ -8,7 +8,7 @@ ghost use Rattle.wat_tokens.specs.Integers.{unsigned};
 ghost use Rattle.wat_tokens.specs.Many.{many};
 ghost use Rattle.wat_tokens.specs.Parts.{opt, seq};
 ghost use Rattle.wat_tokens.specs.Tests.{begins_group, begins_id};
-ghost use Rattle.wat_tokens.specs.Views.{plain, owning, no_items, seen_option};
+ghost use Rattle.wat_tokens.specs.Views.{plain, owning, no_items, option_view};
 
 use crate::reading::refusal;
 use bumpalo::Bump;
@@ -24,7 +24,7 @@ struct Step {
 }
 
 impl<'a> Parse<'a> for Step {
-    ghost Seen = { ℕ × ℕ };
+    ghost View = { ℕ × ℕ };
 
     ghost view = { plain (λ s. (s.east, s.north)) };
 
@@ -66,10 +66,10 @@ struct Path<'a> {
 }
 
 impl<'a> Parse<'a> for Path<'a> {
-    ghost Seen = { Option (List ℕ) × List (ℕ × ℕ) };
+    ghost View = { Option (List ℕ) × List (ℕ × ℕ) };
 
     ghost view = { owning
-        (λ p. (seen_option name_of p.name, map (λ s. (s.east, s.north)) p.steps.items))
+        (λ p. (option_view name_of p.name, map (λ s. (s.east, s.north)) p.steps.items))
         (λ p. no_items p.1) };
 
     ghost grammar = { let step = group (codes "by") (seq (unsigned 32) (unsigned 32)) in

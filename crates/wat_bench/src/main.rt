@@ -3,8 +3,8 @@
 //!
 //! With no argument it prints the number of tokens. With a number of rounds it cuts the text as
 //! often, and also prints the nanoseconds of the fastest round, the bytes that a token takes, the
-//! nanoseconds of a million lookups, the number of mnemonics that stand in front one behind the
-//! other and the nanoseconds of taking them, and the number of instructions and the nanoseconds of
+//! nanoseconds of a million lookups, the number of mnemonics that are in front one behind the other
+//! and the nanoseconds of taking them, and the number of instructions and the nanoseconds of
 //! reading the text as an expression.
 #![tactic(auto)]
 
@@ -17,7 +17,7 @@ use std::{env, io};
 use wat_expr::Expression;
 use wat_lexer::cut::cut;
 use wat_lexer::lexeme::Lexeme;
-use wat_mnemonics::Head;
+use wat_mnemonics::Mnemonic;
 use wat_tokens::{Parse, Parser};
 
 /// How many tokens the text has, or `None` where it isn't cut.
@@ -58,7 +58,7 @@ fn lookups(rt: &impl Clock, alloc: Global, text: &str) -> io::Result<u128> {
     Ok(start.elapsed(rt)?.as_nanos())
 }
 
-/// Takes the mnemonics that stand in front one behind the other, at most so many: how many, and the
+/// Takes the mnemonics that are in front one behind the other, at most so many: how many, and the
 /// nanoseconds.
 fn words(rt: &impl Clock, alloc: Global, text: &str, most: usize) -> io::Result<(usize, u128)> {
     let arena = Bump::new(alloc);
@@ -67,7 +67,7 @@ fn words(rt: &impl Clock, alloc: Global, text: &str, most: usize) -> io::Result<
     if let Ok(mut parser) = Parser::new(alloc, text, &arena) {
         let start = Instant::now(rt)?;
         for _ in 0..most {
-            if Head::take(&mut parser).is_err() {
+            if Mnemonic::take(&mut parser).is_err() {
                 break;
             }
             count = count.wrapping_add(1);

@@ -1,3 +1,3 @@
-pub mod Calm
 pub mod Ends
+pub mod IndependentOfRest
 pub mod Rows

@@ -22,10 +22,10 @@ use Rattle.wat_links.specs.Custom.{custom}
 use Rattle.wat_links.specs.Raw.{raw_place, raw_data, raw_custom}
 use Rattle.wat_links.specs.Export.{export_kind, export_, inline_export}
 use Rattle.wat_links.specs.Forms.{import_items, imports}
-use Rattle.wat_links.specs.Head.{head}
+use Rattle.wat_links.specs.FieldHead.{head}
 use Rattle.wat_links.specs.Import.{single_item, import_choice}
 use Rattle.wat_links.specs.Item.{func_kind, item_sig}
-use Rattle.wat_mnemonics.specs.declared.head.Head.TheVariants as word
+use Rattle.wat_mnemonics.specs.declared.mnemonic.Mnemonic.TheVariants as word
 use Rattle.wat_instr.specs.Instruction.{instruction}
 use Rattle.wat_instr.specs.Laws.First.{instruction_read}
 use Rattle.wat_instr.specs.Operand.{operand}
@@ -47,18 +47,18 @@ use Rattle.wat_fields.specs.Memory.{memory_kind, memory}
 use Rattle.wat_fields.specs.Payload.{index_list, payload}
 use Rattle.wat_fields.specs.Table.{normal_table, table_kind, table}
 use Rattle.wat_fields.specs.Tag.{tag}
-use Rattle.wat_core.specs.Field.{start, last_field, further_field, defined_field, module_field}
+use Rattle.wat_core.specs.Field.{start, start_or_later_field, global_or_later_field, func_or_later_field, module_field}
 use Rattle.wat_core.specs.Module.{fields, pieces, module_kind, module_}
-use Rattle.wat_core.specs.Rows.{zero, Named, TwoFields, Binary, Types, Links, Functions, Stores, ZeroGlobal, Segments, Customs}
+use Rattle.wat_core.specs.Rows.{zero, NamedModule, TwoFields, Binary, Types, Links, Functions, Stores, ZeroGlobal, Segments, Customs}
 
 -- ---- modules
 
-pub named : Named
+pub named : NamedModule
 unfolding module_ module_kind fields label name_annotation many_at many_reads is_utf8 chars encode_utf8
 named = (spelled_whole module_ _ _ refl, spelled_whole module_ _ _ refl)
 
 pub two_fields : TwoFields
-unfolding module_ module_kind fields module_field defined_field further_field last_field start label name_annotation many_at many_reads read
+unfolding module_ module_kind fields module_field func_or_later_field global_or_later_field start_or_later_field start label name_annotation many_at many_reads read
 two_fields = spelled_whole module_ _ _ refl
 
 pub in_binary : Binary
@@ -72,7 +72,7 @@ unfolding module_ module_kind fields module_field type_ rec types type_def maybe
 of_types = (spelled_whole module_ _ _ refl, spelled_whole module_ _ _ refl, spelled_whole module_ _ _ refl)
 
 pub of_links : Links
-unfolding module_ module_kind fields module_field defined_field further_field last_field start imports import_items import_choice single_item item_sig func_kind export_ export_kind type_use function_groups func_groups label name_annotation many_at many_reads read is_utf8 chars encode_utf8
+unfolding module_ module_kind fields module_field func_or_later_field global_or_later_field start_or_later_field start imports import_items import_choice single_item item_sig func_kind export_ export_kind type_use function_groups func_groups label name_annotation many_at many_reads read is_utf8 chars encode_utf8
 of_links = (spelled_whole module_ _ _ refl, spelled_whole module_ _ _ refl, spelled_whole module_ _ _ refl)
 
 abbrev closed : List Tok
@@ -86,11 +86,11 @@ unfolding expression
 nothing_read = expression.complete nothing [] closed (Nil, refl, refl, refl)
 
 pub of_functions : Functions
-unfolding module_ module_kind fields module_field defined_field further_field func func_defined func_inline tag head inline_export locals type_use function_groups func_groups label name_annotation many_at many_reads
+unfolding module_ module_kind fields module_field func_or_later_field global_or_later_field func func_defined func_inline tag head inline_export locals type_use function_groups func_groups label name_annotation many_at many_reads
 of_functions = (spelled_whole module_ _ _ (rw nothing_read refl), spelled_whole module_ _ _ refl)
 
 pub of_stores : Stores
-unfolding module_ module_kind fields module_field defined_field table table_kind normal_table table_type memory memory_kind memory_type limits_type is_64 ref_type shorthand begins_shorthand pagesize_or_none head inline_export label name_annotation many_at many_reads read
+unfolding module_ module_kind fields module_field func_or_later_field table table_kind normal_table table_type memory memory_kind memory_type limits_type is_64 ref_type shorthand begins_shorthand pagesize_or_none head inline_export label name_annotation many_at many_reads read
 of_stores = (spelled_whole module_ _ _ refl, spelled_whole module_ _ _ refl)
 
 abbrev const_text : List Tok
@@ -104,13 +104,13 @@ zero_read : expression.reads (group_text (codes "i32.const") (Integer (codes "0"
 zero_read = grouped_read zero const_text closed zero_front refl refl
 
 pub of_globals : ZeroGlobal
-unfolding module_ module_kind fields module_field defined_field further_field global global_defined global_type val_type head inline_export label name_annotation many_at many_reads
+unfolding module_ module_kind fields module_field func_or_later_field global_or_later_field global global_defined global_type val_type head inline_export label name_annotation many_at many_reads
 of_globals = spelled_whole module_ _ _ (rw zero_read refl)
 
 pub of_segments : Segments
-unfolding module_ module_kind fields module_field defined_field further_field last_field elem segment passive_segment payload index_list data_segment data_kind data_vals data_val label name_annotation many_at many_reads read
+unfolding module_ module_kind fields module_field func_or_later_field global_or_later_field start_or_later_field elem segment passive_segment payload index_list data_segment data_kind data_vals data_val label name_annotation many_at many_reads read
 of_segments = (spelled_whole module_ _ _ refl, spelled_whole module_ _ _ refl)
 
 pub of_customs : Customs
-unfolding module_ module_kind fields module_field defined_field further_field last_field custom raw_custom raw_place raw_data label name_annotation many_at many_reads is_utf8 chars encode_utf8
+unfolding module_ module_kind fields module_field func_or_later_field global_or_later_field start_or_later_field custom raw_custom raw_place raw_data label name_annotation many_at many_reads is_utf8 chars encode_utf8
 of_customs = spelled_whole module_ _ _ refl

@@ -1,23 +1,23 @@
 -- Fields of a module.
 use Rattle.std.specs.Prelude.{Bool, true, List, codes}
-use Rattle.wat_tokens.specs.Index.{Idx, seen_index, index}
+use Rattle.wat_tokens.specs.Index.{Idx, index_view, index}
 use Rattle.wat_tokens.specs.Parts.{made, where_else, after_word}
 use Rattle.wat_tokens.specs.Production.{Production}
 use Rattle.wat_tokens.specs.Tests.{begins_word}
 use Rattle.wat_tokens.specs.Views.{no_items}
-use Rattle.wat_types.specs.Define.{TypeTy, seen_type, bare_type, type_}
-use Rattle.wat_types.specs.Recursion.{seen_rec, rec}
-use Rattle.wat_links.specs.Custom.{CustomTy, seen_custom, bare_custom, custom}
-use Rattle.wat_links.specs.Export.{ExportTy, seen_export, export_}
+use Rattle.wat_types.specs.Define.{TypeTy, type_view, bare_type, type_}
+use Rattle.wat_types.specs.Recursion.{rec_view, rec}
+use Rattle.wat_links.specs.Custom.{CustomTy, custom_view, bare_custom, custom}
+use Rattle.wat_links.specs.Export.{ExportTy, export_view, export_}
 use Rattle.wat_links.specs.Forms.{imports}
-use Rattle.wat_links.specs.Import.{HeldName, ImportsTy, seen_imports, bare_imports}
-use Rattle.wat_fields.specs.Data.{DataTy, seen_data, bare_data, data_segment}
-use Rattle.wat_fields.specs.Elem.{ElemTy, seen_elem, bare_elem, elem}
-use Rattle.wat_fields.specs.Func.{FuncFieldTy, seen_func, bare_func, func}
-use Rattle.wat_fields.specs.Global.{GlobalFieldTy, seen_global, bare_global, global}
-use Rattle.wat_fields.specs.Memory.{MemoryTy, seen_memory, bare_memory, memory}
-use Rattle.wat_fields.specs.Table.{TableFieldTy, seen_table, bare_table, table}
-use Rattle.wat_fields.specs.Tag.{TagTy, seen_tag, bare_tag, tag}
+use Rattle.wat_links.specs.Import.{HeldName, ImportsTy, imports_view, bare_imports}
+use Rattle.wat_fields.specs.Data.{DataTy, data_view, bare_data, data_segment}
+use Rattle.wat_fields.specs.Elem.{ElemTy, elem_view, bare_elem, elem}
+use Rattle.wat_fields.specs.Func.{FuncFieldTy, func_view, bare_func, func}
+use Rattle.wat_fields.specs.Global.{GlobalFieldTy, global_view, bare_global, global}
+use Rattle.wat_fields.specs.Memory.{MemoryTy, memory_view, bare_memory, memory}
+use Rattle.wat_fields.specs.Table.{TableFieldTy, table_view, bare_table, table}
+use Rattle.wat_fields.specs.Tag.{TagTy, tag_view, bare_tag, tag}
 use Rattle.wat_types.specs.declared.define.«Type».{«Type»}
 use Rattle.wat_types.specs.declared.define.Rec.{Rec}
 use Rattle.wat_tokens.specs.declared.index.Index.{Index}
@@ -59,20 +59,20 @@ ModuleField =
     ModuleFieldOf «Type» Rec (ImportsOf HeldName ItemSig) Func Table Memory Global Export Index Elem
     Data Tag Custom
 
-abbrev pub seen_field : ModuleField → ModuleFieldTy
-seen_field (code.«Type» t) = a_type (seen_type t)
-seen_field (code.Rec r) = a_rec (seen_rec r)
-seen_field (code.Import i) = an_import (seen_imports i)
-seen_field (code.Func f) = a_func (seen_func f)
-seen_field (code.Table t) = a_table (seen_table t)
-seen_field (code.Memory m) = a_memory (seen_memory m)
-seen_field (code.Global g) = a_global (seen_global g)
-seen_field (code.Export e) = an_export (seen_export e)
-seen_field (code.Start i) = a_start (seen_index i)
-seen_field (code.Elem e) = an_elem (seen_elem e)
-seen_field (code.Data d) = a_data (seen_data d)
-seen_field (code.Tag t) = a_tag (seen_tag t)
-seen_field (code.Custom c) = a_custom (seen_custom c)
+abbrev pub field_view : ModuleField → ModuleFieldTy
+field_view (code.«Type» t) = a_type (type_view t)
+field_view (code.Rec r) = a_rec (rec_view r)
+field_view (code.Import i) = an_import (imports_view i)
+field_view (code.Func f) = a_func (func_view f)
+field_view (code.Table t) = a_table (table_view t)
+field_view (code.Memory m) = a_memory (memory_view m)
+field_view (code.Global g) = a_global (global_view g)
+field_view (code.Export e) = an_export (export_view e)
+field_view (code.Start i) = a_start (index_view i)
+field_view (code.Elem e) = an_elem (elem_view e)
+field_view (code.Data d) = a_data (data_view d)
+field_view (code.Tag t) = a_tag (tag_view t)
+field_view (code.Custom c) = a_custom (custom_view c)
 
 -- what the value of its kind says
 abbrev pub bare_field : ModuleFieldTy → Bool
@@ -97,28 +97,28 @@ unfoldable pub start : Production Idx
 start = after_word (codes "start") index
 
 -- Start | Elem | Data | Custom
-unfoldable pub last_field : Production ModuleFieldTy
-last_field =
+unfoldable pub start_or_later_field : Production ModuleFieldTy
+start_or_later_field =
     where_else (begins_word (codes "start")) (made a_start start)
     (where_else (begins_word (codes "elem")) (made an_elem elem)
     (where_else (begins_word (codes "data")) (made a_data data_segment)
     (made a_custom custom)))
 
 -- Global | Export | Tag | one of the last
-unfoldable pub further_field : Production ModuleFieldTy
-further_field =
+unfoldable pub global_or_later_field : Production ModuleFieldTy
+global_or_later_field =
     where_else (begins_word (codes "global")) (made a_global global)
     (where_else (begins_word (codes "export")) (made an_export export_)
     (where_else (begins_word (codes "tag")) (made a_tag tag)
-    last_field))
+    start_or_later_field))
 
 -- Func | Table | Memory | one of the further
-unfoldable pub defined_field : Production ModuleFieldTy
-defined_field =
+unfoldable pub func_or_later_field : Production ModuleFieldTy
+func_or_later_field =
     where_else (begins_word (codes "func")) (made a_func func)
     (where_else (begins_word (codes "table")) (made a_table table)
     (where_else (begins_word (codes "memory")) (made a_memory memory)
-    further_field))
+    global_or_later_field))
 
 -- Type | Rec | Imports | one of the others
 unfoldable pub module_field : Production ModuleFieldTy
@@ -126,4 +126,4 @@ module_field =
     where_else (begins_word (codes "type")) (made a_type type_)
     (where_else (begins_word (codes "rec")) (made a_rec rec)
     (where_else (begins_word (codes "import")) (made an_import imports)
-    defined_field))
+    func_or_later_field))

@@ -61,7 +61,7 @@ pub use Rattle.wat_links.specs.Export
 pub use Rattle.wat_links.specs.FlagBits
 pub use Rattle.wat_links.specs.Flags
 pub use Rattle.wat_links.specs.Forms
-pub use Rattle.wat_links.specs.Head
+pub use Rattle.wat_links.specs.FieldHead
 pub use Rattle.wat_links.specs.Import
 pub use Rattle.wat_links.specs.ImportItem
 pub use Rattle.wat_links.specs.InlineName

@@ -8,13 +8,13 @@ use Rattle.wat_tokens.specs.Production.{Production}
 use Rattle.wat_tokens.specs.Strings.{string}
 use Rattle.wat_tokens.specs.Tests.{begins_word, more}
 use Rattle.wat_tokens.specs.Views.{no_items}
-use Rattle.wat_types.specs.Label.{Label, seen_label, label}
-use Rattle.wat_core.specs.Field.{ModuleFieldTy, ModuleField, seen_field}
+use Rattle.wat_types.specs.Label.{Label, label_view, label}
+use Rattle.wat_core.specs.Field.{ModuleFieldTy, ModuleField, field_view}
 use Rattle.wat_core.specs.declared.module.«Module».{«Module»}
 use Rattle.wat_core.specs.declared.module.ModuleKindOf.{ModuleKindOf}
 use Rattle.wat_core.specs.declared.module.ModuleKindOf.TheVariants as code
 use Rattle.wat_core.specs.FieldGroup.{field_group}
-use Rattle.wat_core.specs.Laws.Module.{field_group_eats}
+use Rattle.wat_core.specs.Laws.Module.{field_group_consumes}
 
 -- ---- what contracts see
 
@@ -34,15 +34,15 @@ module_with l k = record { label = l; kind = k }
 abbrev pub Piece : Type 0
 Piece = Bor (List ℕ)
 
-abbrev pub seen_fields : List ModuleField → List ModuleFieldTy
-seen_fields fs = map seen_field fs
+abbrev pub fields_view : List ModuleField → List ModuleFieldTy
+fields_view fs = map field_view fs
 
-abbrev pub seen_module_kind : ModuleKindOf ModuleField Piece → ModuleKindTy
-seen_module_kind (code.Text fs) = text (seen_fields fs.items)
-seen_module_kind (code.Binary ss) = binary (map (λ s. s.now) ss.items)
+abbrev pub module_kind_view : ModuleKindOf ModuleField Piece → ModuleKindTy
+module_kind_view (code.Text fs) = text (fields_view fs.items)
+module_kind_view (code.Binary ss) = binary (map (λ s. s.now) ss.items)
 
-abbrev pub seen_module : «Module» → ModuleTy
-seen_module m = module_with (seen_label m.id m.name) (seen_module_kind m.kind)
+abbrev pub module_view : «Module» → ModuleTy
+module_view m = module_with (label_view m.id m.name) (module_kind_view m.kind)
 
 -- no field and no piece
 abbrev pub bare_module_kind : ModuleKindTy → Bool
@@ -56,7 +56,7 @@ bare_module m = bare_module_kind m.kind
 
 -- ( ModuleField )*, to the end
 unfoldable pub fields : Production (List ModuleFieldTy)
-fields = many more field_group field_group_eats
+fields = many more field_group field_group_consumes
 
 -- bytes*, to the end
 unfoldable pub pieces : Production (List (List ℕ))

@@ -16,11 +16,11 @@ use Rattle.wat_links.specs.Custom.{raw}
 use Rattle.wat_links.specs.Raw.{raw_of}
 use Rattle.wat_links.specs.declared.place.CustomPlace.TheVariants.{AfterLast}
 use Rattle.wat_links.specs.Export.{export_of}
-use Rattle.wat_links.specs.Head.{no_head}
+use Rattle.wat_links.specs.FieldHead.{no_head}
 use Rattle.wat_links.specs.Import.{imports_of, single}
 use Rattle.wat_links.specs.Item as item
 use Rattle.wat_links.specs.declared.export.ExportKind.TheVariants as kind
-use Rattle.wat_mnemonics.specs.declared.head.Head.TheVariants as word
+use Rattle.wat_mnemonics.specs.declared.mnemonic.Mnemonic.TheVariants as word
 use Rattle.wat_instr.specs.Instruction.{Instr, instr_of}
 use Rattle.wat_instr.specs.Operand as operands
 use Rattle.wat_expr.specs.Rows.{group_text}
@@ -59,8 +59,8 @@ OneField w ts f =
 -- ---- what names a module, and how many fields it has
 
 -- `module` has no field; `module $m (@name "n")` is named
-abbrev pub Named : Type 0
-Named =
+abbrev pub NamedModule : Type 0
+NamedModule =
     Spelled module_ (module_and []) (module_with no_label (text []))
     × Spelled module_ (module_and (Id (codes "m")
     ∷ in_parens (Annotation (codes "name") ∷ String (codes "n") ∷ [])))
@@ -174,7 +174,7 @@ Segments =
     × OneField (codes "data") (String (codes "a") ∷ [])
     (a_data (data_of no_label segments.passive (written (codes "a") ∷ [])))
 
--- `(@custom "c" "a")` stands behind the last section
+-- `(@custom "c" "a")` is behind the last section
 abbrev pub Customs : Type 0
 Customs =
     Spelled module_ (module_and (in_parens (Annotation (codes "custom") ∷ String (codes "c")

@@ -2,11 +2,12 @@
 
 ghost use Rattle.std.specs.Prelude.{◌≡◌};
 ghost use Rattle.wat_tokens.specs.Cost.{turns_too};
-ghost use Rattle.wat_tokens.specs.Index.{seen_index};
+ghost use Rattle.wat_tokens.specs.Index.{index_view};
 ghost use Rattle.wat_tokens.specs.Reads.{Reads, ReadsAt};
 ghost use Rattle.wat_tokens.specs.Views.{plain, owning};
-ghost use Rattle.wat_core.specs.Field.{ModuleFieldTy, seen_field, bare_field, start, last_field};
-ghost use Rattle.wat_core.specs.Field.{further_field, defined_field, module_field};
+ghost use Rattle.wat_core.specs.Field.{ModuleFieldTy, field_view, bare_field, start};
+ghost use Rattle.wat_core.specs.Field.{start_or_later_field, global_or_later_field};
+ghost use Rattle.wat_core.specs.Field.{func_or_later_field, module_field};
 
 use wat_fields::{Data, Elem, Func, Global, Memory, Table, Tag};
 use wat_links::{Custom, Export, Imports};
@@ -78,16 +79,17 @@ pub type ModuleField<'a> = ModuleFieldOf<
 /// `start`, and an index.
 #[tactic(auto, unfolding(crate::specs::Field::start))]
 fn read_start<'a>(parser: &mut Parser<'a>) -> Result<Index<'a>>
-    ensures reads { Reads (plain seen_index) start result parser.old parser.new }
+    ensures reads { Reads (plain index_view) start result parser.old parser.new }
 {
     parser.keyword("start")?;
     Index::parse(parser)
 }
 
 /// The function to start with, an element or data segment, or a custom section.
-#[tactic(auto, unfolding(crate::specs::Field::last_field))]
-fn read_last<'a>(parser: &mut Parser<'a>) -> Result<ModuleField<'a>>
-    ensures reads { ReadsAt turns_too (owning seen_field bare_field) last_field result parser.old
+#[tactic(auto, unfolding(crate::specs::Field::start_or_later_field))]
+fn read_start_or_later<'a>(parser: &mut Parser<'a>) -> Result<ModuleField<'a>>
+    ensures reads { ReadsAt turns_too
+        (owning field_view bare_field) start_or_later_field result parser.old
         parser.new }
 {
     if parser.next_is("start") {
@@ -103,9 +105,10 @@ fn read_last<'a>(parser: &mut Parser<'a>) -> Result<ModuleField<'a>>
 }
 
 /// A global, an export, a tag, or one of the last.
-#[tactic(auto, unfolding(crate::specs::Field::further_field))]
-fn read_further<'a>(parser: &mut Parser<'a>) -> Result<ModuleField<'a>>
-    ensures reads { ReadsAt turns_too (owning seen_field bare_field) further_field result parser.old
+#[tactic(auto, unfolding(crate::specs::Field::global_or_later_field))]
+fn read_global_or_later<'a>(parser: &mut Parser<'a>) -> Result<ModuleField<'a>>
+    ensures reads { ReadsAt turns_too
+        (owning field_view bare_field) global_or_later_field result parser.old
         parser.new }
 {
     if parser.next_is("global") {
@@ -117,13 +120,14 @@ fn read_further<'a>(parser: &mut Parser<'a>) -> Result<ModuleField<'a>>
     if parser.next_is("tag") {
         return Ok(ModuleField::Tag(Tag::parse(parser)?));
     }
-    read_last(parser)
+    read_start_or_later(parser)
 }
 
 /// A function, a table, a memory, or one of the further.
-#[tactic(auto, unfolding(crate::specs::Field::defined_field))]
-fn read_defined<'a>(parser: &mut Parser<'a>) -> Result<ModuleField<'a>>
-    ensures reads { ReadsAt turns_too (owning seen_field bare_field) defined_field result parser.old
+#[tactic(auto, unfolding(crate::specs::Field::func_or_later_field))]
+fn read_func_or_later<'a>(parser: &mut Parser<'a>) -> Result<ModuleField<'a>>
+    ensures reads { ReadsAt turns_too
+        (owning field_view bare_field) func_or_later_field result parser.old
         parser.new }
 {
     if parser.next_is("func") {
@@ -135,16 +139,16 @@ fn read_defined<'a>(parser: &mut Parser<'a>) -> Result<ModuleField<'a>>
     if parser.next_is("memory") {
         return Ok(ModuleField::Memory(Memory::parse(parser)?));
     }
-    read_further(parser)
+    read_global_or_later(parser)
 }
 
 /// The field that the word in front names, or, where the annotation `custom`, `producers` or
-/// `dylink.0` stands there, a custom section. Anything else in front is refused with Unexpected, at
-/// the token.
+/// `dylink.0` is there, a custom section. Anything else in front is refused with Unexpected, at the
+/// token.
 impl<'a> Parse<'a> for ModuleField<'a> {
-    ghost Seen = { ModuleFieldTy };
+    ghost View = { ModuleFieldTy };
 
-    ghost view = { owning seen_field bare_field };
+    ghost view = { owning field_view bare_field };
 
     ghost cost = { turns_too };
 
@@ -161,6 +165,6 @@ impl<'a> Parse<'a> for ModuleField<'a> {
         if parser.next_is("import") {
             return Ok(ModuleField::Import(Imports::parse(parser)?));
         }
-        read_defined(parser)
+        read_func_or_later(parser)
     }
 }

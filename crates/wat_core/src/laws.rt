@@ -10,14 +10,14 @@ ghost use Rattle.wat_operands.specs.Lanes.{lane_access};
 ghost use Rattle.wat_operands.specs.Memory.{mem_arg, atomic_mem_arg};
 ghost use Rattle.wat_expr.specs.FoldedProduction.{folded_instruction};
 ghost use Rattle.wat_core.specs.Module.{ModuleTy, module_};
-ghost use Rattle.wat_core.specs.Rows.{Named, TwoFields, Binary, Types, Links, Functions, Stores};
-ghost use Rattle.wat_core.specs.Rows.{ZeroGlobal, Segments, Customs};
+ghost use Rattle.wat_core.specs.Rows.{NamedModule, TwoFields, Binary, Types, Links, Functions};
+ghost use Rattle.wat_core.specs.Rows.{Stores, ZeroGlobal, Segments, Customs};
 
 pub use wat_expr::laws::{flat_again, flat_form, hints_in_order, no_more_than_tokens};
 pub use wat_mnemonics::laws::{no_prefix, one_mnemonic, words_in_order};
 use wat_tokens::Parse;
 
-/// No two fronts of one token list spell values, unless they are one front and one value, spans
+/// No two prefixes of one token list spell values, unless they are one prefix and one value, spans
 /// aside: of any type that can be read, of a module, and of what the calls read that are no type's
 /// own.
 #[tactic(auto, using(wat_tokens::specs::Laws::Once::reads_once))]
@@ -43,7 +43,7 @@ pub fn any_rest()
 /// Texts that spell modules, as facts over the definitions alone: an error that the reader and its
 /// definition share would show here.
 pub fn module_rows()
-    ensures named { Named }
+    ensures named { NamedModule }
     ensures two_fields { TwoFields }
     ensures binary { Binary }
     ensures types { Types }

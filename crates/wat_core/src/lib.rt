@@ -18,8 +18,8 @@ pub use module::{Module, ModuleKind, ModuleKindOf};
 
 // The parser, its tokens and its faults.
 pub use wat_tokens::{
-    Cursor, Error, Fault, Parse, Parser, Peek, Result, Span, Token, hand, kw, one_cut, one_outcome,
-    repeat, whole,
+    Cursor, Error, Fault, Parse, Parser, Peek, Result, Span, Token, kw, one_cut, one_outcome,
+    ownership, repeat, whole,
 };
 
 // What is read everywhere: names, indices, numbers.
@@ -34,9 +34,9 @@ pub use wat_types::{
 
 // Imports and exports.
 pub use wat_links::{
-    Export, ExportKind, ExportType, Head, ImportGroup1Item, ImportGroup1ItemOf, ImportGroup2Item,
-    ImportGroup2ItemOf, ImportItems, ImportItemsOf, Imports, ImportsOf, InlineExport, InlineImport,
-    ItemKind, ItemSig,
+    Export, ExportKind, ExportType, FieldHead, ImportGroup1Item, ImportGroup1ItemOf,
+    ImportGroup2Item, ImportGroup2ItemOf, ImportItems, ImportItemsOf, Imports, ImportsOf,
+    InlineExport, InlineImport, ItemKind, ItemSig,
 };
 
 // Custom sections.
@@ -60,8 +60,8 @@ pub use wat_operands::{
 
 // Instructions.
 pub use wat_instr::{
-    AccessOp, ArrayInitOp, AtomicAccessOp, BlockOp, CallIndirectOp, Head as Mnemonic, IndexedOp,
-    Instruction, InstructionOf, LabelOp, LaneAccessOp, LaneOp, MemoryOp, Opcode, OrderedIndexOp,
+    AccessOp, ArrayInitOp, AtomicAccessOp, BlockOp, CallIndirectOp, IndexedOp, Instruction,
+    InstructionOf, LabelOp, LaneAccessOp, LaneOp, MemoryOp, Mnemonic, Opcode, OrderedIndexOp,
     OrderedStructOp, OrderedTableOp, RmwAccessOp, ScalarOp, StructOp, TableOp, VectorOp,
 };
 

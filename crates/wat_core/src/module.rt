@@ -3,25 +3,25 @@
 ghost use Rattle.std.specs.Prelude.{◌≡◌, ◌≢◌, ◌≤◌, ◌+◌, ◌++◌, List, length, max, true, IfOk};
 ghost use Rattle.std.specs.Prelude.{IfErr};
 ghost use Rattle.wat_tokens.specs.Cost.{turns_too};
-ghost use Rattle.wat_tokens.specs.Counts.{Counted, Turned, Grows, Kept};
+ghost use Rattle.wat_tokens.specs.Counts.{Counted, Turned, Grows, SameSettings};
 ghost use Rattle.wat_tokens.specs.Error.{Memory};
 ghost use Rattle.wat_tokens.specs.Parens.{nest};
 ghost use Rattle.wat_tokens.specs.Parses.{Accepts};
 ghost use Rattle.wat_tokens.specs.Production.{Front};
 ghost use Rattle.wat_tokens.specs.Reads.{ReadsAt};
-ghost use Rattle.wat_tokens.specs.Sight.{as_shown};
-ghost use Rattle.wat_tokens.specs.State.{behind, lit};
+ghost use Rattle.wat_tokens.specs.Sight.{visible_tokens};
+ghost use Rattle.wat_tokens.specs.State.{behind, annotated};
 ghost use Rattle.wat_tokens.specs.Tests.{ends, more};
 ghost use Rattle.wat_tokens.specs.Token.{Tok};
 ghost use Rattle.wat_tokens.specs.Views.{owning};
-ghost use Rattle.wat_core.specs.Field.{ModuleFieldTy, seen_field, bare_field};
-ghost use Rattle.wat_core.specs.Module.{ModuleTy, seen_module_kind, bare_module_kind, module_kind};
-ghost use Rattle.wat_core.specs.Module.{seen_module, bare_module, module_};
+ghost use Rattle.wat_core.specs.Field.{ModuleFieldTy, field_view, bare_field};
+ghost use Rattle.wat_core.specs.Module.{ModuleTy, module_kind_view, bare_module_kind, module_kind};
+ghost use Rattle.wat_core.specs.Module.{module_view, bare_module, module_};
 ghost use Rattle.wat_core.specs.FieldGroup.{field_group};
 
 use crate::field::ModuleField;
 use wat_tokens::repeat::{Part, all_parts, all_to_end};
-use wat_tokens::whole::in_group;
+use wat_tokens::whole::in_parens;
 use wat_tokens::{Id, NameAnnotation, Parse, Parser, Result, Span};
 
 /// A module (WebAssembly Core Specification, Text Format, "Modules").
@@ -53,9 +53,9 @@ pub type ModuleKind<'a> = ModuleKindOf<ModuleField<'a>, &'a [u8]>;
 struct FieldGroup;
 
 impl<'a> Part<'a, ModuleField<'a>> for FieldGroup {
-    ghost Seen = { ModuleFieldTy };
+    ghost View = { ModuleFieldTy };
 
-    ghost view = { owning seen_field bare_field };
+    ghost view = { owning field_view bare_field };
 
     ghost cost = { turns_too };
 
@@ -68,14 +68,14 @@ impl<'a> Part<'a, ModuleField<'a>> for FieldGroup {
     }
 
     fn take(parser: &mut Parser<'a>) -> Result<ModuleField<'a>> {
-        in_group(parser)
+        in_parens(parser)
     }
 }
 
 /// `binary` and strings, or fields in their groups.
-#[tactic(auto, using(crate::specs::Laws::Module::field_group_eats), unfolding(crate::specs::Module::module_kind, crate::specs::Module::fields, crate::specs::Module::pieces))]
-fn read_kind<'a>(parser: &mut Parser<'a>) -> Result<ModuleKind<'a>>
-    ensures reads { ReadsAt turns_too (owning seen_module_kind bare_module_kind) module_kind result
+#[tactic(auto, using(crate::specs::Laws::Module::field_group_consumes), unfolding(crate::specs::Module::module_kind, crate::specs::Module::fields, crate::specs::Module::pieces))]
+fn read_module_kind<'a>(parser: &mut Parser<'a>) -> Result<ModuleKind<'a>>
+    ensures reads { ReadsAt turns_too (owning module_kind_view bare_module_kind) module_kind result
         parser.old parser.new }
 {
     if parser.next_is("binary") {
@@ -87,12 +87,12 @@ fn read_kind<'a>(parser: &mut Parser<'a>) -> Result<ModuleKind<'a>>
 
 /// A module, read with the names that are known.
 #[derive(Drop)]
-struct Named<'a>(Module<'a>);
+struct WithNamesKnown<'a>(Module<'a>);
 
-impl<'a> Parse<'a> for Named<'a> {
-    ghost Seen = { ModuleTy };
+impl<'a> Parse<'a> for WithNamesKnown<'a> {
+    ghost View = { ModuleTy };
 
-    ghost view = { owning (λ m. seen_module m.0) bare_module };
+    ghost view = { owning (λ m. module_view m.0) bare_module };
 
     ghost cost = { turns_too };
 
@@ -103,8 +103,8 @@ impl<'a> Parse<'a> for Named<'a> {
         let span = parser.keyword("module")?;
         let id = Option::<Id>::parse(parser)?;
         let name = Option::<NameAnnotation>::parse(parser)?;
-        let kind = read_kind(parser)?;
-        Ok(Named(Module {
+        let kind = read_module_kind(parser)?;
+        Ok(WithNamesKnown(Module {
             span,
             id,
             name,
@@ -118,48 +118,50 @@ impl<'a> Module<'a> {
     /// caller's, with the five standard annotations known: `custom`, `producers`, `name`,
     /// `dylink.0` and `metadata.code.branch_hint`. What was known of them before is known again.
     ///
-    /// Where no module stands in front, it is refused with the first fault that is met. Another
-    /// token in front than the word `module` is refused with Unexpected, at the token, and so is
-    /// one behind it that begins no field's group. Memory may be answered where the module has a
-    /// field or a piece.
-    #[tactic(auto, using(wat_tokens::specs::Laws::State::lit_is, crate::proofs::Ends::module_ends))]
+    /// Where no module is in front, it is refused with the first fault that is met. Another token
+    /// in front than the word `module` is refused with Unexpected, at the token, and so is one
+    /// behind it that begins no field's group. Memory may be answered where the module has a field
+    /// or a piece.
+    #[tactic(auto, using(wat_tokens::specs::Laws::State::annotated_is, crate::proofs::Ends::module_ends))]
     pub fn parse(parser: &mut Parser<'a>) -> Result<Module<'a>>
         // The tokens that were taken, visible with the five names, spell the module.
-        ensures sound { IfOk result (λ m. Front module_.spells (lit parser.old).left
-            (seen_module m, (lit parser.new).left)) }
+        ensures sound { IfOk result (λ m. Front module_.spells (annotated parser.old).left
+            (module_view m, (annotated parser.new).left)) }
         // Where tokens in front spell a module, it is that one, or memory ran out.
-        ensures accepts { (v : ModuleTy) (c r : List Tok) → (lit parser.old).left ≡ c ++ r
-            → module_.spells v c r → Accepts (owning seen_module bare_module) result v
-            (lit parser.new).left r }
+        ensures accepts { (v : ModuleTy) (c r : List Tok) → (annotated parser.old).left ≡ c ++ r
+            → module_.spells v c r → Accepts (owning module_view bare_module) result v
+            (annotated parser.new).left r }
         // A fault other than Memory means that no tokens in front spell a module.
         ensures refused { IfErr result (λ e. e.fault ≢ Memory → (v : ModuleTy) (c r : List Tok)
-            → (lit parser.old).left ≡ c ++ r → module_.spells v c r → ⊥) }
+            → (annotated parser.old).left ≡ c ++ r → module_.spells v c r → ⊥) }
         // What is left is nothing, or begins with `)`.
-        ensures ends { IfOk result (λ _. ends (lit parser.new).left ≡ true) }
+        ensures ends { IfOk result (λ _. ends (annotated parser.new).left ≡ true) }
         // No loop over an expression turned more than once beyond the tokens that were taken.
         ensures turned { Turned result parser.old parser.new }
         // `taken` rises by the number of tokens that were taken, and never by more than stood in
         // front.
-        ensures taken { (c : List Tok) → (lit parser.old).left ≡ c ++ (lit parser.new).left
-            → parser.new.taken ≡ parser.old.taken + length c }
-        ensures within { parser.new.taken + length (lit parser.new).left ≡ parser.old.taken + length
-            (lit parser.old).left }
+        ensures taken { (c : List Tok) → (annotated parser.old).left ≡ c
+            ++ (annotated parser.new).left → parser.new.taken ≡ parser.old.taken + length c }
+        ensures within { parser.new.taken + length
+            (annotated parser.new).left ≡ parser.old.taken + length (annotated parser.old).left }
         // `peak` is at most the greater of what it was and how the tokens that were taken nest.
-        ensures peak { (c : List Tok) → (lit parser.old).left ≡ c ++ (lit parser.new).left
-            → parser.new.peak ≤ max parser.old.peak (nest c) }
+        ensures peak { (c : List Tok) → (annotated parser.old).left ≡ c
+            ++ (annotated parser.new).left → parser.new.peak ≤ max parser.old.peak (nest c) }
         // What is left is an end of the tokens in front, also on a refusal.
-        ensures end { (c : List Tok) × ((lit parser.old).left ≡ c ++ (lit parser.new).left) }
+        ensures end { (c : List Tok) × ((annotated parser.old).left ≡ c
+            ++ (annotated parser.new).left) }
         // No count fell.
         ensures grows { Grows parser.old parser.new }
-        // The parser stands directly behind them, and what is left is visible as before.
-        ensures stands { (c : List Tok) → (lit parser.old).left ≡ c ++ (lit parser.new).left
-            → parser.new.rest ≡ behind true (length c) parser.old.rest }
-        ensures visible { parser.new.left ≡ as_shown parser.new.known parser.new.rest }
-        ensures names { Kept parser.old parser.new }
+        // The parser is directly behind them, and what is left is visible as before.
+        ensures position { (c : List Tok) → (annotated parser.old).left ≡ c
+            ++ (annotated parser.new).left → parser.new.rest ≡ behind true
+            (length c) parser.old.rest }
+        ensures visible { parser.new.left ≡ visible_tokens parser.new.known parser.new.rest }
+        ensures settings { SameSettings parser.old parser.new }
     {
         let was = parser.known();
         parser.with_standard_annotations(true);
-        let found = parser.parse::<Named>();
+        let found = parser.parse::<WithNamesKnown>();
         parser.with_standard_annotations(was);
         match found {
             Ok(named) => Ok(named.0),

@@ -3,11 +3,12 @@ use Rattle.std.specs.Prelude.{ℕ, List, [], true}
 use Rattle.wat_core.specs.Module.{ModuleTy, module_}
 use Rattle.wat_core.specs.Cut.{IsCut}
 use Rattle.wat_core.specs.Groups.{paren}
-use Rattle.wat_core.specs.Sight.{as_shown}
+use Rattle.wat_core.specs.Sight.{visible_tokens}
 use Rattle.wat_core.specs.Token.{Placed, tokens_of}
 
 -- The text is cut, and its tokens, those visible with the five standard annotations known, are
 -- one group that spells the module.
 abbrev pub SpellsModule : List ℕ → ModuleTy → Type 0
 SpellsModule text m =
-    (ts : List Placed) × IsCut text ts × (paren module_).spells m (as_shown true (tokens_of ts)) []
+    (ts : List Placed) × IsCut text ts
+    × (paren module_).spells m (visible_tokens true (tokens_of ts)) []

@@ -2,11 +2,11 @@
 
 ghost use Rattle.std.specs.Prelude.{◌≡◌, ◌++◌, OnOk, flat_map};
 ghost use Rattle.std.specs.String.{string_bytes};
-ghost use Rattle.wat_core.specs.Field.{seen_field};
-ghost use Rattle.wat_core.specs.Module.{seen_fields, seen_module};
-ghost use Rattle.wat_core.specs.Func.{seen_func, seen_func_use};
-ghost use Rattle.wat_core.specs.Export.{seen_export};
-ghost use Rattle.wat_core.specs.Index.{seen_index};
+ghost use Rattle.wat_core.specs.Field.{field_view};
+ghost use Rattle.wat_core.specs.Module.{fields_view, module_view};
+ghost use Rattle.wat_core.specs.Func.{func_view, func_use_view};
+ghost use Rattle.wat_core.specs.Export.{export_view};
+ghost use Rattle.wat_core.specs.Index.{index_view};
 ghost use Rattle.wat_example.specs.Listing.{indexed_line, use_line, func_lines, export_lines};
 ghost use Rattle.wat_example.specs.Listing.{field_lines, module_lines};
 
@@ -18,7 +18,7 @@ use wat_core::{
 /// Adds a line with a name, a word and an index.
 fn add_indexed(out: &mut String, name: &str, word: &str, index: &Index) -> Result<(), AllocError>
     ensures { OnOk result (string_bytes out.new ≡ string_bytes out.old ++ indexed_line name.now
-        word.now (seen_index index.now)) }
+        word.now (index_view index.now)) }
 {
     match index {
         Index::Num(number, _) => writeln!(out, "{name} {word} {number}"),
@@ -29,7 +29,7 @@ fn add_indexed(out: &mut String, name: &str, word: &str, index: &Index) -> Resul
 /// Adds the line of a function that is exported under a name.
 fn add_line(out: &mut String, name: &str, ty: &TypeUse<FunctionType>) -> Result<(), AllocError>
     ensures { OnOk result (string_bytes out.new ≡ string_bytes out.old ++ use_line
-        (seen_func_use ty.now) name.now) }
+        (func_use_view ty.now) name.now) }
 {
     match (&ty.inline, &ty.index) {
         (Some(function), _) => {
@@ -45,7 +45,7 @@ fn add_line(out: &mut String, name: &str, ty: &TypeUse<FunctionType>) -> Result<
 /// Adds a line for each name under which a function is exported in line.
 fn add_func(out: &mut String, func: &Func) -> Result<(), AllocError>
     ensures { OnOk result (string_bytes out.new ≡ string_bytes out.old ++ func_lines
-        (seen_func func.now)) }
+        (func_view func.now)) }
 {
     for name in &func.exports.names {
         add_line(out, name, &func.ty)?;
@@ -56,7 +56,7 @@ fn add_func(out: &mut String, func: &Func) -> Result<(), AllocError>
 /// Adds the line of an export, where it is of a function.
 fn add_export(out: &mut String, export: &Export) -> Result<(), AllocError>
     ensures { OnOk result (string_bytes out.new ≡ string_bytes out.old ++ export_lines
-        (seen_export export.now)) }
+        (export_view export.now)) }
 {
     match export.kind {
         ExportKind::Func => add_indexed(out, export.name, "function", &export.item),
@@ -67,7 +67,7 @@ fn add_export(out: &mut String, export: &Export) -> Result<(), AllocError>
 /// Adds the lines of a field.
 fn add_field(out: &mut String, field: &ModuleField) -> Result<(), AllocError>
     ensures { OnOk result (string_bytes out.new ≡ string_bytes out.old ++ field_lines
-        (seen_field field.now)) }
+        (field_view field.now)) }
 {
     match field {
         ModuleField::Func(func) => add_func(out, func),
@@ -79,7 +79,7 @@ fn add_field(out: &mut String, field: &ModuleField) -> Result<(), AllocError>
 /// Adds the lines of fields, in order.
 fn add_fields(out: &mut String, fields: &[ModuleField]) -> Result<(), AllocError>
     ensures { OnOk result (string_bytes out.new ≡ string_bytes out.old ++ flat_map field_lines
-        (seen_fields fields.now)) }
+        (fields_view fields.now)) }
 {
     for field in fields {
         add_field(out, field)?;
@@ -90,7 +90,7 @@ fn add_fields(out: &mut String, fields: &[ModuleField]) -> Result<(), AllocError
 /// Adds the lines of a module.
 pub fn add_module(out: &mut String, module: &Module) -> Result<(), AllocError>
     ensures { OnOk result (string_bytes out.new ≡ string_bytes out.old ++ module_lines
-        (seen_module «module».now)) }
+        (module_view «module».now)) }
 {
     match &module.kind {
         ModuleKind::Text(fields) => add_fields(out, fields),

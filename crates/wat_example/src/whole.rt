@@ -1,7 +1,7 @@
 //! Reading a module that is a whole text.
 
 ghost use Rattle.std.specs.Prelude.{◌≡◌, IfOk, MatchResult};
-ghost use Rattle.wat_core.specs.Module.{ModuleTy, seen_module};
+ghost use Rattle.wat_core.specs.Module.{ModuleTy, module_view};
 ghost use Rattle.wat_example.specs.Whole.{SpellsModule};
 ghost use Rattle.wat_core.specs.Error.{Memory};
 
@@ -13,10 +13,10 @@ use wat_core::{Error, Module, Parser, one_cut};
 /// known. A token that is left over is refused with Unexpected.
 pub fn read<'a>(alloc: Global, text: &'a str, arena: &'a Bump) -> Result<Module<'a>, Error>
     // The text spells the module that is answered.
-    ensures found { IfOk result (λ m. SpellsModule text.now (seen_module m)) }
+    ensures found { IfOk result (λ m. SpellsModule text.now (module_view m)) }
     // Where the text spells a module, it is that one, or memory ran out.
     ensures only { (m : ModuleTy) → SpellsModule text.now m
-        → MatchResult result (λ n. seen_module n ≡ m) (λ e. e.fault ≡ Memory) }
+        → MatchResult result (λ n. module_view n ≡ m) (λ e. e.fault ≡ Memory) }
 {
     // A text has one cut. This law does nothing when it runs.
     one_cut();

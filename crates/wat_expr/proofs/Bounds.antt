@@ -76,7 +76,7 @@ spelled_hints_rise v c r (xs, l, k, e) =
 
 -- ---- none is lost
 
--- whether a hint stands directly before the first item
+-- whether a hint is directly before the first item
 abbrev pending : Option ℕ → ℕ
 pending None = 0
 pending (Some v) = 1

@@ -5,7 +5,7 @@ use Rattle.std.proofs.Math.Seq.{take-append_seam}
 use Rattle.std.proofs.lemmas.List.{append-nil}
 use Rattle.wat_tokens.specs.Token.{Tok, LParen, RParen, String}
 use Rattle.wat_tokens.specs.Tests.{ends}
-use Rattle.wat_mnemonics.specs.declared.head.Head.TheVariants as head
+use Rattle.wat_mnemonics.specs.declared.mnemonic.Mnemonic.TheVariants as head
 use Rattle.wat_mnemonics.specs.declared.indexed.LabelOp.TheVariants as label
 use Rattle.wat_instr.specs.Follows.{MayFollow, NoTypeSecond}
 use Rattle.wat_instr.specs.Instruction.{Instr, instruction, else_instr, end_instr}

@@ -6,14 +6,14 @@ use Rattle.wat_tokens.specs.Production.{Read, some_of}
 use Rattle.wat_tokens.specs.Laws.Production.{by_read, some_is, none_is_not}
 use Rattle.wat_tokens.specs.Tests.{as_lparen}
 use Rattle.wat_instr.specs.Instruction.{Instr}
-use Rattle.wat_expr.specs.Expression.{Expr, bare_expression, seen_expression}
-use Rattle.wat_expr.specs.Laws.Facts.{read_of, reads_level, reads_shorter}
+use Rattle.wat_expr.specs.Expression.{Expr, bare_expression, expression_view}
+use Rattle.wat_expr.specs.Laws.Facts.{read_of, reads_balanced, reads_shorter}
 use Rattle.wat_expr.specs.Items.{reads}
 use Rattle.wat_expr.specs.Folded.{Groups, unfolded_groups, is_folded, folded_value, folded_reads, NoGroup, Group, groups, count_groups, depth_groups}
 use Rattle.wat_expr.specs.Laws.Folded.{groups_at_complete, folded_sound}
 use Rattle.std.specs.Prelude.{MatchBool, max}
 use Rattle.std.proofs.lemmas.List.{append-nil}
-use Rattle.wat_tokens.specs.Counts.{Carries, Kept, Quiet, Stays}
+use Rattle.wat_tokens.specs.Counts.{Carries, SameSettings, Quiet, Stays}
 use Rattle.wat_tokens.specs.Parens.{opens, closes}
 use Rattle.wat_tokens.specs.Parses.{NotBare}
 use Rattle.wat_tokens.specs.PartSpells.{one_reads}
@@ -22,17 +22,17 @@ use Rattle.wat_tokens.specs.Views.{no_items}
 use Rattle.wat_expr.specs.Flat.{Flat, flat, no_output}
 use Rattle.wat_expr.specs.declared.expression.Expression.{Expression}
 use Rattle.wat_expr.specs.GroupTurn.{group_state, Opens, Closes, IsHalted}
-use Rattle.wat_expr.specs.Levels.{Level, InFolded, heads_in}
+use Rattle.wat_expr.specs.OpenGroups.{OpenGroup, InFolded, heads_in}
 use Rattle.wat_expr.specs.Listed.{IsFolded}
 use Rattle.wat_expr.proofs.Flatten.{Spanned, spanned}
 use Rattle.wat_expr.proofs.Fronts.{same_group}
 use Rattle.wat_expr.proofs.Heights.{carries_height, taken_more, taken_one}
 
--- the group that stands in front is read
+-- the group that is in front is read
 pub read_folded : (i : Instr) (gs : Groups) (ts r : List Tok) → is_folded i gs ts r → folded_reads ts ≡ Some (folded_value i gs, r)
 read_folded i gs ts r (a, b, e, h, l) = rw (e, read_of i a b h, groups_at_complete gs (suc (length b)) b r (omega arith) l) refl
 
--- where no group stands in front, nothing is read
+-- where no group is in front, nothing is read
 pub read_none : (ts : List Tok) → ((i : Instr) (gs : Groups) (r : List Tok) → is_folded i gs ts r → ⊥) → folded_reads ts ≡ None
 read_none ts never =
     by_read (folded_reads ts)
@@ -66,40 +66,40 @@ not_begun (_ ∷ ts) e = refl
 pub no_word : (ts a : List Tok) → ts ≡ LParen ∷ a → ((i : Instr) (m : List Tok) → reads i a m → ⊥) → folded_reads ts ≡ None
 no_word ts a e never = read_none ts (λ i gs r k. (let f = k.2 in let ea : k.0 ≡ a = cc in never i k.1 (rw ea at k.3)))
 
--- the instructions so far, the turns, and the greatest numbers of levels and of heads
+-- the instructions so far, the turns, and the greatest numbers of open groups and of heads
 pub record Sum : Type 0 where
   pub instrs : List Instr
   pub turns : ℕ
   pub peak : ℕ
   pub held : ℕ
 
--- the turn at which a group opens, to k levels that hold h heads
+-- the turn at which a group opens, to k open groups that hold h heads
 abbrev pub opened : ℕ → ℕ → Sum → Sum
 opened k h f = record { instrs = f.instrs; turns = f.turns + 1; peak = max f.peak k; held = max f.held h }
 
--- the turn at which a group of the instruction closes, to k levels that hold h heads
+-- the turn at which a group of the instruction closes, to k open groups that hold h heads
 abbrev pub closed : ℕ → ℕ → Instr → Sum → Sum
 closed k h i f = record { instrs = f.instrs ++ i ∷ []; turns = f.turns + 1; peak = max f.peak k; held = max f.held h }
 
--- what groups come to, in k levels that hold h heads
+-- what groups come to, in k open groups that hold h heads
 abbrev pub fold : ℕ → ℕ → Groups → Sum → Sum
 fold k h NoGroup f = f
 fold k h (Group i gs hs) f = fold k h hs (closed k h i (fold (suc k) (suc h) gs (opened (suc k) (suc h) f)))
 
 -- what the loop has still to do, until r is left and the sum is o
-abbrev pub unwinds : Sum → List Tok → List Level → List Tok → Sum → Type 0
+abbrev pub unwinds : Sum → List Tok → List OpenGroup → List Tok → Sum → Type 0
 unwinds o r [] ts f = (ts ≡ r) × (f ≡ o)
 unwinds o r (InFolded i p ∷ s) ts f =
     (gs : Groups) × (m : List Tok) × groups gs ts (RParen ∷ m) × unwinds o r s m (closed (length s) (heads_in s) i (fold (suc (length s)) (suc (heads_in s)) gs f))
 unwinds o r (l ∷ s) ts f = ⊥
 
 -- from one place the loop has the same to do as from the other
-pub record SameToDo (s : List Level) (ts : List Tok) (f : Sum) (s' : List Level) (ts' : List Tok) (f' : Sum) : Type 0 where
+pub record SameToDo (s : List OpenGroup) (ts : List Tok) (f : Sum) (s' : List OpenGroup) (ts' : List Tok) (f' : Sum) : Type 0 where
   pub forth : (o : Sum) (r : List Tok) → unwinds o r s ts f → unwinds o r s' ts' f'
   pub back : (o : Sum) (r : List Tok) → unwinds o r s' ts' f' → unwinds o r s ts f
 
 -- a group opens in a group
-opened_same : (j : Instr) (q : Option ℕ) (s : List Level) (a b : List Tok) (f : Sum) → (s ≡ [] → ⊥) → reads j a b → SameToDo s (LParen ∷ a) f (InFolded j q ∷ s) b (opened (suc (length s)) (suc (heads_in s)) f)
+opened_same : (j : Instr) (q : Option ℕ) (s : List OpenGroup) (a b : List Tok) (f : Sum) → (s ≡ [] → ⊥) → reads j a b → SameToDo s (LParen ∷ a) f (InFolded j q ∷ s) b (opened (suc (length s)) (suc (heads_in s)) f)
 opened_same j q [] a b f some h = absurd (some refl)
 opened_same j q (InFolded i p ∷ s) a b f some rj = record {
   forth = forth;
@@ -112,7 +112,7 @@ opened_same j q (InFolded i p ∷ s) a b f some rj = record {
 opened_same j q (l ∷ s) a b f some h = record { forth = λ o r u. absurd u; back = λ o r u. absurd u.3 }
 
 -- a group closes
-closes_in : (i : Instr) (p : Option ℕ) (s : List Level) (m : List Tok) (f : Sum) → SameToDo (InFolded i p ∷ s) (RParen ∷ m) f s m (closed (length s) (heads_in s) i f)
+closes_in : (i : Instr) (p : Option ℕ) (s : List OpenGroup) (m : List Tok) (f : Sum) → SameToDo (InFolded i p ∷ s) (RParen ∷ m) f s m (closed (length s) (heads_in s) i f)
 closes_in i p s m f = record {
   forth = forth;
   back = λ o r u. (NoGroup, m, refl, u);
@@ -123,14 +123,14 @@ closes_in i p s m f = record {
     forth o r (Group k gs hs, n, l, u) = let e = l.3 in cc
 
 -- nothing is to be done in a group that can neither hold a group nor close
-halts : (s : List Level) (ts : List Tok) (f : Sum) → (s ≡ [] → ⊥) → ((i : Instr) (a b : List Tok) → ts ≡ LParen ∷ a → reads i a b → ⊥) → ((i : Instr) (h : Option ℕ) (q : List Level) (d : List Tok) → s ≡ InFolded i h ∷ q → ts ≡ RParen ∷ d → ⊥)
+halts : (s : List OpenGroup) (ts : List Tok) (f : Sum) → (s ≡ [] → ⊥) → ((i : Instr) (a b : List Tok) → ts ≡ LParen ∷ a → reads i a b → ⊥) → ((i : Instr) (h : Option ℕ) (q : List OpenGroup) (d : List Tok) → s ≡ InFolded i h ∷ q → ts ≡ RParen ∷ d → ⊥)
     → (o : Sum) (r : List Tok) → unwinds o r s ts f → ⊥
 halts [] ts f some open_ close_ o r u = some refl
 halts (InFolded i p ∷ s) ts f some open_ close_ o r (NoGroup, m, l, u) = close_ i p s m refl l
 halts (InFolded i p ∷ s) ts f some open_ close_ o r (Group j gs hs, m, l, u) = open_ j l.0 l.1 l.3 l.4
 halts (l ∷ s) ts f some open_ close_ o r u = u
 
--- what groups come to, where k levels and h heads were noted already
+-- what groups come to, where k open groups and h heads were noted already
 folds : (k h : ℕ) (gs : Groups) (f : Sum) → k ≤ f.peak → h ≤ f.held
     → ((fold k h gs f).instrs ≡ f.instrs ++ unfolded_groups gs) × (f.turns + count_groups gs ≤ (fold k h gs f).turns) × ((fold k h gs f).peak ≡ max f.peak (k + depth_groups gs)) × ((fold k h gs f).held ≡ max f.held (h + depth_groups gs))
 folds k h NoGroup f p q = (sym (append-nil f.instrs), omega arith, omega arith, omega arith)
@@ -151,7 +151,7 @@ abbrev pub start : ℕ → ℕ → ℕ → Sum
 start t p h = record { instrs = []; turns = t; peak = max p 1; held = max h 1 }
 
 -- What is left to do is what the group at the front of ts asks for, which was begun with the sum g.
-pub record Unwinding (ts : List Tok) (g : Sum) (s : List Level) (u : List Tok) (f : Sum) : Type 0 where
+pub record Unwinding (ts : List Tok) (g : Sum) (s : List OpenGroup) (u : List Tok) (f : Sum) : Type 0 where
   pub forth : (i : Instr) (gs : Groups) (r : List Tok) → is_folded i gs ts r → unwinds (whole i gs g) r s u f
   pub back : (o : Sum) (r : List Tok) → unwinds o r s u f → (i : Instr) × (gs : Groups) × is_folded i gs ts r × (o ≡ whole i gs g)
 
@@ -169,23 +169,23 @@ begins i p ts a b g e ri = record {
 abbrev pub sum_of : Flat → State → Sum
 sum_of f b = record { instrs = f.instrs; turns = b.turns; peak = b.peak; held = b.held }
 
-pub is_some : (b : Bool) (s : List Level) → MatchBool b (s ≡ []) (s ≡ [] → ⊥) → b ≡ false → s ≡ [] → ⊥
+pub is_some : (b : Bool) (s : List OpenGroup) → MatchBool b (s ≡ []) (s ≡ [] → ⊥) → b ≡ false → s ≡ [] → ⊥
 is_some true s m e = absurd cc
 is_some false s m e = m
 
-pub is_none : (b : Bool) (s : List Level) → MatchBool b (s ≡ []) (s ≡ [] → ⊥) → b ≡ true → s ≡ []
+pub is_none : (b : Bool) (s : List OpenGroup) → MatchBool b (s ≡ []) (s ≡ [] → ⊥) → b ≡ true → s ≡ []
 is_none true s m e = m
 is_none false s m e = absurd cc
 
 -- From the parser a on, the groups s are open, f was put out, and the parser is b.
-pub record Going (a : State) (s : List Level) (f : Flat) (b : State) : Type 0 where
+pub record Going (a : State) (s : List OpenGroup) (f : Flat) (b : State) : Type 0 where
   pub exact : Unwinding a.left (start a.turns a.peak a.held) s b.left (sum_of f b)
   pub hints : f.hints ≡ []
   pub spans : Spanned a.tracks f
   pub counts : Carries a b
   pub turned : b.turns + a.taken ≤ a.turns + b.taken
-  pub level : length s + closes a.left + opens b.left ≡ opens a.left + closes b.left
-  pub names : Kept a b
+  pub balanced : length s + closes a.left + opens b.left ≡ opens a.left + closes b.left
+  pub settings : SameSettings a b
 
 abbrev pub sum : List Instr → ℕ → ℕ → ℕ → Sum
 sum x t p h = record { instrs = x; turns = t; peak = p; held = h }
@@ -193,65 +193,65 @@ sum x t p h = record { instrs = x; turns = t; peak = p; held = h }
 -- ---- a turn
 
 -- from the groups s, the tokens ts and the output f on, to s', us and f'
-pub record Stepped (s s' : List Level) (ts us : List Tok) (f f' : Flat) : Type 0 where
+pub record Stepped (s s' : List OpenGroup) (ts us : List Tok) (f f' : Flat) : Type 0 where
   pub same : (t p h : ℕ) → SameToDo s ts (sum f.instrs t p h) s' us (sum f'.instrs (t + 1) (max p (length s')) (max h (heads_in s')))
-  pub level : length s' + closes ts + opens us ≡ length s + opens ts + closes us
+  pub balanced : length s' + closes ts + opens us ≡ length s + opens ts + closes us
   pub shorter : length us < length ts
   pub hints : f.hints ≡ [] → f'.hints ≡ []
   pub spans : (keeps : Bool) → Spanned keeps f → Spanned keeps f'
 
-steps : (s s' : List Level) (ts us : List Tok) (f f' : Flat) → (s ≡ [] → ⊥) → Opens (group_state s ts f) (group_state s' us f') ⊎ Closes (group_state s ts f) (group_state s' us f') → Stepped s s' ts us f f'
+steps : (s s' : List OpenGroup) (ts us : List Tok) (f f' : Flat) → (s ≡ [] → ⊥) → Opens (group_state s ts f) (group_state s' us f') ⊎ Closes (group_state s ts f) (group_state s' us f') → Stepped s s' ts us f f'
 steps s s' ts us f f' some (inl (i, a, e, h, l, o)) =
-    rw (e, l, o) (record { same = λ t p n. opened_same i None s a us (sum f.instrs t p n) some h; level = omega (arith, reads_level i a us h); shorter = omega (arith, reads_shorter i a us h); hints = λ e. e; spans = λ k e. e })
+    rw (e, l, o) (record { same = λ t p n. opened_same i None s a us (sum f.instrs t p n) some h; balanced = omega (arith, reads_balanced i a us h); shorter = omega (arith, reads_shorter i a us h); hints = λ e. e; spans = λ k e. e })
 steps s s' ts us f f' some (inr (i, h, l, e, o)) =
-    rw (e, l, o) (record { same = λ t p n. closes_in i h s' us (sum f.instrs t p n); level = omega arith; shorter = omega arith; hints = λ e. append-nil f.hints ∙ e; spans = λ k e. spanned k None i f e })
+    rw (e, l, o) (record { same = λ t p n. closes_in i h s' us (sum f.instrs t p n); balanced = omega arith; shorter = omega arith; hints = λ e. append-nil f.hints ∙ e; spans = λ k e. spanned k None i f e })
 
-pub going_on : (a b t u v w : State) (s s' : List Level) (f f' : Flat) (k h : ℕ) → t ≡ record b { turns = b.turns + 1 } → k ≡ length s' → v ≡ record u { peak = max u.peak k } → h ≡ heads_in s' → w ≡ record v { held = max v.held h }
-    → (s ≡ [] → ⊥) → Opens (group_state s t.left f) (group_state s' u.left f') ⊎ Closes (group_state s t.left f) (group_state s' u.left f') → Going a s f b → Carries b t → Carries t u → Stays t u → Kept t u → Carries v w → Going a s' f' w
+pub going_on : (a b t u v w : State) (s s' : List OpenGroup) (f f' : Flat) (k h : ℕ) → t ≡ record b { turns = b.turns + 1 } → k ≡ length s' → v ≡ record u { peak = max u.peak k } → h ≡ heads_in s' → w ≡ record v { held = max v.held h }
+    → (s ≡ [] → ⊥) → Opens (group_state s t.left f) (group_state s' u.left f') ⊎ Closes (group_state s t.left f) (group_state s' u.left f') → Going a s f b → Carries b t → Carries t u → Stays t u → SameSettings t u → Carries v w → Going a s' f' w
 going_on a b t u v w s s' f f' k h et ek ev eh ew = rw (et, ew, ev, ek, eh) (λ some turned g ct cu su ku cw.
     let x = steps s s' b.left u.left f f' some turned in
-    let level : length s' + closes a.left + opens u.left ≡ opens a.left + closes u.left = omega (arith, x.level, g.level) in
+    let balanced : length s' + closes a.left + opens u.left ≡ opens a.left + closes u.left = omega (arith, x.balanced, g.balanced) in
     let more : b.taken + 1 ≤ u.taken = taken_one _ u cu x.shorter in
     let same : SameToDo s b.left (sum_of f b) s' u.left (sum f'.instrs u.turns (max u.peak (length s')) (max u.held (heads_in s'))) = rw (su.0, su.1, su.2) (x.same b.turns b.peak b.held) in
     record {
       exact = record { forth = λ i gs r k. same.forth (whole i gs (start a.turns a.peak a.held)) r (g.exact.forth i gs r k); back = λ o r k. g.exact.back o r (same.back o r k) };
       hints = x.hints g.hints;
       spans = x.spans a.tracks g.spans;
-      counts = λ y z. cw y (carries_height a u _ (length s') (λ y z. cu y (ct y (g.counts y z))) level refl y z);
+      counts = λ y z. cw y (carries_height a u _ (length s') (λ y z. cu y (ct y (g.counts y z))) balanced refl y z);
       turned = omega (arith, g.turned, su.0, more);
-      level = level;
-      names = (ku.0 ∙ g.names.0, ku.1 ∙ g.names.1);
+      balanced = balanced;
+      settings = (ku.0 ∙ g.settings.0, ku.1 ∙ g.settings.1);
     })
 
 -- ---- behind the first instruction
 
-pub going_begins : (a o t v w : State) (i : Instr) (p : Option ℕ) (s : List Level) (f : Flat) (k h : ℕ) → s ≡ InFolded i p ∷ [] → f ≡ no_output a.tracks → k ≡ length s → v ≡ record t { peak = max t.peak k } → h ≡ heads_in s → w ≡ record v { held = max v.held h }
-    → a.left ≡ LParen ∷ o.left → Carries a o → Quiet a o → Kept a o → reads i o.left t.left → Carries o t → Stays o t → Kept o t → Carries v w → Going a s f w
+pub going_begins : (a o t v w : State) (i : Instr) (p : Option ℕ) (s : List OpenGroup) (f : Flat) (k h : ℕ) → s ≡ InFolded i p ∷ [] → f ≡ no_output a.tracks → k ≡ length s → v ≡ record t { peak = max t.peak k } → h ≡ heads_in s → w ≡ record v { held = max v.held h }
+    → a.left ≡ LParen ∷ o.left → Carries a o → Quiet a o → SameSettings a o → reads i o.left t.left → Carries o t → Stays o t → SameSettings o t → Carries v w → Going a s f w
 going_begins a o t v w i p s f k h es ef ek ev eh ew = rw (ew, ev, ek, eh, es, ef) (λ e co qo ko ri ct st kt cw.
-    let level : 1 + closes a.left + opens t.left ≡ opens a.left + closes t.left = omega (arith, reads_level i o.left t.left ri, ap opens e, ap closes e) in
+    let balanced : 1 + closes a.left + opens t.left ≡ opens a.left + closes t.left = omega (arith, reads_balanced i o.left t.left ri, ap opens e, ap closes e) in
     let more : a.taken ≤ t.taken = taken_more a t (λ x z. ct x (co x z)) in
     record {
       exact = rw (st.0, qo.0, st.1, qo.2, st.2, qo.3) (begins i p a.left o.left t.left (start a.turns a.peak a.held) e ri);
       hints = refl;
       spans = refl;
-      counts = λ x z. cw x (carries_height a t _ 1 (λ x z. ct x (co x z)) level refl x z);
+      counts = λ x z. cw x (carries_height a t _ 1 (λ x z. ct x (co x z)) balanced refl x z);
       turned = omega (arith, st.0, qo.0, more);
-      level = level;
-      names = (kt.0 ∙ ko.0, kt.1 ∙ ko.1);
+      balanced = balanced;
+      settings = (kt.0 ∙ ko.0, kt.1 ∙ ko.1);
     })
 
 -- ---- the exits
 
-pub going_smaller : (b t u v w : State) (s s' : List Level) (f f' : Flat) (k h : ℕ) → t ≡ record b { turns = b.turns + 1 } → v ≡ record u { peak = max u.peak k } → w ≡ record v { held = max v.held h }
+pub going_smaller : (b t u v w : State) (s s' : List OpenGroup) (f f' : Flat) (k h : ℕ) → t ≡ record b { turns = b.turns + 1 } → v ≡ record u { peak = max u.peak k } → w ≡ record v { held = max v.held h }
     → (s ≡ [] → ⊥) → Opens (group_state s t.left f) (group_state s' u.left f') ⊎ Closes (group_state s t.left f) (group_state s' u.left f') → length w.left < length b.left
 going_smaller b t u v w s s' f f' k h et ev ew = rw (et, ew, ev) (λ some turned. (steps s s' b.left u.left f f' some turned).shorter)
 
 -- where the turn couldn't be made, nothing is read
-pub going_halts : (a b t : State) (s : List Level) (f : Flat) → t ≡ record b { turns = b.turns + 1 } → Going a s f b → (s ≡ [] → ⊥) → IsHalted (group_state s t.left f) → folded_reads a.left ≡ None
+pub going_halts : (a b t : State) (s : List OpenGroup) (f : Flat) → t ≡ record b { turns = b.turns + 1 } → Going a s f b → (s ≡ [] → ⊥) → IsHalted (group_state s t.left f) → folded_reads a.left ≡ None
 going_halts a b t s f et = rw et (λ g some x. read_none a.left (λ i gs r k. halts s b.left (sum_of f b) some x.opens x.closes (whole i gs (start a.turns a.peak a.held)) r (g.exact.forth i gs r k)))
 
 -- where no group is open, one was read
-pub going_ends : (a b : State) (s : List Level) (e : Expression) → Going a s (flat e) b → s ≡ [] → IsFolded a b e
+pub going_ends : (a b : State) (s : List OpenGroup) (e : Expression) → Going a s (flat e) b → s ≡ [] → IsFolded a b e
 going_ends a b s e g none =
     let w = g.exact.back (sum_of (flat e) b) b.left (rw none (refl, refl)) in
     let y = whole_is w.0 w.1 a.turns a.peak a.held in
@@ -266,7 +266,7 @@ going_ends a b s e g none =
       held = ap (λ (y : Sum). y.held) w.3 ∙ y.3;
     }
 
-pub going_reads : (a b : State) (s : List Level) (e : Expression) → Going a s (flat e) b → s ≡ [] → folded_reads a.left ≡ Some (seen_expression e, b.left)
+pub going_reads : (a b : State) (s : List OpenGroup) (e : Expression) → Going a s (flat e) b → s ≡ [] → folded_reads a.left ≡ Some (expression_view e, b.left)
 going_reads a b s e g none =
     let x = going_ends a b s e g none in
     read_folded x.instr x.within a.left b.left x.listed ∙ ap (λ (v : Expr). some_of (v, b.left)) (sym x.value)

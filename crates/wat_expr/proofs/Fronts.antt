@@ -1,4 +1,4 @@
--- What stands in front of a list of items and behind it.
+-- What is in front of a list of items and behind it.
 use Rattle.std.specs.Prelude.{◌≡◌, List, [], ◌∷◌}
 use Rattle.std.proofs.Common.{ap, sym, ◌∙◌}
 use Rattle.wat_tokens.specs.Token.{Tok, LParen, RParen, Keyword}

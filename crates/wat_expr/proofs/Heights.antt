@@ -27,7 +27,7 @@ carries_height a b e k f l q =
     let o = ap opens p.left in
     let s = ap closes p.left in
     let n : k ≤ nest p.front = omega (arith, l, o, s, opens-append p.front b.left, closes-append p.front b.left, rises p.front, nests p.front) in
-    let c : Counts a (record b { peak = max b.peak k }) = record { front = p.front; left = p.left; taken = p.taken; more = (p.more.0, p.more.1, omega (arith, p.more.2), p.more.3); peak = omega (arith, p.peak, n); names = p.names; stands = p.stands } in
+    let c : Counts a (record b { peak = max b.peak k }) = record { front = p.front; left = p.left; taken = p.taken; more = (p.more.0, p.more.1, omega (arith, p.more.2), p.more.3); peak = omega (arith, p.peak, n); known = p.known; position = p.position } in
     rw q (carries_of a (record b { peak = max b.peak k }) c)
 
 -- what was taken stays taken

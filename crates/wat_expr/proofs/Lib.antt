@@ -5,8 +5,8 @@ pub mod FoldedLoop
 pub mod Fronts
 pub mod Heights
 pub mod Instructions
-pub mod Levels
 pub mod OneReading
+pub mod OpenGroups
 pub mod Rows
 pub mod Turns
 pub mod Whole

@@ -7,10 +7,10 @@ use Rattle.wat_expr.specs.Items.{sort, sort_of, IsBlock, IsIf, IsOther, is_branc
 use Rattle.std.specs.Prelude.{codes}
 use Rattle.wat_tokens.specs.Token.{Tok, LParen, RParen, String}
 use Rattle.wat_expr.specs.Facts.{Stops}
-use Rattle.wat_expr.specs.Laws.Facts.{word_front, reads_shorter, reads_level}
+use Rattle.wat_expr.specs.Laws.Facts.{word_front, reads_shorter, reads_balanced}
 use Rattle.wat_expr.specs.Flat.{Flat, push}
-use Rattle.wat_expr.specs.Levels.{Level, InFolded, InBlock, InIf, AfterThen, AfterElse, InArm, heads_in}
-use Rattle.wat_expr.specs.Progress.{TalliedFlat, item_more, noted, Fits, suits, After, Open, at_closing, arm, IsOpen, TakesPlain, after_level, Finishes, Tallies, with_tallies, LoopState, state_with, risen, Balanced, Turn, TurnAnswers, Stuck}
+use Rattle.wat_expr.specs.OpenGroups.{OpenGroup, InFolded, InBlock, InIf, AfterThen, AfterElse, InArm, heads_in}
+use Rattle.wat_expr.specs.Progress.{TalliedFlat, item_more, noted, Fits, suits, After, Open, at_closing, arm, IsOpen, TakesPlain, after_open_group, Finishes, Tallies, with_tallies, LoopState, state_with, risen, Balanced, Turn, TurnAnswers, Stuck}
 use Rattle.wat_expr.proofs.Fronts.{reads_one, stops_at, stops_no_word, stops_no_group, no_paren, same_group, one_sort, no_hint_word}
 use Rattle.wat_tokens.specs.Error.{Error, Memory}
 use Rattle.wat_tokens.specs.Tests.{ends}
@@ -21,7 +21,7 @@ if_either false true c e = absurd cc
 if_either false false true e = refl
 if_either false false false e = absurd cc
 
--- an `if` can stand behind a hint
+-- an `if` can be behind a hint
 pub if_branch : (i : Instr) → sort i ≡ IsIf → is_branch i ≡ true
 if_branch i e = if_either (is_br_if i.row) (is_block i.row) (is_if i.row) e
 
@@ -59,16 +59,16 @@ any_items (IfThen i ops th xs) = (tt, any_items xs)
 any_items (IfElse i ops th el xs) = (tt, any_items xs)
 any_items (Hinted v xs) = (tt, any_items xs)
 
--- what finishes from the levels s
-abbrev pub Rest : TalliedFlat → List Tok → List Level → Option ℕ → After
-Rest o r s p = Open (TakesPlain s) (IsOpen s) (after_level o r s) (length s) (heads_in s) p
+-- what finishes from the open groups s
+abbrev pub Rest : TalliedFlat → List Tok → List OpenGroup → Option ℕ → After
+Rest o r s p = Open (TakesPlain s) (IsOpen s) (after_open_group o r s) (length s) (heads_in s) p
 
--- the output changes, and the levels are s
-abbrev pub goes : List Level → Flat → TalliedFlat → TalliedFlat
+-- the output changes, and the open groups are s
+abbrev pub goes : List OpenGroup → Flat → TalliedFlat → TalliedFlat
 goes s g f = noted (length s) (heads_in s) (record { out = g; items = f.items; peak = f.peak; held = f.held })
 
--- the level that a group opens, and the output there
-abbrev pub inside : Sort → Instr → Option ℕ → Level
+-- the open group that a group opens, and the output there
+abbrev pub inside : Sort → Instr → Option ℕ → OpenGroup
 inside IsOther i p = InFolded i p
 inside IsBlock i p = InBlock
 inside IsIf i p = InIf i p
@@ -78,18 +78,18 @@ put IsOther p i f = f
 put IsBlock p i f = push p i f
 put IsIf p i f = f
 
--- the output where a level closes
-abbrev pub closed : Level → Flat → Flat
+-- the output where an open group closes
+abbrev pub closed : OpenGroup → Flat → Flat
 closed (InFolded i p) f = push p i f
 closed (InIf i p) f = f
 closed InArm f = f
 closed _ f = push None end_instr f
 
-abbrev pub CanClose : Level → Type 0
+abbrev pub CanClose : OpenGroup → Type 0
 CanClose (InIf i p) = ⊥
 CanClose _ = Unit {0}
 
-ends_behind : (o : TalliedFlat) (r : List Tok) (s : List Level) → IsOpen s → (ts : List Tok) (f : TalliedFlat) → after_level o r s ts f → Stops ts
+ends_behind : (o : TalliedFlat) (r : List Tok) (s : List OpenGroup) → IsOpen s → (ts : List Tok) (f : TalliedFlat) → after_open_group o r s ts f → Stops ts
 ends_behind o r [] h [] f k = tt
 ends_behind o r [] h (RParen ∷ ts) f k = tt
 ends_behind o r [] h (t ∷ ts) f k = absurd (let e = k.0 in cc)
@@ -98,7 +98,7 @@ ends_behind o r (AfterThen ∷ s) h ts f k = absurd h
 ends_behind o r (AfterElse ∷ s) h ts f k = absurd h
 ends_behind o r (l ∷ s) h ts f k = subst Stops (sym k.1) tt
 
-pub plain_is_open : (s : List Level) → TakesPlain s → IsOpen s
+pub plain_is_open : (s : List OpenGroup) → TakesPlain s → IsOpen s
 plain_is_open [] h = tt
 plain_is_open (InIf i p ∷ s) h = tt
 plain_is_open (l ∷ s) h = h
@@ -116,9 +116,9 @@ no_hint : (p : Option ℕ) (xs : Items) → (BeginsWithBranch xs → ⊥) → Fi
 no_hint None xs k f = refl
 no_hint (Some v) xs k f = absurd (k f)
 
--- what stands in front: nothing, an instruction, a group or a hint
-pub next : {C : Type 0} (o : TalliedFlat) (r : List Tok) (s : List Level) (p : Option ℕ) (ts : List Tok) (f : TalliedFlat)
-    → (p ≡ None → after_level o r s ts f → C)
+-- what is in front: nothing, an instruction, a group or a hint
+pub next : {C : Type 0} (o : TalliedFlat) (r : List Tok) (s : List OpenGroup) (p : Option ℕ) (ts : List Tok) (f : TalliedFlat)
+    → (p ≡ None → after_open_group o r s ts f → C)
     → ((i : Instr) (m : List Tok) → TakesPlain s → reads i ts m → suits p i ≡ true → Rest o r s None m (goes s (push p i f.out) (item_more f)) → C)
     → ((k : Sort) (i : Instr) (a b : List Tok) → IsOpen s → ts ≡ LParen ∷ a → reads i a b → suits p i ≡ true → sort i ≡ k → Rest o r (inside k i p ∷ s) None b (goes (inside k i p ∷ s) (put k p i f.out) (item_more f)) → C)
     → ((v : ℕ) (d : List Tok) → IsOpen s → p ≡ None → v < 2 → ts ≡ LParen ∷ hint_name ∷ String (v ∷ []) ∷ RParen ∷ d → Rest o r s (Some v) d (goes s f.out (item_more f)) → C)
@@ -138,12 +138,12 @@ next o r s p ts f over plain group hint (IfElse j ops th el xs, u, l, fit, only,
 next o r s p ts f over plain group hint (Hinted v xs, u, l, fit, only, z) = hint v l.0 only.0 (no_hint p (Hinted v xs) (λ b. b) fit) l.2 l.1 (xs, u, l.4, l.3, only.1, z)
 
 -- where no item can stand, the list ends
-pub ended : (o : TalliedFlat) (r : List Tok) (s : List Level) (p : Option ℕ) (ts : List Tok) (f : TalliedFlat) → (IsOpen s → Stops ts) → Rest o r s p ts f → (p ≡ None) × after_level o r s ts f
+pub ended : (o : TalliedFlat) (r : List Tok) (s : List OpenGroup) (p : Option ℕ) (ts : List Tok) (f : TalliedFlat) → (IsOpen s → Stops ts) → Rest o r s p ts f → (p ≡ None) × after_open_group o r s ts f
 ended o r s p ts f st =
     next o r s p ts f (λ e k. (e, k)) (λ j m a h t z. absurd (stops_no_word j ts m h (st (plain_is_open s a))))
     (λ k j a b g e h t q z. absurd (stops_no_group j a b h (stops_at _ ts (sym e) (st g)))) (λ v d g e lt q z. absurd (stops_at _ ts (sym q) (st g)))
 
-module _ (o : TalliedFlat) (r : List Tok) (s : List Level) where
+module _ (o : TalliedFlat) (r : List Tok) (s : List OpenGroup) where
   pub group_back : (k : Sort) (p : Option ℕ) (i : Instr) (a b : List Tok) (f : TalliedFlat) → IsOpen s → reads i a b → suits p i ≡ true → sort i ≡ k → Rest o r (inside k i p ∷ s) None b (goes (inside k i p ∷ s) (put k p i f.out) (item_more f)) → Rest o r s p (LParen ∷ a) f
   group_back IsOther p i a b f g h t ki (ys, q, l, fit, only, (d, e, (xs, u, l', fit', only', z))) =
       (Folded i ys xs, u, (a, b, d, refl, ki, h, rw e at l, l'), fits_by p i (Folded i ys xs) (branch_folded i ki) t, (g, only'), z)
@@ -157,37 +157,37 @@ module _ (o : TalliedFlat) (r : List Tok) (s : List Level) where
       let e8 : q4 ≡ RParen ∷ RParen ∷ d6 = cc in
       (IfElse i ops th el xs, u, (a, b, d, d3, d6, refl, ki, h, only, rw e at l, rw e7 at l2, rw e8 at l4, l'), fits_by p i (IfElse i ops th el xs) (λ b. tt) t, (g, only'), z)
 
-  -- a level closes
-  shut : (l : Level) (m : List Tok) (f : TalliedFlat) → CanClose l → after_level o r (l ∷ s) (RParen ∷ m) f → at_closing (length s) (heads_in s) (λ t g. Rest o r s None t (record { out = closed l g.out; items = g.items; peak = g.peak; held = g.held })) (RParen ∷ m) f
+  -- an open group closes
+  shut : (l : OpenGroup) (m : List Tok) (f : TalliedFlat) → CanClose l → after_open_group o r (l ∷ s) (RParen ∷ m) f → at_closing (length s) (heads_in s) (λ t g. Rest o r s None t (record { out = closed l g.out; items = g.items; peak = g.peak; held = g.held })) (RParen ∷ m) f
   shut (InIf i p) m f c k = absurd c
   shut AfterThen m f c (inl k) = k
   shut AfterThen m f c (inr (d, e, k)) = cc
   shut l m f c k = k
 
-  pub close_forth : (l : Level) (m : List Tok) (f : TalliedFlat) → CanClose l → Rest o r (l ∷ s) None (RParen ∷ m) f → Rest o r s None m (goes s (closed l f.out) f)
+  pub close_forth : (l : OpenGroup) (m : List Tok) (f : TalliedFlat) → CanClose l → Rest o r (l ∷ s) None (RParen ∷ m) f → Rest o r s None m (goes s (closed l f.out) f)
   close_forth l m f c k =
       let z = shut l m f c (ended o r (l ∷ s) None (RParen ∷ m) f (λ _. tt) k).1 in
       let q : z.0 ≡ m = (let e = z.1 in cc) in rw q at z.2
 
-  pub close_back : (l : Level) (m : List Tok) (f : TalliedFlat) → CanClose l → Rest o r s None m (goes s (closed l f.out) f) → Rest o r (l ∷ s) None (RParen ∷ m) f
+  pub close_back : (l : OpenGroup) (m : List Tok) (f : TalliedFlat) → CanClose l → Rest o r s None m (goes s (closed l f.out) f) → Rest o r (l ∷ s) None (RParen ∷ m) f
   close_back (InIf i p) m f c k = absurd c
   close_back AfterThen m f c k = (Nil, RParen ∷ m, refl, tt, tt, inl (m, refl, k))
   close_back l m f c k = (Nil, RParen ∷ m, refl, tt, tt, (m, refl, k))
 
-  -- an arm, and the level around it, in which no item can stand
-  pub arm_forth : (l : Level) (w : Tok) (m : List Tok) (f : TalliedFlat) → (d : List Tok) × (LParen ∷ w ∷ m ≡ LParen ∷ w ∷ d) × arm (length s) (heads_in (l ∷ s)) (after_level o r (l ∷ s)) d f → Rest o r (InArm ∷ l ∷ s) None m f
+  -- an arm, and the open group around it, in which no item can stand
+  pub arm_forth : (l : OpenGroup) (w : Tok) (m : List Tok) (f : TalliedFlat) → (d : List Tok) × (LParen ∷ w ∷ m ≡ LParen ∷ w ∷ d) × arm (length s) (heads_in (l ∷ s)) (after_open_group o r (l ∷ s)) d f → Rest o r (InArm ∷ l ∷ s) None m f
   arm_forth l w m f (d, e, (xs, u, t, fit, only, (c, e2, k))) = let q : d ≡ m = cc in (xs, u, rw q at t, fit, only, (c, e2, (Nil, c, refl, tt, tt, k)))
 
-  pub arm_back : (l : Level) (m : List Tok) (f : TalliedFlat) → (IsOpen (l ∷ s) → ⊥) → Rest o r (InArm ∷ l ∷ s) None m f → arm (length s) (heads_in (l ∷ s)) (after_level o r (l ∷ s)) m f
+  pub arm_back : (l : OpenGroup) (m : List Tok) (f : TalliedFlat) → (IsOpen (l ∷ s) → ⊥) → Rest o r (InArm ∷ l ∷ s) None m f → arm (length s) (heads_in (l ∷ s)) (after_open_group o r (l ∷ s)) m f
   arm_back l m f n (xs, u, t, fit, only, (c, e, k)) = (xs, u, t, fit, only, (c, e, (ended o r (l ∷ s) None c _ (λ g. absurd (n g)) k).1))
 
-abbrev pub at : List Level → Option ℕ → List Tok → Flat → LoopState
-at s p ts f = record { levels = s; pending = p; left = ts; out = f }
+abbrev pub at : List OpenGroup → Option ℕ → List Tok → Flat → LoopState
+at s p ts f = record { open_groups = s; pending = p; left = ts; out = f }
 
-turn_is : (s t : LoopState) (n : ℕ → ℕ) → ((m : ℕ) → n m ≤ suc m) → ((c : Tallies) (o : TalliedFlat) (r : List Tok) → Finishes o r (state_with s c) → Finishes o r (state_with t (risen (n c.items) t.levels c)))
-    → ((c : Tallies) (o : TalliedFlat) (r : List Tok) → Finishes o r (state_with t (risen (n c.items) t.levels c)) → Finishes o r (state_with s c))
-    → length t.left < length s.left → Balanced (length s.levels) s.left (length t.levels) t.left → Turn s t
-turn_is s t n le forth back shorter level = record { same = λ c. (n c.items, le c.items, record { forth = forth c; back = back c }); shorter = shorter; level = level }
+turn_is : (s t : LoopState) (n : ℕ → ℕ) → ((m : ℕ) → n m ≤ suc m) → ((c : Tallies) (o : TalliedFlat) (r : List Tok) → Finishes o r (state_with s c) → Finishes o r (state_with t (risen (n c.items) t.open_groups c)))
+    → ((c : Tallies) (o : TalliedFlat) (r : List Tok) → Finishes o r (state_with t (risen (n c.items) t.open_groups c)) → Finishes o r (state_with s c))
+    → length t.left < length s.left → Balanced (length s.open_groups) s.left (length t.open_groups) t.left → Turn s t
+turn_is s t n le forth back shorter balanced = record { same = λ c. (n c.items, le c.items, record { forth = forth c; back = back c }); shorter = shorter; balanced = balanced }
 
 -- ---- what each exit owes
 
@@ -196,47 +196,47 @@ moved : {A : Type 0} (res : Result A Error) {C : Type 0} {s t : LoopState} → M
 moved (Ok x) m k = k m
 moved (Err x) m k = λ n. absurd (n m)
 
-pub turn_close : {A : Type 0} (res : Result A Error) (l : Level) (levels s : List Level) (p : Option ℕ) (m : List Tok) (f g : Flat) → p ≡ None → levels ≡ l ∷ s → CanClose l → MatchResult res (λ _. g ≡ closed l f) (λ e. e.fault ≡ Memory) → TurnAnswers res (at levels p (RParen ∷ m) f) (at s p m g)
-turn_close res l levels s p m f g none e a r = moved res r (λ q. rw (e, none, q) (turn_is _ _ (λ n. n) (omega arith) (λ c o r. close_forth o r s l m (with_tallies f c) a) (λ c o r. close_back o r s l m (with_tallies f c) a) (omega arith) (omega arith)))
+pub turn_close : {A : Type 0} (res : Result A Error) (l : OpenGroup) (open_groups s : List OpenGroup) (p : Option ℕ) (m : List Tok) (f g : Flat) → p ≡ None → open_groups ≡ l ∷ s → CanClose l → MatchResult res (λ _. g ≡ closed l f) (λ e. e.fault ≡ Memory) → TurnAnswers res (at open_groups p (RParen ∷ m) f) (at s p m g)
+turn_close res l open_groups s p m f g none e a r = moved res r (λ q. rw (e, none, q) (turn_is _ _ (λ n. n) (omega arith) (λ c o r. close_forth o r s l m (with_tallies f c) a) (λ c o r. close_back o r s l m (with_tallies f c) a) (omega arith) (omega arith)))
 
-pub turn_then : {A : Type 0} (res : Result A Error) (levels s new mid : List Level) (p h : Option ℕ) (i : Instr) (m : List Tok) (f g : Flat) → p ≡ None → levels ≡ InIf i h ∷ s → g ≡ push h i f → mid ≡ AfterThen ∷ s → MatchResult res (λ _. new ≡ InArm ∷ mid) (λ e. e.fault ≡ Memory) → TurnAnswers res (at levels p (LParen ∷ keyword (codes "then") ∷ m) f) (at new p m g)
-turn_then res levels s new mid p h i m f g none e q k r =
+pub turn_then : {A : Type 0} (res : Result A Error) (open_groups s new mid : List OpenGroup) (p h : Option ℕ) (i : Instr) (m : List Tok) (f g : Flat) → p ≡ None → open_groups ≡ InIf i h ∷ s → g ≡ push h i f → mid ≡ AfterThen ∷ s → MatchResult res (λ _. new ≡ InArm ∷ mid) (λ e. e.fault ≡ Memory) → TurnAnswers res (at open_groups p (LParen ∷ keyword (codes "then") ∷ m) f) (at new p m g)
+turn_then res open_groups s new mid p h i m f g none e q k r =
     moved res r (λ n. rw (e, none, q, n, k) (turn_is _ _ (λ n. n) (omega arith)
     (λ c o r k. arm_forth o r s AfterThen _ m _ (ended o r (InIf i h ∷ s) None _ (with_tallies f c) (λ _. refl) k).1)
     (λ c o r k. (Nil, _, refl, tt, tt, (m, refl, arm_back o r s AfterThen m _ (λ a. a) k))) (omega arith) (omega arith)))
 
-pub turn_else : {A : Type 0} (res : Result A Error) (levels s new : List Level) (p : Option ℕ) (ts m : List Tok) (f g : Flat) → p ≡ None → levels ≡ AfterThen ∷ s → ts ≡ keyword (codes "else") ∷ m → new ≡ InArm ∷ AfterElse ∷ s → MatchResult res (λ _. g ≡ push None else_instr f) (λ e. e.fault ≡ Memory) → TurnAnswers res (at levels p (LParen ∷ ts) f) (at new p m g)
-turn_else res levels s new p ts m f g none e t n r =
+pub turn_else : {A : Type 0} (res : Result A Error) (open_groups s new : List OpenGroup) (p : Option ℕ) (ts m : List Tok) (f g : Flat) → p ≡ None → open_groups ≡ AfterThen ∷ s → ts ≡ keyword (codes "else") ∷ m → new ≡ InArm ∷ AfterElse ∷ s → MatchResult res (λ _. g ≡ push None else_instr f) (λ e. e.fault ≡ Memory) → TurnAnswers res (at open_groups p (LParen ∷ ts) f) (at new p m g)
+turn_else res open_groups s new p ts m f g none e t n r =
     moved res r (λ q. rw (e, none, t, n, q) (turn_is _ _ (λ n. n) (omega arith)
     (λ c o r k. elim (ended o r (AfterThen ∷ s) None _ (with_tallies f c) (λ a. absurd a) k).1 [ inl x ↦ (let e = x.1 in cc) | inr x ↦ arm_forth o r s AfterElse _ m _ x ])
     (λ c o r k. (Nil, _, refl, tt, tt, inr (m, refl, arm_back o r s AfterElse m _ (λ a. a) k))) (omega arith) (omega arith)))
 
-pub turn_plain : {A : Type 0} (res : Result A Error) (s : List Level) (p after : Option ℕ) (i : Instr) (ts m : List Tok) (f g : Flat) → TakesPlain s → reads i ts m → suits p i ≡ true → after ≡ None → MatchResult res (λ _. g ≡ push p i f) (λ e. e.fault ≡ Memory) → TurnAnswers res (at s p ts f) (at s after m g)
+pub turn_plain : {A : Type 0} (res : Result A Error) (s : List OpenGroup) (p after : Option ℕ) (i : Instr) (ts m : List Tok) (f g : Flat) → TakesPlain s → reads i ts m → suits p i ≡ true → after ≡ None → MatchResult res (λ _. g ≡ push p i f) (λ e. e.fault ≡ Memory) → TurnAnswers res (at s p ts f) (at s after m g)
 turn_plain res s p after i ts m f g a h t n r =
     moved res r (λ q. rw (n, q) (turn_is _ _ suc (omega arith)
     (λ c o r. next o r s p ts (with_tallies f c) (λ e k. absurd (stops_no_word i ts m h (ends_behind o r s (plain_is_open s a) ts _ k))) (λ j n a rj t z. let one = reads_one j i ts n m rj h in rw (← one.0, ← one.1) z)
     (λ k j a b g e rj t q z. absurd (no_paren i ts a m h e)) (λ v d g e lt q z. absurd (no_paren i ts _ m h q)))
-    (λ c o r (xs, u, l, fit, only, z). (Plain i xs, u, (m, h, l), fits_by p i (Plain i xs) (λ b. b) t, (a, only), z)) (reads_shorter i ts m h) (omega (arith, reads_level i ts m h))))
+    (λ c o r (xs, u, l, fit, only, z). (Plain i xs, u, (m, h, l), fits_by p i (Plain i xs) (λ b. b) t, (a, only), z)) (reads_shorter i ts m h) (omega (arith, reads_balanced i ts m h))))
 
-pub turn_group : {A : Type 0} (res : Result A Error) (k : Sort) (s new : List Level) (p after : Option ℕ) (i : Instr) (ts m : List Tok) (f g : Flat) → sort i ≡ k → IsOpen s → reads i ts m → suits p i ≡ true → after ≡ None → g ≡ put k p i f → MatchResult res (λ _. new ≡ inside k i p ∷ s) (λ e. e.fault ≡ Memory) → TurnAnswers res (at s p (LParen ∷ ts) f) (at new after m g)
+pub turn_group : {A : Type 0} (res : Result A Error) (k : Sort) (s new : List OpenGroup) (p after : Option ℕ) (i : Instr) (ts m : List Tok) (f g : Flat) → sort i ≡ k → IsOpen s → reads i ts m → suits p i ≡ true → after ≡ None → g ≡ put k p i f → MatchResult res (λ _. new ≡ inside k i p ∷ s) (λ e. e.fault ≡ Memory) → TurnAnswers res (at s p (LParen ∷ ts) f) (at new after m g)
 turn_group res k s new p after i ts m f g q a h t n l r =
     moved res r (λ e. rw (n, l, e) (turn_is _ _ suc (omega arith)
     (λ c o r. next o r s p (LParen ∷ ts) (with_tallies f c) (λ e z. absurd (stops_no_group i ts m h (ends_behind o r s a _ _ z))) (λ j n b rj t z. absurd (word_front j LParen ts n rj))
     (λ x j b d g e rj t lj z. let one = same_group i j ts m b d e h rj in rw (one_sort i j k x one.0 q lj, ← one.0, ← one.1) z) (λ v d g e lt y z. absurd (no_hint_word i ts m _ y h)))
-    (λ c o r. group_back o r s k p i ts m (with_tallies f c) a h t q) (omega (arith, reads_shorter i ts m h)) (omega (arith, reads_level i ts m h))))
+    (λ c o r. group_back o r s k p i ts m (with_tallies f c) a h t q) (omega (arith, reads_shorter i ts m h)) (omega (arith, reads_balanced i ts m h))))
 
-pub popped : {A : Type 0} (seen : A → Level) (res : Option A) (old new s : List Level) (l : Level) → MatchOption res ((old ≡ []) × (new ≡ [])) (λ l. old ≡ seen l ∷ new) → old ≡ l ∷ s → new ≡ s
-popped seen None old new s l m e = let f = m.0 in cc
-popped seen (Some x) old new s l m e = cc
+pub popped : {A : Type 0} (view : A → OpenGroup) (res : Option A) (old new s : List OpenGroup) (l : OpenGroup) → MatchOption res ((old ≡ []) × (new ≡ [])) (λ l. old ≡ view l ∷ new) → old ≡ l ∷ s → new ≡ s
+popped view None old new s l m e = let f = m.0 in cc
+popped view (Some x) old new s l m e = cc
 
-pub turn_hint : (s : List Level) (p : Option ℕ) (v : ℕ) (w : List ℕ) (u u2 d : List Tok) (f : Flat) → IsOpen s → p ≡ None → u ≡ String w ∷ u2 → w ≡ v ∷ [] → u2 ≡ RParen ∷ d → v < 2 → Turn (at s p (LParen ∷ hint_name ∷ u) f) (at s (Some v) d f)
+pub turn_hint : (s : List OpenGroup) (p : Option ℕ) (v : ℕ) (w : List ℕ) (u u2 d : List Tok) (f : Flat) → IsOpen s → p ≡ None → u ≡ String w ∷ u2 → w ≡ v ∷ [] → u2 ≡ RParen ∷ d → v < 2 → Turn (at s p (LParen ∷ hint_name ∷ u) f) (at s (Some v) d f)
 turn_hint s p v w u u2 d f g n e ew e2 lt =
     rw (n, e, ew, e2) (turn_is _ _ suc (omega arith)
     (λ c o r. next o r s None _ (with_tallies f c) (λ e z. absurd (ends_behind o r s g _ _ z)) (λ j m a rj t z. absurd (word_front j LParen _ m rj)) (λ k j a b g2 e rj t q z. absurd (no_hint_word j a b _ (sym e) rj))
     (λ x y g2 e lt q z. let ex : x ≡ v = cc in let ey : y ≡ d = cc in rw (← ex, ← ey) z))
     (λ c o r (xs, x, l, fit, only, z). (Hinted v xs, x, (d, refl, lt, fit, l), tt, (g, only), z)) (omega arith) (omega arith))
 
--- one instruction stands in front, and it doesn't suit
+-- one instruction is in front, and it doesn't suit
 pub unsuited : (p : Option ℕ) (j : Instr) (ts r : List Tok) → reads j ts r → suits p j ≡ false → (i : Instr) (m : List Tok) → reads i ts m → suits p i ≡ true → ⊥
 unsuited p j ts r h other i m k same = let e = ap (λ (x : Instr). suits p x) (reads_one i j ts m r k h).0 in cc
 
@@ -250,25 +250,25 @@ pub sort_other : (i : Instr) → is_block i.row ≡ false → is_if i.row ≡ fa
 sort_other i b c = rw (b, c) refl
 
 -- a hint waits where the list ends
-pub unpending : (s : List Level) (p : Option ℕ) (v : ℕ) (ts : List Tok) (f : Flat) → p ≡ Some v → (IsOpen s → Stops ts) → Stuck (at s p ts f)
+pub unpending : (s : List OpenGroup) (p : Option ℕ) (v : ℕ) (ts : List Tok) (f : Flat) → p ≡ Some v → (IsOpen s → Stops ts) → Stuck (at s p ts f)
 unpending s p v ts f e st c o r k = let n = (ended o r s p ts (with_tallies f c) st k).0 in cc
 
 -- an `if` without (then
-pub if_close : (levels s : List Level) (p h : Option ℕ) (i : Instr) (m : List Tok) (f : Flat) → levels ≡ InIf i h ∷ s → Stuck (at levels p (RParen ∷ m) f)
-if_close levels s p h i m f e = rw e (λ c o r k. let q = (ended o r (InIf i h ∷ s) p _ (with_tallies f c) (λ _. tt) k).1.1 in cc)
+pub if_close : (open_groups s : List OpenGroup) (p h : Option ℕ) (i : Instr) (m : List Tok) (f : Flat) → open_groups ≡ InIf i h ∷ s → Stuck (at open_groups p (RParen ∷ m) f)
+if_close open_groups s p h i m f e = rw e (λ c o r k. let q = (ended o r (InIf i h ∷ s) p _ (with_tallies f c) (λ _. tt) k).1.1 in cc)
 
 -- a third group in an `if`
-pub too_many : (levels s : List Level) (p : Option ℕ) (m : List Tok) (f : Flat) → levels ≡ AfterElse ∷ s → Stuck (at levels p (LParen ∷ m) f)
-too_many levels s p m f e = rw e (λ c o r k. let q = (ended o r (AfterElse ∷ s) p _ (with_tallies f c) (λ a. absurd a) k).1.1 in cc)
+pub too_many : (open_groups s : List OpenGroup) (p : Option ℕ) (m : List Tok) (f : Flat) → open_groups ≡ AfterElse ∷ s → Stuck (at open_groups p (LParen ∷ m) f)
+too_many open_groups s p m f e = rw e (λ c o r k. let q = (ended o r (AfterElse ∷ s) p _ (with_tallies f c) (λ a. absurd a) k).1.1 in cc)
 
 -- behind (then ..) only (else opens
-pub else_wanted : (levels s : List Level) (p : Option ℕ) (m : List Tok) (f : Flat) → levels ≡ AfterThen ∷ s → ((d : List Tok) → m ≡ keyword (codes "else") ∷ d → ⊥) → Stuck (at levels p (LParen ∷ m) f)
-else_wanted levels s p m f e never =
+pub else_wanted : (open_groups s : List OpenGroup) (p : Option ℕ) (m : List Tok) (f : Flat) → open_groups ≡ AfterThen ∷ s → ((d : List Tok) → m ≡ keyword (codes "else") ∷ d → ⊥) → Stuck (at open_groups p (LParen ∷ m) f)
+else_wanted open_groups s p m f e never =
     rw e (λ c o r k. elim (ended o r (AfterThen ∷ s) p _ (with_tallies f c) (λ a. absurd a) k).1 [ inl x ↦ (let q = x.1 in cc) | inr x ↦ never x.0 (let q = x.1 in cc) ])
 
--- what behind a level begins with
-no_behind : (s : List Level) (o : TalliedFlat) (r ts : List Tok) (f : TalliedFlat) → ((i : Instr) (h : Option ℕ) (q : List Level) (d : List Tok) → s ≡ InIf i h ∷ q → ts ≡ LParen ∷ keyword (codes "then") ∷ d → ⊥) → ((IsOpen s → ⊥) → (d : List Tok) → ts ≡ LParen ∷ d → ⊥)
-    → ((s ≡ [] → ⊥) → (d : List Tok) → ts ≡ RParen ∷ d → ⊥) → (s ≡ [] → ends ts ≡ true → ⊥) → after_level o r s ts f → ⊥
+-- what behind an open group begins with
+no_behind : (s : List OpenGroup) (o : TalliedFlat) (r ts : List Tok) (f : TalliedFlat) → ((i : Instr) (h : Option ℕ) (q : List OpenGroup) (d : List Tok) → s ≡ InIf i h ∷ q → ts ≡ LParen ∷ keyword (codes "then") ∷ d → ⊥) → ((IsOpen s → ⊥) → (d : List Tok) → ts ≡ LParen ∷ d → ⊥)
+    → ((s ≡ [] → ⊥) → (d : List Tok) → ts ≡ RParen ∷ d → ⊥) → (s ≡ [] → ends ts ≡ true → ⊥) → after_open_group o r s ts f → ⊥
 no_behind [] o r ts f no_then no_else no_close no_end k = no_end refl k.0
 no_behind (InIf i h ∷ s) o r ts f no_then no_else no_close no_end k = no_then i h s k.0 refl k.1
 no_behind (AfterThen ∷ s) o r ts f no_then no_else no_close no_end (inl k) = no_close (λ e. cc) k.0 k.1
@@ -276,19 +276,19 @@ no_behind (AfterThen ∷ s) o r ts f no_then no_else no_close no_end (inr k) = n
 no_behind (l ∷ s) o r ts f no_then no_else no_close no_end k = no_close (λ e. cc) k.0 k.1
 
 -- no instruction where one is needed
-pub no_plain : (s : List Level) (p : Option ℕ) (ts : List Tok) (f : Flat) → ((d : List Tok) → ts ≡ LParen ∷ d → ⊥) → ((s ≡ [] → ⊥) → (d : List Tok) → ts ≡ RParen ∷ d → ⊥) → (s ≡ [] → ends ts ≡ true → ⊥) → (TakesPlain s → (i : Instr) (m : List Tok) → reads i ts m → suits p i ≡ true → ⊥) → Stuck (at s p ts f)
+pub no_plain : (s : List OpenGroup) (p : Option ℕ) (ts : List Tok) (f : Flat) → ((d : List Tok) → ts ≡ LParen ∷ d → ⊥) → ((s ≡ [] → ⊥) → (d : List Tok) → ts ≡ RParen ∷ d → ⊥) → (s ≡ [] → ends ts ≡ true → ⊥) → (TakesPlain s → (i : Instr) (m : List Tok) → reads i ts m → suits p i ≡ true → ⊥) → Stuck (at s p ts f)
 no_plain s p ts f no_group no_close no_end never c o r =
     next o r s p ts _ (λ e. no_behind s o r ts (with_tallies f c) (λ i h q d e. no_group _) (λ n. no_group) no_close no_end) (λ i m a h t z. never a i m h t) (λ k i a b g e h t q z. no_group a e) (λ v d g e lt q z. no_group _ q)
 
 -- what opens is no instruction, no hint and no (then
-pub no_item : (s : List Level) (p : Option ℕ) (u : List Tok) (f : Flat) → IsOpen s → ((d : List Tok) → u ≡ hint_name ∷ d → ⊥) → ((ts : List Tok) → u ≡ keyword (codes "then") ∷ ts → (i : Instr) (h : Option ℕ) (q : List Level) → s ≡ InIf i h ∷ q → ⊥) → ((i : Instr) (m : List Tok) → reads i u m → suits p i ≡ true → ⊥) → Stuck (at s p (LParen ∷ u) f)
+pub no_item : (s : List OpenGroup) (p : Option ℕ) (u : List Tok) (f : Flat) → IsOpen s → ((d : List Tok) → u ≡ hint_name ∷ d → ⊥) → ((ts : List Tok) → u ≡ keyword (codes "then") ∷ ts → (i : Instr) (h : Option ℕ) (q : List OpenGroup) → s ≡ InIf i h ∷ q → ⊥) → ((i : Instr) (m : List Tok) → reads i u m → suits p i ≡ true → ⊥) → Stuck (at s p (LParen ∷ u) f)
 no_item s p u f g no_hint no_then never c o r =
     next o r s p _ _ (λ e. no_behind s o r _ (with_tallies f c) (λ i h q d e e2. no_then d (cc) i h q e) (λ n. absurd (n g)) (λ n d e. cc) (λ e e2. cc)) (λ i m a h t z. word_front i LParen u m h)
     (λ k i a b g e h t q z. let e2 : a ≡ u = cc in never i b (rw e2 at h) t) (λ v d g e lt q z. no_hint (String (v ∷ []) ∷ RParen ∷ d) (cc))
 
 -- ---- hints
 
-module _ (s : List Level) (p : Option ℕ) (u : List Tok) (f : Flat) (g : IsOpen s) where
+module _ (s : List OpenGroup) (p : Option ℕ) (u : List Tok) (f : Flat) (g : IsOpen s) where
   unless : (p ≡ None → (v : ℕ) (d : List Tok) → v < 2 → u ≡ String (v ∷ []) ∷ RParen ∷ d → ⊥) → Stuck (at s p (LParen ∷ hint_name ∷ u) f)
   unless never c o r =
       next o r s p _ _ (λ e. no_behind s o r _ (with_tallies f c) (λ i h q d e e2. cc) (λ n. absurd (n g)) (λ n d e. cc) (λ e e2. cc)) (λ i m a h t z. word_front i LParen _ m h)

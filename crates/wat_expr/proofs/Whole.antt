@@ -2,7 +2,7 @@
 use Rattle.std.specs.Prelude.{◌≢◌, max, map, if◌then◌else◌}
 use Rattle.std.proofs.Common.{◌≡◌, ℕ, ◌+◌, ◌≤◌, List, [], ◌∷◌, length, Option, Some, None, Bool, true, false, Result, Ok, Err, refl, sym, ap, subst, ◌∙◌, arith}
 use Rattle.std.proofs.lemmas.List.{length-map}
-use Rattle.wat_tokens.specs.Counts.{Carries, Kept, Stays}
+use Rattle.wat_tokens.specs.Counts.{Carries, SameSettings, Stays}
 use Rattle.wat_tokens.specs.Error.{Error, Memory}
 use Rattle.wat_tokens.specs.Production.{Read}
 use Rattle.wat_tokens.specs.State.{State}
@@ -13,13 +13,13 @@ use Rattle.wat_tokens.specs.Laws.Filled.{filled_before, filled_behind}
 use Rattle.wat_tokens.specs.Laws.Error.{by_fault}
 use Rattle.wat_tokens.specs.Parses.{Gives, Accepts, NotBare}
 use Rattle.wat_tokens.specs.Views.{owning, no_items}
-use Rattle.wat_instr.specs.Instruction.{seen_instruction}
+use Rattle.wat_instr.specs.Instruction.{instruction_view}
 use Rattle.wat_expr.specs.declared.expression.Expression.{Expression}
 use Rattle.wat_expr.specs.declared.reader.Reader.{Reader}
-use Rattle.wat_expr.specs.Expression.{Expr, seen_expression, bare_expression, value_of, SpansAre}
+use Rattle.wat_expr.specs.Expression.{Expr, expression_view, bare_expression, value_of, SpansAre}
 use Rattle.wat_expr.specs.Flat.{flat, no_output}
 use Rattle.wat_expr.specs.Items.{Items, Nil, Plain, Folded, Block, IfThen, IfElse, Hinted, lists, unfolded}
-use Rattle.wat_expr.specs.Levels.{heads_in}
+use Rattle.wat_expr.specs.OpenGroups.{heads_in}
 use Rattle.wat_expr.specs.Listed.{IsListed}
 use Rattle.wat_expr.specs.Progress.{TalliedFlat, emit, Fits, TalliedState, Finishes, Same, Tallies, with_tallies, state_with, Balanced, Turn, Stuck}
 use Rattle.wat_expr.specs.Turned.{stand}
@@ -49,20 +49,20 @@ pub record Reading (a b : State) (r : Reader) : Type 0 where
   pub same : Same (start a) (state_with (stand r b.left) (tallies items b))
   pub counts : Carries a b
   pub turned : b.turns + a.taken ≤ a.turns + b.taken
-  pub height : Balanced 0 a.left (length r.levels) b.left
-  pub idle : ends a.left ≡ true → (r.levels ≡ []) × (b.left ≡ a.left)
-  pub names : Kept a b
+  pub height : Balanced 0 a.left (length r.open_groups) b.left
+  pub idle : ends a.left ≡ true → (r.open_groups ≡ []) × (b.left ≡ a.left)
+  pub settings : SameSettings a b
 
-pub begins : (a : State) (r : Reader) → r.levels ≡ [] → flat r.out ≡ no_output a.tracks → r.pending ≡ None → Reading a a r
+pub begins : (a : State) (r : Reader) → r.open_groups ≡ [] → flat r.out ≡ no_output a.tracks → r.pending ≡ None → Reading a a r
 begins a r es ef ep = record {
   items = 0;
   turns = omega arith;
   same = rw (es, ef, ep) (record { forth = λ o r k. k; back = λ o r k. k });
   counts = λ s c. c;
   turned = omega arith;
-  height = let l : length r.levels ≡ 0 = ap length es in omega (arith, l);
+  height = let l : length r.open_groups ≡ 0 = ap length es in omega (arith, l);
   idle = λ e. (es, refl);
-  names = (refl, refl);
+  settings = (refl, refl);
 }
 
 -- where a turn was refused
@@ -70,26 +70,26 @@ pub refused_counts : (a b t u : State) (r : Reader) → t ≡ record b { turns =
 refused_counts a b t u r tick = rw tick (λ w counts stays c. ((λ s k. counts s (c s (w.counts s k))), (let m : b.taken ≤ u.taken = taken_more _ u counts in omega (arith, m, stays.0, w.turned))))
 
 -- where it was made, and the heights were noted
-pub goes_on : (a b t u v x : State) (r r2 : Reader) (k h : ℕ) → t ≡ record b { turns = b.turns + 1 } → k ≡ length r2.levels → h ≡ heads_in r2.levels → v ≡ record u { peak = max u.peak k } → x ≡ record v { held = max v.held h }
-    → Reading a b r → Carries t u → Stays t u → Kept t u → Carries b t → (r.levels ≡ [] → ends b.left ≡ true → ⊥) → Turn (stand r t.left) (stand r2 u.left) → Carries v x → Reading a x r2
-goes_on a b t u v x r r2 k h tick ek eh ev ex = rw (tick, ex, ev, ek, eh) (λ w counts stays names c undone turn cx.
+pub goes_on : (a b t u v x : State) (r r2 : Reader) (k h : ℕ) → t ≡ record b { turns = b.turns + 1 } → k ≡ length r2.open_groups → h ≡ heads_in r2.open_groups → v ≡ record u { peak = max u.peak k } → x ≡ record v { held = max v.held h }
+    → Reading a b r → Carries t u → Stays t u → SameSettings t u → Carries b t → (r.open_groups ≡ [] → ends b.left ≡ true → ⊥) → Turn (stand r t.left) (stand r2 u.left) → Carries v x → Reading a x r2
+goes_on a b t u v x r r2 k h tick ek eh ev ex = rw (tick, ex, ev, ek, eh) (λ w counts stays settings c undone turn cx.
     let s = turn.same (tallies w.items b) in
     let more : b.taken + 1 ≤ u.taken = taken_one _ u counts turn.shorter in
-    let high : Balanced 0 a.left (length r2.levels) u.left = (let m = w.height in let n = turn.level in omega (arith, m, n)) in
+    let high : Balanced 0 a.left (length r2.open_groups) u.left = (let m = w.height in let n = turn.balanced in omega (arith, m, n)) in
     record {
       items = s.0;
       turns = omega (arith, w.turns, s.1, stays.0);
       same = rw (stays.1, stays.2) (record { forth = λ o r k. s.2.forth o r (w.same.forth o r k); back = λ o r k. w.same.back o r (s.2.back o r k) });
-      counts = λ q z. cx q (carries_height a u _ (length r2.levels) (λ s k. counts s (c s (w.counts s k))) (omega (arith, high)) refl q z);
+      counts = λ q z. cx q (carries_height a u _ (length r2.open_groups) (λ s k. counts s (c s (w.counts s k))) (omega (arith, high)) refl q z);
       turned = omega (arith, w.turned, stays.0, more);
       height = high;
       idle = λ e. let i = w.idle e in absurd (undone i.0 (ap ends i.1 ∙ e));
-      names = (names.0 ∙ w.names.0, names.1 ∙ w.names.1);
+      settings = (settings.0 ∙ w.settings.0, settings.1 ∙ w.settings.1);
     })
 
 -- ---- nothing was listed
 
--- no items stand in front, to the end
+-- no items are in front, to the end
 abbrev pub Unlisted : List Tok → Type 0
 Unlisted ts = (xs : Items) (r : List Tok) → lists xs ts r → ends r ≡ true → ⊥
 
@@ -97,7 +97,7 @@ not_listed : (a b : State) (r : Reader) → Reading a b r → Stuck (stand r b.l
 not_listed a b r w stuck xs u l e = stuck (tallies w.items b) (emit 0 0 None xs (first a)) u (w.same.forth (emit 0 0 None xs (first a)) u (xs, u, l, tt, any_items xs, (e, refl, refl)))
 
 pub left_pending : (a b : State) (r : Reader) (v : ℕ) → Reading a b r → r.pending ≡ Some v → ends b.left ≡ true → Unlisted a.left
-left_pending a b r v w ep e = not_listed a b r w (unpending r.levels r.pending v b.left (flat r.out) ep (λ _. stops_end b.left e))
+left_pending a b r v w ep e = not_listed a b r w (unpending r.open_groups r.pending v b.left (flat r.out) ep (λ _. stops_end b.left e))
 
 -- ---- the end
 
@@ -108,7 +108,7 @@ span_cases V len None false n m q e = refl
 span_cases V len o keeps n m q e = absurd cc
 
 spans_are : (keeps : Bool) (x : Expression) → Spanned keeps (flat x) → SpansAre keeps x
-spans_are keeps x s = span_cases _ (λ v. length v.items) x.instr_spans keeps (length (map seen_instruction x.instrs.items)) (length x.instrs.items) (length-map x.instrs.items seen_instruction) s
+spans_are keeps x s = span_cases _ (λ v. length v.items) x.instr_spans keeps (length (map instruction_view x.instrs.items)) (length x.instrs.items) (length-map x.instrs.items instruction_view) s
 
 -- the value, the numbers and the spans
 finished : (a b : State) (r : Reader) (n : ℕ) → a.turns + n ≤ b.turns → ends b.left ≡ true → Finishes (with_tallies (flat r.out) (tallies n b)) b.left (start a) → IsListed a b r.out × SpansAre a.tracks r.out
@@ -128,7 +128,7 @@ finished a b r n turns e (xs, rest, l, fit, only, (e2, here, is)) =
       spans_are a.tracks r.out (subst (λ (c : TalliedFlat). Spanned a.tracks c.out) is (c.2 a.tracks refl)),
     )
 
-pub listed : (a b : State) (r : Reader) → Reading a b r → r.levels ≡ [] → r.pending ≡ None → ends b.left ≡ true → IsListed a b r.out × SpansAre a.tracks r.out
+pub listed : (a b : State) (r : Reader) → Reading a b r → r.open_groups ≡ [] → r.pending ≡ None → ends b.left ≡ true → IsListed a b r.out × SpansAre a.tracks r.out
 listed a b r w es ep e = let same = rw (es, ep) at w.same in finished a b r w.items w.turns e (same.back (with_tallies (flat r.out) (tallies w.items b)) b.left (Nil, b.left, refl, tt, tt, (e, refl, refl)))
 
 -- ---- what that says of the production
@@ -160,7 +160,7 @@ some_listed p (IfElse i ops th el xs) ts r f l n = filled_before _ (unfolded xs)
 some_listed None (Hinted v xs) ts r f l n = some_listed (Some v) xs l.0 r l.3 l.4 (λ e q. cc)
 some_listed (Some u) (Hinted v xs) ts r f l n = absurd f
 
--- where something follows, no bare value stands in front
+-- where something follows, no bare value is in front
 pub not_bare : (ts : List Tok) → (ends ts ≡ true → ⊥) → NotBare bare_expression (expression.reads ts)
 unfolding expression
 not_bare ts more =
@@ -172,11 +172,11 @@ not_bare ts more =
 
 -- ---- the exits
 
-pub found : (a b : State) (x : Expression) → IsListed a b x → expression.reads a.left ≡ Some (seen_expression x, b.left)
+pub found : (a b : State) (x : Expression) → IsListed a b x → expression.reads a.left ≡ Some (expression_view x, b.left)
 found a b x l = reads_listed l.items a.left b.left l.listed l.ended ∙ ap (λ (v : Expr). Some (v, b.left)) (sym l.value)
 
 -- where a turn was refused
-pub refused : (a b t : State) (r : Reader) (e : Error) → Reading a b r → t ≡ record b { turns = b.turns + 1 } → (r.levels ≡ [] → ends b.left ≡ true → ⊥) → (e.fault ≢ Memory → Stuck (stand r t.left))
+pub refused : (a b t : State) (r : Reader) (e : Error) → Reading a b r → t ≡ record b { turns = b.turns + 1 } → (r.open_groups ≡ [] → ends b.left ≡ true → ⊥) → (e.fault ≢ Memory → Stuck (stand r t.left))
     → (e.fault ≢ Memory → expression.reads a.left ≡ None) × (e.fault ≡ Memory → NotBare bare_expression (expression.reads a.left))
 refused a b t r e w tick undone stuck = (
   (λ n. reads_nothing_listed a.left (not_listed a b r w (rw (ap (λ (s : State). s.left) tick) at (stuck n)))),
@@ -184,10 +184,10 @@ refused a b t r e w tick undone stuck = (
 )
 
 -- what is read is answered, or memory ran out and it isn't bare
-pub read_accepted : (res : Result Expression Error) (read : Read Expr) (left : List Tok) → Gives (owning seen_expression bare_expression) res read left
-    → (v : Expr) (r : List Tok) → read ≡ Some (v, r) → Accepts (owning seen_expression bare_expression) res v left r
+pub read_accepted : (res : Result Expression Error) (read : Read Expr) (left : List Tok) → Gives (owning expression_view bare_expression) res read left
+    → (v : Expr) (r : List Tok) → read ≡ Some (v, r) → Accepts (owning expression_view bare_expression) res v left r
 read_accepted (Ok x) read left g v r e =
-    let s = some_is (seen_expression x, left) (v, r) (sym g ∙ e) in
+    let s = some_is (expression_view x, left) (v, r) (sym g ∙ e) in
     (ap (λ (y : Expr × List Tok). y.0) s, ap (λ (y : Expr × List Tok). y.1) s)
 read_accepted (Err f) read left g v r e =
     by_fault f.fault
@@ -195,6 +195,6 @@ read_accepted (Err f) read left g v r e =
     (λ not. (let none : read ≡ None = g.0 not in cc))
 
 -- the items that are listed are what is answered, or memory ran out
-pub accepted : (res : Result Expression Error) (ts left : List Tok) → Gives (owning seen_expression bare_expression) res (expression.reads ts) left
-    → (xs : Items) (r : List Tok) → lists xs ts r → ends r ≡ true → Accepts (owning seen_expression bare_expression) res (value_of xs) left r
+pub accepted : (res : Result Expression Error) (ts left : List Tok) → Gives (owning expression_view bare_expression) res (expression.reads ts) left
+    → (xs : Items) (r : List Tok) → lists xs ts r → ends r ≡ true → Accepts (owning expression_view bare_expression) res (value_of xs) left r
 accepted res ts left g xs r l e = read_accepted res (expression.reads ts) left g (value_of xs) r (reads_listed xs ts r l e)

@@ -6,7 +6,7 @@ use Rattle.std.specs.declared.alloc.Global.{Global}
 use Rattle.wat_tokens.specs.Tests.{ends}
 use Rattle.wat_tokens.specs.Token.{Tok}
 use Rattle.wat_tokens.specs.Views.{no_items}
-use Rattle.wat_instr.specs.Instruction.{Instr, seen_instruction}
+use Rattle.wat_instr.specs.Instruction.{Instr, instruction_view}
 use Rattle.wat_expr.specs.declared.expression.BranchHint.{BranchHint}
 use Rattle.wat_expr.specs.declared.expression.Expression.{Expression}
 use Rattle.wat_expr.specs.Items.{Items, lists, unfolded, hints}
@@ -16,14 +16,14 @@ pub record Expr : Type 0 where
   pub instrs : List Instr
   pub hints : List (ℕ × ℕ)
 
-abbrev pub seen_hint : BranchHint → ℕ × ℕ
-seen_hint h = (h.instr_index, h.value)
+abbrev pub hint_view : BranchHint → ℕ × ℕ
+hint_view h = (h.instr_index, h.value)
 
-abbrev pub seen_expression : Expression → Expr
-seen_expression e =
+abbrev pub expression_view : Expression → Expr
+expression_view e =
     record {
-      instrs = map seen_instruction e.instrs.items;
-      hints = map seen_hint
+      instrs = map instruction_view e.instrs.items;
+      hints = map hint_view
           e.branch_hints.items;
     }
 

@@ -3,7 +3,7 @@ use Rattle.wat_tokens.specs.Production.{Production}
 use Rattle.wat_expr.specs.Expression.{Expr, expression_spells}
 use Rattle.wat_expr.specs.Reading.{expression_reads}
 use Rattle.wat_expr.specs.Laws.Reading.{expression_sound, expression_complete, expression_takes}
-use Rattle.wat_expr.specs.Laws.Reading.{expression_level}
+use Rattle.wat_expr.specs.Laws.Reading.{expression_balanced}
 
 -- ---- the production
 
@@ -16,5 +16,5 @@ expression = record {
   sound = expression_sound;
   complete = expression_complete;
   takes = expression_takes;
-  level = expression_level;
+  balanced = expression_balanced;
 }

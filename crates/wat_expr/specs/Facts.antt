@@ -1,4 +1,4 @@
--- What of instructions the items rest on, and what can stand behind a list of items.
+-- What of instructions the items rest on, and what can be behind a list of items.
 use Rattle.std.specs.Prelude.{◌≡◌, List, [], ◌∷◌, codes}
 use Rattle.wat_tokens.specs.Token.{Tok, LParen, RParen, Keyword}
 

@@ -2,9 +2,9 @@
 use Rattle.std.specs.Prelude.{ℕ, suc, Bool, List, [], ◌∷◌, ◌++◌, length, map, Option, Some, None}
 use Rattle.std.specs.Prelude.{Vec, if◌then◌else◌}
 use Rattle.std.specs.declared.alloc.Global.{Global}
-use Rattle.wat_instr.specs.Instruction.{Instr, seen_instruction}
+use Rattle.wat_instr.specs.Instruction.{Instr, instruction_view}
 use Rattle.wat_expr.specs.declared.expression.Expression.{Expression}
-use Rattle.wat_expr.specs.Expression.{seen_hint}
+use Rattle.wat_expr.specs.Expression.{hint_view}
 use Rattle.wat_expr.specs.Items.{mark}
 
 -- the instructions, the hints, and how many spans are kept, where they are
@@ -20,8 +20,8 @@ span_count None = None
 
 abbrev pub flat : Expression → Flat
 flat e = record {
-  instrs = map seen_instruction e.instrs.items;
-  hints = map seen_hint e.branch_hints.items;
+  instrs = map instruction_view e.instrs.items;
+  hints = map hint_view e.branch_hints.items;
   spans = span_count e.instr_spans;
 }
 
@@ -33,7 +33,7 @@ abbrev pub one_more : Option ℕ → Option ℕ
 one_more (Some n) = Some (suc n)
 one_more None = None
 
--- an instruction at the end, with the hint that stands directly before its item
+-- an instruction at the end, with the hint that is directly before its item
 abbrev pub push : Option ℕ → Instr → Flat → Flat
 push p i f =
     record {

@@ -2,7 +2,7 @@
 use Rattle.wat_tokens.specs.Production.{Production}
 use Rattle.wat_expr.specs.Expression.{Expr}
 use Rattle.wat_expr.specs.Folded.{folded_reads, folded_spells}
-use Rattle.wat_expr.specs.Laws.Folded.{folded_sound, folded_complete, folded_takes, folded_level}
+use Rattle.wat_expr.specs.Laws.Folded.{folded_sound, folded_complete, folded_takes, folded_balanced}
 
 -- ---- the production
 
@@ -15,5 +15,5 @@ folded_instruction = record {
   sound = folded_sound;
   complete = folded_complete;
   takes = folded_takes;
-  level = folded_level;
+  balanced = folded_balanced;
 }

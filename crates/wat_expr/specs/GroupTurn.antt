@@ -5,34 +5,35 @@ use Rattle.wat_tokens.specs.Error.{Error, Memory}
 use Rattle.wat_instr.specs.Instruction.{Instr}
 use Rattle.wat_expr.specs.Items.{reads}
 use Rattle.wat_expr.specs.Flat.{Flat, push}
-use Rattle.wat_expr.specs.Levels.{Level, InFolded}
+use Rattle.wat_expr.specs.OpenGroups.{OpenGroup, InFolded}
 
 -- what is open, the tokens that are left, and what was put out
 pub record GroupState : Type 0 where
-  pub levels : List Level
+  pub open_groups : List OpenGroup
   pub left : List Tok
   pub out : Flat
 
-abbrev pub group_state : List Level → List Tok → Flat → GroupState
-group_state s ts f = record { levels = s; left = ts; out = f }
+abbrev pub group_state : List OpenGroup → List Tok → Flat → GroupState
+group_state s ts f = record { open_groups = s; left = ts; out = f }
 
 -- a group opens: its instruction waits
 abbrev pub Opens : GroupState → GroupState → Type 0
 Opens s t =
     (i : Instr) × (a : List Tok) × (s.left ≡ LParen ∷ a) × reads i a t.left
-    × (t.levels ≡ InFolded i None ∷ s.levels) × (t.out ≡ s.out)
+    × (t.open_groups ≡ InFolded i None ∷ s.open_groups) × (t.out ≡ s.out)
 
 -- the innermost group closes: its instruction is put behind the others
 abbrev pub Closes : GroupState → GroupState → Type 0
 Closes s t =
-    (i : Instr) × (h : Option ℕ) × (s.levels ≡ InFolded i h ∷ t.levels) × (s.left ≡ RParen ∷ t.left)
+    (i : Instr) × (h : Option ℕ) × (s.open_groups ≡ InFolded i h ∷ t.open_groups)
+    × (s.left ≡ RParen ∷ t.left)
     × (t.out ≡ push None i s.out)
 
 -- neither can be
 pub record IsHalted (s : GroupState) : Type 0 where
   pub opens : (i : Instr) (a b : List Tok) → s.left ≡ LParen ∷ a → reads i a b → ⊥
-  pub closes : (i : Instr) (h : Option ℕ) (q : List Level) (d : List Tok)
-      → s.levels ≡ InFolded i h ∷ q → s.left ≡ RParen ∷ d → ⊥
+  pub closes : (i : Instr) (h : Option ℕ) (q : List OpenGroup) (d : List Tok)
+      → s.open_groups ≡ InFolded i h ∷ q → s.left ≡ RParen ∷ d → ⊥
 
 -- On Ok one of them was. Where it is refused, but for memory, neither can be.
 abbrev pub GroupTurn : {A : Type 0} → Result A Error → GroupState → GroupState → Type 0

@@ -6,7 +6,7 @@ use Rattle.wat_tokens.specs.Token.{Tok, LParen, RParen, Keyword, Annotation, Str
 use Rattle.wat_instr.specs.Instruction.{Instr, instruction, is_block, is_if, is_br_if, else_instr}
 use Rattle.wat_instr.specs.Instruction.{end_instr}
 
--- what stands behind an instruction in its group
+-- what is behind an instruction in its group
 pub data Sort : Type 0 where
   IsBlock : Sort
   IsIf : Sort
@@ -21,11 +21,11 @@ sort_of false false = IsOther
 abbrev pub sort : Instr → Sort
 sort i = sort_of (is_block i.row) (is_if i.row)
 
--- A front of the tokens ts spells the instruction, and r is left.
+-- A prefix of the tokens ts spells the instruction, and r is left.
 abbrev pub reads : Instr → List Tok → List Tok → Type 0
 reads i ts r = Front instruction.spells ts (i, r)
 
--- A list of items: its first item, and last the items after it. A hint stands in front of the items
+-- A list of items: its first item, and last the items after it. A hint is in front of the items
 -- after it.
 pub data Items : Type 0 where
   Nil : Items
@@ -115,13 +115,13 @@ unfolded (IfElse i ops th el xs) =
     ++ unfolded xs
 unfolded (Hinted v xs) = unfolded xs
 
--- the pair of an instruction's index and the hint directly before its item, where one stands there
+-- the pair of an instruction's index and the hint directly before its item, where one is there
 abbrev pub mark : Option ℕ → ℕ → List (ℕ × ℕ)
 mark None head = []
 mark (Some v) head = (head, v) ∷ []
 
--- The hints of items that unfold from the index b on, where p is the hint that stands directly
--- before the first.
+-- The hints of items that unfold from the index b on, where p is the hint that is directly before
+-- the first.
 abbrev pub hints_behind : Option ℕ → Items → ℕ → List (ℕ × ℕ)
 hints_behind p Nil b = []
 hints_behind p (Plain i xs) b = mark p b ++ hints_behind None xs (b + 1)

@@ -19,8 +19,8 @@ pub mod FoldedProduction
 pub mod GroupTurn
 pub mod Items
 pub mod Laws
-pub mod Levels
 pub mod Listed
+pub mod OpenGroups
 pub mod Progress
 pub mod Reading
 pub mod Rising

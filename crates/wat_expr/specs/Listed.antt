@@ -4,7 +4,7 @@ use Rattle.wat_tokens.specs.State.{State}
 use Rattle.wat_tokens.specs.Tests.{ends}
 use Rattle.wat_instr.specs.Instruction.{Instr}
 use Rattle.wat_expr.specs.declared.expression.Expression.{Expression}
-use Rattle.wat_expr.specs.Expression.{seen_expression, value_of}
+use Rattle.wat_expr.specs.Expression.{expression_view, value_of}
 use Rattle.wat_expr.specs.Items.{Items, lists, count, depth, deep}
 use Rattle.wat_expr.specs.Folded.{Groups, is_folded, folded_value, count_groups, depth_groups}
 
@@ -16,7 +16,7 @@ pub record IsListed (a b : State) (e : Expression) : Type 0 where
   pub items : Items
   pub listed : lists items a.left b.left
   pub ended : ends b.left ≡ true
-  pub value : seen_expression e ≡ value_of items
+  pub value : expression_view e ≡ value_of items
   pub turned : a.turns + count items ≤ b.turns
   pub peak : depth items ≤ b.peak
   pub held : b.held ≡ max a.held (deep items)
@@ -26,7 +26,7 @@ pub record IsFolded (a b : State) (e : Expression) : Type 0 where
   pub instr : Instr
   pub within : Groups
   pub listed : is_folded instr within a.left b.left
-  pub value : seen_expression e ≡ folded_value instr within
+  pub value : expression_view e ≡ folded_value instr within
   pub turned : a.turns + suc (count_groups within) ≤ b.turns
   pub peak : suc (depth_groups within) ≤ b.peak
   pub held : b.held ≡ max a.held (suc (depth_groups within))

@@ -1,4 +1,4 @@
--- What the loop has still to do from a state: the meaning of its open levels.
+-- What the loop has still to do from a state: the meaning of its open groups.
 use Rattle.std.specs.Prelude.{◌≡◌, ◌≢◌, ◌⊎◌, ℕ, suc, ◌≤◌, ◌+◌, ◌<◌, max, Bool, true, List, [], ◌∷◌}
 use Rattle.std.specs.Prelude.{length, Option, Some, None, Result, Ok, Err, codes}
 use Rattle.wat_tokens.specs.Token.{Tok, LParen, RParen}
@@ -9,10 +9,11 @@ use Rattle.wat_instr.specs.Instruction.{Instr, else_instr, end_instr}
 use Rattle.wat_expr.specs.Flat.{Flat, push}
 use Rattle.wat_expr.specs.Items.{keyword, Items, Nil, Plain, Folded, Block, IfThen, IfElse, Hinted}
 use Rattle.wat_expr.specs.Items.{Only, is_branch, BeginsWithBranch, lists}
-use Rattle.wat_expr.specs.Levels.{Level, InFolded, InBlock, InIf, AfterThen, AfterElse, InArm}
-use Rattle.wat_expr.specs.Levels.{heads_in}
+use Rattle.wat_expr.specs.OpenGroups.{OpenGroup, InFolded, InBlock, InIf, AfterThen, AfterElse}
+use Rattle.wat_expr.specs.OpenGroups.{InArm, heads_in}
 
--- the output, how many items there were, and the greatest numbers of levels and of heads so far
+-- the output, how many items there were, and the greatest numbers of open groups and of heads so
+-- far
 pub record TalliedFlat : Type 0 where
   pub out : Flat
   pub items : ℕ
@@ -26,11 +27,11 @@ with_instr p i f = record { out = push p i f.out; items = f.items; peak = f.peak
 abbrev pub item_more : TalliedFlat → TalliedFlat
 item_more f = record { out = f.out; items = suc f.items; peak = f.peak; held = f.held }
 
--- at the end of a turn: k levels are open, and they hold h heads
+-- at the end of a turn: k groups are open, and they hold h heads
 abbrev pub noted : ℕ → ℕ → TalliedFlat → TalliedFlat
 noted k h f = record { out = f.out; items = f.items; peak = max f.peak k; held = max f.held h }
 
--- What the items come to, turn by turn, in k levels that hold h heads, where p stands directly
+-- What the items come to, turn by turn, in k open groups that hold h heads, where p is directly
 -- before the first item.
 abbrev pub emit : ℕ → ℕ → Option ℕ → Items → TalliedFlat → TalliedFlat
 emit k h p Nil f = f
@@ -55,7 +56,7 @@ emit k h p (IfElse i ops th el xs) f =
     (emit (suc k) (suc h) None ops (noted (suc k) (suc h) (item_more f)))))))))))))
 emit k h p (Hinted v xs) f = emit k h (Some v) xs (noted k h (item_more f))
 
--- what stands behind a pending hint
+-- what is behind a pending hint
 abbrev pub Fits : Option ℕ → Items → Type 0
 Fits None xs = Unit {0}
 Fits (Some v) xs = BeginsWithBranch xs
@@ -74,7 +75,7 @@ abbrev pub Open : Type 0 → Type 0 → After → ℕ → ℕ → Option ℕ →
 Open P G K k h p ts f =
     (xs : Items) × (r : List Tok) × lists xs ts r × Fits p xs × Only P G xs × K r (emit k h p xs f)
 
--- what a closing parenthesis leads to, in k levels that hold h heads
+-- what a closing parenthesis leads to, in k open groups that hold h heads
 abbrev pub at_closing : ℕ → ℕ → After → After
 at_closing k h N r f = (m : List Tok) × (r ≡ RParen ∷ m) × N m (noted k h f)
 
@@ -106,43 +107,45 @@ then_arm k h N i p ts f =
 abbrev pub all_done : TalliedFlat → List Tok → After
 all_done o r ts f = (ends ts ≡ true) × (ts ≡ r) × (f ≡ o)
 
--- the levels in which an item can stand, and those in which a Plain item can
-abbrev pub IsOpen : List Level → Type 0
+-- the open groups in which an item can stand, and those in which a Plain item can
+abbrev pub IsOpen : List OpenGroup → Type 0
 IsOpen (AfterThen ∷ s) = ⊥
 IsOpen (AfterElse ∷ s) = ⊥
 IsOpen _ = Unit {0}
 
-abbrev pub TakesPlain : List Level → Type 0
+abbrev pub TakesPlain : List OpenGroup → Type 0
 TakesPlain (InIf i h ∷ s) = ⊥
 TakesPlain (AfterThen ∷ s) = ⊥
 TakesPlain (AfterElse ∷ s) = ⊥
 TakesPlain _ = Unit {0}
 
--- what follows the items of the innermost level, up to the end, where r is left and the output is o
-abbrev pub after_level : TalliedFlat → List Tok → List Level → After
-after_level o r [] = all_done o r
-after_level o r (InFolded i p ∷ s) =
+-- what follows the items of the innermost open group, up to the end, where r is left and the output
+-- is o
+abbrev pub after_open_group : TalliedFlat → List Tok → List OpenGroup → After
+after_open_group o r [] = all_done o r
+after_open_group o r (InFolded i p ∷ s) =
     close_with (length s) (heads_in s)
-    (Open (TakesPlain s) (IsOpen s) (after_level o r s) (length s) (heads_in s) None) i p
-after_level o r (InBlock ∷ s) =
+    (Open (TakesPlain s) (IsOpen s) (after_open_group o r s) (length s) (heads_in s) None) i p
+after_open_group o r (InBlock ∷ s) =
     close_with (length s) (heads_in s)
-    (Open (TakesPlain s) (IsOpen s) (after_level o r s) (length s) (heads_in s) None) end_instr None
-after_level o r (InIf i p ∷ s) =
+    (Open (TakesPlain s) (IsOpen s) (after_open_group o r s) (length s)
+    (heads_in s) None) end_instr None
+after_open_group o r (InIf i p ∷ s) =
     then_arm (length s) (heads_in s)
-    (Open (TakesPlain s) (IsOpen s) (after_level o r s) (length s) (heads_in s) None) i p
-after_level o r (AfterThen ∷ s) =
+    (Open (TakesPlain s) (IsOpen s) (after_open_group o r s) (length s) (heads_in s) None) i p
+after_open_group o r (AfterThen ∷ s) =
     after_then (length s) (heads_in s)
-    (Open (TakesPlain s) (IsOpen s) (after_level o r s) (length s) (heads_in s) None)
-after_level o r (AfterElse ∷ s) =
+    (Open (TakesPlain s) (IsOpen s) (after_open_group o r s) (length s) (heads_in s) None)
+after_open_group o r (AfterElse ∷ s) =
     after_else (length s) (heads_in s)
-    (Open (TakesPlain s) (IsOpen s) (after_level o r s) (length s) (heads_in s) None)
-after_level o r (InArm ∷ s) =
+    (Open (TakesPlain s) (IsOpen s) (after_open_group o r s) (length s) (heads_in s) None)
+after_open_group o r (InArm ∷ s) =
     at_closing (length s) (heads_in s)
-    (Open (TakesPlain s) (IsOpen s) (after_level o r s) (length s) (heads_in s) None)
+    (Open (TakesPlain s) (IsOpen s) (after_open_group o r s) (length s) (heads_in s) None)
 
--- the loop's state, the innermost level first
+-- the loop's state, the innermost open group first
 pub record TalliedState : Type 0 where
-  pub levels : List Level
+  pub open_groups : List OpenGroup
   pub pending : Option ℕ
   pub left : List Tok
   pub flat : TalliedFlat
@@ -150,8 +153,9 @@ pub record TalliedState : Type 0 where
 -- From the place the tokens that are left finish with the output o before the rest r.
 abbrev pub Finishes : TalliedFlat → List Tok → TalliedState → Type 0
 Finishes o r s =
-    Open (TakesPlain s.levels) (IsOpen s.levels) (after_level o r s.levels) (length s.levels)
-    (heads_in s.levels) s.pending s.left s.flat
+    Open (TakesPlain s.open_groups) (IsOpen s.open_groups) (after_open_group o r s.open_groups)
+    (length s.open_groups)
+    (heads_in s.open_groups) s.pending s.left s.flat
 
 -- both places finish alike
 pub record Same (s t : TalliedState) : Type 0 where
@@ -174,30 +178,35 @@ with_tallies f c = record { out = f; items = c.items; peak = c.peak; held = c.he
 
 -- a place without what was counted
 pub record LoopState : Type 0 where
-  pub levels : List Level
+  pub open_groups : List OpenGroup
   pub pending : Option ℕ
   pub left : List Tok
   pub out : Flat
 
 abbrev pub state_with : LoopState → Tallies → TalliedState
 state_with s c =
-    record { levels = s.levels; pending = s.pending; left = s.left; flat = with_tallies s.out c }
+    record {
+      open_groups = s.open_groups;
+      pending = s.pending;
+      left = s.left;
+      flat = with_tallies s.out c;
+    }
 
--- what is counted after a turn to the levels s, with n items
-abbrev pub risen : ℕ → List Level → Tallies → Tallies
+-- what is counted after a turn to the open groups s, with n items
+abbrev pub risen : ℕ → List OpenGroup → Tallies → Tallies
 risen n s c = record { items = n; peak = max c.peak (length s); held = max c.held (heads_in s) }
 
--- as many levels more as there are more `(` than `)`
+-- as many open groups more as there are more `(` than `)`
 abbrev pub Balanced : ℕ → List Tok → ℕ → List Tok → Type 0
 Balanced k ts l us = l + closes ts + opens us ≡ k + opens ts + closes us
 
--- As much is left to do as before, with at most one item more; some token was taken, and the levels
--- follow the parentheses.
+-- As much is left to do as before, with at most one item more; some token was taken, and the open
+-- groups follow the parentheses.
 pub record Turn (s t : LoopState) : Type 0 where
   pub same : (c : Tallies) → (n : ℕ) × (n ≤ suc c.items)
-      × Same (state_with s c) (state_with t (risen n t.levels c))
+      × Same (state_with s c) (state_with t (risen n t.open_groups c))
   pub shorter : length t.left < length s.left
-  pub level : Balanced (length s.levels) s.left (length t.levels) t.left
+  pub balanced : Balanced (length s.open_groups) s.left (length t.open_groups) t.left
 
 -- it finishes in no way
 abbrev pub Stuck : LoopState → Type 0

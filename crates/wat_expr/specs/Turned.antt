@@ -7,7 +7,12 @@ use Rattle.wat_expr.specs.Progress.{LoopState}
 
 -- in front of the tokens
 abbrev pub stand : Reader → List Tok → LoopState
-stand r ts = record { levels = r.levels; pending = r.pending; left = ts; out = flat r.out }
+stand r ts = record {
+  open_groups = r.open_groups;
+  pending = r.pending;
+  left = ts;
+  out = flat r.out;
+}
 
 -- the byte that a hint's string is, 0 or 1
 abbrev pub IsHintByte : Option ℕ → List ℕ → Type 0

@@ -2,13 +2,13 @@
 
 ghost use Rattle.std.specs.Prelude.{◌≡◌, [], ◌∷◌, ◌++◌, List, Option, map, None, true};
 ghost use Rattle.std.specs.Prelude.{IfOk, IfErr, MatchResult};
-ghost use Rattle.wat_expr.specs.Expression.{Expr, seen_hint, seen_expression, bare_expression};
+ghost use Rattle.wat_expr.specs.Expression.{Expr, hint_view, expression_view, bare_expression};
 ghost use Rattle.wat_expr.specs.Expression.{value_of, SpansAre, kept_spans, and_span};
 ghost use Rattle.wat_expr.specs.Flat.{span_count, flat, no_output, one_more, push};
 ghost use Rattle.wat_expr.specs.Items.{Items, lists, mark};
 ghost use Rattle.wat_expr.specs.Listed.{IsListed};
 ghost use Rattle.wat_expr.specs.ExpressionProduction.{expression};
-ghost use Rattle.wat_instr.specs.Instruction.{seen_instruction, end_instr};
+ghost use Rattle.wat_instr.specs.Instruction.{instruction_view, end_instr};
 ghost use Rattle.wat_tokens.specs.Cost.{turns_too};
 ghost use Rattle.wat_tokens.specs.Parses.{Accepts};
 ghost use Rattle.wat_tokens.specs.Reads.{ReadsAt};
@@ -19,7 +19,7 @@ ghost use Rattle.wat_tokens.specs.Views.{owning};
 use crate::reader::Reader;
 use std::alloc::Global;
 use wat_instr::{Instruction, LabelOp};
-use wat_tokens::hand::put;
+use wat_tokens::ownership::push_into;
 use wat_tokens::{Error, Fault, Parse, Parser, Result, Span};
 
 /// A hint whether a branch is likely to be taken (Branch Hinting, Custom Annotation
@@ -35,7 +35,7 @@ pub struct BranchHint {
 /// Instructions as one flat list (WebAssembly Core Specification, Text Format, Instructions,
 /// "Expressions").
 ///
-/// Folded instructions stand behind their operands, and a block that was written as a group is
+/// Folded instructions are behind their operands, and a block that was written as a group is
 /// followed by `end` (Text Format, "Folded Instructions").
 #[derive(Debug, Drop)]
 pub struct Expression<'a> {
@@ -51,8 +51,8 @@ pub struct Expression<'a> {
 /// Puts a hint behind the others, where there is one; `index` is that of its instruction. Memory
 /// refuses it.
 fn add_hint(hints: &mut Vec<BranchHint>, hint: Option<u32>, index: usize) -> Result<()>
-    ensures { MatchResult result (λ _. map seen_hint hints.new.items
-        ≡ map seen_hint hints.old.items ++ mark hint index) (λ e. e.fault ≡ Fault.Memory) }
+    ensures { MatchResult result (λ _. map hint_view hints.new.items
+        ≡ map hint_view hints.old.items ++ mark hint index) (λ e. e.fault ≡ Fault.Memory) }
 {
     match hint {
         Some(value) => {
@@ -102,7 +102,7 @@ impl<'a> Expression<'a> {
         ensures memory { IfErr result (λ e. e.fault ≡ Fault.Memory) }
     {
         let mut instrs = Vec::new(alloc);
-        put(&mut instrs, instr)?;
+        push_into(&mut instrs, instr)?;
         Ok(Expression {
             instrs,
             branch_hints: Vec::new(alloc),
@@ -123,7 +123,7 @@ impl<'a> Expression<'a> {
         ensures memory { IfErr result (λ e. e.fault ≡ Fault.Memory) }
     {
         add_span(&mut self.instr_spans, span)?;
-        match put(&mut self.instrs, instr) {
+        match push_into(&mut self.instrs, instr) {
             Ok(()) => Ok(()),
             Err(error) => {
                 drop_span(&mut self.instr_spans);
@@ -143,7 +143,7 @@ impl<'a> Expression<'a> {
         }
     }
 
-    /// Puts an instruction behind the others, with the hint that stands directly before its item.
+    /// Puts an instruction behind the others, with the hint that is directly before its item.
     /// Memory refuses it.
     pub(crate) fn push(
         &mut self,
@@ -151,11 +151,11 @@ impl<'a> Expression<'a> {
         instr: Instruction<'a>,
         span: Span,
     ) -> Result<()>
-        ensures { MatchResult result (λ _. flat self.new ≡ push hint (seen_instruction instr.entry)
+        ensures { MatchResult result (λ _. flat self.new ≡ push hint (instruction_view instr.entry)
             (flat self.old)) (λ e. e.fault ≡ Fault.Memory) }
     {
         let index = self.instrs.len();
-        put(&mut self.instrs, instr)?;
+        push_into(&mut self.instrs, instr)?;
         add_hint(&mut self.branch_hints, hint, index)?;
         add_span(&mut self.instr_spans, span)?;
         Ok(())
@@ -187,23 +187,23 @@ impl<'a> Expression<'a> {
 /// Unexpected. An instruction behind a hint that is neither `br_if` nor `if` is refused with
 /// HintTarget, at its word; a fault in its operand comes before that.
 impl<'a> Parse<'a> for Expression<'a> {
-    ghost Seen = { Expr };
+    ghost View = { Expr };
 
-    ghost view = { owning seen_expression bare_expression };
+    ghost view = { owning expression_view bare_expression };
 
     ghost cost = { turns_too };
 
     ghost grammar = { expression };
 
     fn parse(parser: &mut Parser<'a>) -> Result<Self>
-        ensures reads { ReadsAt turns_too (owning seen_expression bare_expression) expression result
+        ensures reads { ReadsAt turns_too (owning expression_view bare_expression) expression result
             parser.old parser.new }
         // The tokens that were taken list items, and these are their unfolding, their hints and
         // their counts.
         ensures listed { IfOk result (λ e. IsListed parser.old parser.new e) }
         // Where tokens in front list items, to the end, these are answered, unless memory ran out.
         ensures only { (xs : Items) (r : List Tok) → lists xs parser.old.left r → ends r ≡ true
-            → Accepts (owning seen_expression bare_expression) result (value_of xs) parser.new.left
+            → Accepts (owning expression_view bare_expression) result (value_of xs) parser.new.left
             r }
         ensures spans { IfOk result (λ e. SpansAre parser.old.tracks e) }
     {
@@ -211,8 +211,8 @@ impl<'a> Parse<'a> for Expression<'a> {
         'turns: while !reader.is_done(parser) {
             parser.tick();
             reader.turn(parser)?;
-            parser.note_height(reader.levels.height());
-            parser.note_held(reader.levels.held());
+            parser.note_height(reader.open_groups.height());
+            parser.note_held(reader.open_groups.held());
         }
         match reader.pending {
             Some(_) => Err(Error::at(Fault::HintPlace, parser.cur_span())),

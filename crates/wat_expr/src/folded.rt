@@ -1,7 +1,7 @@
 //! Folded instructions of any kind, as element segments and inline tables have them.
 
 ghost use Rattle.std.specs.Prelude.{◌≡◌, List, IfOk};
-ghost use Rattle.wat_expr.specs.Expression.{Expr, seen_expression, bare_expression, SpansAre};
+ghost use Rattle.wat_expr.specs.Expression.{Expr, expression_view, bare_expression, SpansAre};
 ghost use Rattle.wat_expr.specs.Flat.{flat};
 ghost use Rattle.wat_expr.specs.Folded.{Groups, folded_value, is_folded};
 ghost use Rattle.wat_expr.specs.FoldedProduction.{folded_instruction};
@@ -9,27 +9,27 @@ ghost use Rattle.wat_expr.specs.GroupTurn.{GroupTurn, group_state};
 ghost use Rattle.wat_expr.specs.Listed.{IsFolded};
 ghost use Rattle.wat_instr.specs.Instruction.{Instr};
 ghost use Rattle.wat_tokens.specs.Cost.{turns_too};
-ghost use Rattle.wat_tokens.specs.Counts.{Counted, Kept};
+ghost use Rattle.wat_tokens.specs.Counts.{Counted, SameSettings};
 ghost use Rattle.wat_tokens.specs.Parses.{Gives, Accepts};
 ghost use Rattle.wat_tokens.specs.Steady.{Steady};
 ghost use Rattle.wat_tokens.specs.Token.{Tok};
 ghost use Rattle.wat_tokens.specs.Views.{owning};
 
 use crate::expression::Expression;
-use crate::level::{Head, Level, Levels};
+use crate::open_groups::{HeldInstruction, OpenGroup, OpenGroups};
 use crate::take::{take_close, take_instr, take_open};
-use wat_tokens::hand::let_go;
+use wat_tokens::ownership::discard;
 use wat_tokens::{Parse, Parser, Result};
 
 /// One turn: a group opens, or the innermost one closes and its instruction is put behind the
 /// others.
 fn turn<'a>(
-    levels: &mut Levels<'a>,
+    open_groups: &mut OpenGroups<'a>,
     out: &mut Expression<'a>,
     parser: &mut Parser<'a>,
 ) -> Result<()>
-    ensures turned { GroupTurn result (group_state levels.old parser.old.left (flat out.old))
-        (group_state levels.new parser.new.left (flat out.new)) }
+    ensures turned { GroupTurn result (group_state open_groups.old parser.old.left (flat out.old))
+        (group_state open_groups.new parser.new.left (flat out.new)) }
     ensures steady { Steady parser.old parser.new }
 {
     if take_open(parser) {
@@ -38,7 +38,7 @@ fn turn<'a>(
             Ok(instr) => instr,
             Err(refused) => return Err(refused),
         };
-        return levels.push(Level::Folded(Head {
+        return open_groups.push(OpenGroup::Folded(HeldInstruction {
             instr,
             span,
             hint: None,
@@ -47,10 +47,10 @@ fn turn<'a>(
     if !take_close(parser) {
         return Err(parser.unexpected());
     }
-    match levels.pop() {
-        Some(Level::Folded(head)) => out.push(None, head.instr, head.span),
+    match open_groups.pop() {
+        Some(OpenGroup::Folded(head)) => out.push(None, head.instr, head.span),
         other => {
-            let_go(other);
+            discard(other);
             Err(parser.unexpected())
         }
     }
@@ -61,41 +61,41 @@ impl<'a> Expression<'a> {
     /// (WebAssembly Core Specification, Text Format, "Folded Instructions", as the elements of a
     /// segment are abbreviated).
     ///
-    /// Each instruction stands behind those of its group; a block gets no `end`, and there are no
-    /// hints. Where anything but a `(` or a `)` stands between, it is refused with Unexpected at
-    /// it; where an instruction's word is needed, with Operator.
+    /// Each instruction is behind those of its group; a block gets no `end`, and there are no
+    /// hints. Where anything but a `(` or a `)` is between, it is refused with Unexpected at it;
+    /// where an instruction's word is needed, with Operator.
     pub fn parse_folded_instruction(parser: &mut Parser<'a>) -> Result<Expression<'a>>
         // What tokens in front spell is answered, and leaves what is behind them; memory alone may
         // refuse it.
-        ensures exact { Gives (owning seen_expression bare_expression) result
+        ensures exact { Gives (owning expression_view bare_expression) result
             (folded_instruction.reads parser.old.left) parser.new.left }
         // Where tokens in front list one group, it is the answer, unless memory ran out.
         ensures only { (i : Instr) (gs : Groups) (r : List Tok) → is_folded i gs parser.old.left r
-            → Accepts (owning seen_expression bare_expression) result (folded_value i gs)
+            → Accepts (owning expression_view bare_expression) result (folded_value i gs)
             parser.new.left r }
         // What was read is one group, and these are its counts.
         ensures listed { IfOk result (λ e. IsFolded parser.old parser.new e) }
         ensures spans { IfOk result (λ e. SpansAre parser.old.tracks e) }
         ensures counts { Counted result parser.old parser.new }
-        ensures names { Kept parser.old parser.new }
+        ensures settings { SameSettings parser.old parser.new }
     {
-        let mut levels = Levels::new(parser.alloc());
+        let mut open_groups = OpenGroups::new(parser.alloc());
         let mut out = Expression::empty(parser.alloc(), parser.tracks());
         parser.open()?;
         let span = parser.cur_span();
         let instr = take_instr(parser)?;
-        levels.push(Level::Folded(Head {
+        open_groups.push(OpenGroup::Folded(HeldInstruction {
             instr,
             span,
             hint: None,
         }))?;
-        parser.note_height(levels.height());
-        parser.note_held(levels.held());
-        'groups: while !levels.is_empty() {
+        parser.note_height(open_groups.height());
+        parser.note_held(open_groups.held());
+        'groups: while !open_groups.is_empty() {
             parser.tick();
-            turn(&mut levels, &mut out, parser)?;
-            parser.note_height(levels.height());
-            parser.note_held(levels.held());
+            turn(&mut open_groups, &mut out, parser)?;
+            parser.note_height(open_groups.height());
+            parser.note_held(open_groups.held());
         }
         Ok(out)
     }
@@ -107,9 +107,9 @@ impl<'a> Expression<'a> {
 pub struct FoldedInstruction<'a>(pub Expression<'a>);
 
 impl<'a> Parse<'a> for FoldedInstruction<'a> {
-    ghost Seen = { Expr };
+    ghost View = { Expr };
 
-    ghost view = { owning (λ folded. seen_expression folded.0) bare_expression };
+    ghost view = { owning (λ folded. expression_view folded.0) bare_expression };
 
     ghost cost = { turns_too };
 

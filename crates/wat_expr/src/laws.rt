@@ -20,19 +20,19 @@ use wat_instr::laws::stands_before_what_may_follow;
 
 /// An expression has one reading, as items and as what these unfold to.
 pub fn one_reading()
-    // No two fronts of one token list list items, each up to the end or a `)`, unless they are one
-    // front and the same items.
+    // No two prefixes of one token list list items, each up to the end or a `)`, unless they are
+    // one prefix and the same items.
     ensures written { (xs ys : Items) (c d r s : List Tok) → c ++ r ≡ d ++ s → ends r ≡ true
         → ends s ≡ true → lists xs (c ++ r) r → lists ys (d ++ s) s → (xs ≡ ys) × (r ≡ s)
         × (c ≡ d) }
-    // No two of them are a folded instruction, unless they are one front, with the same instruction
-    // and groups.
+    // No two of them are a folded instruction, unless they are one prefix, with the same
+    // instruction and groups.
     ensures folded { (i j : Instr) (gs hs : Groups) (c d r s : List Tok) → c ++ r ≡ d ++ s
         → is_folded i gs (c ++ r) r → is_folded j hs (d ++ s) s → ((i ≡ j) × (gs ≡ hs))
         × (r ≡ s) × (c ≡ d) }
 {}
 
-/// The hints of an expression stand in the order of its instructions, and none is lost.
+/// The hints of an expression are in the order of its instructions, and none is lost.
 pub fn hints_in_order()
     // Their indices rise strictly, each below the number of instructions.
     ensures rising { (v : Expr) (c r : List Tok) → expression.spells v c r
@@ -69,7 +69,7 @@ pub fn flat_again()
     // A folded instruction is listed again in front of nothing.
     ensures folded { (i : Instr) (gs : Groups) (ts r : List Tok) (l : is_folded i gs ts r)
         → lists (one_by_one (unfolded_groups gs ++ i ∷ [])) (flat_folded i gs ts r l) [] }
-    // So is an instruction of any kind that stands in front of items in parentheses: behind them,
+    // So is an instruction of any kind that is in front of items in parentheses: behind them,
     // without an `end`.
     ensures headed { (i : Instr) (xs : Items) (a b r : List Tok) → reads i a b
         → (l : lists xs b (RParen ∷ r)) → lists (one_by_one (unfolded xs ++ i ∷ []))
@@ -83,7 +83,7 @@ pub fn flat_form()
     // There is one, however the items are listed of the same tokens.
     ensures one { (xs : Items) (ts r : List Tok) (l k : lists xs ts r) → ends r ≡ true
         → flat_tokens xs ts r l ≡ flat_tokens xs ts r k }
-    // An instruction's own tokens spell it, and what is left stands behind them.
+    // An instruction's own tokens spell it, and what is left is behind them.
     ensures own { (i : Instr) (ts m : List Tok) → reads i ts m → (ts ≡ own ts m ++ m)
         × instruction.spells i (own ts m) m }
     // The flat form has as many of each token as what it is made from, but for the tokens of groups

@@ -5,7 +5,7 @@
 pub mod expression;
 mod folded;
 pub mod laws;
-mod level;
+mod open_groups;
 mod reader;
 mod take;
 

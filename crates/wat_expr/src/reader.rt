@@ -3,27 +3,27 @@
 ghost use Rattle.std.specs.Prelude.{◌≡◌, ◌∷◌, [], List, ℕ, Option, None, true, codes, MatchBool};
 ghost use Rattle.wat_expr.specs.Flat.{flat, no_output};
 ghost use Rattle.wat_expr.specs.Items.{keyword, hint_name};
-ghost use Rattle.wat_expr.specs.Levels.{Level as Open, InIf, AfterThen};
+ghost use Rattle.wat_expr.specs.OpenGroups.{OpenGroup as Open, InIf, AfterThen};
 ghost use Rattle.wat_expr.specs.Progress.{IsOpen, TurnAnswers, suits};
 ghost use Rattle.wat_expr.specs.Taken.{ReadsSuited};
 ghost use Rattle.wat_expr.specs.Turned.{stand, IsHintByte};
-ghost use Rattle.wat_instr.specs.Instruction.{Instr, seen_instruction};
+ghost use Rattle.wat_instr.specs.Instruction.{Instr, instruction_view};
 ghost use Rattle.wat_tokens.specs.Steady.{Steady};
 ghost use Rattle.wat_tokens.specs.Tests.{ends};
 ghost use Rattle.wat_tokens.specs.Token.{Tok, LParen, RParen};
 
 use crate::expression::Expression;
-use crate::level::{Head, Kind, Level, Levels};
+use crate::open_groups::{HeldInstruction, Kind, OpenGroup, OpenGroups};
 use crate::take::{take_close, take_hint_name, take_instr, take_open, take_string, take_word};
 use std::alloc::Global;
 use wat_instr::{Instruction, LabelOp};
-use wat_tokens::hand::let_go;
+use wat_tokens::ownership::discard;
 use wat_tokens::{Error, Fault, Parser, Result, Span};
 
 /// What the loop keeps from turn to turn.
 #[derive(Drop)]
 pub struct Reader<'a> {
-    pub levels: Levels<'a>,
+    pub open_groups: OpenGroups<'a>,
     pub out: Expression<'a>,
     /// The hint that waits for the item behind it.
     pub pending: Option<u32>,
@@ -41,7 +41,7 @@ fn hint_byte(bytes: &[u8]) -> Option<u32>
 
 /// Whether the hint, where one waits, can stand before the instruction.
 fn suits(hint: Option<u32>, instr: &Instruction<'_>) -> bool
-    ensures { result ≡ suits hint (seen_instruction instr.now) }
+    ensures { result ≡ suits hint (instruction_view instr.now) }
 {
     match hint {
         Some(_) => instr.is_br_if() || instr.is_if(),
@@ -49,8 +49,8 @@ fn suits(hint: Option<u32>, instr: &Instruction<'_>) -> bool
     }
 }
 
-/// Takes the instruction that stands in front, with its operand; `span` is where its word begins.
-/// One that the waiting hint can't stand before is refused with HintTarget, there.
+/// Takes the instruction that is in front, with its operand; `span` is where its word begins. One
+/// that the waiting hint can't stand before is refused with HintTarget, there.
 fn take_suited<'a>(
     parser: &mut Parser<'a>,
     hint: Option<u32>,
@@ -66,7 +66,7 @@ fn take_suited<'a>(
     if suits(hint, &instr) {
         return Ok(instr);
     }
-    let_go(instr);
+    discard(instr);
     Err(Error::at(Fault::HintTarget, span))
 }
 
@@ -82,12 +82,12 @@ fn misplaced(parser: &Parser<'_>) -> Error {
 impl<'a> Reader<'a> {
     /// In front of the first token; spans are kept where `tracks` says so.
     pub fn new(alloc: Global, tracks: bool) -> Reader<'a>
-        ensures levels { result.levels ≡ [] }
+        ensures open_groups { result.open_groups ≡ [] }
         ensures out { flat result.out ≡ no_output tracks }
         ensures pending { result.pending ≡ None }
     {
         Reader {
-            levels: Levels::new(alloc),
+            open_groups: OpenGroups::new(alloc),
             out: Expression::empty(alloc, tracks),
             pending: None,
         }
@@ -95,16 +95,16 @@ impl<'a> Reader<'a> {
 
     /// Whether no group is open and nothing follows, or what closes a group does.
     pub fn is_done(&self, parser: &Parser<'a>) -> bool
-        ensures { MatchBool result ((self.now.levels ≡ [])
-            × (ends parser.now.left ≡ true)) (self.now.levels ≡ [] → ends parser.now.left ≡ true
-            → ⊥) }
+        ensures { MatchBool result ((self.now.open_groups ≡ [])
+            × (ends parser.now.left ≡ true))
+            (self.now.open_groups ≡ [] → ends parser.now.left ≡ true → ⊥) }
     {
-        parser.is_empty() && self.levels.is_empty()
+        parser.is_empty() && self.open_groups.is_empty()
     }
 
     /// One turn: it decides by the token in front.
     pub fn turn(&mut self, parser: &mut Parser<'a>) -> Result<()>
-        requires { self.old.levels ≡ [] → ends parser.old.left ≡ true → ⊥ }
+        requires { self.old.open_groups ≡ [] → ends parser.old.left ≡ true → ⊥ }
         ensures turned { TurnAnswers result (stand self.old parser.old.left)
             (stand self.new parser.new.left) }
         ensures steady { Steady parser.old parser.new }
@@ -112,7 +112,7 @@ impl<'a> Reader<'a> {
         if take_open(parser) {
             return self.open(parser);
         }
-        if !self.levels.is_empty() && take_close(parser) {
+        if !self.open_groups.is_empty() && take_close(parser) {
             return self.close(parser.prev_span());
         }
         self.plain(parser)
@@ -121,14 +121,14 @@ impl<'a> Reader<'a> {
     /// A turn at an instruction alone.
     fn plain(&mut self, parser: &mut Parser<'a>) -> Result<()>
         requires no_group { (ts : List Tok) → parser.old.left ≡ LParen ∷ ts → ⊥ }
-        requires no_close { (self.old.levels ≡ [] → ⊥) → (ts : List Tok)
+        requires no_close { (self.old.open_groups ≡ [] → ⊥) → (ts : List Tok)
             → parser.old.left ≡ RParen ∷ ts → ⊥ }
-        requires no_end { self.old.levels ≡ [] → ends parser.old.left ≡ true → ⊥ }
+        requires no_end { self.old.open_groups ≡ [] → ends parser.old.left ≡ true → ⊥ }
         ensures turned { TurnAnswers result (stand self.old parser.old.left)
             (stand self.new parser.new.left) }
         ensures steady { Steady parser.old parser.new }
     {
-        if !self.levels.takes_plain() {
+        if !self.open_groups.takes_plain() {
             return Err(misplaced(parser));
         }
         let span = parser.cur_span();
@@ -142,21 +142,21 @@ impl<'a> Reader<'a> {
 
     /// A turn at a closing parenthesis, which was taken; `span` is where it stands.
     fn close(&mut self, span: Span) -> Result<()>
-        requires { self.old.levels ≡ [] → ⊥ }
+        requires { self.old.open_groups ≡ [] → ⊥ }
         ensures { (m : List Tok) → TurnAnswers result
             (stand self.old (RParen ∷ m)) (stand self.new m) }
     {
         if let Some(_) = self.pending {
             return Err(Error::at(Fault::HintPlace, span));
         }
-        match self.levels.pop() {
-            Some(Level::Folded(head)) => self.out.push(head.hint, head.instr, head.span),
-            Some(Level::Block) => self.out.push_end(span),
-            Some(Level::AfterThen) => self.out.push_end(span),
-            Some(Level::AfterElse) => self.out.push_end(span),
-            Some(Level::Arm) => Ok(()),
-            Some(Level::If(head)) => {
-                let_go(head);
+        match self.open_groups.pop() {
+            Some(OpenGroup::Folded(head)) => self.out.push(head.hint, head.instr, head.span),
+            Some(OpenGroup::Block) => self.out.push_end(span),
+            Some(OpenGroup::AfterThen) => self.out.push_end(span),
+            Some(OpenGroup::AfterElse) => self.out.push_end(span),
+            Some(OpenGroup::Arm) => Ok(()),
+            Some(OpenGroup::If(head)) => {
+                discard(head);
                 Err(Error::at(Fault::IfWithoutThen, span))
             }
             None => Err(Error::at(Fault::Unexpected, span)),
@@ -169,7 +169,7 @@ impl<'a> Reader<'a> {
             (stand self.new parser.new.left) }
         ensures steady { Steady parser.old parser.new }
     {
-        match self.levels.top() {
+        match self.open_groups.top() {
             Some(Kind::If) => {
                 if take_word(parser, "then") {
                     return self.open_then(parser.prev_span());
@@ -185,21 +185,21 @@ impl<'a> Reader<'a> {
     /// A turn at `( then`, which was taken; `span` is where the word stands.
     fn open_then(&mut self, span: Span) -> Result<()>
         requires { (i : Instr) × (h : Option ℕ) × (s : List Open)
-            × (self.old.levels ≡ InIf i h ∷ s) }
+            × (self.old.open_groups ≡ InIf i h ∷ s) }
         ensures { (m : List Tok) → TurnAnswers result
             (stand self.old (LParen ∷ keyword (codes "then") ∷ m)) (stand self.new m) }
     {
         if let Some(_) = self.pending {
             return Err(Error::at(Fault::HintPlace, span));
         }
-        match self.levels.pop() {
-            Some(Level::If(head)) => {
+        match self.open_groups.pop() {
+            Some(OpenGroup::If(head)) => {
                 self.out.push(head.hint, head.instr, head.span)?;
-                self.levels.push(Level::AfterThen)?;
-                self.levels.push(Level::Arm)
+                self.open_groups.push(OpenGroup::AfterThen)?;
+                self.open_groups.push(OpenGroup::Arm)
             }
             other => {
-                let_go(other);
+                discard(other);
                 Err(Error::at(Fault::Unexpected, span))
             }
         }
@@ -207,7 +207,7 @@ impl<'a> Reader<'a> {
 
     /// A turn at `(` behind `( then .. )`.
     fn open_else(&mut self, parser: &mut Parser<'a>) -> Result<()>
-        requires { (s : List Open) × (self.old.levels ≡ AfterThen ∷ s) }
+        requires { (s : List Open) × (self.old.open_groups ≡ AfterThen ∷ s) }
         ensures turned { TurnAnswers result (stand self.old (LParen ∷ parser.old.left))
             (stand self.new parser.new.left) }
         ensures steady { Steady parser.old parser.new }
@@ -221,18 +221,18 @@ impl<'a> Reader<'a> {
         if let Some(_) = self.pending {
             return Err(Error::at(Fault::HintPlace, span));
         }
-        let_go(self.levels.pop());
-        self.levels.push(Level::AfterElse)?;
-        self.levels.push(Level::Arm)?;
+        discard(self.open_groups.pop());
+        self.open_groups.push(OpenGroup::AfterElse)?;
+        self.open_groups.push(OpenGroup::Arm)?;
         self.out
             .push(None, Instruction::Label(LabelOp::else_, None), span)
     }
 
     /// A turn at a group or a hint.
     fn open_item(&mut self, parser: &mut Parser<'a>) -> Result<()>
-        requires place { IsOpen self.old.levels }
+        requires place { IsOpen self.old.open_groups }
         requires no_then { (ts : List Tok) → parser.old.left ≡ keyword (codes "then") ∷ ts
-            → (i : Instr) (h : Option ℕ) (s : List Open) → self.old.levels ≡ InIf i h ∷ s → ⊥ }
+            → (i : Instr) (h : Option ℕ) (s : List Open) → self.old.open_groups ≡ InIf i h ∷ s → ⊥ }
         ensures turned { TurnAnswers result (stand self.old (LParen ∷ parser.old.left))
             (stand self.new parser.new.left) }
         ensures steady { Steady parser.old parser.new }
@@ -248,20 +248,20 @@ impl<'a> Reader<'a> {
         let hint = self.pending.take();
         if instr.is_block() {
             self.out.push(hint, instr, span)?;
-            return self.levels.push(Level::Block);
+            return self.open_groups.push(OpenGroup::Block);
         }
         let is_if = instr.is_if();
-        let head = Head { instr, span, hint };
+        let head = HeldInstruction { instr, span, hint };
         if is_if {
-            self.levels.push(Level::If(head))
+            self.open_groups.push(OpenGroup::If(head))
         } else {
-            self.levels.push(Level::Folded(head))
+            self.open_groups.push(OpenGroup::Folded(head))
         }
     }
 
     /// A turn at a hint, whose `(` and annotation were taken.
     fn hint(&mut self, parser: &mut Parser<'a>) -> Result<()>
-        requires { IsOpen self.old.levels }
+        requires { IsOpen self.old.open_groups }
         ensures turned { TurnAnswers result (stand self.old (LParen ∷ hint_name ∷ parser.old.left))
             (stand self.new parser.new.left) }
         ensures steady { Steady parser.old parser.new }

@@ -13,10 +13,10 @@ use Rattle.wat_types.specs.Heap.{abstract_heap_type, heap_type}
 use Rattle.wat_types.specs.Limits.{is_64, limits_type, table_type}
 use Rattle.wat_types.specs.Reference.{shorthand, begins_shorthand, ref_type}
 use Rattle.wat_links.specs.Export.{inline_export}
-use Rattle.wat_links.specs.Head.{head}
-use Rattle.wat_mnemonics.specs.Word.{head_of}
-use Rattle.wat_mnemonics.specs.Laws.Word.{head_of_word}
-use Rattle.wat_mnemonics.specs.declared.head.Head.TheVariants as word
+use Rattle.wat_links.specs.FieldHead.{head}
+use Rattle.wat_mnemonics.specs.Word.{mnemonic_of}
+use Rattle.wat_mnemonics.specs.Laws.Word.{mnemonic_of_word}
+use Rattle.wat_mnemonics.specs.declared.mnemonic.Mnemonic.TheVariants as word
 use Rattle.wat_mnemonics.specs.declared.indexed.IndexedOp.TheVariants as op
 use Rattle.wat_instr.specs.Instruction.{instr_of, instruction}
 use Rattle.wat_instr.specs.Operand as operands
@@ -39,8 +39,8 @@ pub of_externref : OfExternref
 unfolding table table_kind inline_table listed index_list head inline_export label name_annotation is_64 ref_type shorthand begins_shorthand many_at many_reads read
 of_externref = spelled_whole table _ _ refl
 
-const_word : head_of (codes "i32.const") ≡ Some word.i32_const
-const_word = head_of_word word.i32_const (codes "i32.const") refl
+const_word : mnemonic_of (codes "i32.const") ≡ Some word.i32_const
+const_word = mnemonic_of_word word.i32_const (codes "i32.const") refl
 
 abbrev const_text : List Tok
 const_text = Keyword (codes "i32.const") ∷ Integer (codes "0") ∷ []
@@ -56,8 +56,8 @@ pub active_functions : Active
 unfolding elem segment active_segment in_some_table table_number elem_offset written_or_folded payload_or_indices begins_shorthand index_list label name_annotation many_at many_reads read
 active_functions = spelled_whole elem active_text active_elem (rw const_folded refl)
 
-null_word : head_of (codes "ref.null") ≡ Some word.ref_null
-null_word = head_of_word word.ref_null (codes "ref.null") refl
+null_word : mnemonic_of (codes "ref.null") ≡ Some word.ref_null
+null_word = mnemonic_of_word word.ref_null (codes "ref.null") refl
 
 null_front : instruction.reads (null_text ++ RParen ∷ []) ≡ Some (null_func, RParen ∷ [])
 unfolding instruction operand heap_type abstract_heap_type
@@ -73,8 +73,8 @@ pub table_of_nulls : OfNulls
 unfolding table table_kind normal_table table_type limits_type is_64 ref_type shorthand begins_shorthand head inline_export label name_annotation many_at many_reads read
 table_of_nulls = spelled_whole table nulls_text nulls (rw null_read refl)
 
-func_word : head_of (codes "ref.func") ≡ Some (word.Indexed op.ref_func)
-func_word = head_of_word (word.Indexed op.ref_func) (codes "ref.func") refl
+func_word : mnemonic_of (codes "ref.func") ≡ Some (word.Indexed op.ref_func)
+func_word = mnemonic_of_word (word.Indexed op.ref_func) (codes "ref.func") refl
 
 abbrev func_text : List Tok
 func_text = Keyword (codes "ref.func") ∷ Integer (codes "0") ∷ []

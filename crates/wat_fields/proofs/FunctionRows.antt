@@ -15,7 +15,7 @@ use Rattle.wat_types.specs.Storage.{global_type}
 use Rattle.wat_types.specs.Use.{type_use, use_of}
 use Rattle.wat_types.specs.Value.{i32, i64, f32, val_type}
 use Rattle.wat_links.specs.Export.{inline_export}
-use Rattle.wat_links.specs.Head.{no_head, head}
+use Rattle.wat_links.specs.FieldHead.{no_head, head}
 use Rattle.wat_links.specs.Import.{inline_import}
 use Rattle.wat_expr.specs.Alone.{alone, nop}
 use Rattle.wat_expr.specs.Laws.Alone.{nop_read}

@@ -1,4 +1,4 @@
--- A head that stands behind what follows it.
+-- A head that is behind what follows it.
 use Rattle.std.proofs.Common.{List, [], ◌∷◌, refl}
 use Rattle.wat_tokens.specs.Laws.Filled.{filled_behind}
 use Rattle.wat_tokens.specs.Parses.{NotBare}

@@ -14,7 +14,7 @@ use Rattle.wat_tokens.specs.Token.{Tok}
 use Rattle.wat_types.specs.Label.{label}
 use Rattle.wat_types.specs.Limits.{is_64}
 use Rattle.wat_types.specs.Reference.{RefTy, ref_type}
-use Rattle.wat_links.specs.Head.{HeadTy, head}
+use Rattle.wat_links.specs.FieldHead.{FieldHeadTy, head}
 use Rattle.wat_expr.specs.Expression.{SpansAre, kept_spans, and_span}
 use Rattle.wat_expr.specs.declared.expression.Expression.{Expression}
 use Rattle.wat_fields.specs.Data.{data_memory}
@@ -84,7 +84,7 @@ module _ {A S : Type 0} where
   put_alone tracks is_empty n i (x ∷ xs) ys p l b f e k =
       absurd (let t : n ≡ 0 = eqb-true n 0 (sym b ∙ f) in omega (arith, l, t))
 
--- ---- what stands behind one token
+-- ---- what is behind one token
 
 pub second_behind : {A : Type 0} (f : Tok → Option A) (test : List Tok → Bool) (t r : List Tok) (v : A) → one_reads f t ≡ Some (v, r) → second test t ≡ test r
 second_behind {A = A} f test [] r v e = none_is_not {A = A} (v, r) e
@@ -116,6 +116,6 @@ items_behind_type t a b r o w shared is64 ty u v e f g h k =
     rw (e, f, g) (sym (second_behind as_lparen (second begins_lparen) r o u h ∙ second_behind (word_only (codes "elem")) begins_lparen o w v k))
 
 -- the same behind `table` and a head
-pub items_behind_front : (t a b : List Tok) (h : HeadTy) → one_reads (word_only (codes "table")) t ≡ Some (tt, a) → head.reads a ≡ Some (h, b) → items_behind (inline_front.reads b) ≡ items_behind (table_front.reads t)
+pub items_behind_front : (t a b : List Tok) (h : FieldHeadTy) → one_reads (word_only (codes "table")) t ≡ Some (tt, a) → head.reads a ≡ Some (h, b) → items_behind (inline_front.reads b) ≡ items_behind (table_front.reads t)
 unfolding table_front
 items_behind_front t a b h e f = rw (e, f) (by_read (inline_front.reads b) (λ x k. rw k refl) (λ k. rw k refl))

@@ -5,13 +5,13 @@ use Rattle.wat_tokens.specs.Tests.{begins_word, begins_integer, second}
 use Rattle.wat_tokens.specs.Production.{Production}
 use Rattle.wat_tokens.specs.Parts.{seq, made, where_else, opt, after_word}
 use Rattle.wat_tokens.specs.Groups.{group, paren}
-use Rattle.wat_tokens.specs.Index.{Idx, number, seen_index, index}
+use Rattle.wat_tokens.specs.Index.{Idx, number, index_view, index}
 use Rattle.wat_tokens.specs.Integers.{unsigned}
 use Rattle.wat_tokens.specs.Views.{no_items}
-use Rattle.wat_types.specs.Label.{Label, seen_label, label}
-use Rattle.wat_expr.specs.Expression.{Expr, seen_expression, bare_expression}
+use Rattle.wat_types.specs.Label.{Label, label_view, label}
+use Rattle.wat_expr.specs.Expression.{Expr, expression_view, bare_expression}
 use Rattle.wat_fields.specs.Numbers.{begins_numbers}
-use Rattle.wat_fields.specs.DataVal.{DataValTy, seen_data_vals}
+use Rattle.wat_fields.specs.DataVal.{DataValTy, data_vals_view}
 use Rattle.wat_fields.specs.DataVals.{data_vals}
 use Rattle.wat_fields.specs.Offset.{offset_inside}
 use Rattle.wat_fields.specs.declared.data.Data.{Data}
@@ -33,12 +33,12 @@ pub record DataTy : Type 0 where
 abbrev pub data_of : Label → DataKindTy → List DataValTy → DataTy
 data_of l k v = record { label = l; kind = k; vals = v }
 
-abbrev pub seen_data_kind : DataKind → DataKindTy
-seen_data_kind code.Passive = passive
-seen_data_kind (code.Active i e) = active (seen_index i) (seen_expression e)
+abbrev pub data_kind_view : DataKind → DataKindTy
+data_kind_view code.Passive = passive
+data_kind_view (code.Active i e) = active (index_view i) (expression_view e)
 
-abbrev pub seen_data : Data → DataTy
-seen_data d = data_of (seen_label d.id d.name) (seen_data_kind d.kind) (seen_data_vals d.data.items)
+abbrev pub data_view : Data → DataTy
+data_view d = data_of (label_view d.id d.name) (data_kind_view d.kind) (data_vals_view d.data.items)
 
 -- no instruction
 abbrev pub bare_data_kind : DataKindTy → Bool

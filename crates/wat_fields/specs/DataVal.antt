@@ -22,12 +22,12 @@ abbrev pub bytes_in : DataValTy → List ℕ
 bytes_in (written bs) = bs
 bytes_in (numbers bs) = bs
 
-abbrev pub seen_data_val : DataVal → DataValTy
-seen_data_val (code.String s) = written s.now
-seen_data_val (code.Integral v) = numbers v.items
+abbrev pub data_val_view : DataVal → DataValTy
+data_val_view (code.String s) = written s.now
+data_val_view (code.Integral v) = numbers v.items
 
-abbrev pub seen_data_vals : List DataVal → List DataValTy
-seen_data_vals vs = map seen_data_val vs
+abbrev pub data_vals_view : List DataVal → List DataValTy
+data_vals_view vs = map data_val_view vs
 
 -- no number
 abbrev pub bare_val : DataValTy → Bool

@@ -5,13 +5,13 @@ use Rattle.wat_tokens.specs.Tests.{begins_word, begins_group, begins_integer, be
 use Rattle.wat_tokens.specs.Production.{Production}
 use Rattle.wat_tokens.specs.Parts.{seq, made, where_else, opt, after_word}
 use Rattle.wat_tokens.specs.Groups.{group}
-use Rattle.wat_tokens.specs.Index.{Idx, number, seen_index, index}
+use Rattle.wat_tokens.specs.Index.{Idx, number, index_view, index}
 use Rattle.wat_tokens.specs.Integers.{unsigned}
-use Rattle.wat_tokens.specs.Views.{seen_option}
-use Rattle.wat_types.specs.Label.{Label, seen_label, label}
+use Rattle.wat_tokens.specs.Views.{option_view}
+use Rattle.wat_types.specs.Label.{Label, label_view, label}
 use Rattle.wat_types.specs.Reference.{begins_ref}
-use Rattle.wat_expr.specs.Expression.{Expr, seen_expression, bare_expression}
-use Rattle.wat_fields.specs.Payload.{PayloadTy, seen_payload, bare_payload, payload}
+use Rattle.wat_expr.specs.Expression.{Expr, expression_view, bare_expression}
+use Rattle.wat_fields.specs.Payload.{PayloadTy, payload_view, bare_payload, payload}
 use Rattle.wat_fields.specs.Payload.{payload_or_indices}
 use Rattle.wat_fields.specs.Item.{written_or_folded}
 use Rattle.wat_fields.specs.declared.elem.ElemKind.{ElemKind}
@@ -37,13 +37,13 @@ pub record ElemTy : Type 0 where
 abbrev pub elem_of : Label → Segment → ElemTy
 elem_of l s = record { label = l; segment = s }
 
-abbrev pub seen_elem_kind : ElemKind → ElemKindTy
-seen_elem_kind code.Passive = passive
-seen_elem_kind code.Declared = declared
-seen_elem_kind (code.Active t e) = active (seen_option seen_index t) (seen_expression e)
+abbrev pub elem_kind_view : ElemKind → ElemKindTy
+elem_kind_view code.Passive = passive
+elem_kind_view code.Declared = declared
+elem_kind_view (code.Active t e) = active (option_view index_view t) (expression_view e)
 
-abbrev pub seen_elem : Elem → ElemTy
-seen_elem e = elem_of (seen_label e.id e.name) (seen_elem_kind e.kind, seen_payload e.payload)
+abbrev pub elem_view : Elem → ElemTy
+elem_view e = elem_of (label_view e.id e.name) (elem_kind_view e.kind, payload_view e.payload)
 
 -- no instruction in the offset
 abbrev pub bare_elem_kind : ElemKindTy → Bool

@@ -5,19 +5,19 @@ use Rattle.wat_tokens.specs.Production.{Production}
 use Rattle.wat_tokens.specs.Parts.{seq, made, where_else, after_word}
 use Rattle.wat_tokens.specs.Groups.{group}
 use Rattle.wat_tokens.specs.Views.{no_items}
-use Rattle.wat_types.specs.Label.{seen_label}
-use Rattle.wat_types.specs.Function.{seen_function, bare_function}
+use Rattle.wat_types.specs.Label.{label_view}
+use Rattle.wat_types.specs.Function.{function_view, bare_function}
 use Rattle.wat_types.specs.Group.{FuncTy}
-use Rattle.wat_types.specs.Use.{UseTy, seen_use, bare_use}
+use Rattle.wat_types.specs.Use.{UseTy, use_view, bare_use}
 use Rattle.wat_types.specs.declared.function.FunctionType.{FunctionType}
 use Rattle.wat_types.specs.declared.type_use.TypeUse.{TypeUse}
-use Rattle.wat_links.specs.Export.{seen_inline_export}
-use Rattle.wat_links.specs.Head.{HeadTy, field_head, bare_head, head}
-use Rattle.wat_links.specs.Import.{seen_inline_import, inline_import, begins_inline_import}
+use Rattle.wat_links.specs.Export.{inline_export_view}
+use Rattle.wat_links.specs.FieldHead.{FieldHeadTy, field_head, bare_head, head}
+use Rattle.wat_links.specs.Import.{inline_import_view, inline_import, begins_inline_import}
 use Rattle.wat_links.specs.Item.{func_use}
-use Rattle.wat_expr.specs.Expression.{Expr, seen_expression, bare_expression}
+use Rattle.wat_expr.specs.Expression.{Expr, expression_view, bare_expression}
 use Rattle.wat_expr.specs.ExpressionProduction.{expression}
-use Rattle.wat_fields.specs.Local.{LocalTy, seen_locals}
+use Rattle.wat_fields.specs.Local.{LocalTy, locals_view}
 use Rattle.wat_fields.specs.Locals.{locals}
 use Rattle.wat_fields.specs.declared.func.Func.{Func}
 use Rattle.wat_fields.specs.declared.func.FuncKind.{FuncKind}
@@ -39,27 +39,27 @@ abbrev pub DefinedFunc : Type 0
 DefinedFunc = FuncUse × FuncKindTy
 
 pub record FuncFieldTy : Type 0 where
-  pub head : HeadTy
+  pub head : FieldHeadTy
   pub ty : FuncUse
   pub kind : FuncKindTy
 
-abbrev pub func_of : HeadTy → DefinedFunc → FuncFieldTy
+abbrev pub func_of : FieldHeadTy → DefinedFunc → FuncFieldTy
 func_of h d = record { head = h; ty = d.0; kind = d.1 }
 
-abbrev pub seen_func_use : TypeUse FunctionType → FuncUse
-seen_func_use u = seen_use seen_function u
+abbrev pub func_use_view : TypeUse FunctionType → FuncUse
+func_use_view u = use_view function_view u
 
-abbrev pub seen_func_kind : FuncKind → FuncKindTy
-seen_func_kind (code.Import i b) = imported (seen_inline_import i) b
-seen_func_kind (code.Inline ls e) = inline (seen_locals ls.items) (seen_expression e)
+abbrev pub func_kind_view : FuncKind → FuncKindTy
+func_kind_view (code.Import i b) = imported (inline_import_view i) b
+func_kind_view (code.Inline ls e) = inline (locals_view ls.items) (expression_view e)
 
-abbrev pub seen_defined_func : TypeUse FunctionType × FuncKind → DefinedFunc
-seen_defined_func d = (seen_func_use d.0, seen_func_kind d.1)
+abbrev pub defined_func_view : TypeUse FunctionType × FuncKind → DefinedFunc
+defined_func_view d = (func_use_view d.0, func_kind_view d.1)
 
-abbrev pub seen_func : Func → FuncFieldTy
-seen_func f =
-    func_of (field_head (seen_label f.id f.name) (seen_inline_export f.exports))
-    (seen_func_use f.ty, seen_func_kind f.kind)
+abbrev pub func_view : Func → FuncFieldTy
+func_view f =
+    func_of (field_head (label_view f.id f.name) (inline_export_view f.exports))
+    (func_use_view f.ty, func_kind_view f.kind)
 
 -- no parameter and no result in line
 abbrev pub bare_func_use : FuncUse → Bool

@@ -7,7 +7,7 @@ use Rattle.wat_types.specs.Label.{label_of, no_label}
 use Rattle.wat_types.specs.Storage.{plain_global}
 use Rattle.wat_types.specs.Use.{use_of}
 use Rattle.wat_types.specs.Value.{i32, i64, f32}
-use Rattle.wat_links.specs.Head.{no_head, field_head}
+use Rattle.wat_links.specs.FieldHead.{no_head, field_head}
 use Rattle.wat_expr.specs.Alone.{alone, nop}
 use Rattle.wat_fields.specs.Func.{inline, func_of, func}
 use Rattle.wat_fields.specs.Global.{global_of, global}

@@ -2,13 +2,13 @@
 use Rattle.std.specs.Prelude.{ℕ, Bool, true, ◌&&◌, List, codes}
 use Rattle.wat_tokens.specs.Production.{Production}
 use Rattle.wat_tokens.specs.Parts.{seq, made, where_else, after_word}
-use Rattle.wat_types.specs.Label.{seen_label}
-use Rattle.wat_types.specs.Storage.{GlobalTy, seen_global_type, global_type}
+use Rattle.wat_types.specs.Label.{label_view}
+use Rattle.wat_types.specs.Storage.{GlobalTy, global_type_view, global_type}
 use Rattle.wat_types.specs.declared.storage.GlobalType.{GlobalType}
-use Rattle.wat_links.specs.Export.{seen_inline_export}
-use Rattle.wat_links.specs.Head.{HeadTy, field_head, bare_head, head}
-use Rattle.wat_links.specs.Import.{seen_inline_import, inline_import, begins_inline_import}
-use Rattle.wat_expr.specs.Expression.{Expr, seen_expression, bare_expression}
+use Rattle.wat_links.specs.Export.{inline_export_view}
+use Rattle.wat_links.specs.FieldHead.{FieldHeadTy, field_head, bare_head, head}
+use Rattle.wat_links.specs.Import.{inline_import_view, inline_import, begins_inline_import}
+use Rattle.wat_expr.specs.Expression.{Expr, expression_view, bare_expression}
 use Rattle.wat_expr.specs.ExpressionProduction.{expression}
 use Rattle.wat_fields.specs.declared.global.Global.{Global}
 use Rattle.wat_fields.specs.declared.global.GlobalKind.{GlobalKind}
@@ -26,24 +26,24 @@ abbrev pub DefinedGlobal : Type 0
 DefinedGlobal = GlobalTy × GlobalKindTy
 
 pub record GlobalFieldTy : Type 0 where
-  pub head : HeadTy
+  pub head : FieldHeadTy
   pub ty : GlobalTy
   pub kind : GlobalKindTy
 
-abbrev pub global_of : HeadTy → DefinedGlobal → GlobalFieldTy
+abbrev pub global_of : FieldHeadTy → DefinedGlobal → GlobalFieldTy
 global_of h d = record { head = h; ty = d.0; kind = d.1 }
 
-abbrev pub seen_global_kind : GlobalKind → GlobalKindTy
-seen_global_kind (code.Import i) = imported (seen_inline_import i)
-seen_global_kind (code.Inline e) = inline (seen_expression e)
+abbrev pub global_kind_view : GlobalKind → GlobalKindTy
+global_kind_view (code.Import i) = imported (inline_import_view i)
+global_kind_view (code.Inline e) = inline (expression_view e)
 
-abbrev pub seen_defined_global : GlobalType × GlobalKind → DefinedGlobal
-seen_defined_global d = (seen_global_type d.0, seen_global_kind d.1)
+abbrev pub defined_global_view : GlobalType × GlobalKind → DefinedGlobal
+defined_global_view d = (global_type_view d.0, global_kind_view d.1)
 
-abbrev pub seen_global : Global → GlobalFieldTy
-seen_global g =
-    global_of (field_head (seen_label g.id g.name) (seen_inline_export g.exports))
-    (seen_global_type g.ty, seen_global_kind g.kind)
+abbrev pub global_view : Global → GlobalFieldTy
+global_view g =
+    global_of (field_head (label_view g.id g.name) (inline_export_view g.exports))
+    (global_type_view g.ty, global_kind_view g.kind)
 
 -- no instruction
 abbrev pub bare_global_kind : GlobalKindTy → Bool

@@ -7,7 +7,7 @@ pub use Rattle.wat_tokens.specs.Tests
 pub use Rattle.wat_tokens.specs.Views
 pub use Rattle.wat_types.specs.Production
 pub use Rattle.wat_types.specs.Reference
-pub use Rattle.wat_links.specs.Head
+pub use Rattle.wat_links.specs.FieldHead
 pub use Rattle.wat_links.specs.Import
 pub use Rattle.wat_expr.specs.Expression
 pub mod Data

@@ -6,9 +6,9 @@ use Rattle.wat_tokens.specs.Production.{Production}
 use Rattle.wat_tokens.specs.Parts.{seq, made, where_else, after_word}
 use Rattle.wat_tokens.specs.Many.{many}
 use Rattle.wat_tokens.specs.Groups.{paren}
-use Rattle.wat_types.specs.Label.{Label, no_label, seen_label, label, begins_label}
-use Rattle.wat_types.specs.Value.{ValTy, seen_val, val_type}
-use Rattle.wat_types.specs.Laws.Value.{val_type_eats}
+use Rattle.wat_types.specs.Label.{Label, no_label, label_view, label, begins_label}
+use Rattle.wat_types.specs.Value.{ValTy, val_view, val_type}
+use Rattle.wat_types.specs.Laws.Value.{val_type_consumes}
 use Rattle.wat_fields.specs.declared.local.Local.{Local}
 use Rattle.wat_fields.specs.declared.local.LocalParser.{LocalParser}
 
@@ -22,14 +22,14 @@ pub record LocalTy : Type 0 where
 abbrev pub local_of : Label → ValTy → LocalTy
 local_of l t = record { label = l; ty = t }
 
-abbrev pub seen_local : Local → LocalTy
-seen_local l = local_of (seen_label l.id l.name) (seen_val l.ty)
+abbrev pub local_view : Local → LocalTy
+local_view l = local_of (label_view l.id l.name) (val_view l.ty)
 
-abbrev pub seen_locals : List Local → List LocalTy
-seen_locals ls = map seen_local ls
+abbrev pub locals_view : List Local → List LocalTy
+locals_view ls = map local_view ls
 
-abbrev pub seen_local_parser : LocalParser → List LocalTy
-seen_local_parser p = seen_locals p.locals.items
+abbrev pub local_parser_view : LocalParser → List LocalTy
+local_parser_view p = locals_view p.locals.items
 
 -- ---- the grammar
 
@@ -43,7 +43,7 @@ plain_local = made (local_of no_label) val_type
 
 -- ValType*, to the end
 unfoldable pub plain_locals : Production (List LocalTy)
-plain_locals = many more plain_local val_type_eats
+plain_locals = many more plain_local val_type_consumes
 
 -- where an id or a name begins, id? name? ValType; else ValType*, to the end
 unfoldable pub listed_locals : Production (List LocalTy)

@@ -6,13 +6,13 @@ use Rattle.wat_tokens.specs.Production.{Production}
 use Rattle.wat_tokens.specs.Parts.{seq, made, where_else, after_word}
 use Rattle.wat_tokens.specs.Groups.{group}
 use Rattle.wat_tokens.specs.Views.{no_items}
-use Rattle.wat_types.specs.Label.{seen_label}
+use Rattle.wat_types.specs.Label.{label_view}
 use Rattle.wat_types.specs.Limits.{is_64, pagesize_or_none, memory_type}
 use Rattle.wat_types.specs.declared.limits.MemoryType.{MemoryType}
-use Rattle.wat_links.specs.Export.{seen_inline_export}
-use Rattle.wat_links.specs.Head.{HeadTy, field_head, bare_head, head}
-use Rattle.wat_links.specs.Import.{seen_inline_import, inline_import, begins_inline_import}
-use Rattle.wat_fields.specs.DataVal.{DataValTy, seen_data_vals}
+use Rattle.wat_links.specs.Export.{inline_export_view}
+use Rattle.wat_links.specs.FieldHead.{FieldHeadTy, field_head, bare_head, head}
+use Rattle.wat_links.specs.Import.{inline_import_view, inline_import, begins_inline_import}
+use Rattle.wat_fields.specs.DataVal.{DataValTy, data_vals_view}
 use Rattle.wat_fields.specs.DataVals.{data_vals}
 use Rattle.wat_fields.specs.declared.memory.Memory.{Memory}
 use Rattle.wat_fields.specs.declared.memory.MemoryKind.{MemoryKind}
@@ -28,21 +28,21 @@ pub data MemoryKindTy : Type 0 where
   inline : Bool → Option ℕ → List DataValTy → MemoryKindTy
 
 pub record MemoryTy : Type 0 where
-  pub head : HeadTy
+  pub head : FieldHeadTy
   pub kind : MemoryKindTy
 
-abbrev pub memory_of : HeadTy → MemoryKindTy → MemoryTy
+abbrev pub memory_of : FieldHeadTy → MemoryKindTy → MemoryTy
 memory_of h k = record { head = h; kind = k }
 
-abbrev pub seen_memory_kind : MemoryKind → MemoryKindTy
-seen_memory_kind (code.Import i t) = imported (seen_inline_import i) t
-seen_memory_kind (code.Normal t) = normal t
-seen_memory_kind (code.Inline b d p) = inline b p (seen_data_vals d.items)
+abbrev pub memory_kind_view : MemoryKind → MemoryKindTy
+memory_kind_view (code.Import i t) = imported (inline_import_view i) t
+memory_kind_view (code.Normal t) = normal t
+memory_kind_view (code.Inline b d p) = inline b p (data_vals_view d.items)
 
-abbrev pub seen_memory : Memory → MemoryTy
-seen_memory m =
-    memory_of (field_head (seen_label m.id m.name) (seen_inline_export m.exports))
-    (seen_memory_kind m.kind)
+abbrev pub memory_view : Memory → MemoryTy
+memory_view m =
+    memory_of (field_head (label_view m.id m.name) (inline_export_view m.exports))
+    (memory_kind_view m.kind)
 
 -- no data in line
 abbrev pub bare_memory_kind : MemoryKindTy → Bool

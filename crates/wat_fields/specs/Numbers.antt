@@ -10,7 +10,7 @@ use Rattle.wat_tokens.specs.Joined.{joined}
 use Rattle.wat_tokens.specs.Integers.{signed}
 use Rattle.wat_tokens.specs.Floats.{none}
 use Rattle.wat_fields.specs.VectorBytes.{vector_as_bytes}
-use Rattle.wat_fields.specs.Laws.Numbers.{vector_eats}
+use Rattle.wat_fields.specs.Laws.Numbers.{vector_consumes}
 
 -- ---- one number, as its bytes, the lowest first
 
@@ -30,7 +30,7 @@ float_as_bytes w = made (to_le_bytes w) none
 
 -- w g*, to the end, as all their bytes in order
 abbrev pub all_behind : List ℕ → (g : Production (List ℕ)) → 1 ≤ g.least → Production (List ℕ)
-all_behind w g eats = after_word w (joined more g eats)
+all_behind w g consumes = after_word w (joined more g consumes)
 
 -- `v128` V128Const* | `f32`, and `f64`, with no number, since none has a spelling
 unfoldable pub other_numbers : Production (List ℕ)
@@ -38,7 +38,7 @@ other_numbers =
     where_else (begins_word (codes "f32")) (all_behind (codes "f32") (float_as_bytes w32) (lit≤ tt))
     (where_else (begins_word (codes "f64"))
     (all_behind (codes "f64") (float_as_bytes w64) (lit≤ tt))
-    (all_behind (codes "v128") vector_as_bytes vector_eats))
+    (all_behind (codes "v128") vector_as_bytes vector_consumes))
 
 -- `i32` i32* | `i64` i64* | other numbers
 unfoldable pub wide_numbers : Production (List ℕ)

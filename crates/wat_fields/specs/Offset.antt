@@ -11,7 +11,7 @@ use Rattle.wat_expr.specs.ExpressionProduction.{expression}
 abbrev pub head_behind : Instr → Expr → Expr
 head_behind i e = record { instrs = e.instrs ++ i ∷ []; hints = e.hints }
 
--- an instruction, and items to the end; the instruction stands behind what these unfold to
+-- an instruction, and items to the end; the instruction is behind what these unfold to
 unfoldable pub head_last : Production Expr
 head_last = made (λ v. head_behind v.0 v.1) (seq instruction expression)
 

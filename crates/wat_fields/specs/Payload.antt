@@ -5,20 +5,20 @@ use Rattle.wat_tokens.specs.Tests.{begins_word, more, begins_lparen}
 use Rattle.wat_tokens.specs.Production.{Production}
 use Rattle.wat_tokens.specs.Parts.{seq, made, where_else, after_word}
 use Rattle.wat_tokens.specs.Many.{many}
-use Rattle.wat_tokens.specs.Index.{Idx, seen_index, index}
+use Rattle.wat_tokens.specs.Index.{Idx, index_view, index}
 use Rattle.wat_tokens.specs.Views.{no_items}
 use Rattle.wat_types.specs.Heap.{HeapTy, abstract_}
-use Rattle.wat_types.specs.Reference.{RefTy, seen_ref, ref_type, begins_ref}
+use Rattle.wat_types.specs.Reference.{RefTy, ref_view, ref_type, begins_ref}
 use Rattle.wat_types.specs.declared.heap.AbstractHeapType.TheVariants as heap_word
-use Rattle.wat_mnemonics.specs.declared.head.Head.TheVariants as word
+use Rattle.wat_mnemonics.specs.declared.mnemonic.Mnemonic.TheVariants as word
 use Rattle.wat_mnemonics.specs.declared.indexed.IndexedOp.TheVariants as op
 use Rattle.wat_instr.specs.Operand as operands
 use Rattle.wat_instr.specs.Instruction.{instr_of}
-use Rattle.wat_expr.specs.Expression.{Expr, seen_expression}
+use Rattle.wat_expr.specs.Expression.{Expr, expression_view}
 use Rattle.wat_fields.specs.declared.payload.ElemPayload.{ElemPayload}
 use Rattle.wat_fields.specs.declared.payload.ElemPayload.TheVariants as code
 use Rattle.wat_fields.specs.Item.{item}
-use Rattle.wat_fields.specs.Laws.Payload.{item_eats}
+use Rattle.wat_fields.specs.Laws.Payload.{item_consumes}
 
 -- ---- what contracts see
 
@@ -27,9 +27,9 @@ pub data PayloadTy : Type 0 where
   indices : List Idx → PayloadTy
   exprs : RefTy → List Expr → PayloadTy
 
-abbrev pub seen_payload : ElemPayload → PayloadTy
-seen_payload (code.Indices v) = indices (map seen_index v.items)
-seen_payload (code.Exprs t v) = exprs (seen_ref t) (map seen_expression v.items)
+abbrev pub payload_view : ElemPayload → PayloadTy
+payload_view (code.Indices v) = indices (map index_view v.items)
+payload_view (code.Exprs t v) = exprs (ref_view t) (map expression_view v.items)
 
 -- no index and no expression
 abbrev pub bare_payload : PayloadTy → Bool
@@ -40,7 +40,7 @@ bare_payload (exprs t v) = no_items v
 
 -- item*, to the end
 unfoldable pub item_list : Production (List Expr)
-item_list = many more item item_eats
+item_list = many more item item_consumes
 
 -- ---- indices
 

@@ -9,11 +9,11 @@ use Rattle.wat_types.specs.Reference.{RefTy}
 use Rattle.wat_expr.specs.Expression.{Expr}
 use Rattle.wat_fields.specs.Payload.{PayloadTy, indices, exprs, by_index, of_type, index_list}
 use Rattle.wat_fields.specs.RefFunc.{ref_func}
-use Rattle.wat_fields.specs.Laws.RefFuncs.{ref_func_eats}
+use Rattle.wat_fields.specs.Laws.RefFuncs.{ref_func_consumes}
 
 -- idx*, to the end, each as `ref.func` of it
 unfoldable pub ref_funcs : Production (List Expr)
-ref_funcs = many more ref_func ref_func_eats
+ref_funcs = many more ref_func ref_func_consumes
 
 -- indices, to the end, as a payload of the type
 unfoldable pub indices_of : RefTy → Production PayloadTy

@@ -15,7 +15,7 @@ use Rattle.wat_tokens.specs.Parts.{seq, flag, after_word}
 use Rattle.wat_types.specs.Label.{Label, label}
 use Rattle.wat_types.specs.Limits.{is_64}
 use Rattle.wat_types.specs.Reference.{RefTy, ref_type}
-use Rattle.wat_links.specs.Head.{HeadTy, head}
+use Rattle.wat_links.specs.FieldHead.{FieldHeadTy, head}
 use Rattle.wat_expr.specs.Expression.{SpansAre}
 use Rattle.wat_expr.specs.declared.expression.Expression.{Expression}
 use Rattle.wat_fields.specs.Data.{data_memory}
@@ -115,7 +115,7 @@ unfoldable pub inline_front : Production (Bool × (Bool × RefTy))
 inline_front = seq (flag (codes "shared")) (seq is_64 ref_type)
 
 -- a table in line up to `( elem`
-unfoldable pub table_front : Production (HeadTy × (Bool × (Bool × RefTy)))
+unfoldable pub table_front : Production (FieldHeadTy × (Bool × (Bool × RefTy)))
 table_front = after_word (codes "table") (seq head inline_front)
 
 -- behind `( elem` items are listed, which begin with `(`

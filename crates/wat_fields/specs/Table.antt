@@ -5,16 +5,16 @@ use Rattle.wat_tokens.specs.Tests.{begins_word, begins_integer, more, second}
 use Rattle.wat_tokens.specs.Production.{Production}
 use Rattle.wat_tokens.specs.Parts.{seq, made, where_else, opt, flag, after_word}
 use Rattle.wat_tokens.specs.Groups.{group}
-use Rattle.wat_tokens.specs.Views.{seen_option, bare_option}
-use Rattle.wat_types.specs.Label.{seen_label}
-use Rattle.wat_types.specs.Limits.{is_64, TableTy, seen_table_type, table_type}
-use Rattle.wat_types.specs.Reference.{RefTy, seen_ref, ref_type, begins_ref}
-use Rattle.wat_links.specs.Export.{seen_inline_export}
-use Rattle.wat_links.specs.Head.{HeadTy, field_head, bare_head, head}
-use Rattle.wat_links.specs.Import.{seen_inline_import, inline_import}
-use Rattle.wat_expr.specs.Expression.{Expr, seen_expression, bare_expression}
+use Rattle.wat_tokens.specs.Views.{option_view, bare_option}
+use Rattle.wat_types.specs.Label.{label_view}
+use Rattle.wat_types.specs.Limits.{is_64, TableTy, table_type_view, table_type}
+use Rattle.wat_types.specs.Reference.{RefTy, ref_view, ref_type, begins_ref}
+use Rattle.wat_links.specs.Export.{inline_export_view}
+use Rattle.wat_links.specs.FieldHead.{FieldHeadTy, field_head, bare_head, head}
+use Rattle.wat_links.specs.Import.{inline_import_view, inline_import}
+use Rattle.wat_expr.specs.Expression.{Expr, expression_view, bare_expression}
 use Rattle.wat_expr.specs.ExpressionProduction.{expression}
-use Rattle.wat_fields.specs.Payload.{PayloadTy, seen_payload, bare_payload, ListedTy, of_type}
+use Rattle.wat_fields.specs.Payload.{PayloadTy, payload_view, bare_payload, ListedTy, of_type}
 use Rattle.wat_fields.specs.Payload.{listed}
 use Rattle.wat_fields.specs.declared.table.Table.{Table}
 use Rattle.wat_fields.specs.declared.table.TableKind.{TableKind}
@@ -31,21 +31,21 @@ pub data TableKindTy : Type 0 where
   inline : RefTy → Bool → Bool → PayloadTy → TableKindTy
 
 pub record TableFieldTy : Type 0 where
-  pub head : HeadTy
+  pub head : FieldHeadTy
   pub kind : TableKindTy
 
-abbrev pub table_of : HeadTy → TableKindTy → TableFieldTy
+abbrev pub table_of : FieldHeadTy → TableKindTy → TableFieldTy
 table_of h k = record { head = h; kind = k }
 
-abbrev pub seen_table_kind : TableKind → TableKindTy
-seen_table_kind (code.Import i t) = imported (seen_inline_import i) (seen_table_type t)
-seen_table_kind (code.Normal t e) = normal (seen_table_type t) (seen_option seen_expression e)
-seen_table_kind (code.Inline t is64 shared p) = inline (seen_ref t) is64 shared (seen_payload p)
+abbrev pub table_kind_view : TableKind → TableKindTy
+table_kind_view (code.Import i t) = imported (inline_import_view i) (table_type_view t)
+table_kind_view (code.Normal t e) = normal (table_type_view t) (option_view expression_view e)
+table_kind_view (code.Inline t is64 shared p) = inline (ref_view t) is64 shared (payload_view p)
 
-abbrev pub seen_table : Table → TableFieldTy
-seen_table t =
-    table_of (field_head (seen_label t.id t.name) (seen_inline_export t.exports))
-    (seen_table_kind t.kind)
+abbrev pub table_view : Table → TableFieldTy
+table_view t =
+    table_of (field_head (label_view t.id t.name) (inline_export_view t.exports))
+    (table_kind_view t.kind)
 
 -- no instruction, and no element in line
 abbrev pub bare_table_kind : TableKindTy → Bool

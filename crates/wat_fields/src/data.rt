@@ -2,11 +2,11 @@
 
 ghost use Rattle.std.specs.Prelude.{◌≡◌, IfOk};
 ghost use Rattle.wat_tokens.specs.Cost.{turns_too};
-ghost use Rattle.wat_tokens.specs.Index.{seen_index};
+ghost use Rattle.wat_tokens.specs.Index.{index_view};
 ghost use Rattle.wat_tokens.specs.Reads.{Reads, ReadsAt};
 ghost use Rattle.wat_tokens.specs.Views.{plain, owning};
-ghost use Rattle.wat_fields.specs.Data.{seen_data_kind, bare_data_kind, begins_passive};
-ghost use Rattle.wat_fields.specs.Data.{data_memory, data_active, data_kind, DataTy, seen_data};
+ghost use Rattle.wat_fields.specs.Data.{data_kind_view, bare_data_kind, begins_passive};
+ghost use Rattle.wat_fields.specs.Data.{data_memory, data_active, data_kind, DataTy, data_view};
 ghost use Rattle.wat_fields.specs.Data.{bare_data, data_segment};
 ghost use Rattle.wat_fields.specs.Spans.{DataSpansAre, offset_behind, is_offset_written};
 
@@ -51,7 +51,7 @@ pub enum DataKind<'a> {
 /// The memory that a segment is put into; `span` is where a memory stands that isn't written.
 #[tactic(auto, unfolding(crate::specs::Data::data_memory))]
 fn read_memory<'a>(parser: &mut Parser<'a>, span: Span) -> Result<Index<'a>>
-    ensures reads { Reads (plain seen_index) data_memory result parser.old parser.new }
+    ensures reads { Reads (plain index_view) data_memory result parser.old parser.new }
 {
     if parser.peek::<u32>() {
         let number = u32::parse(parser)?;
@@ -67,7 +67,7 @@ fn read_memory<'a>(parser: &mut Parser<'a>, span: Span) -> Result<Index<'a>>
     Ok(index)
 }
 
-/// Whether what makes a segment passive stands in front: `)`, a string, or a group of numbers.
+/// Whether what makes a segment passive is in front: `)`, a string, or a group of numbers.
 fn passive_next(parser: &Parser<'_>) -> bool
     ensures { result ≡ begins_passive parser.now.left }
 {
@@ -78,7 +78,7 @@ fn passive_next(parser: &Parser<'_>) -> bool
 /// A memory and an offset.
 #[tactic(auto, unfolding(crate::specs::Data::data_active))]
 fn read_active<'a>(parser: &mut Parser<'a>, span: Span) -> Result<DataKind<'a>>
-    ensures reads { ReadsAt turns_too (owning seen_data_kind bare_data_kind) data_active result parser.old parser.new }
+    ensures reads { ReadsAt turns_too (owning data_kind_view bare_data_kind) data_active result parser.old parser.new }
     ensures spans { IfOk result (λ k. DataSpansAre (offset_behind
         (data_memory.reads parser.old.left)) parser.old.tracks k) }
 {
@@ -89,10 +89,10 @@ fn read_active<'a>(parser: &mut Parser<'a>, span: Span) -> Result<DataKind<'a>>
     Ok(DataKind::Active { memory, offset })
 }
 
-/// Passive, where that stands in front, else active.
+/// Passive, where that is in front, else active.
 #[tactic(auto, unfolding(crate::specs::Data::data_kind))]
-fn read_kind<'a>(parser: &mut Parser<'a>, span: Span) -> Result<DataKind<'a>>
-    ensures reads { ReadsAt turns_too (owning seen_data_kind bare_data_kind) data_kind result parser.old parser.new }
+fn read_data_kind<'a>(parser: &mut Parser<'a>, span: Span) -> Result<DataKind<'a>>
+    ensures reads { ReadsAt turns_too (owning data_kind_view bare_data_kind) data_kind result parser.old parser.new }
     ensures spans { IfOk result (λ k. DataSpansAre (offset_behind
         (data_memory.reads parser.old.left)) parser.old.tracks k) }
 {
@@ -112,9 +112,9 @@ fn read_kind<'a>(parser: &mut Parser<'a>, span: Span) -> Result<DataKind<'a>>
 /// instruction where an offset is abbreviated, with Operator, at it; what an expression or a value
 /// refuses, as it does; anything else with Unexpected.
 impl<'a> Parse<'a> for Data<'a> {
-    ghost Seen = { DataTy };
+    ghost View = { DataTy };
 
-    ghost view = { owning seen_data bare_data };
+    ghost view = { owning data_view bare_data };
 
     ghost cost = { turns_too };
 
@@ -122,14 +122,14 @@ impl<'a> Parse<'a> for Data<'a> {
 
     #[tactic(auto, unfolding(crate::specs::Data::data_segment, wat_types::specs::Label::label))]
     fn parse(parser: &mut Parser<'a>) -> Result<Self>
-        ensures reads { ReadsAt turns_too (owning seen_data bare_data) data_segment result parser.old parser.new }
+        ensures reads { ReadsAt turns_too (owning data_view bare_data) data_segment result parser.old parser.new }
         ensures spans { IfOk result (λ d. DataSpansAre (is_offset_written parser.old.left)
             parser.old.tracks d.kind) }
     {
         let span = parser.keyword("data")?;
         let id = Option::<Id>::parse(parser)?;
         let name = Option::<NameAnnotation>::parse(parser)?;
-        let kind = read_kind(parser, span)?;
+        let kind = read_data_kind(parser, span)?;
         let data = read_vals(parser)?;
         Ok(Data {
             span,

@@ -4,7 +4,7 @@ ghost use Rattle.std.specs.Prelude.{◌≡◌, ◌+◌, ◌++◌, length, false,
 ghost use Rattle.wat_tokens.specs.Reads.{Reads};
 ghost use Rattle.wat_tokens.specs.Tests.{begins_lparen};
 ghost use Rattle.wat_tokens.specs.Views.{owning, no_items};
-ghost use Rattle.wat_fields.specs.DataVal.{DataValTy, bytes_in, seen_data_val, seen_data_vals};
+ghost use Rattle.wat_fields.specs.DataVal.{DataValTy, bytes_in, data_val_view, data_vals_view};
 ghost use Rattle.wat_fields.specs.DataVal.{bare_val, data_val};
 ghost use Rattle.wat_fields.specs.DataVals.{data_vals};
 
@@ -25,7 +25,7 @@ pub enum DataVal<'a> {
 impl<'a> DataVal<'a> {
     /// How many bytes it has.
     pub fn len(&self) -> usize
-        ensures { result ≡ length (bytes_in (seen_data_val self.now)) }
+        ensures { result ≡ length (bytes_in (data_val_view self.now)) }
     {
         match self {
             DataVal::String(bytes) => bytes.len(),
@@ -35,7 +35,7 @@ impl<'a> DataVal<'a> {
 
     /// Whether it has no bytes.
     pub fn is_empty(&self) -> bool
-        ensures { result ≡ no_items (bytes_in (seen_data_val self.now)) }
+        ensures { result ≡ no_items (bytes_in (data_val_view self.now)) }
     {
         match self {
             DataVal::String(bytes) => bytes.is_empty(),
@@ -47,12 +47,12 @@ impl<'a> DataVal<'a> {
     /// list is as it was.
     pub fn push_onto(&self, dst: &mut Vec<u8>) -> Result<()>
         ensures put { MatchResult result (λ _. dst.new.items ≡ dst.old.items ++ bytes_in
-            (seen_data_val self.now)) (λ e. (e.fault ≡ Fault.Memory)
+            (data_val_view self.now)) (λ e. (e.fault ≡ Fault.Memory)
             × (dst.new.items ≡ dst.old.items)) }
         // The list grows by as many bytes as `len` answers.
         ensures grows { IfOk result (λ _. length dst.new.items ≡ length dst.old.items + length
-            (bytes_in (seen_data_val self.now))) }
-        ensures some { IfErr result (λ _. no_items (bytes_in (seen_data_val self.now)) ≡ false) }
+            (bytes_in (data_val_view self.now))) }
+        ensures some { IfErr result (λ _. no_items (bytes_in (data_val_view self.now)) ≡ false) }
     {
         match self {
             DataVal::String(bytes) => append(dst, bytes),
@@ -61,7 +61,7 @@ impl<'a> DataVal<'a> {
     }
 }
 
-/// Whether a `(` stands in front.
+/// Whether a `(` is in front.
 fn lparen_next(parser: &Parser<'_>) -> bool
     ensures { result ≡ begins_lparen parser.now.left }
 {
@@ -76,9 +76,9 @@ fn lparen_next(parser: &Parser<'_>) -> bool
 /// FloatLiteral, each at the number; another word behind the `(`, and anything else, with
 /// Unexpected.
 impl<'a> Parse<'a> for DataVal<'a> {
-    ghost Seen = { DataValTy };
+    ghost View = { DataValTy };
 
-    ghost view = { owning seen_data_val bare_val };
+    ghost view = { owning data_val_view bare_val };
 
     ghost grammar = { data_val };
 
@@ -95,9 +95,9 @@ impl<'a> Parse<'a> for DataVal<'a> {
 }
 
 /// Values, to the end.
-#[tactic(auto, using(crate::specs::Laws::DataVal::data_val_eats), unfolding(crate::specs::DataVals::data_vals))]
+#[tactic(auto, using(crate::specs::Laws::DataVal::data_val_consumes), unfolding(crate::specs::DataVals::data_vals))]
 pub(crate) fn read_vals<'a>(parser: &mut Parser<'a>) -> Result<Vec<DataVal<'a>>>
-    ensures reads { Reads (owning (λ v. seen_data_vals v.items) no_items) data_vals result
+    ensures reads { Reads (owning (λ v. data_vals_view v.items) no_items) data_vals result
         parser.old parser.new }
 {
     all_to_end::<DataVal>(parser)

@@ -4,12 +4,12 @@ ghost use Rattle.std.specs.Prelude.{◌≡◌, IfOk};
 ghost use Rattle.wat_tokens.specs.Cost.{turns_too};
 ghost use Rattle.wat_tokens.specs.Reads.{ReadsAt};
 ghost use Rattle.wat_tokens.specs.Views.{owning};
-ghost use Rattle.wat_fields.specs.Global.{GlobalFieldTy, seen_defined_global, bare_defined_global};
-ghost use Rattle.wat_fields.specs.Global.{global_defined, seen_global, bare_global, global};
+ghost use Rattle.wat_fields.specs.Global.{GlobalFieldTy, defined_global_view, bare_defined_global};
+ghost use Rattle.wat_fields.specs.Global.{global_defined, global_view, bare_global, global};
 ghost use Rattle.wat_fields.specs.Spans.{GlobalSpansAre};
 
 use wat_expr::Expression;
-use wat_links::{Head, InlineExport, InlineImport};
+use wat_links::{FieldHead, InlineExport, InlineImport};
 use wat_tokens::{Fault, Id, NameAnnotation, Parse, Parser, Result, Span};
 use wat_types::GlobalType;
 
@@ -39,10 +39,10 @@ pub enum GlobalKind<'a> {
     Inline(Expression<'a>),
 }
 
-/// What stands behind the head: the type, and how the global is defined.
+/// What is behind the head: the type, and how the global is defined.
 #[tactic(auto, unfolding(crate::specs::Global::global_defined))]
 fn read_defined<'a>(parser: &mut Parser<'a>) -> Result<(GlobalType<'a>, GlobalKind<'a>)>
-    ensures reads { ReadsAt turns_too (owning seen_defined_global bare_defined_global) global_defined result parser.old parser.new }
+    ensures reads { ReadsAt turns_too (owning defined_global_view bare_defined_global) global_defined result parser.old parser.new }
     ensures spans { IfOk result (λ d. GlobalSpansAre parser.old.tracks d.1) }
 {
     if parser.peek::<InlineImport>() {
@@ -59,12 +59,12 @@ fn read_defined<'a>(parser: &mut Parser<'a>) -> Result<(GlobalType<'a>, GlobalKi
 /// line and a global type; else a global type and an [`Expression`].
 ///
 /// Another token in front than the word is refused with Unexpected, at the token. Behind the type
-/// the faults are those of an expression: an import in line that stands there is refused with
-/// Operator, at the word `import`.
+/// the faults are those of an expression: an import in line that is there is refused with Operator,
+/// at the word `import`.
 impl<'a> Parse<'a> for Global<'a> {
-    ghost Seen = { GlobalFieldTy };
+    ghost View = { GlobalFieldTy };
 
-    ghost view = { owning seen_global bare_global };
+    ghost view = { owning global_view bare_global };
 
     ghost cost = { turns_too };
 
@@ -72,11 +72,11 @@ impl<'a> Parse<'a> for Global<'a> {
 
     #[tactic(auto, unfolding(crate::specs::Global::global))]
     fn parse(parser: &mut Parser<'a>) -> Result<Self>
-        ensures reads { ReadsAt turns_too (owning seen_global bare_global) global result parser.old parser.new }
+        ensures reads { ReadsAt turns_too (owning global_view bare_global) global result parser.old parser.new }
         ensures spans { IfOk result (λ g. GlobalSpansAre parser.old.tracks g.kind) }
     {
         let span = parser.keyword("global")?;
-        let Head { id, name, exports } = Head::parse(parser)?;
+        let FieldHead { id, name, exports } = FieldHead::parse(parser)?;
         let (ty, kind) = read_defined(parser)?;
         Ok(Global {
             span,

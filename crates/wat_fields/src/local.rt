@@ -6,7 +6,7 @@ ghost use Rattle.wat_tokens.specs.Many.{after_front};
 ghost use Rattle.wat_tokens.specs.Reads.{Call, Reads};
 ghost use Rattle.wat_tokens.specs.Tests.{more};
 ghost use Rattle.wat_tokens.specs.Views.{plain, owning, no_items};
-ghost use Rattle.wat_fields.specs.Local.{LocalTy, seen_local, seen_locals, seen_local_parser};
+ghost use Rattle.wat_fields.specs.Local.{LocalTy, local_view, locals_view, local_parser_view};
 ghost use Rattle.wat_fields.specs.Local.{plain_local, labelled_local, listed_locals, local_parser};
 ghost use Rattle.wat_fields.specs.Local.{local_group, local_follows};
 ghost use Rattle.wat_fields.specs.Locals.{locals};
@@ -38,9 +38,9 @@ pub struct LocalParser<'a> {
 struct PlainLocal;
 
 impl<'a> Part<'a, Local<'a>> for PlainLocal {
-    ghost Seen = { LocalTy };
+    ghost View = { LocalTy };
 
-    ghost view = { plain seen_local };
+    ghost view = { plain local_view };
 
     ghost grammar = { plain_local };
 
@@ -63,8 +63,8 @@ impl<'a> Part<'a, Local<'a>> for PlainLocal {
 /// A local with an identifier or a name, put behind those that are there.
 #[tactic(auto, unfolding(crate::specs::Local::labelled_local, wat_types::specs::Label::label))]
 fn read_labelled<'a>(parser: &mut Parser<'a>, out: &mut Vec<Local<'a>>) -> Result<()>
-    ensures reads { Call tokens_alone (owning (λ _. seen_locals out.new.items) no_items)
-        (after_front (seen_locals out.old.items) (labelled_local.reads parser.old.left)) result
+    ensures reads { Call tokens_alone (owning (λ _. locals_view out.new.items) no_items)
+        (after_front (locals_view out.old.items) (labelled_local.reads parser.old.left)) result
         parser.old parser.new }
 {
     let id = Option::<Id>::parse(parser)?;
@@ -75,10 +75,10 @@ fn read_labelled<'a>(parser: &mut Parser<'a>, out: &mut Vec<Local<'a>>) -> Resul
 }
 
 /// The locals behind the word `local`, each put behind those that are there.
-#[tactic(auto, using(wat_types::specs::Laws::Value::val_type_eats), unfolding(crate::specs::Local::listed_locals, crate::specs::Local::plain_locals))]
+#[tactic(auto, using(wat_types::specs::Laws::Value::val_type_consumes), unfolding(crate::specs::Local::listed_locals, crate::specs::Local::plain_locals))]
 fn read_listed<'a>(parser: &mut Parser<'a>, out: &mut Vec<Local<'a>>) -> Result<()>
-    ensures reads { Call tokens_alone (owning (λ _. seen_locals out.new.items) no_items)
-        (after_front (seen_locals out.old.items) (listed_locals.reads parser.old.left)) result
+    ensures reads { Call tokens_alone (owning (λ _. locals_view out.new.items) no_items)
+        (after_front (locals_view out.old.items) (listed_locals.reads parser.old.left)) result
         parser.old parser.new }
 {
     if parser.peek::<Id>() || parser.peek::<NameAnnotation>() {
@@ -90,9 +90,9 @@ fn read_listed<'a>(parser: &mut Parser<'a>, out: &mut Vec<Local<'a>>) -> Result<
 /// `local`, and then an identifier, a name or both, and a value type; or, without a label, value
 /// types to the end. Another token in front than the word is refused with Unexpected, at the token.
 impl<'a> Parse<'a> for LocalParser<'a> {
-    ghost Seen = { List LocalTy };
+    ghost View = { List LocalTy };
 
-    ghost view = { owning seen_local_parser no_items };
+    ghost view = { owning local_parser_view no_items };
 
     ghost grammar = { local_parser };
 
@@ -109,9 +109,9 @@ impl<'a> Parse<'a> for LocalParser<'a> {
 struct LocalGroup;
 
 impl<'a> Group<'a, Local<'a>> for LocalGroup {
-    ghost Seen = { LocalTy };
+    ghost View = { LocalTy };
 
-    ghost view = { plain seen_local };
+    ghost view = { plain local_view };
 
     ghost grammar = { local_group };
 
@@ -134,9 +134,9 @@ impl<'a> Group<'a, Local<'a>> for LocalGroup {
 impl<'a> Local<'a> {
     /// The locals of all groups, in order: groups go on as long as the second token is `local`,
     /// whatever the first is. Where that is no `(`, it is refused with Unexpected, at the first.
-    #[tactic(auto, using(wat_tokens::specs::Laws::Joined::joined_reads, crate::specs::Laws::Local::local_group_eats), unfolding(crate::specs::Locals::locals))]
+    #[tactic(auto, using(wat_tokens::specs::Laws::Joined::joined_reads, crate::specs::Laws::Local::local_group_consumes), unfolding(crate::specs::Locals::locals))]
     pub(crate) fn parse_remainder(parser: &mut Parser<'a>) -> Result<Vec<Local<'a>>>
-        ensures reads { Reads (owning (λ ls. seen_locals ls.items) no_items) locals result
+        ensures reads { Reads (owning (λ ls. locals_view ls.items) no_items) locals result
             parser.old parser.new }
     {
         all_groups::<_, LocalGroup>(parser)

@@ -3,12 +3,12 @@
 ghost use Rattle.std.specs.Prelude.{◌≡◌};
 ghost use Rattle.wat_tokens.specs.Reads.{Reads};
 ghost use Rattle.wat_tokens.specs.Views.{owning};
-ghost use Rattle.wat_fields.specs.Memory.{MemoryTy, seen_memory_kind, bare_memory_kind};
+ghost use Rattle.wat_fields.specs.Memory.{MemoryTy, memory_kind_view, bare_memory_kind};
 ghost use Rattle.wat_fields.specs.Memory.{inline_memory, memory_kind, begins_inline_data};
-ghost use Rattle.wat_fields.specs.Memory.{seen_memory, bare_memory, memory};
+ghost use Rattle.wat_fields.specs.Memory.{memory_view, bare_memory, memory};
 
 use crate::data_val::{DataVal, read_vals};
-use wat_links::{Head, InlineExport, InlineImport};
+use wat_links::{FieldHead, InlineExport, InlineImport};
 use wat_tokens::{Fault, Id, NameAnnotation, Parse, Parser, Result, Span};
 use wat_types::limits::take_is64;
 use wat_types::{MemoryType, page_size};
@@ -52,7 +52,7 @@ pub enum MemoryKind<'a> {
     },
 }
 
-/// Whether `(` stands in front, or `i32` or `i64` and then `(`.
+/// Whether `(` is in front, or `i32` or `i64` and then `(`.
 fn inline_next(parser: &Parser<'_>) -> bool
     ensures { result ≡ begins_inline_data parser.now.left }
 {
@@ -70,7 +70,7 @@ fn inline_next(parser: &Parser<'_>) -> bool
 /// values `)`.
 #[tactic(auto, unfolding(crate::specs::Memory::inline_memory))]
 fn read_inline<'a>(parser: &mut Parser<'a>) -> Result<MemoryKind<'a>>
-    ensures reads { Reads (owning seen_memory_kind bare_memory_kind) inline_memory result parser.old
+    ensures reads { Reads (owning memory_kind_view bare_memory_kind) inline_memory result parser.old
         parser.new }
 {
     let is64 = take_is64(parser)?;
@@ -88,8 +88,8 @@ fn read_inline<'a>(parser: &mut Parser<'a>) -> Result<MemoryKind<'a>>
 
 /// How a memory is defined, behind its head.
 #[tactic(auto, unfolding(crate::specs::Memory::memory_kind))]
-fn read_kind<'a>(parser: &mut Parser<'a>) -> Result<MemoryKind<'a>>
-    ensures reads { Reads (owning seen_memory_kind bare_memory_kind) memory_kind result parser.old
+fn read_memory_kind<'a>(parser: &mut Parser<'a>) -> Result<MemoryKind<'a>>
+    ensures reads { Reads (owning memory_kind_view bare_memory_kind) memory_kind result parser.old
         parser.new }
 {
     if parser.peek::<InlineImport>() {
@@ -110,17 +110,17 @@ fn read_kind<'a>(parser: &mut Parser<'a>) -> Result<MemoryKind<'a>>
 /// A number that is out of range is refused with Range, a page size that is no power of two with
 /// PageSize, each at the number; what a value refuses, as it does; anything else with Unexpected.
 impl<'a> Parse<'a> for Memory<'a> {
-    ghost Seen = { MemoryTy };
+    ghost View = { MemoryTy };
 
-    ghost view = { owning seen_memory bare_memory };
+    ghost view = { owning memory_view bare_memory };
 
     ghost grammar = { memory };
 
     #[tactic(auto, unfolding(crate::specs::Memory::memory))]
     fn parse(parser: &mut Parser<'a>) -> Result<Self> {
         let span = parser.keyword("memory")?;
-        let Head { id, name, exports } = Head::parse(parser)?;
-        let kind = read_kind(parser)?;
+        let FieldHead { id, name, exports } = FieldHead::parse(parser)?;
+        let kind = read_memory_kind(parser)?;
         Ok(Memory {
             span,
             id,

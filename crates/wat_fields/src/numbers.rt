@@ -29,7 +29,7 @@ pub(crate) fn append(out: &mut Vec<u8>, bytes: &[u8]) -> Result<()>
 struct I8Bytes;
 
 impl<'a> Group<'a, u8> for I8Bytes {
-    ghost Seen = { ℕ };
+    ghost View = { ℕ };
 
     ghost view = { plain (λ b. b) };
 
@@ -52,7 +52,7 @@ impl<'a> Group<'a, u8> for I8Bytes {
 struct I16Bytes;
 
 impl<'a> Group<'a, u8> for I16Bytes {
-    ghost Seen = { ℕ };
+    ghost View = { ℕ };
 
     ghost view = { plain (λ b. b) };
 
@@ -75,7 +75,7 @@ impl<'a> Group<'a, u8> for I16Bytes {
 struct I32Bytes;
 
 impl<'a> Group<'a, u8> for I32Bytes {
-    ghost Seen = { ℕ };
+    ghost View = { ℕ };
 
     ghost view = { plain (λ b. b) };
 
@@ -98,7 +98,7 @@ impl<'a> Group<'a, u8> for I32Bytes {
 struct I64Bytes;
 
 impl<'a> Group<'a, u8> for I64Bytes {
-    ghost Seen = { ℕ };
+    ghost View = { ℕ };
 
     ghost view = { plain (λ b. b) };
 
@@ -121,7 +121,7 @@ impl<'a> Group<'a, u8> for I64Bytes {
 struct F32Bytes;
 
 impl<'a> Group<'a, u8> for F32Bytes {
-    ghost Seen = { ℕ };
+    ghost View = { ℕ };
 
     ghost view = { plain (λ b. b) };
 
@@ -144,7 +144,7 @@ impl<'a> Group<'a, u8> for F32Bytes {
 struct F64Bytes;
 
 impl<'a> Group<'a, u8> for F64Bytes {
-    ghost Seen = { ℕ };
+    ghost View = { ℕ };
 
     ghost view = { plain (λ b. b) };
 
@@ -167,7 +167,7 @@ impl<'a> Group<'a, u8> for F64Bytes {
 struct V128Bytes;
 
 impl<'a> Group<'a, u8> for V128Bytes {
-    ghost Seen = { ℕ };
+    ghost View = { ℕ };
 
     ghost view = { plain (λ b. b) };
 
@@ -187,7 +187,7 @@ impl<'a> Group<'a, u8> for V128Bytes {
 }
 
 /// `f32` and `f64`, behind which no number can be read, or `v128` and constants.
-#[tactic(auto, using(wat_tokens::specs::Laws::Joined::joined_reads, crate::specs::Laws::Numbers::vector_eats, crate::proofs::Bytes::bytes_again), unfolding(crate::specs::Numbers::other_numbers))]
+#[tactic(auto, using(wat_tokens::specs::Laws::Joined::joined_reads, crate::specs::Laws::Numbers::vector_consumes, crate::proofs::Bytes::bytes_again), unfolding(crate::specs::Numbers::other_numbers))]
 fn read_other<'a>(parser: &mut Parser<'a>) -> Result<Vec<u8>>
     ensures reads { Reads (owning (λ v. v.items) no_items) other_numbers result parser.old
         parser.new }
@@ -240,7 +240,7 @@ pub(crate) fn read_numbers<'a>(parser: &mut Parser<'a>) -> Result<Vec<u8>>
     read_wide(parser)
 }
 
-/// Whether a group of integers stands in front.
+/// Whether a group of integers is in front.
 fn integers_next(parser: &Parser<'_>) -> bool
     ensures { result ≡ begins_integers parser.now.left }
 {
@@ -250,7 +250,7 @@ fn integers_next(parser: &Parser<'_>) -> bool
         || parser.group_is("i64")
 }
 
-/// Whether a group of numbers stands in front.
+/// Whether a group of numbers is in front.
 pub(crate) fn numbers_next(parser: &Parser<'_>) -> bool
     ensures { result ≡ begins_numbers parser.now.left }
 {

@@ -2,7 +2,7 @@
 
 ghost use Rattle.std.specs.Prelude.{false, ◌&&◌, codes, IfOk};
 ghost use Rattle.wat_tokens.specs.Cost.{turns_too};
-ghost use Rattle.wat_expr.specs.Expression.{seen_expression, bare_expression, SpansAre};
+ghost use Rattle.wat_expr.specs.Expression.{expression_view, bare_expression, SpansAre};
 ghost use Rattle.wat_expr.specs.ExpressionProduction.{expression};
 ghost use Rattle.wat_tokens.specs.Parts.{seq};
 ghost use Rattle.wat_tokens.specs.Reads.{ReadsAt};
@@ -22,7 +22,7 @@ use wat_tokens::{Parse, Parser, Result};
 fn read_before_items<'a, T: Parse<'a> + Drop>(
     parser: &mut Parser<'a>,
 ) -> Result<(T, Expression<'a>)>
-    ensures reads { ReadsAt turns_too (owning (λ v. (T.view.of v.0, seen_expression v.1)) (λ v. T.view.bare v.0 && bare_expression v.1)) (seq T.grammar expression) result parser.old parser.new }
+    ensures reads { ReadsAt turns_too (owning (λ v. (T.view.of v.0, expression_view v.1)) (λ v. T.view.bare v.0 && bare_expression v.1)) (seq T.grammar expression) result parser.old parser.new }
     ensures spans { IfOk result (λ v. SpansAre parser.old.tracks v.1) }
 {
     let value = T::parse(parser)?;
@@ -30,12 +30,12 @@ fn read_before_items<'a, T: Parse<'a> + Drop>(
     Ok((value, items))
 }
 
-/// An instruction and items, to the end. The instruction stands behind what the items unfold to,
-/// and its span behind theirs. Where there are no items, it is an expression of one instruction,
-/// which has no spans.
+/// An instruction and items, to the end. The instruction is behind what the items unfold to, and
+/// its span behind theirs. Where there are no items, it is an expression of one instruction, which
+/// has no spans.
 #[tactic(auto, using(crate::proofs::Heads::never_bare), unfolding(crate::specs::Offset::head_last))]
 fn read_head_last<'a>(parser: &mut Parser<'a>) -> Result<Expression<'a>>
-    ensures reads { ReadsAt turns_too (owning seen_expression bare_expression) head_last result parser.old parser.new }
+    ensures reads { ReadsAt turns_too (owning expression_view bare_expression) head_last result parser.old parser.new }
     ensures spans { IfOk result (λ e. OffsetSpansAre false parser.old.tracks e) }
 {
     let span = parser.cur_span();
@@ -47,11 +47,11 @@ fn read_head_last<'a>(parser: &mut Parser<'a>) -> Result<Expression<'a>>
     Ok(offset)
 }
 
-/// What stands in the group of an offset: `offset` and an expression, or its abbreviation, an
+/// What is in the group of an offset: `offset` and an expression, or its abbreviation, an
 /// instruction and items.
 #[tactic(auto, unfolding(crate::specs::Offset::offset_inside))]
 pub(crate) fn read_offset<'a>(parser: &mut Parser<'a>) -> Result<Expression<'a>>
-    ensures reads { ReadsAt turns_too (owning seen_expression bare_expression) offset_inside result parser.old parser.new }
+    ensures reads { ReadsAt turns_too (owning expression_view bare_expression) offset_inside result parser.old parser.new }
     ensures spans { IfOk result (λ e. OffsetSpansAre (begins_word (codes "offset") parser.old.left)
         parser.old.tracks e) }
 {

@@ -2,14 +2,14 @@
 
 ghost use Rattle.std.specs.Prelude.{◌≡◌, ◌&&◌, false, map, All, IfOk, IfErr};
 ghost use Rattle.wat_tokens.specs.Cost.{tokens_alone, turns_too};
-ghost use Rattle.wat_tokens.specs.Index.{seen_index};
+ghost use Rattle.wat_tokens.specs.Index.{index_view};
 ghost use Rattle.wat_tokens.specs.Parts.{made};
 ghost use Rattle.wat_tokens.specs.Reads.{Reads, ReadsAt};
 ghost use Rattle.wat_tokens.specs.Tests.{begins_lparen};
 ghost use Rattle.wat_tokens.specs.Views.{owning, no_items};
-ghost use Rattle.wat_types.specs.Reference.{seen_ref};
-ghost use Rattle.wat_expr.specs.Expression.{Expr, seen_expression, bare_expression, SpansAre};
-ghost use Rattle.wat_fields.specs.Payload.{seen_payload, bare_payload, item_list, index_list};
+ghost use Rattle.wat_types.specs.Reference.{ref_view};
+ghost use Rattle.wat_expr.specs.Expression.{Expr, expression_view, bare_expression, SpansAre};
+ghost use Rattle.wat_fields.specs.Payload.{payload_view, bare_payload, item_list, index_list};
 ghost use Rattle.wat_fields.specs.Payload.{ref_func_of, is_funcref, of_type, listed, typed_elems};
 ghost use Rattle.wat_fields.specs.Payload.{payload, payload_or_indices};
 ghost use Rattle.wat_fields.specs.Item.{written_or_folded, item};
@@ -46,7 +46,7 @@ pub(crate) fn read_written_or_folded<'a>(
     parser: &mut Parser<'a>,
     word: &str,
 ) -> Result<Expression<'a>>
-    ensures reads { ReadsAt turns_too (owning seen_expression bare_expression) (written_or_folded word.now) result parser.old parser.new }
+    ensures reads { ReadsAt turns_too (owning expression_view bare_expression) (written_or_folded word.now) result parser.old parser.new }
     ensures spans { IfOk result (λ e. SpansAre parser.old.tracks e) }
 {
     if !parser.second_is(word) {
@@ -63,9 +63,9 @@ pub(crate) fn read_written_or_folded<'a>(
 struct Item;
 
 impl<'a> Spanned<'a, Expression<'a>> for Item {
-    ghost Seen = { Expr };
+    ghost View = { Expr };
 
-    ghost view = { owning seen_expression bare_expression };
+    ghost view = { owning expression_view bare_expression };
 
     ghost cost = { turns_too };
 
@@ -80,9 +80,9 @@ impl<'a> Spanned<'a, Expression<'a>> for Item {
 }
 
 /// Items, to the end.
-#[tactic(auto, using(crate::specs::Laws::Payload::item_eats), unfolding(crate::specs::Payload::item_list))]
+#[tactic(auto, using(crate::specs::Laws::Payload::item_consumes), unfolding(crate::specs::Payload::item_list))]
 fn read_items<'a>(parser: &mut Parser<'a>) -> Result<Vec<Expression<'a>>>
-    ensures reads { ReadsAt turns_too (owning (λ v. map seen_expression v.items) no_items) item_list result parser.old parser.new }
+    ensures reads { ReadsAt turns_too (owning (λ v. map expression_view v.items) no_items) item_list result parser.old parser.new }
     ensures spans { IfOk result (λ v. All (λ e. SpansAre parser.old.tracks e) v.items) }
 {
     all_spanned::<_, Item>(parser)
@@ -91,14 +91,14 @@ fn read_items<'a>(parser: &mut Parser<'a>) -> Result<Vec<Expression<'a>>>
 /// Indices, to the end.
 #[tactic(auto, unfolding(crate::specs::Payload::index_list))]
 fn read_indices<'a>(parser: &mut Parser<'a>) -> Result<Vec<Index<'a>>>
-    ensures reads { Reads (owning (λ v. map seen_index v.items) no_items) index_list result parser.old parser.new }
+    ensures reads { Reads (owning (λ v. map index_view v.items) no_items) index_list result parser.old parser.new }
 {
     all_to_end::<Index>(parser)
 }
 
 /// The one instruction `ref.func` of an index.
 fn ref_func_at<'a>(alloc: Global, index: Index<'a>) -> Result<Expression<'a>>
-    ensures value { IfOk result (λ e. seen_expression e ≡ ref_func_of (seen_index index.entry)) }
+    ensures value { IfOk result (λ e. expression_view e ≡ ref_func_of (index_view index.entry)) }
     ensures spans { IfOk result (λ e. SpansAre false e) }
     ensures memory { IfErr result (λ e. e.fault ≡ Fault.Memory) }
 {
@@ -109,9 +109,9 @@ fn ref_func_at<'a>(alloc: Global, index: Index<'a>) -> Result<Expression<'a>>
 struct RefFunc;
 
 impl<'a> Spanned<'a, Expression<'a>> for RefFunc {
-    ghost Seen = { Expr };
+    ghost View = { Expr };
 
-    ghost view = { owning seen_expression bare_expression };
+    ghost view = { owning expression_view bare_expression };
 
     ghost cost = { tokens_alone };
 
@@ -127,9 +127,9 @@ impl<'a> Spanned<'a, Expression<'a>> for RefFunc {
 }
 
 /// Indices, to the end, each as `ref.func` of it, as a payload of the type.
-#[tactic(auto, using(crate::specs::Laws::RefFuncs::ref_func_eats), unfolding(crate::specs::RefFuncs::ref_funcs_of, crate::specs::RefFuncs::ref_funcs))]
+#[tactic(auto, using(crate::specs::Laws::RefFuncs::ref_func_consumes), unfolding(crate::specs::RefFuncs::ref_funcs_of, crate::specs::RefFuncs::ref_funcs))]
 fn read_ref_funcs<'a>(parser: &mut Parser<'a>, ty: RefType<'a>) -> Result<ElemPayload<'a>>
-    ensures reads { Reads (owning seen_payload bare_payload) (ref_funcs_of (seen_ref ty.entry)) result parser.old parser.new }
+    ensures reads { Reads (owning payload_view bare_payload) (ref_funcs_of (ref_view ty.entry)) result parser.old parser.new }
     ensures spans { IfOk result (λ p. PayloadSpansAre false p) }
 {
     let exprs = all_spanned::<_, RefFunc>(parser)?;
@@ -139,7 +139,7 @@ fn read_ref_funcs<'a>(parser: &mut Parser<'a>, ty: RefType<'a>) -> Result<ElemPa
 /// Indices, to the end, as they are.
 #[tactic(auto, unfolding(crate::specs::RefFuncs::plain_indices))]
 fn read_plain_indices<'a>(parser: &mut Parser<'a>) -> Result<ElemPayload<'a>>
-    ensures reads { Reads (owning seen_payload bare_payload) plain_indices result parser.old parser.new }
+    ensures reads { Reads (owning payload_view bare_payload) plain_indices result parser.old parser.new }
     ensures spans { IfOk result (λ p. PayloadSpansAre false p) }
 {
     read_indices(parser).map(ElemPayload::Indices)
@@ -147,7 +147,7 @@ fn read_plain_indices<'a>(parser: &mut Parser<'a>) -> Result<ElemPayload<'a>>
 
 /// Whether it is the type that `funcref` is.
 fn is_funcref(ty: RefType<'_>) -> bool
-    ensures { result ≡ is_funcref (seen_ref ty.entry) }
+    ensures { result ≡ is_funcref (ref_view ty.entry) }
 {
     match ty.heap {
         HeapType::Abstract {
@@ -161,7 +161,7 @@ fn is_funcref(ty: RefType<'_>) -> bool
 /// Indices, to the end, as a payload of the type.
 #[tactic(auto, using(crate::proofs::RefFuncs::indices_are, crate::proofs::RefFuncs::ref_funcs_are))]
 fn read_indices_of<'a>(parser: &mut Parser<'a>, ty: RefType<'a>) -> Result<ElemPayload<'a>>
-    ensures reads { Reads (owning seen_payload bare_payload) (indices_of (seen_ref ty.entry)) result parser.old parser.new }
+    ensures reads { Reads (owning payload_view bare_payload) (indices_of (ref_view ty.entry)) result parser.old parser.new }
     ensures spans { IfOk result (λ p. PayloadSpansAre false p) }
 {
     if is_funcref(ty) {
@@ -170,11 +170,11 @@ fn read_indices_of<'a>(parser: &mut Parser<'a>, ty: RefType<'a>) -> Result<ElemP
     read_ref_funcs(parser, ty)
 }
 
-/// Items where `(` stands in front, else indices; as a payload of the type. An index is there as
-/// itself where the type is `funcref`, and else as an expression of the one instruction `ref.func`.
+/// Items where `(` is in front, else indices; as a payload of the type. An index is there as itself
+/// where the type is `funcref`, and else as an expression of the one instruction `ref.func`.
 #[tactic(auto, unfolding(crate::specs::Payload::listed, crate::specs::RefFuncs::indices_of))]
 pub(crate) fn read_listed<'a>(parser: &mut Parser<'a>, ty: RefType<'a>) -> Result<ElemPayload<'a>>
-    ensures reads { ReadsAt turns_too (owning seen_payload bare_payload) (made (of_type (seen_ref ty.entry)) listed) result parser.old parser.new }
+    ensures reads { ReadsAt turns_too (owning payload_view bare_payload) (made (of_type (ref_view ty.entry)) listed) result parser.old parser.new }
     ensures spans { IfOk result (λ p. PayloadSpansAre (begins_lparen parser.old.left
         && parser.old.tracks) p) }
 {
@@ -188,7 +188,7 @@ pub(crate) fn read_listed<'a>(parser: &mut Parser<'a>, ty: RefType<'a>) -> Resul
 /// A type, and items to the end.
 #[tactic(auto, unfolding(crate::specs::Payload::typed_elems))]
 fn read_typed_items<'a>(parser: &mut Parser<'a>) -> Result<ElemPayload<'a>>
-    ensures reads { ReadsAt turns_too (owning seen_payload bare_payload) typed_elems result parser.old parser.new }
+    ensures reads { ReadsAt turns_too (owning payload_view bare_payload) typed_elems result parser.old parser.new }
     ensures spans { IfOk result (λ p. PayloadSpansAre parser.old.tracks p) }
 {
     let ty = RefType::parse(parser)?;
@@ -199,7 +199,7 @@ fn read_typed_items<'a>(parser: &mut Parser<'a>) -> Result<ElemPayload<'a>>
 /// `func` and indices, or a type and items.
 #[tactic(auto, unfolding(crate::specs::Payload::payload))]
 pub(crate) fn read_payload<'a>(parser: &mut Parser<'a>) -> Result<ElemPayload<'a>>
-    ensures reads { ReadsAt turns_too (owning seen_payload bare_payload) payload result parser.old parser.new }
+    ensures reads { ReadsAt turns_too (owning payload_view bare_payload) payload result parser.old parser.new }
     ensures spans { IfOk result (λ p. PayloadSpansAre parser.old.tracks p) }
 {
     if parser.next_is("func") {
@@ -212,7 +212,7 @@ pub(crate) fn read_payload<'a>(parser: &mut Parser<'a>) -> Result<ElemPayload<'a
 /// `func` and indices, a type and items, or indices alone.
 #[tactic(auto, unfolding(crate::specs::Payload::payload_or_indices))]
 pub(crate) fn read_payload_or_indices<'a>(parser: &mut Parser<'a>) -> Result<ElemPayload<'a>>
-    ensures reads { ReadsAt turns_too (owning seen_payload bare_payload) payload_or_indices result parser.old parser.new }
+    ensures reads { ReadsAt turns_too (owning payload_view bare_payload) payload_or_indices result parser.old parser.new }
     ensures spans { IfOk result (λ p. PayloadSpansAre parser.old.tracks p) }
 {
     if parser.next_is("func") {

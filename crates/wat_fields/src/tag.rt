@@ -1,11 +1,11 @@
 //! Tags.
 
 ghost use Rattle.std.specs.Prelude.{◌≡◌};
-ghost use Rattle.wat_tokens.specs.Views.{owning, seen_option};
-ghost use Rattle.wat_links.specs.Import.{seen_inline_import};
-ghost use Rattle.wat_fields.specs.Tag.{TagTy, seen_tag_kind, seen_tag, bare_tag, tag};
+ghost use Rattle.wat_tokens.specs.Views.{owning, option_view};
+ghost use Rattle.wat_links.specs.Import.{inline_import_view};
+ghost use Rattle.wat_fields.specs.Tag.{TagTy, tag_kind_view, tag_view, bare_tag, tag};
 
-use wat_links::{Head, InlineExport, InlineImport};
+use wat_links::{FieldHead, InlineExport, InlineImport};
 use wat_tokens::{Fault, Id, NameAnnotation, Parse, Parser, Result, Span};
 use wat_types::TagType;
 
@@ -37,7 +37,7 @@ pub enum TagKind<'a> {
 
 /// How a tag is defined, that may have an import in line.
 fn kind_of(import: Option<InlineImport<'_>>) -> TagKind<'_>
-    ensures { seen_tag_kind result ≡ seen_option seen_inline_import import.entry }
+    ensures { tag_kind_view result ≡ option_view inline_import_view import.entry }
 {
     match import {
         Some(import) => TagKind::Import(import),
@@ -48,16 +48,16 @@ fn kind_of(import: Option<InlineImport<'_>>) -> TagKind<'_>
 /// `tag`, a head, an import in line, where `(`, `import`, two strings and `)` come next, and a
 /// [`TagType`]. Another token in front than the word is refused with Unexpected, at the token.
 impl<'a> Parse<'a> for Tag<'a> {
-    ghost Seen = { TagTy };
+    ghost View = { TagTy };
 
-    ghost view = { owning seen_tag bare_tag };
+    ghost view = { owning tag_view bare_tag };
 
     ghost grammar = { tag };
 
     #[tactic(auto, unfolding(crate::specs::Tag::tag))]
     fn parse(parser: &mut Parser<'a>) -> Result<Self> {
         let span = parser.keyword("tag")?;
-        let Head { id, name, exports } = Head::parse(parser)?;
+        let FieldHead { id, name, exports } = FieldHead::parse(parser)?;
         let import = Option::<InlineImport>::parse(parser)?;
         let ty = TagType::parse(parser)?;
         Ok(Tag {

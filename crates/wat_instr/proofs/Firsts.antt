@@ -36,11 +36,11 @@ use Rattle.wat_operands.specs.CatchClause.{catch_clause}
 use Rattle.wat_operands.specs.Handlers.{resume_table, resume, resume_throw}
 use Rattle.wat_operands.specs.Select.{result_follows, select_types}
 use Rattle.wat_operands.specs.ResultGroup.{result_group}
-use Rattle.wat_operands.specs.Laws.Select.{result_group_eats}
+use Rattle.wat_operands.specs.Laws.Select.{result_group_consumes}
 use Rattle.wat_mnemonics.specs.Access.{access_align, atomic_access_align, rmw_access_align, lane_access_align}
-use Rattle.wat_mnemonics.specs.Heads.{head_word}
-use Rattle.wat_mnemonics.specs.declared.head.Head.{Head}
-use Rattle.wat_mnemonics.specs.declared.head.Head.TheVariants as head
+use Rattle.wat_mnemonics.specs.Heads.{mnemonic_word}
+use Rattle.wat_mnemonics.specs.declared.mnemonic.Mnemonic.{Mnemonic}
+use Rattle.wat_mnemonics.specs.declared.mnemonic.Mnemonic.TheVariants as head
 use Rattle.wat_instr.specs.Follows.{MayFollow}
 use Rattle.wat_instr.specs.Operand.{operand}
 use Rattle.wat_instr.specs.Instruction.{Instr, instruction}
@@ -264,7 +264,7 @@ cast_fresh v c r s = index_first (seq ref_type ref_type) s.0 c r s.1
 select_fresh : BeginsFresh select_types
 unfolding select_types
 select_fresh =
-    maybe result_follows (joined result_follows result_group result_group_eats) (λ v c r s. some result_follows result_group (λ v c r s. group s.1) s.0 c r s.1)
+    maybe result_follows (joined result_follows result_group result_group_consumes) (λ v c r s. some result_follows result_group (λ v c r s. group s.1) s.0 c r s.1)
 
 try_fresh : BeginsFresh try_table
 unfolding try_table catch_clause
@@ -282,7 +282,7 @@ throw_fresh v c r s = index_first (seq index resume_table) s.0 c r s.1
 
 -- ---- every operand
 
-operand_fresh : (h : Head) → BeginsFresh (operand h)
+operand_fresh : (h : Mnemonic) → BeginsFresh (operand h)
 unfolding operand
 operand_fresh (head.Block op) v c r s = block_fresh s.0 c r s.1
 operand_fresh (head.Label op) v c r s = maybe begins_id identifier (λ v c r s. one as_id (refl, refl, refl) s) s.0 c r s.1
@@ -340,7 +340,7 @@ pub goes_before : (v : Instr) (c r s : List Tok) → instruction.spells v c r �
 unfolding instruction
 goes_before v c r s h m =
     let d = h.2 in
-    let is : c ≡ Keyword (head_word h.0) ∷ d = h.3 ∙ ap (λ (u : List Tok). u ++ d) h.4 in
+    let is : c ≡ Keyword (mnemonic_word h.0) ∷ d = h.3 ∙ ap (λ (u : List Tok). u ++ d) h.4 in
     let f = may_follow s m in
     let b = both d s (operand_fresh h.0 h.5.0 d r h.5.1) (fresh f.not_type f.not_param f.not_result) in
     subst MayFollow (sym (ap (λ (u : List Tok). u ++ s) is)) (inl (h.0, d ++ s, refl), (b.not_type, b.not_param, b.not_result))

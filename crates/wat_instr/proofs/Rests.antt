@@ -1,7 +1,8 @@
--- Two rests that an instruction's tests don't tell apart: one front, and then anything in the one, and in the other what may follow.
+-- Two rests that an instruction's tests don't tell apart: one prefix, and then anything in the one,
+-- and in the other what may follow.
 use Rattle.std.proofs.Common.{◌≡◌, ℕ, ◌+◌, ◌≤◌, false, is_some, List, [], ◌∷◌, ◌++◌, length, codes, bytes_eq, arith, length-append}
 use Rattle.wat_tokens.specs.Token.{Tok, RParen}
-use Rattle.wat_tokens.specs.Parens.{opens, closes, AreLevel}
+use Rattle.wat_tokens.specs.Parens.{opens, closes, AreBalanced}
 use Rattle.wat_tokens.specs.Laws.Parens.{opens-append, closes-append}
 use Rattle.wat_tokens.specs.Tests.{begins_word, begins_group, begins_annotation, begins_id, begins_integer}
 use Rattle.wat_tokens.specs.Index.{begins_index}
@@ -37,7 +38,8 @@ pub record Follows (t : List Tok) : Type 0 where
   pub no_annotation : (n : List ℕ) → begins_annotation n t ≡ false
   pub then : NoTypeSecond t
 
--- t and u have a front in common, of n tokens or more, which opens no group that it leaves open; behind it, u goes on with what may follow
+-- t and u have a prefix in common, of n tokens or more, which opens no group that it leaves open;
+-- behind it, u goes on with what may follow
 abbrev pub Alike : ℕ → List Tok → List Tok → Type 0
 Alike n t u = Fronted (λ e r s. (n ≤ length e) × (opens e ≤ closes e) × Follows s) t u
 
@@ -49,9 +51,9 @@ pub alike_fewer : (m n : ℕ) (t u : List Tok) → m ≤ n → Alike n t u → A
 alike_fewer m n t u le a = fronted_behind [] t u a (omega (arith, le, a.fits.0), a.fits.1, a.fits.2)
 
 -- behind k tokens more
-pub alike_behind : (c t u : List Tok) (k n : ℕ) → k ≤ length c → AreLevel c → Alike n t u → Alike (k + n) (c ++ t) (c ++ u)
-alike_behind c t u k n le level a =
-    fronted_behind c t u a (omega (arith, length-append c a.front, le, a.fits.0), omega (arith, opens-append c a.front, closes-append c a.front, level, a.fits.1), a.fits.2)
+pub alike_behind : (c t u : List Tok) (k n : ℕ) → k ≤ length c → AreBalanced c → Alike n t u → Alike (k + n) (c ++ t) (c ++ u)
+alike_behind c t u k n le balanced a =
+    fronted_behind c t u a (omega (arith, length-append c a.front, le, a.fits.0), omega (arith, opens-append c a.front, closes-append c a.front, balanced, a.fits.1), a.fits.2)
 
 -- behind what closes a group
 pub alike_shut : (t u : List Tok) (n : ℕ) → Alike n t u → Alike (1 + n) (RParen ∷ t) (RParen ∷ u)

@@ -14,7 +14,8 @@ use Rattle.wat_instr.proofs.Rests.{Follows, Alike, following}
 
 -- ---- by how many tokens a test looks at
 
--- where it fails behind a front of n tokens or more, it fails with what may follow in place of the rest
+-- where it fails behind a prefix of n tokens or more, it fails with what may follow in place of the
+-- rest
 abbrev StaysFalse : ℕ → (List Tok → Bool) → Type 0
 StaysFalse n test = (e r s : List Tok) → n ≤ length e → opens e ≤ closes e → Follows s → test (e ++ r) ≡ false → test (e ++ s) ≡ false
 

@@ -1,36 +1,36 @@
 -- Instructions.
 use Rattle.std.specs.Prelude.{ℕ, Bool, ◌||◌, ◌==◌, None}
-use Rattle.wat_tokens.specs.Index.{name_of, seen_index}
+use Rattle.wat_tokens.specs.Index.{name_of, index_view}
 use Rattle.wat_tokens.specs.Production.{Production}
 use Rattle.wat_tokens.specs.Parts.{made}
-use Rattle.wat_types.specs.Heap.{seen_heap}
-use Rattle.wat_operands.specs.Aggregates.{seen_struct_access, seen_cont_bind, seen_switch}
-use Rattle.wat_operands.specs.Aggregates.{seen_array_fill, seen_array_copy, seen_array_init}
-use Rattle.wat_operands.specs.Aggregates.{seen_array_new_fixed, seen_array_new_data}
-use Rattle.wat_operands.specs.Aggregates.{seen_array_new_elem}
-use Rattle.wat_operands.specs.Branch.{seen_br_table}
-use Rattle.wat_operands.specs.Lanes.{seen_lane_access}
-use Rattle.wat_operands.specs.Memory.{seen_mem_arg}
-use Rattle.wat_operands.specs.Ordering.{seen_ordered}
-use Rattle.wat_operands.specs.Tables.{seen_table_arg, seen_memory_arg, seen_table_init}
-use Rattle.wat_operands.specs.Tables.{seen_memory_init, seen_table_copy, seen_memory_copy}
-use Rattle.wat_operands.specs.Block.{seen_block}
-use Rattle.wat_operands.specs.Call.{seen_call}
-use Rattle.wat_operands.specs.Casts.{seen_test, seen_cast, seen_cast_desc_eq, seen_branch}
-use Rattle.wat_operands.specs.Casts.{seen_branch_fail, seen_branch_desc_eq}
-use Rattle.wat_operands.specs.Casts.{seen_branch_desc_eq_fail}
-use Rattle.wat_operands.specs.Catches.{seen_try}
-use Rattle.wat_operands.specs.Handlers.{seen_resume, seen_resume_throw, seen_resume_throw_ref}
-use Rattle.wat_operands.specs.Select.{seen_select}
-use Rattle.wat_mnemonics.specs.Heads.{head_row}
+use Rattle.wat_types.specs.Heap.{heap_view}
+use Rattle.wat_operands.specs.Aggregates.{struct_access_view, cont_bind_view, switch_view}
+use Rattle.wat_operands.specs.Aggregates.{array_fill_view, array_copy_view, array_init_view}
+use Rattle.wat_operands.specs.Aggregates.{array_new_fixed_view, array_new_data_view}
+use Rattle.wat_operands.specs.Aggregates.{array_new_elem_view}
+use Rattle.wat_operands.specs.Branch.{br_table_view}
+use Rattle.wat_operands.specs.Lanes.{lane_access_view}
+use Rattle.wat_operands.specs.Memory.{mem_arg_view}
+use Rattle.wat_operands.specs.Ordering.{ordered_view}
+use Rattle.wat_operands.specs.Tables.{table_arg_view, memory_arg_view, table_init_view}
+use Rattle.wat_operands.specs.Tables.{memory_init_view, table_copy_view, memory_copy_view}
+use Rattle.wat_operands.specs.Block.{block_view}
+use Rattle.wat_operands.specs.Call.{call_view}
+use Rattle.wat_operands.specs.Casts.{test_view, cast_view, cast_desc_eq_view, branch_view}
+use Rattle.wat_operands.specs.Casts.{branch_fail_view, branch_desc_eq_view}
+use Rattle.wat_operands.specs.Casts.{branch_desc_eq_fail_view}
+use Rattle.wat_operands.specs.Catches.{try_view}
+use Rattle.wat_operands.specs.Handlers.{resume_view, resume_throw_view, resume_throw_ref_view}
+use Rattle.wat_operands.specs.Select.{select_view}
+use Rattle.wat_mnemonics.specs.Heads.{mnemonic_row}
 use Rattle.wat_mnemonics.specs.Mnemonic.{mnemonic}
-use Rattle.wat_mnemonics.specs.declared.head.Head.{Head}
-use Rattle.wat_mnemonics.specs.declared.head.Head.TheVariants as head
+use Rattle.wat_mnemonics.specs.declared.mnemonic.Mnemonic.{Mnemonic}
+use Rattle.wat_mnemonics.specs.declared.mnemonic.Mnemonic.TheVariants as head
 use Rattle.wat_mnemonics.specs.declared.indexed.BlockOp.TheVariants as block
 use Rattle.wat_mnemonics.specs.declared.indexed.IndexedOp.TheVariants as indexed
 use Rattle.wat_mnemonics.specs.declared.indexed.LabelOp.TheVariants as label
 use Rattle.wat_tokens.specs.Followed.{followed}
-use Rattle.wat_tokens.specs.Views.{seen_option}
+use Rattle.wat_tokens.specs.Views.{option_view}
 use Rattle.wat_instr.specs.Operand.{Operand, bare_operand, operand}
 use Rattle.wat_instr.specs.Operand as operands
 use Rattle.wat_instr.specs.declared.instruction.InstructionOf.{InstructionOf}
@@ -63,7 +63,7 @@ Instruction =
 abbrev pub head_in : {BlockType Id Index CallIndirect MemArg SelectTypes HeapType RefTest RefCast
     BrOnCast BrOnCastFail TryTable RefCastDescEq BrOnCastDescEq BrOnCastDescEqFail : Type 0}
     → InstructionOf BlockType Id Index CallIndirect MemArg SelectTypes HeapType RefTest RefCast
-    BrOnCast BrOnCastFail TryTable RefCastDescEq BrOnCastDescEq BrOnCastDescEqFail → Head
+    BrOnCast BrOnCastFail TryTable RefCastDescEq BrOnCastDescEq BrOnCastDescEqFail → Mnemonic
 head_in (code.Block op x) = head.Block op
 head_in (code.Label op x) = head.Label op
 head_in (code.Scalar op) = head.Scalar op
@@ -117,67 +117,67 @@ head_in (code.br_on_cast_desc_eq_fail x) = head.br_on_cast_desc_eq_fail
 
 -- the operand, without places
 abbrev pub operand_in : Instruction → Operand
-operand_in (code.Block op x) = operands.block (seen_block x.value)
-operand_in (code.Label op x) = operands.label (seen_option name_of x)
+operand_in (code.Block op x) = operands.block (block_view x.value)
+operand_in (code.Label op x) = operands.label (option_view name_of x)
 operand_in (code.Scalar op) = operands.nothing
-operand_in (code.Indexed op x) = operands.one_index (seen_index x)
-operand_in (code.CallIndirect op x) = operands.call (seen_call x.value)
-operand_in (code.Table op x) = operands.one_index (seen_table_arg x)
-operand_in (code.Access op x) = operands.access (seen_mem_arg x)
-operand_in (code.Memory op x) = operands.one_index (seen_memory_arg x)
-operand_in (code.Struct op x) = operands.two_indices (seen_struct_access x)
-operand_in (code.ArrayInit op x) = operands.two_indices (seen_array_init x)
-operand_in (code.AtomicAccess op x) = operands.access (seen_mem_arg x)
-operand_in (code.RmwAccess op x) = operands.access (seen_mem_arg x)
-operand_in (code.OrderedIndex op x) = operands.ordered_index (seen_ordered seen_index x)
-operand_in (code.OrderedTable op x) = operands.ordered_index (seen_ordered seen_table_arg x)
-operand_in (code.OrderedStruct op x) = operands.ordered_indices (seen_ordered seen_struct_access x)
-operand_in (code.LaneAccess op x) = operands.lane_access (seen_lane_access x)
+operand_in (code.Indexed op x) = operands.one_index (index_view x)
+operand_in (code.CallIndirect op x) = operands.call (call_view x.value)
+operand_in (code.Table op x) = operands.one_index (table_arg_view x)
+operand_in (code.Access op x) = operands.access (mem_arg_view x)
+operand_in (code.Memory op x) = operands.one_index (memory_arg_view x)
+operand_in (code.Struct op x) = operands.two_indices (struct_access_view x)
+operand_in (code.ArrayInit op x) = operands.two_indices (array_init_view x)
+operand_in (code.AtomicAccess op x) = operands.access (mem_arg_view x)
+operand_in (code.RmwAccess op x) = operands.access (mem_arg_view x)
+operand_in (code.OrderedIndex op x) = operands.ordered_index (ordered_view index_view x)
+operand_in (code.OrderedTable op x) = operands.ordered_index (ordered_view table_arg_view x)
+operand_in (code.OrderedStruct op x) = operands.ordered_indices (ordered_view struct_access_view x)
+operand_in (code.LaneAccess op x) = operands.lane_access (lane_access_view x)
 operand_in (code.Lane op x) = operands.lane x
 operand_in (code.Vector op) = operands.nothing
-operand_in (code.br_table x) = operands.branches (seen_br_table x)
-operand_in (code.select x) = operands.chosen (seen_select x)
-operand_in (code.memory_init x) = operands.two_indices (seen_memory_init x)
-operand_in (code.memory_copy x) = operands.two_indices (seen_memory_copy x)
-operand_in (code.table_init x) = operands.two_indices (seen_table_init x)
-operand_in (code.table_copy x) = operands.two_indices (seen_table_copy x)
-operand_in (code.ref_null x) = operands.heap (seen_heap x)
-operand_in (code.array_new_fixed x) = operands.sized (seen_array_new_fixed x)
-operand_in (code.array_new_data x) = operands.two_indices (seen_array_new_data x)
-operand_in (code.array_new_elem x) = operands.two_indices (seen_array_new_elem x)
-operand_in (code.array_fill x) = operands.one_index (seen_array_fill x)
-operand_in (code.array_copy x) = operands.two_indices (seen_array_copy x)
-operand_in (code.ref_test x) = operands.reference (seen_test x)
-operand_in (code.ref_cast x) = operands.reference (seen_cast x)
-operand_in (code.br_on_cast x) = operands.cast (seen_branch x.value)
-operand_in (code.br_on_cast_fail x) = operands.cast (seen_branch_fail x.value)
+operand_in (code.br_table x) = operands.branches (br_table_view x)
+operand_in (code.select x) = operands.chosen (select_view x)
+operand_in (code.memory_init x) = operands.two_indices (memory_init_view x)
+operand_in (code.memory_copy x) = operands.two_indices (memory_copy_view x)
+operand_in (code.table_init x) = operands.two_indices (table_init_view x)
+operand_in (code.table_copy x) = operands.two_indices (table_copy_view x)
+operand_in (code.ref_null x) = operands.heap (heap_view x)
+operand_in (code.array_new_fixed x) = operands.sized (array_new_fixed_view x)
+operand_in (code.array_new_data x) = operands.two_indices (array_new_data_view x)
+operand_in (code.array_new_elem x) = operands.two_indices (array_new_elem_view x)
+operand_in (code.array_fill x) = operands.one_index (array_fill_view x)
+operand_in (code.array_copy x) = operands.two_indices (array_copy_view x)
+operand_in (code.ref_test x) = operands.reference (test_view x)
+operand_in (code.ref_cast x) = operands.reference (cast_view x)
+operand_in (code.br_on_cast x) = operands.cast (branch_view x.value)
+operand_in (code.br_on_cast_fail x) = operands.cast (branch_fail_view x.value)
 operand_in (code.i32_const x) = operands.integer x
 operand_in (code.i64_const x) = operands.integer x
 operand_in (code.f32_const x) = operands.float (x.bits)
 operand_in (code.f64_const x) = operands.float (x.bits)
-operand_in (code.atomic_fence x) = operands.fence (seen_option (λ o. o) x)
+operand_in (code.atomic_fence x) = operands.fence (option_view (λ o. o) x)
 operand_in (code.v128_const x) = operands.vector x
 operand_in (code.i8x16_shuffle x) = operands.shuffled x
-operand_in (code.try_table x) = operands.caught (seen_try x)
-operand_in (code.cont_bind x) = operands.two_indices (seen_cont_bind x)
-operand_in (code.resume x) = operands.resumed (seen_resume x)
-operand_in (code.resume_throw x) = operands.thrown (seen_resume_throw x)
-operand_in (code.resume_throw_ref x) = operands.resumed (seen_resume_throw_ref x)
-operand_in (code.switch x) = operands.two_indices (seen_switch x)
-operand_in (code.ref_cast_desc_eq x) = operands.reference (seen_cast_desc_eq x)
-operand_in (code.br_on_cast_desc_eq x) = operands.cast (seen_branch_desc_eq x.value)
-operand_in (code.br_on_cast_desc_eq_fail x) = operands.cast (seen_branch_desc_eq_fail x.value)
+operand_in (code.try_table x) = operands.caught (try_view x)
+operand_in (code.cont_bind x) = operands.two_indices (cont_bind_view x)
+operand_in (code.resume x) = operands.resumed (resume_view x)
+operand_in (code.resume_throw x) = operands.thrown (resume_throw_view x)
+operand_in (code.resume_throw_ref x) = operands.resumed (resume_throw_ref_view x)
+operand_in (code.switch x) = operands.two_indices (switch_view x)
+operand_in (code.ref_cast_desc_eq x) = operands.reference (cast_desc_eq_view x)
+operand_in (code.br_on_cast_desc_eq x) = operands.cast (branch_desc_eq_view x.value)
+operand_in (code.br_on_cast_desc_eq_fail x) = operands.cast (branch_desc_eq_fail_view x.value)
 
 -- an instruction, without places: the number of its row, and its operand
 pub record Instr : Type 0 where
   pub row : ℕ
   pub operand : Operand
 
-abbrev pub instr_of : Head → Operand → Instr
-instr_of h o = record { row = head_row h; operand = o }
+abbrev pub instr_of : Mnemonic → Operand → Instr
+instr_of h o = record { row = mnemonic_row h; operand = o }
 
-abbrev pub seen_instruction : Instruction → Instr
-seen_instruction i = instr_of (head_in i) (operand_in i)
+abbrev pub instruction_view : Instruction → Instr
+instruction_view i = instr_of (head_in i) (operand_in i)
 
 -- its operand holds no memory
 abbrev pub bare_instruction : Instr → Bool
@@ -186,7 +186,7 @@ bare_instruction i = bare_operand i.operand
 -- ---- the grammar
 
 -- an instruction, behind its word
-abbrev pub behind_word : Head → Production Instr
+abbrev pub behind_word : Mnemonic → Production Instr
 behind_word h = made (instr_of h) (operand h)
 
 -- the row's word, then what its operand is spelled as
@@ -198,16 +198,16 @@ instruction = followed mnemonic behind_word
 -- `block`, `loop` and `try_table`
 abbrev pub is_block : ℕ → Bool
 is_block n =
-    (n == head_row (head.Block block.block) || n == head_row (head.Block block.loop_))
-    || n == head_row head.try_table
+    (n == mnemonic_row (head.Block block.block) || n == mnemonic_row (head.Block block.loop_))
+    || n == mnemonic_row head.try_table
 
 -- `if`
 abbrev pub is_if : ℕ → Bool
-is_if n = n == head_row (head.Block block.if_)
+is_if n = n == mnemonic_row (head.Block block.if_)
 
 -- `br_if`
 abbrev pub is_br_if : ℕ → Bool
-is_br_if n = n == head_row (head.Indexed indexed.br_if)
+is_br_if n = n == mnemonic_row (head.Indexed indexed.br_if)
 
 -- `else` without a label
 abbrev pub else_instr : Instr

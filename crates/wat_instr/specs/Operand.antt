@@ -31,8 +31,8 @@ use Rattle.wat_operands.specs.Handlers.{resume_throw}
 use Rattle.wat_operands.specs.Select.{bare_select, select_types}
 use Rattle.wat_mnemonics.specs.Access.{access_align, atomic_access_align, rmw_access_align}
 use Rattle.wat_mnemonics.specs.Access.{lane_access_align}
-use Rattle.wat_mnemonics.specs.declared.head.Head.{Head}
-use Rattle.wat_mnemonics.specs.declared.head.Head.TheVariants as head
+use Rattle.wat_mnemonics.specs.declared.mnemonic.Mnemonic.{Mnemonic}
+use Rattle.wat_mnemonics.specs.declared.mnemonic.Mnemonic.TheVariants as head
 use Rattle.wat_tokens.specs.Followed.{blank}
 
 -- an operand, without places; boxes by what they hold, vectors by their items
@@ -117,7 +117,7 @@ bare_operand (resumed x) = bare_resume x
 bare_operand (thrown x) = bare_throw x
 
 -- what follows the word of the instruction, as 50 cases
-unfoldable pub operand : Head → Production Operand
+unfoldable pub operand : Mnemonic → Production Operand
 operand (head.Block op) = made block block_type
 operand (head.Label op) = made label (opt begins_id identifier)
 operand (head.Scalar op) = blank nothing

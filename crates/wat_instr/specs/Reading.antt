@@ -4,11 +4,11 @@ use Rattle.wat_tokens.specs.Error.{Error}
 use Rattle.wat_tokens.specs.Reads.{Reads}
 use Rattle.wat_tokens.specs.State.{State}
 use Rattle.wat_tokens.specs.Views.{owning}
-use Rattle.wat_mnemonics.specs.declared.head.Head.{Head}
-use Rattle.wat_instr.specs.Instruction.{Instruction, seen_instruction, bare_instruction}
+use Rattle.wat_mnemonics.specs.declared.mnemonic.Mnemonic.{Mnemonic}
+use Rattle.wat_instr.specs.Instruction.{Instruction, instruction_view, bare_instruction}
 use Rattle.wat_instr.specs.Instruction.{behind_word}
 
 -- it answers the instruction whose word was taken, with the operand that stands in front
-unfoldable pub ReadsOperand : Head → Result Instruction Error → State → State → Type 0
+unfoldable pub ReadsOperand : Mnemonic → Result Instruction Error → State → State → Type 0
 ReadsOperand h r a b =
-    Reads (owning seen_instruction bare_instruction) (behind_word h) r a b
+    Reads (owning instruction_view bare_instruction) (behind_word h) r a b

@@ -2,7 +2,7 @@
 
 ghost use Rattle.wat_tokens.specs.Copies.{Copies};
 ghost use Rattle.wat_tokens.specs.Views.{owning};
-ghost use Rattle.wat_instr.specs.Instruction.{seen_instruction, bare_instruction};
+ghost use Rattle.wat_instr.specs.Instruction.{instruction_view, bare_instruction};
 ghost use Rattle.wat_instr.specs.Same.{SameInstruction};
 ghost use Rattle.wat_instr.specs.declared.instruction.InstructionOf.TheVariants as code;
 
@@ -18,7 +18,7 @@ impl<'a> Instruction<'a> {
     /// The same instruction once more. Memory may be answered where its operand is in a box or has
     /// a list that isn't empty.
     pub fn clone(&self) -> Result<Instruction<'a>>
-        ensures copies { Copies SameInstruction (owning seen_instruction bare_instruction) result
+        ensures copies { Copies SameInstruction (owning instruction_view bare_instruction) result
             self.now }
     {
         let same = match self {
@@ -175,7 +175,7 @@ impl<'a> Instruction<'a> {
 
 /// `block`, `loop`, `if` or `try`, and the type of the block, once more.
 fn clone_block<'a>(op: BlockOp, x: &Box<BlockType<'a>>) -> Result<Instruction<'a>>
-    ensures copies { Copies SameInstruction (owning seen_instruction bare_instruction) result
+    ensures copies { Copies SameInstruction (owning instruction_view bare_instruction) result
         (code.Block op x.now) }
 {
     let same = BlockType::clone(x)?;
@@ -184,7 +184,7 @@ fn clone_block<'a>(op: BlockOp, x: &Box<BlockType<'a>>) -> Result<Instruction<'a
 
 /// `else`, `end` or another instruction that may name a label, once more.
 fn clone_label<'a>(op: LabelOp, x: &Option<Id<'a>>) -> Result<Instruction<'a>>
-    ensures copies { Copies SameInstruction (owning seen_instruction bare_instruction) result
+    ensures copies { Copies SameInstruction (owning instruction_view bare_instruction) result
         (code.Label op x.now) }
 {
     Ok(Instruction::Label(op, *x))
@@ -192,7 +192,7 @@ fn clone_label<'a>(op: LabelOp, x: &Option<Id<'a>>) -> Result<Instruction<'a>>
 
 /// An instruction with an index, once more.
 fn clone_indexed<'a>(op: IndexedOp, x: &Index<'a>) -> Result<Instruction<'a>>
-    ensures copies { Copies SameInstruction (owning seen_instruction bare_instruction) result
+    ensures copies { Copies SameInstruction (owning instruction_view bare_instruction) result
         (code.Indexed op x.now) }
 {
     Ok(Instruction::Indexed(op, *x))
@@ -200,7 +200,7 @@ fn clone_indexed<'a>(op: IndexedOp, x: &Index<'a>) -> Result<Instruction<'a>>
 
 /// An indirect call, once more.
 fn clone_call_indirect<'a>(op: CallIndirectOp, x: &Box<CallIndirect<'a>>) -> Result<Instruction<'a>>
-    ensures copies { Copies SameInstruction (owning seen_instruction bare_instruction) result
+    ensures copies { Copies SameInstruction (owning instruction_view bare_instruction) result
         (code.CallIndirect op x.now) }
 {
     let same = CallIndirect::clone(x)?;
@@ -209,7 +209,7 @@ fn clone_call_indirect<'a>(op: CallIndirectOp, x: &Box<CallIndirect<'a>>) -> Res
 
 /// `br_table`, once more.
 fn clone_br_table<'a>(x: &BrTableIndices<'a>) -> Result<Instruction<'a>>
-    ensures copies { Copies SameInstruction (owning seen_instruction bare_instruction) result
+    ensures copies { Copies SameInstruction (owning instruction_view bare_instruction) result
         (code.br_table x.now) }
 {
     match x.clone() {
@@ -220,7 +220,7 @@ fn clone_br_table<'a>(x: &BrTableIndices<'a>) -> Result<Instruction<'a>>
 
 /// `select`, once more.
 fn clone_select<'a>(x: &SelectTypes<'a>) -> Result<Instruction<'a>>
-    ensures copies { Copies SameInstruction (owning seen_instruction bare_instruction) result
+    ensures copies { Copies SameInstruction (owning instruction_view bare_instruction) result
         (code.select x.now) }
 {
     match x.clone() {
@@ -231,7 +231,7 @@ fn clone_select<'a>(x: &SelectTypes<'a>) -> Result<Instruction<'a>>
 
 /// `br_on_cast`, once more.
 fn clone_br_on_cast<'a>(x: &Box<BrOnCast<'a>>) -> Result<Instruction<'a>>
-    ensures copies { Copies SameInstruction (owning seen_instruction bare_instruction) result
+    ensures copies { Copies SameInstruction (owning instruction_view bare_instruction) result
         (code.br_on_cast x.now) }
 {
     match x.clone() {
@@ -242,7 +242,7 @@ fn clone_br_on_cast<'a>(x: &Box<BrOnCast<'a>>) -> Result<Instruction<'a>>
 
 /// `br_on_cast_fail`, once more.
 fn clone_br_on_cast_fail<'a>(x: &Box<BrOnCastFail<'a>>) -> Result<Instruction<'a>>
-    ensures copies { Copies SameInstruction (owning seen_instruction bare_instruction) result
+    ensures copies { Copies SameInstruction (owning instruction_view bare_instruction) result
         (code.br_on_cast_fail x.now) }
 {
     match x.clone() {
@@ -253,7 +253,7 @@ fn clone_br_on_cast_fail<'a>(x: &Box<BrOnCastFail<'a>>) -> Result<Instruction<'a
 
 /// `try_table`, once more.
 fn clone_try_table<'a>(x: &TryTable<'a>) -> Result<Instruction<'a>>
-    ensures copies { Copies SameInstruction (owning seen_instruction bare_instruction) result
+    ensures copies { Copies SameInstruction (owning instruction_view bare_instruction) result
         (code.try_table x.now) }
 {
     match x.clone() {
@@ -264,7 +264,7 @@ fn clone_try_table<'a>(x: &TryTable<'a>) -> Result<Instruction<'a>>
 
 /// `resume`, once more.
 fn clone_resume<'a>(x: &Resume<'a>) -> Result<Instruction<'a>>
-    ensures copies { Copies SameInstruction (owning seen_instruction bare_instruction) result
+    ensures copies { Copies SameInstruction (owning instruction_view bare_instruction) result
         (code.resume x.now) }
 {
     match x.clone() {
@@ -275,7 +275,7 @@ fn clone_resume<'a>(x: &Resume<'a>) -> Result<Instruction<'a>>
 
 /// `resume_throw`, once more.
 fn clone_resume_throw<'a>(x: &ResumeThrow<'a>) -> Result<Instruction<'a>>
-    ensures copies { Copies SameInstruction (owning seen_instruction bare_instruction) result
+    ensures copies { Copies SameInstruction (owning instruction_view bare_instruction) result
         (code.resume_throw x.now) }
 {
     match x.clone() {
@@ -286,7 +286,7 @@ fn clone_resume_throw<'a>(x: &ResumeThrow<'a>) -> Result<Instruction<'a>>
 
 /// `resume_throw_ref`, once more.
 fn clone_resume_throw_ref<'a>(x: &ResumeThrowRef<'a>) -> Result<Instruction<'a>>
-    ensures copies { Copies SameInstruction (owning seen_instruction bare_instruction) result
+    ensures copies { Copies SameInstruction (owning instruction_view bare_instruction) result
         (code.resume_throw_ref x.now) }
 {
     match x.clone() {
@@ -297,7 +297,7 @@ fn clone_resume_throw_ref<'a>(x: &ResumeThrowRef<'a>) -> Result<Instruction<'a>>
 
 /// `br_on_cast_desc_eq`, once more.
 fn clone_br_on_cast_desc_eq<'a>(x: &Box<BrOnCastDescEq<'a>>) -> Result<Instruction<'a>>
-    ensures copies { Copies SameInstruction (owning seen_instruction bare_instruction) result
+    ensures copies { Copies SameInstruction (owning instruction_view bare_instruction) result
         (code.br_on_cast_desc_eq x.now) }
 {
     match x.clone() {
@@ -308,7 +308,7 @@ fn clone_br_on_cast_desc_eq<'a>(x: &Box<BrOnCastDescEq<'a>>) -> Result<Instructi
 
 /// `br_on_cast_desc_eq_fail`, once more.
 fn clone_br_on_cast_desc_eq_fail<'a>(x: &Box<BrOnCastDescEqFail<'a>>) -> Result<Instruction<'a>>
-    ensures copies { Copies SameInstruction (owning seen_instruction bare_instruction) result
+    ensures copies { Copies SameInstruction (owning instruction_view bare_instruction) result
         (code.br_on_cast_desc_eq_fail x.now) }
 {
     match x.clone() {

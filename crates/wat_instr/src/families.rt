@@ -1,7 +1,7 @@
 //! The operands of instructions that share their kind of operand.
 
 ghost use Rattle.wat_instr.specs.Reading.{ReadsOperand};
-ghost use Rattle.wat_mnemonics.specs.declared.head.Head.TheVariants as head;
+ghost use Rattle.wat_mnemonics.specs.declared.mnemonic.Mnemonic.TheVariants as head;
 
 use crate::instruction::Instruction;
 use wat_mnemonics::{

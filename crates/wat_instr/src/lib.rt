@@ -11,7 +11,7 @@ mod singles;
 
 pub use instruction::{Instruction, InstructionOf};
 pub use wat_mnemonics::{
-    AccessOp, ArrayInitOp, AtomicAccessOp, BlockOp, CallIndirectOp, Head, IndexedOp, LabelOp,
-    LaneAccessOp, LaneOp, MemoryOp, Opcode, OrderedIndexOp, OrderedStructOp, OrderedTableOp,
-    RmwAccessOp, ScalarOp, StructOp, TableOp, VectorOp,
+    AccessOp, ArrayInitOp, AtomicAccessOp, BlockOp, CallIndirectOp, IndexedOp, LabelOp,
+    LaneAccessOp, LaneOp, MemoryOp, Mnemonic, Opcode, OrderedIndexOp, OrderedStructOp,
+    OrderedTableOp, RmwAccessOp, ScalarOp, StructOp, TableOp, VectorOp,
 };

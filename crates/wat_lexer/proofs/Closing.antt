@@ -1,4 +1,4 @@
--- Where groups end, found from the right, and how far each hidden one leaps.
+-- Where groups end, found from the right, and how far each hidden one skips.
 use Rattle.std.specs.Cmp.{first_so}
 use Rattle.std.proofs.Common.{◌≡◌, ℕ, zero, suc, ◌+◌, ◌-◌, ◌<◌, ◌≤◌, List, [], ◌∷◌, ◌++◌, length, drop, get_or, refl, ap, sym, ◌∙◌, arith, add-one, append-nil, length-drop}
 use Rattle.std.specs.Prelude.{Bool, true, false, if◌then◌else◌, Option, Some, None, slice_get, IsSome, MatchOption, ◌↔◌, option_to_list, reverse, ◌&&◌, not}
@@ -7,14 +7,14 @@ use Rattle.std.proofs.lemmas.Option.{slice_get-get_or, slice_get-map}
 use Rattle.std.proofs.Math.ListN.{set, drop_of_length-le}
 use Rattle.std.proofs.Math.Seq.{map-set_same}
 use Rattle.wat_lexer.specs.Token.{Entry, Tok, LParen, RParen, Keyword, Id, Annotation, Integer, String, Reserved, Placed, tokens_of, is_open, is_close, is_annotation}
-use Rattle.wat_lexer.specs.declared.lexeme.Leaps.{Leaps}
-use Rattle.wat_lexer.specs.Sight.{hides, annotated, is_standard, annotation_name, shuts, deeper, behind_group, hidden_at, hidden}
+use Rattle.wat_lexer.specs.declared.lexeme.Skips.{Skips}
+use Rattle.wat_lexer.specs.Sight.{begins_hidden_group, begins_annotation_group, is_standard, annotation_name, shuts, deeper, behind_group, hidden_count_at, hidden_count}
 use Rattle.wat_lexer.specs.Cut.{Unclosed, Closed, FirstUnclosed}
-use Rattle.wat_lexer.specs.View.{entry_tok, toks, placed_of, placed, leap, skip, leaping, no_entry, AreLeaps}
+use Rattle.wat_lexer.specs.View.{entry_tok, toks, placed_of, placed, skip_in_front, skip, skipping, no_entry, AreSkips}
 use Rattle.wat_lexer.specs.Laws.Kinds.{open_is, close_is, tokens_of-placed}
-use Rattle.wat_lexer.proofs.Leaps.{leaps_later}
+use Rattle.wat_lexer.proofs.Skips.{skips_later}
 
--- where only leaps were told, the tokens are the same
+-- where only skips were told, the tokens are the same
 toks_at : (ls before : List Entry) (i : ℕ) → placed ls ≡ placed before → toks (drop i ls) ≡ drop i (tokens_of (placed before))
 toks_at ls before i e = rw (← e, tokens_of-placed ls, drop-map entry_tok i ls)
 
@@ -29,82 +29,82 @@ left None = []
 left (Some q) = q
 
 -- what is hidden of an annotation's group, from a place within it on
-hidden_within : (known : Bool) (r : List Tok) (depth : ℕ) → hidden_at known (Some depth) r + length (left (behind_group depth r)) ≡ length r + hidden known (left (behind_group depth r))
-unfolding behind_group hidden_at hidden
-hidden_within known [] depth = refl
-hidden_within known (x ∷ r) depth = grind (arith, hidden_within known r (deeper x depth))
+hidden_count_within : (known : Bool) (r : List Tok) (depth : ℕ) → hidden_count_at known (Some depth) r + length (left (behind_group depth r)) ≡ length r + hidden_count known (left (behind_group depth r))
+unfolding behind_group hidden_count_at hidden_count
+hidden_count_within known [] depth = refl
+hidden_count_within known (x ∷ r) depth = grind (arith, hidden_count_within known r (deeper x depth))
 
-group_counts : (known : Bool) (ts : List Tok) (i end : ℕ) (x : Tok) → i < end → end ≤ length ts → drop i ts ≡ x ∷ drop (i + 1) ts → left (behind_group 0 (drop (i + 1) ts)) ≡ drop end ts → hides known (drop i ts) ≡ true → hidden known (drop i ts) ≡ (end - i) + hidden known (drop end ts)
-unfolding hidden hidden_at
-group_counts known ts i end x lt le front e h = rw (front, rw front at h) (omega (arith, rw e at (hidden_within known (drop (i + 1) ts) 0), length-drop (i + 1) ts, length-drop end ts))
+group_counts : (known : Bool) (ts : List Tok) (i end : ℕ) (x : Tok) → i < end → end ≤ length ts → drop i ts ≡ x ∷ drop (i + 1) ts → left (behind_group 0 (drop (i + 1) ts)) ≡ drop end ts → begins_hidden_group known (drop i ts) ≡ true → hidden_count known (drop i ts) ≡ (end - i) + hidden_count known (drop end ts)
+unfolding hidden_count hidden_count_at
+group_counts known ts i end x lt le front e h = rw (front, rw front at h) (omega (arith, rw e at (hidden_count_within known (drop (i + 1) ts) 0), length-drop (i + 1) ts, length-drop end ts))
 
 -- LEAPS
 
 -- what is hidden where the five names are known is hidden where none is
-hidden_anyway : (known : Bool) (t : List Tok) → hides known t ≡ true → hides false t ≡ true
-hidden_anyway known t h = rw (first_so (annotated t) (not (known && is_standard (annotation_name t))) h)
+hidden_anyway : (known : Bool) (t : List Tok) → begins_hidden_group known t ≡ true → begins_hidden_group false t ≡ true
+hidden_anyway known t h = rw (first_so (begins_annotation_group t) (not (known && is_standard (annotation_name t))) h)
 
-hides_is : (t : List Tok) → hides false t ≡ true → (n : List ℕ) × (r : List Tok) × (t ≡ LParen ∷ (Annotation n ∷ r))
-hides_is [] h = cc
-hides_is (LParen ∷ Annotation n ∷ r) h = (n, r, refl)
-hides_is (LParen ∷ []) h = cc
-hides_is (LParen ∷ _ ∷ r) h = cc
-hides_is (_ ∷ r) h = cc
+begins_hidden_is : (t : List Tok) → begins_hidden_group false t ≡ true → (n : List ℕ) × (r : List Tok) × (t ≡ LParen ∷ (Annotation n ∷ r))
+begins_hidden_is [] h = cc
+begins_hidden_is (LParen ∷ Annotation n ∷ r) h = (n, r, refl)
+begins_hidden_is (LParen ∷ []) h = cc
+begins_hidden_is (LParen ∷ _ ∷ r) h = cc
+begins_hidden_is (_ ∷ r) h = cc
 
--- leaps are told from a place on, where they are told behind it and there
-leaps_cons : (x : Entry) (ls : List Entry) → AreLeaps ls → ((known : Bool) → hides known (toks (x ∷ ls)) ≡ true → leap known (x ∷ ls) ≡ hidden known (toks (x ∷ ls))) → AreLeaps (x ∷ ls)
-leaps_cons x ls behind here known zero = here known
-leaps_cons x ls behind here known (suc j) = behind known j
+-- skips are told from a place on, where they are told behind it and there
+skips_cons : (x : Entry) (ls : List Entry) → AreSkips ls → ((known : Bool) → begins_hidden_group known (toks (x ∷ ls)) ≡ true → skip_in_front known (x ∷ ls) ≡ hidden_count known (toks (x ∷ ls))) → AreSkips (x ∷ ls)
+skips_cons x ls behind here known zero = here known
+skips_cons x ls behind here known (suc j) = behind known j
 
 -- where no group is hidden, nothing is to be told
-leaps_past : (x : Entry) (ls : List Entry) → AreLeaps ls → hides false (toks (x ∷ ls)) ≡ false → AreLeaps (x ∷ ls)
-leaps_past x ls behind none = leaps_cons x ls behind (λ known h. let f = hidden_anyway known (toks (x ∷ ls)) h in cc)
+skips_past : (x : Entry) (ls : List Entry) → AreSkips ls → begins_hidden_group false (toks (x ∷ ls)) ≡ false → AreSkips (x ∷ ls)
+skips_past x ls behind none = skips_cons x ls behind (λ known h. let f = hidden_anyway known (toks (x ∷ ls)) h in cc)
 
 -- behind the first token of an annotation's group no group begins
-second : (a b : Tok) (r : List Tok) → hides false (a ∷ b ∷ r) ≡ true → hides false (b ∷ r) ≡ false
+second : (a b : Tok) (r : List Tok) → begins_hidden_group false (a ∷ b ∷ r) ≡ true → begins_hidden_group false (b ∷ r) ≡ false
 second LParen (Annotation n) r h = refl
 second LParen _ r h = cc
 second _ b r h = cc
 
 -- what was told at a group's annotation is right
-told : (x y : Entry) (ls : List Entry) → AreLeaps ls → hides false (toks (x ∷ y ∷ ls)) ≡ true → ((known : Bool) → hides known (toks (x ∷ y ∷ ls)) ≡ true → skip known y.leaps ≡ hidden known (toks (x ∷ y ∷ ls))) → AreLeaps (x ∷ y ∷ ls)
-told x y ls behind begins right = leaps_cons x (y ∷ ls) (leaps_past y ls behind (second (entry_tok x) (entry_tok y) (toks ls) begins)) right
+told : (x y : Entry) (ls : List Entry) → AreSkips ls → begins_hidden_group false (toks (x ∷ y ∷ ls)) ≡ true → ((known : Bool) → begins_hidden_group known (toks (x ∷ y ∷ ls)) ≡ true → skip known y.skips ≡ hidden_count known (toks (x ∷ y ∷ ls))) → AreSkips (x ∷ y ∷ ls)
+told x y ls behind begins right = skips_cons x (y ∷ ls) (skips_past y ls behind (second (entry_tok x) (entry_tok y) (toks ls) begins)) right
 
--- the list with other leaps at a place
-abbrev pub marked : List Entry → ℕ → Leaps → List Entry
-marked ls i leaps = set ls i (leaping ls i leaps)
+-- the list with other skips at a place
+abbrev pub marked : List Entry → ℕ → Skips → List Entry
+marked ls i skips = set ls i (skipping ls i skips)
 
-pub marked_same : (ls : List Entry) (i : ℕ) (leaps : Leaps) → placed (marked ls i leaps) ≡ placed ls
-marked_same ls i leaps = map-set_same placed_of ls i (leaping ls i leaps) no_entry refl
+pub marked_same : (ls : List Entry) (i : ℕ) (skips : Skips) → placed (marked ls i skips) ≡ placed ls
+marked_same ls i skips = map-set_same placed_of ls i (skipping ls i skips) no_entry refl
 
 -- the second token of an annotation's group is the annotation
-annotates : (a b : Tok) (r : List Tok) → hides false (a ∷ b ∷ r) ≡ true → is_annotation b ≡ true
+annotates : (a b : Tok) (r : List Tok) → begins_hidden_group false (a ∷ b ∷ r) ≡ true → is_annotation b ≡ true
 annotates LParen (Annotation n) r h = refl
 annotates LParen _ r h = cc
 annotates _ b r h = cc
 
-pub second_within : (ls : List Entry) (at : ℕ) → hides false (toks (drop at ls)) ≡ true → at + 1 < length ls
+pub second_within : (ls : List Entry) (at : ℕ) → begins_hidden_group false (toks (drop at ls)) ≡ true → at + 1 < length ls
 second_within ls at begins =
-    let (n, r, is) = hides_is (toks (drop at ls)) begins in
+    let (n, r, is) = begins_hidden_is (toks (drop at ls)) begins in
     omega (arith, ap length is, length-map (drop at ls) entry_tok, length-drop at ls)
 
-pub second_annotates : (ls : List Entry) (at : ℕ) → hides false (toks (drop at ls)) ≡ true → is_annotation ((get_or ls (at + 1) no_entry).token) ≡ true
+pub second_annotates : (ls : List Entry) (at : ℕ) → begins_hidden_group false (toks (drop at ls)) ≡ true → is_annotation ((get_or ls (at + 1) no_entry).token) ≡ true
 second_annotates ls at begins =
     let lt = second_within ls at begins in
     annotates (entry_tok (get_or ls at no_entry)) (entry_tok (get_or ls (at + 1) no_entry)) (toks (drop (at + 1 + 1) ls)) (rw (drop_more ls at no_entry (omega arith), drop_more ls (at + 1) no_entry lt) at begins)
 
-pub marked_leaps : (ls : List Entry) (at : ℕ) (leaps : Leaps) → hides false (toks (drop at ls)) ≡ true → AreLeaps (drop (at + 1) ls) → ((known : Bool) → hides known (toks (drop at ls)) ≡ true → skip known leaps ≡ hidden known (toks (drop at ls)))
-    → AreLeaps (drop at (marked ls (at + 1) leaps))
-marked_leaps ls at leaps begins behind right =
+pub marked_skips : (ls : List Entry) (at : ℕ) (skips : Skips) → begins_hidden_group false (toks (drop at ls)) ≡ true → AreSkips (drop (at + 1) ls) → ((known : Bool) → begins_hidden_group known (toks (drop at ls)) ≡ true → skip known skips ≡ hidden_count known (toks (drop at ls)))
+    → AreSkips (drop at (marked ls (at + 1) skips))
+marked_skips ls at skips begins behind right =
     let lt = second_within ls at begins in
     let x = get_or ls at no_entry in
-    let y = leaping ls (at + 1) leaps in
+    let y = skipping ls (at + 1) skips in
     let next : at + 1 + 1 ≡ at + 2 = omega arith in
-    let new : drop at (marked ls (at + 1) leaps) ≡ x ∷ y ∷ drop (at + 2) ls =
+    let new : drop at (marked ls (at + 1) skips) ≡ x ∷ y ∷ drop (at + 2) ls =
     rw (drop-set-add at ls 1 y, drop_more ls at no_entry (omega arith), drop_more ls (at + 1) no_entry lt, next) in
     let same : toks (x ∷ y ∷ drop (at + 2) ls) ≡ toks (drop at ls) =
-    ap toks (sym new) ∙ toks_at (marked ls (at + 1) leaps) ls at (marked_same ls (at + 1) leaps) ∙ sym (toks_at ls ls at refl) in
-    rw new (told x y (drop (at + 2) ls) (leaps_later ls (at + 1) (at + 2) (omega arith) behind) (ap (hides false) same ∙ begins) (λ known h. right known (ap (hides known) (sym same) ∙ h) ∙ ap (hidden known) (sym same)))
+    ap toks (sym new) ∙ toks_at (marked ls (at + 1) skips) ls at (marked_same ls (at + 1) skips) ∙ sym (toks_at ls ls at refl) in
+    rw new (told x y (drop (at + 2) ls) (skips_later ls (at + 1) (at + 2) (omega arith) behind) (ap (begins_hidden_group false) same ∙ begins) (λ known h. right known (ap (begins_hidden_group known) (sym same) ∙ h) ∙ ap (hidden_count known) (sym same)))
 
 -- THE PASS FROM THE RIGHT
 
@@ -137,12 +137,13 @@ abbrev pub ClosesAt : List Entry → ℕ → ℕ → Option ℕ → Type 0
 ClosesAt before i k None = behind_group k (drop i (tokens_of (placed before))) ≡ None
 ClosesAt before i k (Some e) = (behind_group k (drop i (tokens_of (placed before))) ≡ Some (drop e (tokens_of (placed before)))) × (i < e) × (e ≤ length before)
 
--- From the place on: where each group ends, by the stack; the leaps; the first group that isn't closed.
-pub record LeapsSoFar (before : List Entry) (i : ℕ) (ls : List Entry) (stack : List ℕ) (first : Option ℕ) : Type 0 where
+-- From the place on: where each group ends, by the stack; the skips; the first group that isn't
+-- closed.
+pub record SkipsSoFar (before : List Entry) (i : ℕ) (ls : List Entry) (stack : List ℕ) (first : Option ℕ) : Type 0 where
   pub same : placed ls ≡ placed before
   pub within : i ≤ length ls
   pub tops : (k : ℕ) → ClosesAt before i k (at_top stack k)
-  pub leaps : AreLeaps (drop i ls)
+  pub skips : AreSkips (drop i ls)
   pub unclosed : FirstFrom (placed before) i first
 
 -- one place further to the left
@@ -169,13 +170,13 @@ group_other k (Integer n) ts h e = refl
 group_other k (String n) ts h e = refl
 group_other k (Reserved n) ts h e = refl
 
-not_hidden : (t : Tok) (r : List Tok) → is_open t ≡ false → hides false (t ∷ r) ≡ false
+not_hidden : (t : Tok) (r : List Tok) → is_open t ≡ false → begins_hidden_group false (t ∷ r) ≡ false
 not_hidden LParen r h = cc
 not_hidden _ r h = refl
 
 -- a group that isn't closed is hidden
-not_unclosed : (ts : List Tok) (i : ℕ) → hides false (drop i ts) ≡ false → Unclosed ts i → ⊥
-not_unclosed ts i none (n, r, e, k) = absurd (let f : true ≡ false = ap (hides false) (sym e) ∙ none in cc)
+not_unclosed : (ts : List Tok) (i : ℕ) → begins_hidden_group false (drop i ts) ≡ false → Unclosed ts i → ⊥
+not_unclosed ts i none (n, r, e, k) = absurd (let f : true ≡ false = ap (begins_hidden_group false) (sym e) ∙ none in cc)
 
 -- at the place, or behind it
 past : (P : ℕ → Type 0) (i j : ℕ) → i ≤ j → (P i → ⊥) → (i + 1 ≤ j → P j → ⊥) → P j → ⊥
@@ -186,26 +187,26 @@ first_passed ps i None closed behind = λ j le. past (Unclosed (tokens_of ps)) i
 first_passed ps i (Some offset) closed (j, t, le, here, at, u, before) =
     (j, t, omega arith, here, at, u, λ k from lt. past (Unclosed (tokens_of ps)) i k from closed (λ more. before k more lt))
 
-pub nothing_yet : (ls : List Entry) → LeapsSoFar ls (length ls) ls [] None
+pub nothing_yet : (ls : List Entry) → SkipsSoFar ls (length ls) ls [] None
 nothing_yet ls =
     let over : (j : ℕ) → length ls ≤ j → drop j (tokens_of (placed ls)) ≡ [] = λ j le. rw (tokens_of-placed ls) (drop_of_length-le (toks ls) (omega (arith, length-map ls entry_tok))) in
     let none : drop (length ls) ls ≡ [] = drop_of_length-le ls (omega arith) in record {
       same = refl;
       within = omega arith;
       tops = λ k. rw (over (length ls) (omega arith)) (group_nil k);
-      leaps = rw none (λ known. elim [ zero ↦ λ h. cc | suc j ↦ λ h. cc ]);
+      skips = rw none (λ known. elim [ zero ↦ λ h. cc | suc j ↦ λ h. cc ]);
       unclosed = λ j le. not_unclosed (tokens_of (placed ls)) j (rw (over j le));
     }
 
 -- the place in front of those passed
-module _ {before ls : List Entry} {j : ℕ} {stack : List ℕ} {first : Option ℕ} (i : ℕ) (so : LeapsSoFar before j ls stack first) (back : j ≡ i + 1) where
+module _ {before ls : List Entry} {j : ℕ} {stack : List ℕ} {first : Option ℕ} (i : ℕ) (so : SkipsSoFar before j ls stack first) (back : j ≡ i + 1) where
   abbrev ts : List Tok
   ts = tokens_of (placed before)
 
   abbrev tok : Tok
   tok = entry_tok (get_or ls i no_entry)
 
-  now : LeapsSoFar before (i + 1) ls stack first
+  now : SkipsSoFar before (i + 1) ls stack first
   now = rw (← back) so
 
   within : (i < length ls) × (length ls ≡ length before)
@@ -214,20 +215,20 @@ module _ {before ls : List Entry} {j : ℕ} {stack : List ℕ} {first : Option �
   front : drop i ts ≡ tok ∷ drop (i + 1) ts
   front = rw (← toks_at ls before i so.same, drop_more ls i no_entry within.0) (ap (λ l. tok ∷ l) (toks_at ls before (i + 1) so.same))
 
-  -- where no group is hidden at a place, leaps and faults stay
-  stays : hides false (drop i ts) ≡ false → AreLeaps (drop i ls) × FirstFrom (placed before) i first
+  -- where no group is hidden at a place, skips and faults stay
+  stays : begins_hidden_group false (drop i ts) ≡ false → AreSkips (drop i ls) × FirstFrom (placed before) i first
   stays none =
       let more = drop_more ls i no_entry within.0 in (
-        rw more (leaps_past (get_or ls i no_entry) (drop (i + 1) ls) now.leaps (rw more at (rw (← toks_at ls before i so.same) at none))),
+        rw more (skips_past (get_or ls i no_entry) (drop (i + 1) ls) now.skips (rw more at (rw (← toks_at ls before i so.same) at none))),
         first_passed (placed before) i first (not_unclosed ts i none) now.unclosed,
       )
 
-  passing : {rest : List ℕ} → ((k : ℕ) → ClosesAt before i k (at_top rest k)) → is_open tok ≡ false → LeapsSoFar before i ls rest first
+  passing : {rest : List ℕ} → ((k : ℕ) → ClosesAt before i k (at_top rest k)) → is_open tok ≡ false → SkipsSoFar before i ls rest first
   passing tops h =
       let kept = stays (rw front (not_hidden tok (drop (i + 1) ts) h)) in
-      record { same = so.same; within = omega (arith, within); tops = tops; leaps = kept.0; unclosed = kept.1 }
+      record { same = so.same; within = omega (arith, within); tops = tops; skips = kept.0; unclosed = kept.1 }
 
-  pub pushed : is_close tok ≡ true → LeapsSoFar before i ls (stack ++ (i + 1) ∷ []) first
+  pub pushed : is_close tok ≡ true → SkipsSoFar before i ls (stack ++ (i + 1) ∷ []) first
   pushed close =
       let is = close_is tok close in
       passing (rw (top_push stack (i + 1)) (elim [
@@ -235,51 +236,51 @@ module _ {before ls : List Entry} {j : ℕ} {stack : List ℕ} {first : Option �
         | suc k ↦ (let e : suc k - 1 ≡ k = omega arith in moved before i k (suc k) (at_top stack k) (rw (front, is, group_cons, e)) (now.tops k))
       ])) (rw is)
 
-  pub passed_over : is_open tok ≡ false → is_close tok ≡ false → LeapsSoFar before i ls stack first
+  pub passed_over : is_open tok ≡ false → is_close tok ≡ false → SkipsSoFar before i ls stack first
   passed_over no_open no_close = passing (λ k. moved before i k k (at_top stack k) (rw front (group_other k tok (drop (i + 1) ts) no_open no_close)) (now.tops k)) no_open
 
   module _ {rest : List ℕ} {end : Option ℕ} (pop : Popped stack rest end) where
     behind : ClosesAt before (i + 1) 0 end
     behind = rw pop.top at (now.tops 0)
 
-    counts : (e : ℕ) → i < e → e ≤ length ls → left (behind_group 0 (drop (i + 1) ts)) ≡ drop e ts → (known : Bool) → hides known (toks (drop i ls)) ≡ true → hidden known (toks (drop i ls)) ≡ (e - i) + hidden known (toks (drop e ls))
+    counts : (e : ℕ) → i < e → e ≤ length ls → left (behind_group 0 (drop (i + 1) ts)) ≡ drop e ts → (known : Bool) → begins_hidden_group known (toks (drop i ls)) ≡ true → hidden_count known (toks (drop i ls)) ≡ (e - i) + hidden_count known (toks (drop e ls))
     counts e low high there known =
         rw (toks_at ls before i so.same, toks_at ls before e so.same) (group_counts known ts i e tok low (omega (arith, within, length-map before placed_of, length-map (placed before) (λ (p : Placed). p.token))) front there)
 
-    opening : {next : Option ℕ} (new : List Entry) → is_open tok ≡ true → placed new ≡ placed ls → AreLeaps (drop i new) → FirstFrom (placed before) i next → LeapsSoFar before i new rest next
-    opening new opens same leaps unclosed = record {
+    opening : {next : Option ℕ} (new : List Entry) → is_open tok ≡ true → placed new ≡ placed ls → AreSkips (drop i new) → FirstFrom (placed before) i next → SkipsSoFar before i new rest next
+    opening new opens same skips unclosed = record {
       same = same ∙ so.same;
       within = omega (arith, within, placed_length new ls same);
       tops = λ k. rw (← pop.below k) (moved before i (suc k) k (at_top stack (suc k)) (rw (front, open_is tok opens, group_cons, add-one)) (now.tops (suc k)));
-      leaps = leaps;
+      skips = skips;
       unclosed = unclosed;
     }
 
-    pub opened : is_open tok ≡ true → hides false (toks (drop i ls)) ≡ false → LeapsSoFar before i ls rest first
+    pub opened : is_open tok ≡ true → begins_hidden_group false (toks (drop i ls)) ≡ false → SkipsSoFar before i ls rest first
     opened opens none = let kept = stays (rw (toks_at ls before i so.same) at none) in opening ls opens refl kept.0 kept.1
 
-  pub ends_here : {rest : List ℕ} {end : ℕ} → Popped stack rest (Some end) → (i < end) × (end ≤ length ls) × ((known : Bool) → hides known (toks (drop i ls)) ≡ true → hidden known (toks (drop i ls)) ≡ (end - i) + hidden known (toks (drop end ls)))
+  pub ends_here : {rest : List ℕ} {end : ℕ} → Popped stack rest (Some end) → (i < end) × (end ≤ length ls) × ((known : Bool) → begins_hidden_group known (toks (drop i ls)) ≡ true → hidden_count known (toks (drop i ls)) ≡ (end - i) + hidden_count known (toks (drop end ls)))
   ends_here {end = end} pop =
       let (there, low, high) = behind pop in
       (omega arith, omega (arith, within), counts pop end (omega arith) (omega (arith, within)) (rw there))
 
-  pub ends_never : {rest : List ℕ} → Popped stack rest None → (known : Bool) → hides known (toks (drop i ls)) ≡ true → hidden known (toks (drop i ls)) ≡ (length ls - i) + hidden known (toks (drop (length ls) ls))
+  pub ends_never : {rest : List ℕ} → Popped stack rest None → (known : Bool) → begins_hidden_group known (toks (drop i ls)) ≡ true → hidden_count known (toks (drop i ls)) ≡ (length ls - i) + hidden_count known (toks (drop (length ls) ls))
   ends_never pop =
       let none : drop (length ls) ls ≡ [] = drop_of_length-le ls (omega arith) in
       counts pop (length ls) within.0 (omega arith) (rw (behind pop, ← toks_at ls before (length ls) so.same, none))
 
-  -- a group with an annotation: what stands behind its `(`
+  -- a group with an annotation: what is behind its `(`
   behind_name : (n : List ℕ) (r : List Tok) → drop i ts ≡ LParen ∷ (Annotation n ∷ r) → behind_group 0 (drop (i + 1) ts) ≡ behind_group 0 r
   unfolding behind_group
   behind_name n r e = let tail : drop (i + 1) ts ≡ Annotation n ∷ r = cc front in rw tail
 
-  pub hid_closed : {rest : List ℕ} {end : ℕ} (new : List Entry) → Popped stack rest (Some end) → is_open tok ≡ true → placed new ≡ placed ls → AreLeaps (drop i new) → LeapsSoFar before i new rest first
-  hid_closed new pop opens same leaps = opening pop new opens same leaps (first_passed (placed before) i first (λ (n, r, e, none). let f = sym (behind pop).0 ∙ behind_name n r e ∙ none in cc) now.unclosed)
+  pub hid_closed : {rest : List ℕ} {end : ℕ} (new : List Entry) → Popped stack rest (Some end) → is_open tok ≡ true → placed new ≡ placed ls → AreSkips (drop i new) → SkipsSoFar before i new rest first
+  hid_closed new pop opens same skips = opening pop new opens same skips (first_passed (placed before) i first (λ (n, r, e, none). let f = sym (behind pop).0 ∙ behind_name n r e ∙ none in cc) now.unclosed)
 
-  pub hid_open : {rest : List ℕ} (new : List Entry) → Popped stack rest None → is_open tok ≡ true → hides false (toks (drop i ls)) ≡ true → placed new ≡ placed ls → AreLeaps (drop i new) → LeapsSoFar before i new rest (Some ((get_or ls i no_entry).offset))
-  hid_open new pop opens begins same leaps =
-      let (n, r, e) = hides_is (drop i ts) (rw (toks_at ls before i so.same) at begins) in
-      opening pop new opens same leaps (i, placed_of (get_or ls i no_entry), omega arith, rw (← so.same, slice_get-map placed_of ls i, slice_get-get_or ls i no_entry within.0), refl, (n, r, e, sym (behind_name n r e) ∙ behind pop), λ k from less v. absurd (omega arith))
+  pub hid_open : {rest : List ℕ} (new : List Entry) → Popped stack rest None → is_open tok ≡ true → begins_hidden_group false (toks (drop i ls)) ≡ true → placed new ≡ placed ls → AreSkips (drop i new) → SkipsSoFar before i new rest (Some ((get_or ls i no_entry).offset))
+  hid_open new pop opens begins same skips =
+      let (n, r, e) = begins_hidden_is (drop i ts) (rw (toks_at ls before i so.same) at begins) in
+      opening pop new opens same skips (i, placed_of (get_or ls i no_entry), omega arith, rw (← so.same, slice_get-map placed_of ls i, slice_get-get_or ls i no_entry within.0), refl, (n, r, e, sym (behind_name n r e) ∙ behind pop), λ k from less v. absurd (omega arith))
 
 -- at the start the first group that isn't closed is found
 pub first_from : (ps : List Placed) (first : Option ℕ) → FirstFrom ps 0 first → MatchOption first (Closed (tokens_of ps)) (FirstUnclosed ps)

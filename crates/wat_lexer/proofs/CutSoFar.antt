@@ -42,7 +42,7 @@ unfolding behind_spaces
 spaces_fewer [] = omega arith
 spaces_fewer (b ∷ t) = if_cases (λ s. length s ≤ suc (length t)) (is_space b) (behind_spaces t) (b ∷ t) (λ _. omega (arith, spaces_fewer t)) (λ _. omega arith)
 
--- spaces in front are blanks, as many as stand there
+-- spaces in front are blanks, as many as are there
 spaces : {text : List ℕ} {ts : List Placed} {behind : Bool} (rest : List ℕ) → CutSoFar text ts behind rest → CutSoFar text ts (behind && (length (behind_spaces rest) == length rest)) (behind_spaces rest)
 unfolding behind_spaces
 spaces {behind = behind} [] so = rw (and-true behind) so

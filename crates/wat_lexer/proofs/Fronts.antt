@@ -1,4 +1,4 @@
--- What stands in front of a text is exact, and so a text has at most one cut.
+-- What is in front of a text is exact, and so a text has at most one cut.
 use Rattle.std.proofs.Common.{◌≡◌, ℕ, ◌+◌, ◌-◌, ◌<◌, List, [], ◌∷◌, ◌++◌, length, take, refl, ap, sym, subst, ◌∙◌, arith, inl, inr, length-append}
 use Rattle.std.specs.Prelude.{Bool, ◌⊎◌, true, false, ◌==◌, ◌&&◌, not, if◌then◌else◌, Option, None, Some}
 use Rattle.std.proofs.Math.Seq.{take-append_seam}
@@ -152,7 +152,7 @@ broken_front behind s f at (wrong_string x rest r h) = rw (front_run behind x (3
 
 -- CUTS
 
--- what a cut is, by what stands in front
+-- what a cut is, by what is in front
 abbrev pub CutBy : ℕ → List ℕ → Beginning → List Placed → Type 0
 CutBy n s Nothing ts = ts ≡ []
 CutBy n s (BlankTo rest) ts = Cuts n false rest ts
@@ -185,7 +185,7 @@ one_cut (token m w text x rest t vs e b c) k =
 
 -- FIRST FAULTS
 
--- where a text fails, by what stands in front
+-- where a text fails, by what is in front
 abbrev pub FailsBy : Beginning → Fault → List ℕ → Type 0
 FailsBy Nothing f at = ⊥
 FailsBy (BlankTo rest) f at = Fails false rest f at

@@ -4,12 +4,12 @@ pub mod CutSoFar
 pub mod Entries
 pub mod Fronts
 pub mod Idchars
-pub mod Leaps
 pub mod Outcomes
 pub mod Pieces
 pub mod Places
 pub mod Plain
 pub mod Rows
+pub mod Skips
 pub mod Steps
 pub mod Strings
 pub mod Values

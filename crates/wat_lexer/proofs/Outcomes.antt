@@ -4,9 +4,9 @@ use Rattle.std.proofs.Common.{◌≡◌, ℕ, zero, suc, ◌-◌, ◌<◌, List,
 use Rattle.std.specs.Prelude.{true, false}
 use Rattle.std.proofs.lemmas.List.{drop-map}
 use Rattle.wat_lexer.specs.Place.{offset_of}
-use Rattle.wat_lexer.specs.Sight.{annotated}
+use Rattle.wat_lexer.specs.Sight.{begins_annotation_group}
 use Rattle.wat_lexer.specs.Token.{Entry, Tok, LParen, Annotation, Placed, tokens_of, is_annotation, has_annotation}
-use Rattle.wat_lexer.specs.View.{entry_tok, toks, placed, AreLeaps}
+use Rattle.wat_lexer.specs.View.{entry_tok, toks, placed, AreSkips}
 use Rattle.wat_lexer.specs.declared.fault.Error.{Error}
 use Rattle.wat_lexer.specs.declared.fault.Fault.TheVariants.{LexAnnotation}
 use Rattle.wat_lexer.specs.Laws.Kinds.{tokens_of-placed}
@@ -41,7 +41,7 @@ no_cut text f i ts (closing t us offset c (j, u, here, at, p, before)) k =
 pub left_open : {text : List ℕ} {ts : List Placed} {offset : ℕ} (e : Error) → Cuts (length text) false text ts → FirstUnclosed ts offset → e.fault ≡ LexAnnotation → offset_of e.span ≡ offset → FirstFault text e.fault (offset_of e.span)
 left_open {text} {ts} {offset} e c first f place = rw (f, place) (closing text ts offset c first)
 
-none_noted : (ts : List Tok) → has_annotation ts ≡ false → (i : ℕ) → annotated (drop i ts) ≡ false
+none_noted : (ts : List Tok) → has_annotation ts ≡ false → (i : ℕ) → begins_annotation_group (drop i ts) ≡ false
 none_noted [] e zero = refl
 none_noted [] e (suc i) = refl
 none_noted (x ∷ ts) e (suc i) = none_noted ts (or_parts (is_annotation x) (has_annotation ts) e).1 i
@@ -52,10 +52,10 @@ none_noted (_ ∷ ts) e zero = refl
 
 -- where no annotation is among the tokens, each group of one is closed, and nothing is to be told
 pub closed_anyway : (ls : List Entry) → has_annotation (toks ls) ≡ false → Closed (tokens_of (placed ls))
-closed_anyway ls e i (n, r, is, open_group) =
-    let f : true ≡ false = ap annotated (sym is) ∙ rw (tokens_of-placed ls) (none_noted (toks ls) e i) in cc
+closed_anyway ls e i (n, r, is, unclosed_group) =
+    let f : true ≡ false = ap begins_annotation_group (sym is) ∙ rw (tokens_of-placed ls) (none_noted (toks ls) e i) in cc
 
-pub told_anyway : (ls : List Entry) → has_annotation (toks ls) ≡ false → AreLeaps ls
+pub told_anyway : (ls : List Entry) → has_annotation (toks ls) ≡ false → AreSkips ls
 told_anyway ls e = λ known i h.
-    let none : annotated (toks (drop i ls)) ≡ false = rw (← drop-map entry_tok i ls) (none_noted (toks ls) e i) in
+    let none : begins_annotation_group (toks (drop i ls)) ≡ false = rw (← drop-map entry_tok i ls) (none_noted (toks ls) e i) in
     absurd (let f = rw none at h in cc)

@@ -12,13 +12,13 @@ use Rattle.wat_lexer.specs.Token.{Tok, Placed, tokens_of, is_open}
 use Rattle.wat_lexer.specs.Cut.{Cuts, Closed, Unclosed, IsCut, cutting, closing}
 use Rattle.wat_lexer.specs.Number.{read}
 use Rattle.wat_lexer.specs.Scan.{Beginning, Nothing, BlankTo, TokenTo, Wrong, front, behind_comment, behind_run, behind_line, string_at, step, all_idchars, string_of, name_behind, class}
-use Rattle.wat_lexer.specs.Sight.{annotated, behind_group, visible, as_shown, hidden_at, hidden}
-use Rattle.wat_lexer.specs.Rows.{Comments, Strings, QuotedNames, Spoiled, Integers, Values, HiddenGroups, Faults, OpenGroup}
+use Rattle.wat_lexer.specs.Sight.{begins_annotation_group, behind_group, visible, visible_tokens, hidden_count_at, hidden_count}
+use Rattle.wat_lexer.specs.Rows.{Comments, Strings, QuotedNames, Spoiled, Integers, Values, HiddenGroups, Faults, UnclosedGroup}
 use Rattle.wat_lexer.proofs.Fronts.{CutBy, front_cut, front_fails}
 
 -- CUTS
 
--- the cut, by what stands in front, where the rest has one
+-- the cut, by what is in front, where the rest has one
 abbrev cut_by : (Bool → List ℕ → Option (List Placed)) → ℕ → List ℕ → Beginning → Option (List Placed)
 cut_by go n s Nothing = Some []
 cut_by go n s (BlankTo rest) = go false rest
@@ -49,7 +49,7 @@ cuts_in (suc k) n behind s ts e = front_cut (by_front (cut_in k n) n s (λ b r u
 
 -- the group in front, if one begins with an annotation there, is closed
 abbrev closes_here : List Tok → Bool
-closes_here ts = not (annotated ts) || is_some (behind_group 0 (drop 2 ts))
+closes_here ts = not (begins_annotation_group ts) || is_some (behind_group 0 (drop 2 ts))
 
 here : (ts : List Tok) → closes_here ts ≡ true → Unclosed ts 0 → ⊥
 here ts e (n, r, is, none) =
@@ -114,7 +114,7 @@ unfolding read
 values = (refl, refl, refl, refl, refl, refl, refl)
 
 pub hidden_groups : HiddenGroups
-unfolding visible as_shown hidden_at hidden
+unfolding visible visible_tokens hidden_count_at hidden_count
 hidden_groups = (refl, refl, refl, refl, refl, refl, refl, refl)
 
 pub faults : Faults
@@ -125,6 +125,6 @@ faults = (
   cutting _ _ _ (front_fails (front_fails (front_fails (refl, refl)))),
 )
 
-pub open_group : OpenGroup
+pub unclosed_group : UnclosedGroup
 unfolding front behind_run all_idchars name_behind class behind_group
-open_group = closing _ _ 7 (cuts_in 100 14 false _ _ refl) (5, _, refl, refl, (_, _, refl, refl), closed_to 5 _ refl)
+unclosed_group = closing _ _ 7 (cuts_in 100 14 false _ _ refl) (5, _, refl, refl, (_, _, refl, refl), closed_to 5 _ refl)

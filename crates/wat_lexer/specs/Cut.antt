@@ -39,7 +39,7 @@ pub data Element : List ℕ → List ℕ → Type 0 where
   code_point : (x : List ℕ) (n : ℕ) → number 16 x ≡ Some n → IsScalar n
       → Element (92 ∷ 117 ∷ 123 ∷ (x ++ 125 ∷ [])) (encode_utf8 n)
 
--- what stands behind the opening quote, closing quote included, and the string's content
+-- what is behind the opening quote, closing quote included, and the string's content
 pub data Str : List ℕ → List ℕ → Type 0 where
   close : Str (34 ∷ []) []
   more : (x v y c : List ℕ) → Element x v → Str y c → Str (x ++ y) (v ++ c)
@@ -49,7 +49,7 @@ IsString x c = (y : List ℕ) × (x ≡ 34 ∷ y) × Str y c
 
 -- BLANKS
 
--- the byte stands in front
+-- the byte is in front
 abbrev pub begins : ℕ → List ℕ → Bool
 begins b [] = false
 begins b (c ∷ _) = c == b
@@ -94,7 +94,7 @@ Name mark x n =
     (y : List ℕ) × (x ≡ mark ∷ y) × (0 < length n)
     × (((y ≡ n) × Idchars n) ⊎ (IsString y n × IsUtf8 n))
 
--- The class and the content of a run. The flag says that a `(` stands directly before it.
+-- The class and the content of a run. The flag says that a `(` is directly before it.
 abbrev pub Classed : Bool → List ℕ → Tok → Type 0
 Classed behind x (Keyword k) =
     (x ≡ k) × Idchars x × (b : ℕ) × (y : List ℕ) × (x ≡ b ∷ y) × (between 97 122 b ≡ true)
@@ -117,7 +117,7 @@ Token behind x rest t = Run x × Begins in_no_run rest × Classed behind x t
 -- TEXTS
 
 -- the text is cut into the tokens with their places; n is the length of the whole text, of which
--- this is an end; the flag says that a `(` stands directly before it
+-- this is an end; the flag says that a `(` is directly before it
 pub data Cuts : ℕ → Bool → List ℕ → List Placed → Type 0 where
   done : (n : ℕ) (behind : Bool) → Cuts n behind [] []
   blank : (n : ℕ) (behind : Bool) (text x rest : List ℕ) (ts : List Placed) → text ≡ x ++ rest
@@ -144,7 +144,7 @@ IsCut text ts = Cuts (length text) false text ts × Closed (tokens_of ts)
 
 -- FAULTS
 
--- No blank and no token stands in front of the text. The fault, and the text from its place on: a
+-- No blank and no token is in front of the text. The fault, and the text from its place on: a
 -- character that begins none, the `(` of a comment that isn't closed, or the quote of a string in a
 -- run that is none.
 pub data Broken : List ℕ → Fault → List ℕ → Type 0 where
@@ -156,7 +156,7 @@ pub data Broken : List ℕ → Fault → List ℕ → Type 0 where
   wrong_string : (x rest : List ℕ) → Run x → ((y c more : List ℕ) → rest ≡ y ++ more → Str y c → ⊥)
       → Broken (x ++ 34 ∷ rest) LexString (34 ∷ rest)
 
--- behind blanks and tokens, a place where none stands in front
+-- behind blanks and tokens, a place where none is in front
 pub data Fails : Bool → List ℕ → Fault → List ℕ → Type 0 where
   at_once : (behind : Bool) (text : List ℕ) (f : Fault) (at : List ℕ) → Broken text f at
       → Fails behind text f at

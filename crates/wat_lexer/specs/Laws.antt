@@ -1,3 +1,3 @@
 -- Laws of the definitions: lemmas that other crates rest on.
 pub mod Kinds
-pub mod Shown
+pub mod VisibleFrom

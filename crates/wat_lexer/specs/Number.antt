@@ -9,7 +9,7 @@ use Rattle.wat_lexer.specs.declared.number.Sign.TheVariants.{Plus, Minus}
 
 -- DIGITS
 
--- Reads on, where the digits so far have the value n. The flag says that a digit stands directly
+-- Reads on, where the digits so far have the value n. The flag says that a digit is directly
 -- before. A digit is always right, a `_` (95) only directly behind a digit, and the end too.
 unfoldable pub read : ℕ → Bool → ℕ → List ℕ → Option ℕ
 read base behind n [] = if behind then Some n else None
@@ -33,7 +33,7 @@ magnitude x = if begins_hex x then number 16 (drop 2 x) else number 10 x
 
 -- SIGNS
 
--- `+` (43) or `-` (45), where one stands in front
+-- `+` (43) or `-` (45), where one is in front
 abbrev pub sign_of : List ℕ → Option Sign
 sign_of [] = None
 sign_of (c ∷ _) = if c == 43 then Some Plus else (if c == 45 then Some Minus else None)

@@ -5,7 +5,7 @@ use Rattle.wat_lexer.specs.Token.{Tok, LParen, RParen, Keyword, Id, Annotation, 
 use Rattle.wat_lexer.specs.Token.{Reserved, Placed}
 use Rattle.wat_lexer.specs.Cut.{IsCut, FirstFault}
 use Rattle.wat_lexer.specs.Number.{unsigned_value, signed_value}
-use Rattle.wat_lexer.specs.Sight.{hidden, as_shown}
+use Rattle.wat_lexer.specs.Sight.{hidden_count, visible_tokens}
 use Rattle.wat_lexer.specs.declared.fault.Fault.TheVariants.{LexChar, LexString, LexComment}
 use Rattle.wat_lexer.specs.declared.fault.Fault.TheVariants.{LexAnnotation}
 
@@ -32,15 +32,15 @@ QuotedNames =
     (at 0 (Id (codes "x")) ∷ at 3 (Id (codes "a b")) ∷ at 10 LParen
     ∷ at 11 (Annotation (codes "n")) ∷ at 16 (Keyword (codes "c")) ∷ at 17 RParen ∷ [])
 
--- `( @n $ "a"b)`: the `@` isn't directly behind the `(`, no name stands behind the `$`, and a letter
--- stands directly behind the string
+-- `( @n $ "a"b)`: the `@` isn't directly behind the `(`, no name is behind the `$`, and a letter is
+-- directly behind the string
 abbrev pub Spoiled : Type 0
 Spoiled =
     IsCut (codes "( @n $ \"a\"b)")
     (at 0 LParen ∷ at 2 (Reserved (codes "@n")) ∷ at 5 (Reserved (codes "$"))
     ∷ at 7 (Reserved (codes "\"a\"b")) ∷ at 11 RParen ∷ [])
 
--- a `_` stands between two digits
+-- a `_` is between two digits
 abbrev pub Integers : Type 0
 Integers =
     IsCut (codes "1_000 -0x1_F +7 1__0 _1 1_")
@@ -69,10 +69,12 @@ two_groups = LParen ∷ Annotation (codes "x") ∷ RParen ∷ custom_group
 -- the group of `@custom` is hidden where the five names aren't known, that of `@x` in any case
 abbrev pub HiddenGroups : Type 0
 HiddenGroups =
-    (hidden false custom_group ≡ 6) × (as_shown false custom_group ≡ Keyword (codes "b") ∷ [])
-    × (hidden true custom_group ≡ 0) × (as_shown true custom_group ≡ custom_group)
-    × (hidden false two_groups ≡ 9) × (as_shown false two_groups ≡ Keyword (codes "b") ∷ [])
-    × (hidden true two_groups ≡ 3) × (as_shown true two_groups ≡ custom_group)
+    (hidden_count false custom_group ≡ 6)
+    × (visible_tokens false custom_group ≡ Keyword (codes "b") ∷ [])
+    × (hidden_count true custom_group ≡ 0) × (visible_tokens true custom_group ≡ custom_group)
+    × (hidden_count false two_groups ≡ 9)
+    × (visible_tokens false two_groups ≡ Keyword (codes "b") ∷ [])
+    × (hidden_count true two_groups ≡ 3) × (visible_tokens true two_groups ≡ custom_group)
 
 -- `a{`, `a "b\q"` and `a (;(;;)`
 abbrev pub Faults : Type 0
@@ -81,5 +83,5 @@ Faults =
     × FirstFault (codes "a (;(;;)") LexComment 2
 
 -- `((@a b)(@c (d)`: the second group with an annotation isn't closed
-abbrev pub OpenGroup : Type 0
-OpenGroup = FirstFault (codes "((@a b)(@c (d)") LexAnnotation 7
+abbrev pub UnclosedGroup : Type 0
+UnclosedGroup = FirstFault (codes "((@a b)(@c (d)") LexAnnotation 7

@@ -28,7 +28,7 @@ behind_comment depth (a ∷ b ∷ t) =
 
 -- Where a place lies within a string: between two elements, behind a backslash, behind a backslash
 -- and a hex digit, behind `\u`, behind `\u{` and digits of this value. The flag says that a digit
--- stands directly before.
+-- is directly before.
 pub data Mode : Type 0 where
   Raw : Mode
   Escape : Mode
@@ -158,7 +158,7 @@ class behind (b ∷ t) =
     else (if all_idchars (b ∷ t) && is_integer (b ∷ t) then Integer (b ∷ t)
     else Reserved (b ∷ t)))))
 
--- what stands in front of a text; where nothing can, the fault and the text from its place on
+-- what is in front of a text; where nothing can, the fault and the text from its place on
 pub data Beginning : Type 0 where
   Nothing : Beginning
   BlankTo : List ℕ → Beginning
@@ -199,7 +199,7 @@ abbrev pub spelled : Escaped → List ℕ
 spelled (escaped.Byte b) = b ∷ []
 spelled (escaped.Char c) = encode_utf8 c
 
--- a string's end, where its closing quote stands in front
+-- a string's end, where its closing quote is in front
 abbrev pub closing : List ℕ → Option (List ℕ × List ℕ)
 closing [] = None
 closing (b ∷ t) = if b == 34 then Some ([], t) else None

@@ -28,40 +28,42 @@ is_standard n =
     || (bytes_eq n (codes "name") || (bytes_eq n (codes "dylink.0")
     || bytes_eq n (codes "metadata.code.branch_hint"))))
 
--- a group that begins with an annotation stands in front
-abbrev pub annotated : List Tok → Bool
-annotated (LParen ∷ Annotation n ∷ r) = true
-annotated _ = false
+-- a group that begins with an annotation is in front
+abbrev pub begins_annotation_group : List Tok → Bool
+begins_annotation_group (LParen ∷ Annotation n ∷ r) = true
+begins_annotation_group _ = false
 
 abbrev pub annotation_name : List Tok → List ℕ
 annotation_name (LParen ∷ Annotation n ∷ r) = n
 annotation_name _ = []
 
--- a group whose annotation isn't known stands in front; `known` says that the five names are
-abbrev pub hides : Bool → List Tok → Bool
-hides known t = annotated t && not (known && is_standard (annotation_name t))
+-- a group whose annotation isn't known is in front; `known` says that the five names are
+abbrev pub begins_hidden_group : Bool → List Tok → Bool
+begins_hidden_group known t =
+    begins_annotation_group t && not (known && is_standard (annotation_name t))
 
 -- The tokens without each group that is hidden. `Some depth` is within such a group, in which
 -- `depth` more lie open.
 unfoldable pub visible : Bool → Option ℕ → List Tok → List Tok
 visible known place [] = []
 visible known None (x ∷ r) =
-    if hides known (x ∷ r) then visible known (Some 0) r else x ∷ visible known None r
+    if begins_hidden_group known (x ∷ r) then visible known (Some 0) r else x ∷ visible known None r
 visible known (Some depth) (x ∷ r) =
     if shuts x depth then visible known None r else visible known (Some (deeper x depth)) r
 
 -- the tokens that are visible
-unfoldable pub as_shown : Bool → List Tok → List Tok
-as_shown known t = visible known None t
+unfoldable pub visible_tokens : Bool → List Tok → List Tok
+visible_tokens known t = visible known None t
 
 -- how many tokens stand before the first that is visible, with the same places
-unfoldable pub hidden_at : Bool → Option ℕ → List Tok → ℕ
-hidden_at known place [] = 0
-hidden_at known None (x ∷ r) = if hides known (x ∷ r) then suc (hidden_at known (Some 0) r) else 0
-hidden_at known (Some depth) (x ∷ r) =
-    if shuts x depth then suc (hidden_at known None r) else suc
-    (hidden_at known (Some (deeper x depth)) r)
+unfoldable pub hidden_count_at : Bool → Option ℕ → List Tok → ℕ
+hidden_count_at known place [] = 0
+hidden_count_at known None (x ∷ r) =
+    if begins_hidden_group known (x ∷ r) then suc (hidden_count_at known (Some 0) r) else 0
+hidden_count_at known (Some depth) (x ∷ r) =
+    if shuts x depth then suc (hidden_count_at known None r) else suc
+    (hidden_count_at known (Some (deeper x depth)) r)
 
 -- how many tokens stand before the first that is visible
-unfoldable pub hidden : Bool → List Tok → ℕ
-hidden known t = hidden_at known None t
+unfoldable pub hidden_count : Bool → List Tok → ℕ
+hidden_count known t = hidden_count_at known None t

@@ -1,6 +1,6 @@
 -- Tokens as contracts see them.
 use Rattle.std.specs.Prelude.{ℕ, Bool, true, false, List, [], ◌∷◌, ◌||◌, map}
-use Rattle.wat_lexer.specs.declared.lexeme.Leaps.{Leaps}
+use Rattle.wat_lexer.specs.declared.lexeme.Skips.{Skips}
 
 -- A token, without its place. Names are those of the ids and annotations, an integer is its text, a
 -- string its content.
@@ -24,7 +24,7 @@ pub record Placed : Type 0 where
 pub record Entry : Type 0 where
   pub token : Tok
   pub offset : ℕ
-  pub leaps : Leaps
+  pub skips : Skips
 
 abbrev pub tokens_of : List Placed → List Tok
 tokens_of ps = map (λ p. p.token) ps

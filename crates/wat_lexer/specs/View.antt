@@ -10,13 +10,13 @@ use Rattle.wat_lexer.specs.Cut.{Fails}
 use Rattle.wat_lexer.specs.Integer.{text_of}
 use Rattle.wat_lexer.specs.Place.{offset_of}
 use Rattle.wat_lexer.specs.Scan.{Beginning, BlankTo, TokenTo, Wrong, all_idchars}
-use Rattle.wat_lexer.specs.Sight.{hides, hidden, as_shown}
+use Rattle.wat_lexer.specs.Sight.{begins_hidden_group, hidden_count, visible_tokens}
 use Rattle.wat_lexer.specs.declared.token.Token.{Token}
 use Rattle.wat_lexer.specs.declared.token.Token.TheVariants as of
 use Rattle.wat_lexer.specs.declared.lexeme.Kind.{Kind}
 use Rattle.wat_lexer.specs.declared.lexeme.Kind.TheVariants as kinds
-use Rattle.wat_lexer.specs.declared.lexeme.Aside.{Aside}
-use Rattle.wat_lexer.specs.declared.lexeme.Leaps.{Leaps}
+use Rattle.wat_lexer.specs.declared.lexeme.SideEntry.{SideEntry}
+use Rattle.wat_lexer.specs.declared.lexeme.Skips.{Skips}
 use Rattle.wat_lexer.specs.declared.lexeme.Lexeme.{Lexeme}
 use Rattle.wat_lexer.specs.declared.cut.Piece.{Piece}
 use Rattle.wat_lexer.specs.declared.fault.Error.{Error}
@@ -32,7 +32,7 @@ view (of.Integer i) = Integer (text_of i)
 view (of.String s) = String s.now
 view (of.Reserved s) = Reserved s.now
 
--- What stands between two places of a text, by its kind; `other` is what lies aside.
+-- What is between two places of a text, by its kind; `other` is what lies in the side table.
 abbrev pub tok_at : Kind → List ℕ → ℕ → ℕ → Tok → Tok
 tok_at kinds.LParen text from end other = LParen
 tok_at kinds.RParen text from end other = RParen
@@ -42,74 +42,76 @@ tok_at kinds.Annotation text from end other = other
 tok_at kinds.Integer text from end other = Integer (slice_range text from end)
 tok_at kinds.String text from end other = String (slice_range text (from + 1) (end - 1))
 tok_at kinds.Reserved text from end other = Reserved (slice_range text from end)
-tok_at kinds.Aside text from end other = other
+tok_at kinds.InSideTable text from end other = other
 
--- the text between the places, of which the front is left out, is a run of idchars
+-- the text between the places, of which the prefix is left out, is a run of idchars
 abbrev pub Word : ℕ → List ℕ → ℕ → ℕ → Type 0
 Word front text from end =
     (from + front < end) × (end ≤ length text) × (all_idchars (slice_range text from end) ≡ true)
 
--- A token of the kind can be read out of the text there, or lies aside; `other` is what lies there,
--- an annotation or not, by the kind.
+-- A token of the kind can be read out of the text there, or lies in the side table; `other` is what
+-- lies there, an annotation or not, by the kind.
 abbrev pub Readable : Kind → List ℕ → ℕ → ℕ → Type 0 → Tok → Type 0
-Readable kinds.LParen text from end aside other = Unit {0}
-Readable kinds.RParen text from end aside other = Unit {0}
-Readable kinds.Keyword text from end aside other = Word 0 text from end
-Readable kinds.Id text from end aside other = Word 1 text from end
-Readable kinds.Annotation text from end aside other = aside × (is_annotation other ≡ true)
-Readable kinds.Integer text from end aside other = Word 0 text from end
-Readable kinds.String text from end aside other = (from + 1 < end) × (end ≤ length text)
-Readable kinds.Reserved text from end aside other = Word 0 text from end
-Readable kinds.Aside text from end aside other = aside × (is_annotation other ≡ false)
+Readable kinds.LParen text from end stored other = Unit {0}
+Readable kinds.RParen text from end stored other = Unit {0}
+Readable kinds.Keyword text from end stored other = Word 0 text from end
+Readable kinds.Id text from end stored other = Word 1 text from end
+Readable kinds.Annotation text from end stored other = stored × (is_annotation other ≡ true)
+Readable kinds.Integer text from end stored other = Word 0 text from end
+Readable kinds.String text from end stored other = (from + 1 < end) × (end ≤ length text)
+Readable kinds.Reserved text from end stored other = Word 0 text from end
+Readable kinds.InSideTable text from end stored other = stored × (is_annotation other ≡ false)
 
 abbrev pub is_paren : Tok → Bool
 is_paren t = is_open t || is_close t
 
 -- no token is left out
-abbrev pub no_leaps : Leaps
-no_leaps = record { all = 0; unknown = 0 }
+abbrev pub no_skips : Skips
+no_skips = record { all = 0; unknown = 0 }
 
--- what lies aside where nothing does
-abbrev pub no_aside : Aside
-no_aside = record { token = of.LParen; offset = 0; leaps = no_leaps }
+-- what lies in the side table where nothing does
+abbrev pub no_side_entry : SideEntry
+no_side_entry = record { token = of.LParen; offset = 0; skips = no_skips }
 
--- the token that lies aside at the place
-abbrev pub lies : List Aside → ℕ → Tok
-lies aside i = view (get_or aside i no_aside).token
+-- the token that lies in the side table at the place
+abbrev pub lies : List SideEntry → ℕ → Tok
+lies side_table i = view (get_or side_table i no_side_entry).token
 
--- the place in the text of the token that lies aside at the place
-abbrev pub lies_from : List Aside → ℕ → ℕ
-lies_from aside i = (get_or aside i no_aside).offset
+-- the place in the text of the token that lies in the side table at the place
+abbrev pub lies_from : List SideEntry → ℕ → ℕ
+lies_from side_table i = (get_or side_table i no_side_entry).offset
 
 -- how far lookups go from the `(` in front of it
-abbrev pub lying_leaps : List Aside → ℕ → Leaps
-lying_leaps aside i = (get_or aside i no_aside).leaps
+abbrev pub lying_skips : List SideEntry → ℕ → Skips
+lying_skips side_table i = (get_or side_table i no_side_entry).skips
 
--- the tokens that lie aside
-abbrev pub lying : List Aside → List Tok
-lying aside = map (λ x. view x.token) aside
+-- the tokens that lie in the side table
+abbrev pub lying : List SideEntry → List Tok
+lying side_table = map (λ x. view x.token) side_table
 
--- the last token that lies aside
-abbrev pub last_aside : List Aside → Tok
-last_aside aside = lies aside (length aside - 1)
+-- the last token that lies in the side table
+abbrev pub last_in_side_table : List SideEntry → Tok
+last_in_side_table side_table = lies side_table (length side_table - 1)
 
 -- What was found between two places of the text, by its kind. What can't be read out of the text
--- was put aside last.
-abbrev pub found_tok : List ℕ → List Aside → ℕ → ℕ → Kind → Tok
-found_tok text aside at end kind = tok_at kind text at end (last_aside aside)
+-- was put into the side table last.
+abbrev pub found_tok : List ℕ → List SideEntry → ℕ → ℕ → Kind → Tok
+found_tok text side_table at end kind = tok_at kind text at end (last_in_side_table side_table)
 
--- it can be read there, or lies aside
-abbrev pub FoundFits : List ℕ → List Aside → ℕ → ℕ → Kind → Type 0
-FoundFits text aside at end kind =
-    Readable kind text at end ((0 < length aside) × (is_paren (last_aside aside) ≡ false)
-    × (lies_from aside (length aside - 1) ≡ at)
-    × (lying_leaps aside (length aside - 1) ≡ no_leaps)) (last_aside aside)
+-- it can be read there, or lies in the side table
+abbrev pub FoundFits : List ℕ → List SideEntry → ℕ → ℕ → Kind → Type 0
+FoundFits text side_table at end kind =
+    Readable kind text at end ((0 < length side_table)
+    × (is_paren (last_in_side_table side_table) ≡ false)
+    × (lies_from side_table (length side_table - 1) ≡ at)
+    × (lying_skips side_table (length side_table - 1) ≡ no_skips)) (last_in_side_table side_table)
 
--- of a kind that lies aside one token was put behind those that lay there, of any other none
-abbrev pub PutAside : Kind → List Aside → List Aside → Type 0
-PutAside kinds.Annotation old new = (t : Aside) × (new ≡ old ++ t ∷ [])
-PutAside kinds.Aside old new = (t : Aside) × (new ≡ old ++ t ∷ [])
-PutAside _ old new = new ≡ old
+-- of a kind that lies in the side table one token was put behind those that lay there, of any other
+-- none
+abbrev pub PutInSideTable : Kind → List SideEntry → List SideEntry → Type 0
+PutInSideTable kinds.Annotation old new = (t : SideEntry) × (new ≡ old ++ t ∷ [])
+PutInSideTable kinds.InSideTable old new = (t : SideEntry) × (new ≡ old ++ t ∷ [])
+PutInSideTable _ old new = new ≡ old
 
 -- tokens of the kind are annotations
 abbrev pub is_annotation_kind : Kind → Bool
@@ -121,7 +123,7 @@ abbrev pub is_word : Kind → Bool
 is_word kinds.LParen = false
 is_word kinds.RParen = false
 is_word kinds.Annotation = false
-is_word kinds.Aside = false
+is_word kinds.InSideTable = false
 is_word _ = true
 
 -- what is kept of a token has room for a word between two places: 48 bits for the first and 32 for
@@ -133,73 +135,75 @@ HasRoom at end = (at < 281474976710656) × (end < at + 4294967296)
 abbrev pub wide : ℕ → ℕ → ℕ
 wide low above = low + 4294967296 * above
 
--- the part of a token's number above 32 bits: that of a word stands in a field of its own, that of
--- any other in the field that says how many bytes a word has
+-- the part of a token's number above 32 bits: that of a word is in a field of its own, that of any
+-- other in the field that says how many bytes a word has
 abbrev pub upper : Kind → ℕ → ℕ → ℕ
 upper kinds.LParen size high = size
 upper kinds.RParen size high = size
 upper kinds.Annotation size high = size
-upper kinds.Aside size high = size
+upper kinds.InSideTable size high = size
 upper _ size high = high
 
--- how many bytes of the text stand before it; where it lies aside, its place there
+-- how many bytes of the text stand before it; where it lies in the side table, its place there
 abbrev pub own_number : Lexeme → ℕ
 own_number x = wide x.low (upper x.kind x.size x.high)
 
--- where a token of the kind stands, by its own number and by that which lies aside
+-- where a token of the kind stands, by its own number and by that which lies in the side table
 abbrev pub stands_at : Kind → ℕ → ℕ → ℕ
 stands_at kinds.Annotation own other = other
-stands_at kinds.Aside own other = other
+stands_at kinds.InSideTable own other = other
 stands_at _ own other = own
 
--- only annotations have leaps
-abbrev pub leaps_of : Kind → Leaps → Leaps
-leaps_of kinds.Annotation other = other
-leaps_of _ other = no_leaps
+-- only annotations have skips
+abbrev pub skips_of : Kind → Skips → Skips
+skips_of kinds.Annotation other = other
+skips_of _ other = no_skips
 
 -- what is kept of a token of the text
-abbrev pub entry_of : List ℕ → List Aside → Lexeme → Entry
-entry_of text aside x = record {
-  token = tok_at x.kind text (own_number x) (own_number x + x.size) (lies aside (own_number x));
-  offset = stands_at x.kind (own_number x) (lies_from aside (own_number x));
-  leaps = leaps_of x.kind (lying_leaps aside (own_number x));
+abbrev pub entry_of : List ℕ → List SideEntry → Lexeme → Entry
+entry_of text side_table x = record {
+  token =
+      tok_at x.kind text (own_number x) (own_number x + x.size) (lies side_table (own_number x));
+  offset = stands_at x.kind (own_number x) (lies_from side_table (own_number x));
+  skips = skips_of x.kind (lying_skips side_table (own_number x));
 }
 
-abbrev pub entries_of : List ℕ → List Aside → List Lexeme → List Entry
-entries_of text aside ls = map (entry_of text aside) ls
+abbrev pub entries_of : List ℕ → List SideEntry → List Lexeme → List Entry
+entries_of text side_table ls = map (entry_of text side_table) ls
 
 -- it can be read
-abbrev pub CanBeRead : List ℕ → List Aside → Lexeme → Type 0
-CanBeRead text aside x =
+abbrev pub CanBeRead : List ℕ → List SideEntry → Lexeme → Type 0
+CanBeRead text side_table x =
     Readable x.kind text (own_number x) (own_number x + x.size)
-    ((own_number x < length aside) × (is_paren (lies aside (own_number x)) ≡ false))
-    (lies aside (own_number x))
+    ((own_number x < length side_table) × (is_paren (lies side_table (own_number x)) ≡ false))
+    (lies side_table (own_number x))
 
-abbrev pub AllCanBeRead : List ℕ → List Aside → List Lexeme → Type 0
-AllCanBeRead text aside ls = AllByRecursion (CanBeRead text aside) ls
+abbrev pub AllCanBeRead : List ℕ → List SideEntry → List Lexeme → Type 0
+AllCanBeRead text side_table ls = AllByRecursion (CanBeRead text side_table) ls
 
--- the two aren't annotations that lie aside at one place
+-- the two aren't annotations that lie in the side table at one place
 abbrev pub Apart : Lexeme → Lexeme → Type 0
 Apart x y =
     is_annotation_kind x.kind ≡ true → is_annotation_kind y.kind ≡ true
     → own_number x ≢ own_number y
 
--- no two annotations lie aside at one place
+-- no two annotations lie in the side table at one place
 abbrev pub AllApart : List Lexeme → Type 0
 AllApart [] = Unit {0}
 AllApart (x ∷ ls) = AllByRecursion (Apart x) ls × AllApart ls
 
 -- what was found is kept
-pub record WasKept (text : List ℕ) (aside : List Aside) (at end : ℕ) (kind : Kind) (x : Lexeme)
+pub record WasKept (text : List ℕ) (side_table : List SideEntry) (at end : ℕ) (kind : Kind)
+    (x : Lexeme)
     : Type 0 where
-  pub entry : entry_of text aside x ≡ record {
-    token = found_tok text aside at end kind;
+  pub entry : entry_of text side_table x ≡ record {
+    token = found_tok text side_table at end kind;
     offset = at;
-    leaps = no_leaps;
+    skips = no_skips;
   }
-  pub fits : CanBeRead text aside x
+  pub fits : CanBeRead text side_table x
   pub last : is_annotation_kind x.kind ≡ true
-      → (is_annotation_kind kind ≡ true) × (own_number x + 1 ≡ length aside)
+      → (is_annotation_kind kind ≡ true) × (own_number x + 1 ≡ length side_table)
 
 abbrev pub entry_tok : Entry → Tok
 entry_tok x = x.token
@@ -217,59 +221,60 @@ placed ls = map placed_of ls
 
 -- what stands where there is no token
 abbrev pub no_entry : Entry
-no_entry = record { token = LParen; offset = 0; leaps = no_leaps }
+no_entry = record { token = LParen; offset = 0; skips = no_skips }
 
--- the token at the place, with other leaps
-abbrev pub leaping : List Entry → ℕ → Leaps → Entry
-leaping ls i leaps = record (get_or ls i no_entry) { leaps = leaps }
+-- the token at the place, with other skips
+abbrev pub skipping : List Entry → ℕ → Skips → Entry
+skipping ls i skips = record (get_or ls i no_entry) { skips = skips }
 
 -- how far lookups go, where the five names are known or none is
-abbrev pub skip : Bool → Leaps → ℕ
-skip false leaps = leaps.all
-skip true leaps = leaps.unknown
+abbrev pub skip : Bool → Skips → ℕ
+skip false skips = skips.all
+skip true skips = skips.unknown
 
 -- how far the tokens tell to go from an annotation's group in front: its annotation tells it
-abbrev pub leap : Bool → List Entry → ℕ
-leap known [] = 0
-leap known (x ∷ []) = 0
-leap known (x ∷ y ∷ ls) = skip known y.leaps
+abbrev pub skip_in_front : Bool → List Entry → ℕ
+skip_in_front known [] = 0
+skip_in_front known (x ∷ []) = 0
+skip_in_front known (x ∷ y ∷ ls) = skip known y.skips
 
 -- wherever a hidden group stands, the tokens tell how many are hidden there
-abbrev pub AreLeaps : List Entry → Type 0
-AreLeaps ls =
-    (known : Bool) (i : ℕ) → hides known (toks (drop i ls)) ≡ true
-    → leap known (drop i ls) ≡ hidden known (toks (drop i ls))
+abbrev pub AreSkips : List Entry → Type 0
+AreSkips ls =
+    (known : Bool) (i : ℕ) → begins_hidden_group known (toks (drop i ls)) ≡ true
+    → skip_in_front known (drop i ls) ≡ hidden_count known (toks (drop i ls))
 
 -- the visible tokens begin with the first of the list
-abbrev pub Shown : Bool → List Entry → List Tok → Type 0
-Shown known [] t = t ≡ []
-Shown known (x ∷ ls) t = t ≡ entry_tok x ∷ as_shown known (toks ls)
+abbrev pub VisibleFrom : Bool → List Entry → List Tok → Type 0
+VisibleFrom known [] t = t ≡ []
+VisibleFrom known (x ∷ ls) t = t ≡ entry_tok x ∷ visible_tokens known (toks ls)
 
 -- a fault other than want of memory comes only where p holds
 abbrev pub IfFault : Error → Type 0 → Type 0
 IfFault e p = e.fault ≢ Memory → p
 
--- the token was put aside as what begins at a place of a text and ends anywhere
-abbrev pub IsPut : List Aside → List Aside → ℕ → Tok → Kind → Type 0
+-- the token was put into the side table as what begins at a place of a text and ends anywhere
+abbrev pub IsPut : List SideEntry → List SideEntry → ℕ → Tok → Kind → Type 0
 IsPut old new at t k =
     (text : List ℕ) (end : ℕ) → (t ≡ found_tok text new at end k) × FoundFits text new at end k
-    × PutAside k old new
+    × PutInSideTable k old new
 
--- what was found at a place of the text is what stands there, and was put aside where it has to be
-abbrev pub PieceIs : List ℕ → List Aside → List Aside → ℕ → Piece → Beginning → Type 0
+-- what was found at a place of the text is what is there, and was put into the side table where it
+-- has to be
+abbrev pub PieceIs : List ℕ → List SideEntry → List SideEntry → ℕ → Piece → Beginning → Type 0
 PieceIs text old new at p f =
     MatchOption p.kind ((f ≡ BlankTo (drop p.end text)) × (new ≡ old))
     (λ k. (f ≡ TokenTo (found_tok text new at p.end k) (drop p.end text))
-    × FoundFits text new at p.end k × PutAside k old new)
+    × FoundFits text new at p.end k × PutInSideTable k old new)
 
 -- the fault and its place are those at which nothing can stand
 abbrev pub WrongIs : List ℕ → Error → Beginning → Type 0
 WrongIs text e f =
     (f ≡ Wrong e.fault (drop (offset_of e.span) text)) × (offset_of e.span ≤ length text)
 
--- that, where something can stand; of a fault nothing is said of what lies aside
+-- that, where something can stand; of a fault nothing is said of what lies in the side table
 abbrev pub FrontGives
-    : List ℕ → List Aside → List Aside → ℕ → Result Piece Error → Beginning → Type 0
+    : List ℕ → List SideEntry → List SideEntry → ℕ → Result Piece Error → Beginning → Type 0
 FrontGives text old new at (Ok p) f = PieceIs text old new at p f
 FrontGives text old new at (Err e) f = IfFault e (WrongIs text e f)
 

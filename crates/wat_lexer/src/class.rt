@@ -27,7 +27,7 @@ pub fn part(text: &str, from: usize, end: usize) -> &str
     &text[from..end]
 }
 
-/// The kind of a run of idchars; an annotation is to be put aside.
+/// The kind of a run of idchars; an annotation is to be put into the side table.
 #[tactic(auto, using(crate::proofs::Plain::plain_here, crate::proofs::Plain::plain_name, crate::proofs::Plain::plain_bare, crate::proofs::Plain::plain_ascii))]
 pub fn plain_kind(text: &str, from: usize, end: usize, behind: bool) -> Kind
     requires order { from < end }
@@ -132,8 +132,7 @@ fn text_name(content: &[u8]) -> Option<&str>
     }
 }
 
-/// The token of a run that ends with the one string in it, whose quote stands at a place of the
-/// run.
+/// The token of a run that ends with the one string in it, whose quote is at a place of the run.
 #[tactic(auto, using(crate::proofs::Whole::token_steps))]
 pub fn string_token<'a>(run: &'a str, quote: usize, behind: bool, content: &'a [u8]) -> Token<'a>
     requires within { quote < length run.now }

@@ -7,16 +7,16 @@ ghost use Rattle.wat_lexer.specs.Cut.{Cuts, FirstFault, IsCut};
 ghost use Rattle.wat_lexer.specs.Place.{offset_of};
 ghost use Rattle.wat_lexer.specs.Scan.{front, run_front, behind_run, all_idchars, Between, Ends};
 ghost use Rattle.wat_lexer.specs.Token.{Placed, has_annotation, is_annotation};
-ghost use Rattle.wat_lexer.specs.View.{view, toks, placed, is_paren, lying, AreLeaps, IsPut};
+ghost use Rattle.wat_lexer.specs.View.{view, toks, placed, is_paren, lying, AreSkips, IsPut};
 ghost use Rattle.wat_lexer.specs.View.{FrontGives, IfFault, FailsAt, HasRoom, is_word};
 ghost use Rattle.wat_lexer.specs.View.{FoundFits, found_tok};
 ghost use Rattle.wat_lexer.specs.declared.fault.Fault.{Fault};
-ghost use Rattle.wat_lexer.specs.declared.lexeme.Aside.{Aside};
+ghost use Rattle.wat_lexer.specs.declared.lexeme.SideEntry.{SideEntry};
 
 use crate::class::{content, part, plain_kind, string_token};
 use crate::fault::{Error, Fault, fault_at};
-use crate::groups::tell_leaps;
-use crate::lexeme::{Aside, Kind, Leaps, has_room, is_annotation_kind, is_open, is_word, kept};
+use crate::groups::tell_skips;
+use crate::lexeme::{Kind, SideEntry, Skips, has_room, is_annotation_kind, is_open, is_word, kept};
 use crate::scan::{comment_end, is_space, line_end, plain_end, run_end, spaces_end};
 use crate::string::string_end;
 use crate::token::{Token, is_annotation};
@@ -24,78 +24,83 @@ use crate::tokens::{Tokens, read};
 use bumpalo::Bump;
 use std::alloc::{AllocError, Global};
 
-/// What stands in front, a token of the kind or a blank, and where it ends.
+/// What is in front, a token of the kind or a blank, and where it ends.
 #[derive(Clone, Copy, Debug)]
 pub struct Piece {
     pub kind: Option<Kind>,
     pub end: usize,
 }
 
-/// Puts a token aside that begins at a place. Answers its kind.
-// Few tokens lie aside.
+/// Puts a token into the side table that begins at a place. Answers its kind.
+// Few tokens lie in the side table.
 #[inline(never)]
-fn put<'a>(token: Token<'a>, at: usize, aside: &mut Vec<Aside<'a>>) -> Result<Kind, AllocError>
+fn put<'a>(
+    token: Token<'a>,
+    at: usize,
+    side_table: &mut Vec<SideEntry<'a>>,
+) -> Result<Kind, AllocError>
     requires { is_paren (view token) ≡ false }
-    ensures { IfOk result (λ k. IsPut aside.old.items aside.new.items at (view token.entry) k) }
+    ensures { IfOk result (λ k. IsPut side_table.old.items side_table.new.items at
+        (view token.entry) k) }
 {
-    let leaps = Leaps { all: 0, unknown: 0 };
-    aside.push(Aside {
+    let skips = Skips { all: 0, unknown: 0 };
+    side_table.push(SideEntry {
         token,
         offset: at,
-        leaps,
+        skips,
     })?;
     if is_annotation(token) {
         Ok(Kind::Annotation)
     } else {
-        Ok(Kind::Aside)
+        Ok(Kind::InSideTable)
     }
 }
 
-/// The run in front. What can't be read out of the text is put aside.
+/// The run in front. What can't be read out of the text is put into the side table.
 #[tactic(auto, using(crate::proofs::Places::run_steps))]
 fn run<'a>(
     text: &'a str,
     at: usize,
     behind: bool,
     arena: &'a Bump,
-    aside: &mut Vec<Aside<'a>>,
+    side_table: &mut Vec<SideEntry<'a>>,
 ) -> Result<Piece, Error>
     requires { at < length text.now }
     ensures within { IfOk result (λ p. (at < p.end) × (p.end ≤ length text.now)) }
-    ensures value { FrontGives text.now aside.old.items aside.new.items at result (run_front behind
-        (drop at text.now) (behind_run Between (drop at text.now))) }
+    ensures value { FrontGives text.now side_table.old.items side_table.new.items at result
+        (run_front behind (drop at text.now) (behind_run Between (drop at text.now))) }
 {
     let bytes = text.as_bytes();
     let plain = plain_end(bytes, at);
     if plain < bytes.len() && bytes[plain] == b'"' {
-        return string_run(text, at, plain, behind, arena, aside);
+        return string_run(text, at, plain, behind, arena, side_table);
     }
     if plain == at {
         return Err(fault_at(Fault::LexChar, at));
     }
-    plain_run(text, at, plain, behind, aside)
+    plain_run(text, at, plain, behind, side_table)
 }
 
-/// A run of idchars. An annotation is put aside.
+/// A run of idchars. An annotation is put into the side table.
 #[tactic(auto, using(crate::proofs::Plain::plain_ascii))]
 fn plain_run<'a>(
     text: &'a str,
     at: usize,
     end: usize,
     behind: bool,
-    aside: &mut Vec<Aside<'a>>,
+    side_table: &mut Vec<SideEntry<'a>>,
 ) -> Result<Piece, Error>
     requires order { at < end }
     requires within { end ≤ length text.now }
     requires all { all_idchars (slice_range text.now at end) ≡ true }
     requires ends { behind_run Between (drop at text.now) ≡ Ends (drop end text.now) }
     ensures within { IfOk result (λ p. (at < p.end) × (p.end ≤ length text.now)) }
-    ensures value { FrontGives text.now aside.old.items aside.new.items at result (run_front behind
-        (drop at text.now) (behind_run Between (drop at text.now))) }
+    ensures value { FrontGives text.now side_table.old.items side_table.new.items at result
+        (run_front behind (drop at text.now) (behind_run Between (drop at text.now))) }
 {
     let kind = plain_kind(text, at, end, behind);
     if is_annotation_kind(kind) {
-        let kind = put(Token::Annotation(part(text, at + 1, end)), at, aside)?;
+        let kind = put(Token::Annotation(part(text, at + 1, end)), at, side_table)?;
         return Ok(Piece {
             kind: Some(kind),
             end,
@@ -115,7 +120,7 @@ fn string_run<'a>(
     quote: usize,
     behind: bool,
     arena: &'a Bump,
-    aside: &mut Vec<Aside<'a>>,
+    side_table: &mut Vec<SideEntry<'a>>,
 ) -> Result<Piece, Error>
     requires order { at ≤ quote }
     requires quote { quote < length text.now }
@@ -124,8 +129,8 @@ fn string_run<'a>(
     requires same { behind_run Between (drop at text.now) ≡ behind_run Between
         (drop quote text.now) }
     ensures within { IfOk result (λ p. (at < p.end) × (p.end ≤ length text.now)) }
-    ensures value { FrontGives text.now aside.old.items aside.new.items at result (run_front behind
-        (drop at text.now) (behind_run Between (drop at text.now))) }
+    ensures value { FrontGives text.now side_table.old.items side_table.new.items at result
+        (run_front behind (drop at text.now) (behind_run Between (drop at text.now))) }
 {
     let bytes = text.as_bytes();
     let (after, plain) = match string_end(bytes, quote + 1) {
@@ -149,26 +154,26 @@ fn string_run<'a>(
     } else {
         Token::Reserved(run)
     };
-    let kind = put(token, at, aside)?;
+    let kind = put(token, at, side_table)?;
     Ok(Piece {
         kind: Some(kind),
         end,
     })
 }
 
-/// What stands in front. What can't be read out of the text is put aside.
+/// What is in front. What can't be read out of the text is put into the side table.
 #[tactic(auto, using(crate::proofs::Places::front_steps))]
 fn front<'a>(
     text: &'a str,
     at: usize,
     behind: bool,
     arena: &'a Bump,
-    aside: &mut Vec<Aside<'a>>,
+    side_table: &mut Vec<SideEntry<'a>>,
 ) -> Result<Piece, Error>
     requires { at < length text.now }
     ensures within { IfOk result (λ p. (at < p.end) × (p.end ≤ length text.now)) }
-    ensures value { FrontGives text.now aside.old.items aside.new.items at result (front behind
-        (drop at text.now)) }
+    ensures value { FrontGives text.now side_table.old.items side_table.new.items at result
+        (front behind (drop at text.now)) }
 {
     let bytes = text.as_bytes();
     let b = bytes[at];
@@ -204,44 +209,45 @@ fn front<'a>(
             Err(fault_at(Fault::LexChar, at))
         }
     } else {
-        run(text, at, behind, arena, aside)
+        run(text, at, behind, arena, side_table)
     }
 }
 
-/// Puts a word aside that stands between two places. Answers its kind.
-// No word of a usual text lies aside.
+/// Puts a word into the side table that is between two places. Answers its kind.
+// No word of a usual text lies in the side table.
 #[inline(never)]
 fn put_word<'a>(
     text: &'a str,
     kind: Kind,
     at: usize,
     end: usize,
-    aside: &mut Vec<Aside<'a>>,
+    side_table: &mut Vec<SideEntry<'a>>,
 ) -> Result<Kind, AllocError>
     requires order { at < end }
     requires a_word { is_word kind ≡ true }
-    requires fits { FoundFits text.now aside.old.items at end kind }
-    ensures { IfOk result (λ k. IsPut aside.old.items aside.new.items at
-        (found_tok text.now aside.old.items at end kind) k) }
+    requires fits { FoundFits text.now side_table.old.items at end kind }
+    ensures { IfOk result (λ k. IsPut side_table.old.items side_table.new.items at
+        (found_tok text.now side_table.old.items at end kind) k) }
 {
-    put(read(text, kind, at, end - at, &[], 0), at, aside)
+    put(read(text, kind, at, end - at, &[], 0), at, side_table)
 }
 
-/// What stands in front. A word for which what is kept of a token has no room is put aside too.
+/// What is in front. A word for which what is kept of a token has no room is put into the side
+/// table too.
 fn next_piece<'a>(
     text: &'a str,
     at: usize,
     behind: bool,
     arena: &'a Bump,
-    aside: &mut Vec<Aside<'a>>,
+    side_table: &mut Vec<SideEntry<'a>>,
 ) -> Result<Piece, Error>
     requires { at < length text.now }
     ensures within { IfOk result (λ p. (at < p.end) × (p.end ≤ length text.now)) }
-    ensures value { FrontGives text.now aside.old.items aside.new.items at result (front behind
-        (drop at text.now)) }
+    ensures value { FrontGives text.now side_table.old.items side_table.new.items at result
+        (front behind (drop at text.now)) }
     ensures room { IfOk result (λ p. IfSome p.kind (λ k. is_word k ≡ true → HasRoom at p.end)) }
 {
-    let piece = match front(text, at, behind, arena, aside) {
+    let piece = match front(text, at, behind, arena, side_table) {
         Err(e) => return Err(e),
         Ok(piece) => piece,
     };
@@ -250,7 +256,7 @@ fn next_piece<'a>(
     }
     match piece.kind {
         Some(kind) if is_word(kind) => {
-            let kind = put_word(text, kind, at, piece.end, aside)?;
+            let kind = put_word(text, kind, at, piece.end, side_table)?;
             Ok(Piece {
                 kind: Some(kind),
                 end: piece.end,
@@ -260,12 +266,12 @@ fn next_piece<'a>(
     }
 }
 
-/// Whether an annotation lies aside.
+/// Whether an annotation lies in the side table.
 #[tactic(auto, using(crate::proofs::Entries::annotation_steps))]
-fn any_annotation(aside: &[Aside]) -> bool
-    ensures { result ≡ has_annotation (lying aside.now) }
+fn any_annotation(side_table: &[SideEntry]) -> bool
+    ensures { result ≡ has_annotation (lying side_table.now) }
 {
-    for one in aside {
+    for one in side_table {
         if is_annotation(one.token) {
             return true;
         }
@@ -273,7 +279,7 @@ fn any_annotation(aside: &[Aside]) -> bool
     false
 }
 
-/// Whether a `(` that ends at a place stands directly before another.
+/// Whether a `(` that ends at a place is directly before another.
 fn directly(opens: bool, end: usize, next: usize) -> bool
     ensures { result ≡ (opens && (next == end)) }
 {
@@ -291,11 +297,11 @@ fn cut_pieces<'a>(
     ensures fails { IfErr result (λ e. IfFault e (FailsAt text.now e)) }
 {
     let mut tokens = Vec::with_capacity(alloc, text.len() / 4)?;
-    let mut aside = Vec::new(alloc);
+    let mut side_table = Vec::new(alloc);
     let mut behind = false;
     let mut at = 0;
     while at < text.len() {
-        let piece = match next_piece(text, at, behind, arena, &mut aside) {
+        let piece = match next_piece(text, at, behind, arena, &mut side_table) {
             Err(e) => return Err(e),
             Ok(piece) => piece,
         };
@@ -307,13 +313,13 @@ fn cut_pieces<'a>(
             }
             Some(kind) => {
                 behind = directly(is_open(kind), piece.end, next);
-                tokens.push(kept(kind, at, piece.end, aside.len()))?;
+                tokens.push(kept(kind, at, piece.end, side_table.len()))?;
                 at = next;
             }
         }
     }
-    let noted = any_annotation(&aside);
-    Ok((Tokens::of(text, tokens, aside), noted))
+    let noted = any_annotation(&side_table);
+    Ok((Tokens::of(text, tokens, side_table), noted))
 }
 
 /// Cuts a text into tokens, each of whose annotation groups is closed. Names and strings without
@@ -323,7 +329,7 @@ fn cut_pieces<'a>(
 /// Specification, Text Format, Lexical Format.
 pub fn cut<'a>(alloc: Global, text: &'a str, arena: &'a Bump) -> Result<Tokens<'a>, Error>
     ensures found { IfOk result (λ ts. IsCut text.now (placed ts)) }
-    ensures leaps { IfOk result (λ ts. AreLeaps ts) }
+    ensures skips { IfOk result (λ ts. AreSkips ts) }
     // The fault is the text's first from the left.
     ensures fault { IfErr result (λ e. IfFault e (FirstFault text.now e.fault (offset_of e.span))) }
     ensures none { IfErr result (λ e. IfFault e ((ts : List Placed) → IsCut text.now ts → ⊥)) }
@@ -333,7 +339,7 @@ pub fn cut<'a>(alloc: Global, text: &'a str, arena: &'a Bump) -> Result<Tokens<'
         Ok(parts) => parts,
     };
     if noted {
-        match tell_leaps(alloc, &mut tokens)? {
+        match tell_skips(alloc, &mut tokens)? {
             Some(offset) => return Err(fault_at(Fault::LexAnnotation, offset)),
             None => return Ok(tokens),
         }

@@ -55,7 +55,7 @@ pub enum Fault {
     /// Import items of two kinds in one import; the offset is that of the word `item` of the first
     /// that differs.
     ImportMixed = 19,
-    /// An identifier where none may stand in an import; the offset is its own.
+    /// An identifier where none may be in an import; the offset is its own.
     ImportId = 20,
     /// An instruction behind a branch hint that is neither `br_if` nor `if`; the offset is that of
     /// its word.

@@ -3,38 +3,38 @@
 ghost use Rattle.std.specs.Prelude.{◌≡◌, ◌≢◌, ◌+◌, ◌-◌, ◌≤◌, ◌<◌, Bool, true, false, IfOk, IfErr};
 ghost use Rattle.std.specs.Prelude.{MatchOption, length, drop};
 ghost use Rattle.wat_lexer.specs.Cut.{Closed, FirstUnclosed};
-ghost use Rattle.wat_lexer.specs.Sight.{hides, hidden};
+ghost use Rattle.wat_lexer.specs.Sight.{begins_hidden_group, hidden_count};
 ghost use Rattle.wat_lexer.specs.Token.{tokens_of};
-ghost use Rattle.wat_lexer.specs.View.{toks, placed, AreLeaps};
+ghost use Rattle.wat_lexer.specs.View.{toks, placed, AreSkips};
 
-use crate::lexeme::Leaps;
-use crate::sight::{hidden, hides};
+use crate::lexeme::Skips;
+use crate::sight::{begins_hidden_group, hidden_count};
 use crate::tokens::Tokens;
 use std::alloc::{AllocError, Global};
 
 /// Tells the group of an annotation that begins at a place and ends before another how many tokens
 /// are left out there.
-fn tell_leap(tokens: &mut Tokens, at: usize, end: usize)
-    requires begins { hides false (toks (drop at tokens.old)) ≡ true }
+fn tell_skip(tokens: &mut Tokens, at: usize, end: usize)
+    requires begins { begins_hidden_group false (toks (drop at tokens.old)) ≡ true }
     requires order { at < end }
     requires within { end ≤ length tokens.old }
-    requires leaps { AreLeaps (drop (at + 1) tokens.old) }
-    requires counts { (known : Bool) → hides known (toks (drop at tokens.old)) ≡ true
-        → hidden known (toks (drop at tokens.old)) ≡ (end - at) + hidden known (toks
+    requires skips { AreSkips (drop (at + 1) tokens.old) }
+    requires counts { (known : Bool) → begins_hidden_group known (toks (drop at tokens.old)) ≡ true
+        → hidden_count known (toks (drop at tokens.old)) ≡ (end - at) + hidden_count known (toks
         (drop end tokens.old)) }
     ensures same { placed tokens.new ≡ placed tokens.old }
-    ensures leaps { AreLeaps (drop at tokens.new) }
+    ensures skips { AreSkips (drop at tokens.new) }
 {
-    let all = end - at + hidden(tokens, end, false);
-    let unknown = end - at + hidden(tokens, end, true);
-    tokens.set_leaps(at + 1, Leaps { all, unknown });
+    let all = end - at + hidden_count(tokens, end, false);
+    let unknown = end - at + hidden_count(tokens, end, true);
+    tokens.set_skips(at + 1, Skips { all, unknown });
 }
 
 /// Tells each group of an annotation how many tokens are left out where it stands. Answers the
 /// offset of the first one that isn't closed.
-pub fn tell_leaps(alloc: Global, tokens: &mut Tokens) -> Result<Option<usize>, AllocError>
+pub fn tell_skips(alloc: Global, tokens: &mut Tokens) -> Result<Option<usize>, AllocError>
     ensures same { placed tokens.new ≡ placed tokens.old }
-    ensures leaps { IfOk result (λ o. AreLeaps tokens.new) }
+    ensures skips { IfOk result (λ o. AreSkips tokens.new) }
     ensures first { IfOk result (λ o. MatchOption o (Closed (tokens_of (placed tokens.old)))
         (FirstUnclosed (placed tokens.old))) }
 {
@@ -51,15 +51,15 @@ pub fn tell_leaps(alloc: Global, tokens: &mut Tokens) -> Result<Option<usize>, A
             continue;
         }
         let end = ends.pop();
-        if !hides(tokens, i, false) {
+        if !begins_hidden_group(tokens, i, false) {
             continue;
         }
         match end {
-            Some(end) => tell_leap(tokens, i, end),
+            Some(end) => tell_skip(tokens, i, end),
             None => {
                 first = Some(tokens.offset(i));
                 let end = tokens.len();
-                tell_leap(tokens, i, end);
+                tell_skip(tokens, i, end);
             }
         }
     }

@@ -4,11 +4,11 @@ ghost use Rattle.std.specs.Prelude.{◌≡◌, ◌<◌, ◌+◌, List, ℕ, leng
 ghost use Rattle.wat_lexer.specs.Token.{is_open};
 ghost use Rattle.wat_lexer.specs.View.{found_tok, is_annotation_kind, is_word, wide, own_number};
 ghost use Rattle.wat_lexer.specs.View.{FoundFits, HasRoom, WasKept};
-ghost use Rattle.wat_lexer.specs.declared.lexeme.Aside.{Aside};
+ghost use Rattle.wat_lexer.specs.declared.lexeme.SideEntry.{SideEntry};
 
 use crate::token::Token;
 
-/// How a token is read out of the text, or that it lies aside.
+/// How a token is read out of the text, or that it lies in the side table.
 #[derive(Clone, Copy, Debug)]
 pub enum Kind {
     /// `)`
@@ -25,15 +25,15 @@ pub enum Kind {
     Reserved,
     /// `(`
     LParen,
-    /// The token lies aside, an annotation.
+    /// The token lies in the side table, an annotation.
     Annotation,
-    /// The token lies aside and is none.
-    Aside,
+    /// The token lies in the side table and is none.
+    InSideTable,
 }
 
 /// How many tokens are left out from the `(` of an annotation's group on.
 #[derive(Clone, Copy, Debug)]
-pub struct Leaps {
+pub struct Skips {
     /// Where no annotation is known.
     pub all: usize,
     /// Where the five standard names are.
@@ -42,15 +42,15 @@ pub struct Leaps {
 
 /// A token that isn't read out of the text, and how many bytes of the text stand before it.
 #[derive(Clone, Copy, Debug)]
-pub struct Aside<'a> {
+pub struct SideEntry<'a> {
     pub token: Token<'a>,
     pub offset: usize,
     /// Of the annotation of a group how far lookups go from the `(` in front of it.
-    pub leaps: Leaps,
+    pub skips: Skips,
 }
 
 /// What is kept of a token. Its number is how many bytes of the text stand before it; where it lies
-/// aside, its place there.
+/// in the side table, its place there.
 #[derive(Clone, Copy, Debug)]
 pub struct Lexeme {
     /// The lower 32 bits of its number.
@@ -92,8 +92,9 @@ impl Lexeme {
 
 /// Whether a token of the kind is `(`.
 pub fn is_open(kind: Kind) -> bool
-    ensures { (text : List ℕ) (aside : List Aside) (at end : ℕ) → FoundFits text aside at end kind
-        → result ≡ is_open (found_tok text aside at end kind) }
+    ensures { (text : List ℕ) (side_table : List SideEntry) (at end : ℕ)
+        → FoundFits text side_table at end kind
+        → result ≡ is_open (found_tok text side_table at end kind) }
 {
     matches!(kind, Kind::LParen)
 }
@@ -111,7 +112,7 @@ pub fn is_word(kind: Kind) -> bool
 {
     !matches!(
         kind,
-        Kind::LParen | Kind::RParen | Kind::Annotation | Kind::Aside
+        Kind::LParen | Kind::RParen | Kind::Annotation | Kind::InSideTable
     )
 }
 
@@ -154,17 +155,17 @@ fn word(kind: Kind, at: usize, end: usize) -> Lexeme
     }
 }
 
-/// What is kept of a token between two places of a text, where so many lie aside; where it lies
-/// aside, it is the last there.
-pub fn kept(kind: Kind, at: usize, end: usize, aside: usize) -> Lexeme
+/// What is kept of a token between two places of a text, where so many lie in the side table; where
+/// it lies in the side table, it is the last there.
+pub fn kept(kind: Kind, at: usize, end: usize, side_table: usize) -> Lexeme
     requires order { at < end }
     requires room { is_word kind ≡ true → HasRoom at end }
-    ensures { (text : List ℕ) (lie : List Aside) → length lie ≡ aside
+    ensures { (text : List ℕ) (lie : List SideEntry) → length lie ≡ side_table
         → FoundFits text lie at end kind → WasKept text lie at end kind result }
 {
     match kind {
         Kind::LParen | Kind::RParen => numbered(kind, at),
-        Kind::Annotation | Kind::Aside => numbered(kind, aside.saturating_sub(1)),
+        Kind::Annotation | Kind::InSideTable => numbered(kind, side_table.saturating_sub(1)),
         _ => word(kind, at, end),
     }
 }

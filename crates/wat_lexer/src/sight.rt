@@ -1,8 +1,9 @@
 //! Which tokens are visible: groups of annotations that aren't known are left out.
 
 ghost use Rattle.std.specs.Prelude.{◌≡◌, ◌≤◌, ◌+◌, ◌∷◌, [], length, drop};
-ghost use Rattle.wat_lexer.specs.Sight.{is_standard, hides, hidden, as_shown};
-ghost use Rattle.wat_lexer.specs.View.{view, toks, leap, AreLeaps, Shown};
+ghost use Rattle.wat_lexer.specs.Sight.{is_standard, begins_hidden_group, hidden_count};
+ghost use Rattle.wat_lexer.specs.Sight.{visible_tokens};
+ghost use Rattle.wat_lexer.specs.View.{view, toks, skip_in_front, AreSkips, VisibleFrom};
 
 use crate::token::Token;
 use crate::tokens::Tokens;
@@ -21,7 +22,7 @@ fn is_standard(name: &str) -> bool
 
 /// Whether the two tokens begin a group whose annotation isn't known.
 fn begins_hidden(first: Token, second: Token, known: bool) -> bool
-    ensures { result ≡ hides known (view first.entry ∷ view second.entry ∷ []) }
+    ensures { result ≡ begins_hidden_group known (view first.entry ∷ view second.entry ∷ []) }
 {
     match first {
         Token::LParen => match second {
@@ -32,11 +33,11 @@ fn begins_hidden(first: Token, second: Token, known: bool) -> bool
     }
 }
 
-/// Whether a group whose annotation isn't known stands at the place.
-#[tactic(auto, using(crate::proofs::Entries::hides_steps))]
-pub fn hides(tokens: &Tokens, at: usize, known: bool) -> bool
+/// Whether a group whose annotation isn't known is at the place.
+#[tactic(auto, using(crate::proofs::Entries::begins_hidden_steps))]
+pub fn begins_hidden_group(tokens: &Tokens, at: usize, known: bool) -> bool
     requires { at ≤ length tokens.now }
-    ensures value { result ≡ hides known (toks (drop at tokens.now)) }
+    ensures value { result ≡ begins_hidden_group known (toks (drop at tokens.now)) }
     ensures small { length tokens.now ≤ 9223372036854775807 }
 {
     let count = tokens.len();
@@ -48,9 +49,9 @@ pub fn hides(tokens: &Tokens, at: usize, known: bool) -> bool
 }
 
 /// How far the tokens tell to go from an annotation's group at the place.
-fn leap(tokens: &Tokens, at: usize, known: bool) -> usize
+fn skip_in_front(tokens: &Tokens, at: usize, known: bool) -> usize
     requires { at ≤ length tokens.now }
-    ensures { result ≡ leap known (drop at tokens.now) }
+    ensures { result ≡ skip_in_front known (drop at tokens.now) }
 {
     let count = tokens.len();
     if at + 1 < count {
@@ -62,32 +63,32 @@ fn leap(tokens: &Tokens, at: usize, known: bool) -> usize
 
 /// How many tokens stand from a place on before the first that is visible. It takes the same time
 /// however many are hidden.
-#[tactic(auto, using(crate::proofs::Leaps::hidden_none))]
-pub fn hidden(tokens: &Tokens, at: usize, known: bool) -> usize
+#[tactic(auto, using(crate::proofs::Skips::hidden_count_none))]
+pub fn hidden_count(tokens: &Tokens, at: usize, known: bool) -> usize
     requires within { at ≤ length tokens.now }
-    requires leaps { AreLeaps (drop at tokens.now) }
-    ensures value { result ≡ hidden known (toks (drop at tokens.now)) }
+    requires skips { AreSkips (drop at tokens.now) }
+    ensures value { result ≡ hidden_count known (toks (drop at tokens.now)) }
     ensures within { at + result ≤ length tokens.now }
     ensures small { length tokens.now ≤ 9223372036854775807 }
-    ensures first { Shown known (drop result (drop at tokens.now)) (as_shown known (toks
+    ensures first { VisibleFrom known (drop result (drop at tokens.now)) (visible_tokens known (toks
         (drop at tokens.now))) }
 {
-    if hides(tokens, at, known) {
-        leap(tokens, at, known)
+    if begins_hidden_group(tokens, at, known) {
+        skip_in_front(tokens, at, known)
     } else {
         0
     }
 }
 
 /// The place of the first token from a place on that is visible.
-#[tactic(auto, using(crate::proofs::Leaps::leaps_drop))]
-pub fn shown(tokens: &Tokens, at: usize, known: bool) -> usize
+#[tactic(auto, using(crate::proofs::Skips::skips_drop))]
+pub fn next_visible(tokens: &Tokens, at: usize, known: bool) -> usize
     requires within { at ≤ length tokens.now }
-    requires leaps { AreLeaps tokens.now }
-    ensures value { result ≡ at + hidden known (toks (drop at tokens.now)) }
+    requires skips { AreSkips tokens.now }
+    ensures value { result ≡ at + hidden_count known (toks (drop at tokens.now)) }
     ensures within { result ≤ length tokens.now }
-    ensures first { Shown known (drop result tokens.now) (as_shown known (toks
+    ensures first { VisibleFrom known (drop result tokens.now) (visible_tokens known (toks
         (drop at tokens.now))) }
 {
-    at + hidden(tokens, at, known)
+    at + hidden_count(tokens, at, known)
 }

@@ -63,7 +63,7 @@ pub fn raw_end(text: &[u8], from: usize) -> usize
     i
 }
 
-/// The character whose code point stands behind `\u{`, and the place behind its `}`.
+/// The character whose code point is behind `\u{`, and the place behind its `}`.
 #[tactic(auto, using(crate::proofs::Steps::digits_steps))]
 fn code_point(text: &[u8], from: usize) -> Option<(char, usize)>
     requires { from ≤ length text.now }
@@ -101,7 +101,7 @@ fn code_point(text: &[u8], from: usize) -> Option<(char, usize)>
     None
 }
 
-/// What stands behind a backslash, and the place behind it.
+/// What is behind a backslash, and the place behind it.
 #[tactic(auto, using(crate::proofs::Steps::escape_steps))]
 fn behind_backslash(text: &[u8], at: usize) -> Option<(Escaped, usize)>
     requires { at ≤ length text.now }

@@ -4,22 +4,22 @@ ghost use Rattle.std.specs.Prelude.{◌≡◌, ◌≤◌, ◌<◌, ◌+◌, true
 ghost use Rattle.std.proofs.Math.ListN.{get_or, set};
 ghost use Rattle.wat_lexer.specs.Token.{is_open, is_close, is_annotation};
 ghost use Rattle.wat_lexer.specs.View.{view, tok_at, lies, entries_of, Readable, Word};
-ghost use Rattle.wat_lexer.specs.View.{AllCanBeRead, AllApart, leaping, no_entry, skip};
+ghost use Rattle.wat_lexer.specs.View.{AllCanBeRead, AllApart, skipping, no_entry, skip};
 
 use crate::class::part;
-use crate::lexeme::{Aside, Kind, Leaps, Lexeme};
+use crate::lexeme::{Kind, Lexeme, SideEntry, Skips};
 use crate::number::Integer;
 use crate::token::Token;
 use std::marker::Model;
 
 /// The tokens of a text, each with its place, in 12 bytes. What can be read out of the text is,
-/// whenever it is asked for; the rest lies aside, and with an annotation how far lookups go from
-/// its group.
+/// whenever it is asked for; the rest lies in the side table, and with an annotation how far
+/// lookups go from its group.
 #[derive(Drop)]
 pub struct Tokens<'a> {
     text: &'a str,
     lexemes: Vec<Lexeme>,
-    aside: Vec<Aside<'a>>,
+    side_table: Vec<SideEntry<'a>>,
 }
 
 impl<'a> Model for Tokens<'a> {
@@ -29,23 +29,23 @@ impl<'a> Model for Tokens<'a> {
 
     ghost Value = { List Entry };
 
-    ghost view = { λ t. entries_of t.text.now t.aside.items t.lexemes.items };
+    ghost view = { λ t. entries_of t.text.now t.side_table.items t.lexemes.items };
 
-    ghost invariant = { λ t. AllCanBeRead t.text.now t.aside.items t.lexemes.items × AllApart t.lexemes.items × (length t.lexemes.items ≤ 9223372036854775807) };
+    ghost invariant = { λ t. AllCanBeRead t.text.now t.side_table.items t.lexemes.items × AllApart t.lexemes.items × (length t.lexemes.items ≤ 9223372036854775807) };
 }
 
 impl<'a> Tokens<'a> {
     /// The tokens that were kept of a text.
-    pub fn of(text: &'a str, lexemes: Vec<Lexeme>, aside: Vec<Aside<'a>>) -> Tokens<'a>
-        requires fit { AllCanBeRead text.now aside.items lexemes.items }
+    pub fn of(text: &'a str, lexemes: Vec<Lexeme>, side_table: Vec<SideEntry<'a>>) -> Tokens<'a>
+        requires fit { AllCanBeRead text.now side_table.items lexemes.items }
         requires apart { AllApart lexemes.items }
         requires small { length lexemes.items ≤ 9223372036854775807 }
-        ensures { result ≡ entries_of text.entry.now aside.entry.items lexemes.items }
+        ensures { result ≡ entries_of text.entry.now side_table.entry.items lexemes.items }
     {
         Tokens {
             text,
             lexemes,
-            aside,
+            side_table,
         }
     }
 
@@ -92,7 +92,7 @@ impl<'a> Tokens<'a> {
             lexeme.kind,
             lexeme.word_at(),
             lexeme.size(),
-            &self.aside,
+            &self.side_table,
             lexeme.number(),
         )
     }
@@ -104,7 +104,7 @@ impl<'a> Tokens<'a> {
     {
         let lexeme = self.lexemes[at];
         match lexeme.kind {
-            Kind::Annotation | Kind::Aside => self.aside[lexeme.number()].offset,
+            Kind::Annotation | Kind::InSideTable => self.side_table[lexeme.number()].offset,
             Kind::LParen | Kind::RParen => lexeme.number(),
             _ => lexeme.word_at(),
         }
@@ -114,26 +114,26 @@ impl<'a> Tokens<'a> {
     /// is.
     pub fn skip(&self, at: usize, known: bool) -> usize
         requires { at < length self.now }
-        ensures { result ≡ skip known (get_or self.now at no_entry).leaps }
+        ensures { result ≡ skip known (get_or self.now at no_entry).skips }
     {
         let lexeme = self.lexemes[at];
         match lexeme.kind {
             Kind::Annotation => {
-                let leaps = self.aside[lexeme.number()].leaps;
-                if known { leaps.unknown } else { leaps.all }
+                let skips = self.side_table[lexeme.number()].skips;
+                if known { skips.unknown } else { skips.all }
             }
             _ => 0,
         }
     }
 
     /// Tells how far lookups go from the `(` in front of an annotation.
-    pub(crate) fn set_leaps(&mut self, at: usize, leaps: Leaps)
+    pub(crate) fn set_skips(&mut self, at: usize, skips: Skips)
         requires place { at < length self.old }
         requires annotates { is_annotation ((get_or self.old at no_entry).token) ≡ true }
-        ensures { self.new ≡ set self.old at (leaping self.old at leaps) }
+        ensures { self.new ≡ set self.old at (skipping self.old at skips) }
     {
         let number = self.lexemes[at].number();
-        self.aside[number].leaps = leaps;
+        self.side_table[number].skips = skips;
     }
 }
 
@@ -147,18 +147,18 @@ fn word<'a>(text: &'a str, from: usize, front: usize, end: usize) -> &'a str
 }
 
 /// The token of a kind: a word is read out of the text, from a place on and of so many bytes; what
-/// lies aside stands at another place there.
+/// lies in the side table is at another place there.
 pub fn read<'a>(
     text: &'a str,
     kind: Kind,
     from: usize,
     size: usize,
-    aside: &[Aside<'a>],
+    side_table: &[SideEntry<'a>],
     place: usize,
 ) -> Token<'a>
-    requires { Readable kind text.now from (from + size) (place < length aside.now)
-        (lies aside.now place) }
-    ensures { view result ≡ tok_at kind text.now from (from + size) (lies aside.now place) }
+    requires { Readable kind text.now from (from + size) (place < length side_table.now)
+        (lies side_table.now place) }
+    ensures { view result ≡ tok_at kind text.now from (from + size) (lies side_table.now place) }
 {
     match kind {
         Kind::LParen => Token::LParen,
@@ -168,6 +168,6 @@ pub fn read<'a>(
         Kind::Integer => Token::Integer(Integer::over(word(text, from, 0, from + size))),
         Kind::String => Token::String(&text.as_bytes()[from + 1..from + size - 1]),
         Kind::Reserved => Token::Reserved(word(text, from, 0, from + size)),
-        Kind::Annotation | Kind::Aside => aside[place].token,
+        Kind::Annotation | Kind::InSideTable => side_table[place].token,
     }
 }

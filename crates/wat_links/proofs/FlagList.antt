@@ -9,7 +9,7 @@ use Rattle.wat_tokens.specs.Laws.Production.{less_left}
 use Rattle.wat_tokens.specs.Laws.Many.{many_step, many_stop, many_fails}
 use Rattle.wat_links.specs.Flags.{flag_list, symbol_flags}
 use Rattle.wat_links.specs.FlagBits.{flag_bits}
-use Rattle.wat_links.specs.Laws.Flags.{flag_bits_eats}
+use Rattle.wat_links.specs.Laws.Flags.{flag_bits_consumes}
 
 pub more_left : (t : List Tok) (b : Bool) → b ≡ ends t → b ≡ false → more t ≡ true
 more_left t b e f = rw (← e, f) refl
@@ -34,7 +34,7 @@ joined_step n m None = refl
 
 pub flags_go_on : (n m : ℕ) (t r : List Tok) → more t ≡ true → flag_bits.reads t ≡ Some (m, r) → flags_from n t ≡ flags_from (bit_or n m) r
 unfolding flag_list
-flags_go_on n m t r k e = ap (λ (u : Read (List ℕ)). joined_with n u) (many_step more flag_bits flag_bits_eats t m r k e) ∙ joined_step n m (flag_list.reads r)
+flags_go_on n m t r k e = ap (λ (u : Read (List ℕ)). joined_with n u) (many_step more flag_bits flag_bits_consumes t m r k e) ∙ joined_step n m (flag_list.reads r)
 
 pub flags_end : (n : ℕ) (t : List Tok) → more t ≡ false → flags_from n t ≡ Some (n, t)
 unfolding flag_list
@@ -45,4 +45,4 @@ unfolding flag_list
 flags_fail n t k e = ap (λ (u : Read (List ℕ)). joined_with n u) (many_fails more flag_bits t k e)
 
 pub flags_less : (m : ℕ) (t r : List Tok) → flag_bits.reads t ≡ Some (m, r) → length r < length t
-flags_less m t r e = less_left flag_bits t m r flag_bits_eats e
+flags_less m t r e = less_left flag_bits t m r flag_bits_consumes e

@@ -8,7 +8,7 @@ use Rattle.wat_tokens.specs.Parses.{NotBare}
 use Rattle.wat_tokens.specs.Views.{no_items}
 use Rattle.wat_links.specs.Dylink.{run}
 
-pub run_not_bare : {A : Type 0} (begins : List Tok → Bool) (g : Production A) (eats : 1 ≤ g.least) (t : List Tok) → NotBare no_items ((run begins g eats).reads t)
-run_not_bare begins g eats t = by_read (g.reads t)
+pub run_not_bare : {A : Type 0} (begins : List Tok → Bool) (g : Production A) (consumes : 1 ≤ g.least) (t : List Tok) → NotBare no_items ((run begins g consumes).reads t)
+run_not_bare begins g consumes t = by_read (g.reads t)
     (λ x e. rw e (by_read (many_reads begins g x.1) (λ y h. rw h refl) (λ h. rw h tt)))
     (λ e. rw e tt)

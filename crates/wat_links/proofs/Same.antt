@@ -6,7 +6,7 @@ use Rattle.std.proofs.lemmas.List.{map_push}
 use Rattle.wat_tokens.specs.Views.{no_items}
 use Rattle.wat_links.specs.declared.item.ItemSig.{ItemSig}
 use Rattle.wat_links.specs.declared.import.ImportGroup1ItemOf.{ImportGroup1ItemOf}
-use Rattle.wat_links.specs.Import.{HeldName, seen_typed, SameTyped, SameAll}
+use Rattle.wat_links.specs.Import.{HeldName, typed_view, SameTyped, SameAll}
 
 abbrev Typed : Type 0
 Typed = ImportGroup1ItemOf HeldName ItemSig
@@ -23,9 +23,9 @@ taken xs i x e lt = rw add-one (take-suc xs i x lt ∙ ap (λ (u : Typed). take 
 pub same_next : (xs ys : List Typed) (i : ℕ) (x y : Typed) → x ≡ get_or xs i x → i < length xs → SameAll (take i xs) ys → SameTyped x y → SameAll (take (i + 1) xs) (ys ++ y ∷ [])
 same_next xs ys i x y e lt p q = subst (λ (u : List Typed). SameAll u (ys ++ y ∷ [])) (sym (taken xs i x e lt)) (same_push (take i xs) ys x y p q)
 
-pub seen_next : (xs ys : List Typed) (i : ℕ) (x y : Typed) → x ≡ get_or xs i x → i < length xs → map seen_typed ys ≡ map seen_typed (take i xs) → seen_typed y ≡ seen_typed x → map seen_typed (ys ++ y ∷ []) ≡ map seen_typed (take (i + 1) xs)
-seen_next xs ys i x y e lt p q = rw (taken xs i x e lt, map_push seen_typed ys y, map_push seen_typed (take i xs) x, p, q) refl
+pub view_next : (xs ys : List Typed) (i : ℕ) (x y : Typed) → x ≡ get_or xs i x → i < length xs → map typed_view ys ≡ map typed_view (take i xs) → typed_view y ≡ typed_view x → map typed_view (ys ++ y ∷ []) ≡ map typed_view (take (i + 1) xs)
+view_next xs ys i x y e lt p q = rw (taken xs i x e lt, map_push typed_view ys y, map_push typed_view (take i xs) x, p, q) refl
 
-pub some_items : (xs : List Typed) (i : ℕ) → i < length xs → no_items (map seen_typed xs) ≡ false
+pub some_items : (xs : List Typed) (i : ℕ) → i < length xs → no_items (map typed_view xs) ≡ false
 some_items [] i lt = absurd (omega arith)
 some_items (x ∷ xs) i lt = refl

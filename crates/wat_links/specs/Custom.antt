@@ -5,10 +5,10 @@ use Rattle.wat_tokens.specs.Token.{Tok, Annotation}
 use Rattle.wat_tokens.specs.Production.{Production}
 use Rattle.wat_tokens.specs.Parts.{made, where_else}
 use Rattle.wat_tokens.specs.Views.{no_items}
-use Rattle.wat_links.specs.Raw.{RawTy, seen_raw, bare_raw, raw_custom}
-use Rattle.wat_links.specs.Producers.{seen_producers, producers}
+use Rattle.wat_links.specs.Raw.{RawTy, raw_view, bare_raw, raw_custom}
+use Rattle.wat_links.specs.Producers.{producers_view, producers}
 use Rattle.wat_links.specs.ProducerEntry.{Versioned}
-use Rattle.wat_links.specs.Dylink.{SubsectionTy, seen_dylink}
+use Rattle.wat_links.specs.Dylink.{SubsectionTy, dylink_view}
 use Rattle.wat_links.specs.Cutting.{dylink}
 use Rattle.wat_links.specs.declared.place.CustomPlace.{CustomPlace}
 use Rattle.wat_links.specs.declared.place.CustomPlace.TheVariants.{BeforeFirst, AfterLast}
@@ -22,10 +22,10 @@ pub data CustomTy : Type 0 where
   produced : List (List ℕ × List Versioned) → CustomTy
   linked : List SubsectionTy → CustomTy
 
-abbrev pub seen_custom : Custom → CustomTy
-seen_custom (code.Raw r) = raw (seen_raw r)
-seen_custom (code.Producers p) = produced (seen_producers p)
-seen_custom (code.Dylink0 d) = linked (seen_dylink d)
+abbrev pub custom_view : Custom → CustomTy
+custom_view (code.Raw r) = raw (raw_view r)
+custom_view (code.Producers p) = produced (producers_view p)
+custom_view (code.Dylink0 d) = linked (dylink_view d)
 
 -- no bytes, no field, no subsection
 abbrev pub bare_custom : CustomTy → Bool

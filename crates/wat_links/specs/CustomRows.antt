@@ -21,7 +21,7 @@ abbrev export_word : List Tok
 export_word = Keyword (codes "export-info") ∷ []
 
 -- `@dylink.0 (export-info "a" tls) (export-info "b" 3) (needed "x") (export-info "c")`: exports
--- that stand behind one another share a subsection
+-- that are behind one another share a subsection
 abbrev pub Exports : Type 0
 Exports =
     Spelled custom

@@ -6,11 +6,11 @@ use Rattle.wat_tokens.specs.Production.{Production}
 use Rattle.wat_tokens.specs.Many.{many}
 use Rattle.wat_links.specs.Dylink.{SubsectionTy}
 use Rattle.wat_links.specs.Entries.{EntryTy, entry, entries_in, AreCut}
-use Rattle.wat_links.specs.Laws.Entries.{entry_eats}
+use Rattle.wat_links.specs.Laws.Entries.{entry_consumes}
 
 -- entries, to the end
 unfoldable pub entries : Production (List EntryTy)
-entries = many more entry entry_eats
+entries = many more entry entry_consumes
 
 -- the tokens spell the entries of all subsections, one behind the other, and the subsections are
 -- cut

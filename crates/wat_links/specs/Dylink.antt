@@ -15,7 +15,7 @@ use Rattle.wat_links.specs.declared.dylink.Dylink0.{Dylink0}
 use Rattle.wat_links.specs.declared.dylink.Dylink0Subsection.{Dylink0Subsection}
 use Rattle.wat_links.specs.declared.dylink.Dylink0Subsection.TheVariants as code
 use Rattle.wat_links.specs.DylinkEntries.{export_entry, import_entry}
-use Rattle.wat_links.specs.Laws.DylinkEntries.{export_entry_eats, import_entry_eats}
+use Rattle.wat_links.specs.Laws.DylinkEntries.{export_entry_consumes, import_entry_consumes}
 
 -- ---- what contracts see
 
@@ -27,22 +27,22 @@ pub data SubsectionTy : Type 0 where
   runtime_path : List (List ℕ) → SubsectionTy
   target_arch : List ℕ → SubsectionTy
 
-abbrev pub seen_dylink_export : Bor (List ℕ) × ℕ → List ℕ × ℕ
-seen_dylink_export e = (e.0.now, e.1)
+abbrev pub dylink_export_view : Bor (List ℕ) × ℕ → List ℕ × ℕ
+dylink_export_view e = (e.0.now, e.1)
 
-abbrev pub seen_dylink_import : Bor (List ℕ) × Bor (List ℕ) × ℕ → List ℕ × List ℕ × ℕ
-seen_dylink_import e = (e.0.now, e.1.now, e.2)
+abbrev pub dylink_import_view : Bor (List ℕ) × Bor (List ℕ) × ℕ → List ℕ × List ℕ × ℕ
+dylink_import_view e = (e.0.now, e.1.now, e.2)
 
-abbrev pub seen_subsection : Dylink0Subsection → SubsectionTy
-seen_subsection (code.MemInfo ms ma ts ta) = mem_info ms ma ts ta
-seen_subsection (code.Needed xs) = needed (map (λ x. x.now) xs.items)
-seen_subsection (code.ExportInfo es) = export_info (map seen_dylink_export es.items)
-seen_subsection (code.ImportInfo es) = import_info (map seen_dylink_import es.items)
-seen_subsection (code.RuntimePath xs) = runtime_path (map (λ x. x.now) xs.items)
-seen_subsection (code.TargetArch x) = target_arch x.now
+abbrev pub subsection_view : Dylink0Subsection → SubsectionTy
+subsection_view (code.MemInfo ms ma ts ta) = mem_info ms ma ts ta
+subsection_view (code.Needed xs) = needed (map (λ x. x.now) xs.items)
+subsection_view (code.ExportInfo es) = export_info (map dylink_export_view es.items)
+subsection_view (code.ImportInfo es) = import_info (map dylink_import_view es.items)
+subsection_view (code.RuntimePath xs) = runtime_path (map (λ x. x.now) xs.items)
+subsection_view (code.TargetArch x) = target_arch x.now
 
-abbrev pub seen_dylink : Dylink0 → List SubsectionTy
-seen_dylink d = map seen_subsection d.subsections.items
+abbrev pub dylink_view : Dylink0 → List SubsectionTy
+dylink_view d = map subsection_view d.subsections.items
 
 -- no name and no entry
 abbrev pub bare_subsection : SubsectionTy → Bool
@@ -99,16 +99,18 @@ begins_export t = begins_group (codes "export-info") t
 abbrev pub begins_import : List Tok → Bool
 begins_import t = begins_group (codes "import-info") t
 
--- an entry, and all others of its kind that stand behind it
+-- an entry, and all others of its kind that are behind it
 abbrev pub run : {A : Type 0} → (List Tok → Bool) → (g : Production A) → 1 ≤ g.least
     → Production (List A)
-run begins g eats = made (λ v. v.0 ∷ v.1) (seq g (many begins g eats))
+run begins g consumes = made (λ v. v.0 ∷ v.1) (seq g (many begins g consumes))
 
 -- ---- subsections
 
 -- a run of export entries, a run of import entries, or another entry alone
 unfoldable pub subsection : Production SubsectionTy
 subsection =
-    where_else begins_export (made export_info (run begins_export export_entry export_entry_eats))
-    (where_else begins_import (made import_info (run begins_import import_entry import_entry_eats))
+    where_else begins_export (made export_info
+    (run begins_export export_entry export_entry_consumes))
+    (where_else begins_import (made import_info
+    (run begins_import import_entry import_entry_consumes))
     lone_entry)

@@ -8,16 +8,16 @@ use Rattle.wat_tokens.specs.Production.{Production}
 use Rattle.wat_tokens.specs.Parts.{one, seq, made, after_word}
 use Rattle.wat_tokens.specs.Groups.{paren}
 use Rattle.wat_tokens.specs.Many.{many}
-use Rattle.wat_tokens.specs.Index.{Idx, seen_index, index}
+use Rattle.wat_tokens.specs.Index.{Idx, index_view, index}
 use Rattle.wat_tokens.specs.Strings.{text}
-use Rattle.wat_links.specs.Item.{SigTy, seen_sig, bare_sig, item_sig}
+use Rattle.wat_links.specs.Item.{SigTy, sig_view, bare_sig, item_sig}
 use Rattle.wat_links.specs.declared.export.Export.{Export}
 use Rattle.wat_links.specs.declared.export.ExportKind.{ExportKind}
 use Rattle.wat_links.specs.declared.export.ExportKind.TheVariants as code
 use Rattle.wat_links.specs.declared.export.ExportType.{ExportType}
 use Rattle.wat_links.specs.declared.export.InlineExport.{InlineExport}
 use Rattle.wat_links.specs.InlineName.{inline_name}
-use Rattle.wat_links.specs.Laws.Export.{inline_name_eats}
+use Rattle.wat_links.specs.Laws.Export.{inline_name_consumes}
 
 -- ---- kinds
 
@@ -45,8 +45,8 @@ pub record ExportTy : Type 0 where
 abbrev pub export_of : List ℕ → ExportKind → Idx → ExportTy
 export_of n k i = record { name = n; kind = k; item = i }
 
-abbrev pub seen_export : Export → ExportTy
-seen_export e = export_of e.name.now e.kind (seen_index e.item)
+abbrev pub export_view : Export → ExportTy
+export_view e = export_of e.name.now e.kind (index_view e.item)
 
 -- `export` name ( ExportKind idx )
 unfoldable pub export_ : Production ExportTy
@@ -59,8 +59,8 @@ export_ = after_word (codes "export")
 abbrev pub ExportTypeTy : Type 0
 ExportTypeTy = List ℕ × SigTy
 
-abbrev pub seen_export_type : ExportType → ExportTypeTy
-seen_export_type e = (e.name.now, seen_sig e.item)
+abbrev pub export_type_view : ExportType → ExportTypeTy
+export_type_view e = (e.name.now, sig_view e.item)
 
 abbrev pub bare_export_type : ExportTypeTy → Bool
 bare_export_type e = bare_sig e.1
@@ -71,8 +71,8 @@ export_type = after_word (codes "export") (seq text (paren item_sig))
 
 -- ---- exports in line
 
-abbrev pub seen_inline_export : InlineExport → List (List ℕ)
-seen_inline_export e = map (λ n. n.now) e.names.items
+abbrev pub inline_export_view : InlineExport → List (List ℕ)
+inline_export_view e = map (λ n. n.now) e.names.items
 
 -- `(`, `export`, a string, `)`
 abbrev pub begins_inline_export : List Tok → Bool
@@ -81,4 +81,4 @@ begins_inline_export _ = false
 
 -- ( export name )*
 unfoldable pub inline_export : Production (List (List ℕ))
-inline_export = many begins_inline_export inline_name inline_name_eats
+inline_export = many begins_inline_export inline_name inline_name_consumes

@@ -6,11 +6,11 @@ use Rattle.wat_tokens.specs.Production.{Production}
 use Rattle.wat_tokens.specs.Parts.{made}
 use Rattle.wat_tokens.specs.Many.{many}
 use Rattle.wat_links.specs.FlagBits.{flag_bits}
-use Rattle.wat_links.specs.Laws.Flags.{flag_bits_eats}
+use Rattle.wat_links.specs.Laws.Flags.{flag_bits_consumes}
 
 -- ( u32 | a word of flags )*, to the end
 unfoldable pub flag_list : Production (List ℕ)
-flag_list = many more flag_bits flag_bits_eats
+flag_list = many more flag_bits flag_bits_consumes
 
 -- the bits of all, joined by or
 unfoldable pub symbol_flags : Production ℕ

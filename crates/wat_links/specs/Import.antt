@@ -11,7 +11,7 @@ use Rattle.wat_tokens.specs.Groups.{paren, group}
 use Rattle.wat_tokens.specs.Many.{many}
 use Rattle.wat_tokens.specs.Strings.{text}
 use Rattle.wat_tokens.specs.Views.{no_items}
-use Rattle.wat_links.specs.Item.{SigTy, seen_sig, bare_sig, item_sig, SameSig}
+use Rattle.wat_links.specs.Item.{SigTy, sig_view, bare_sig, item_sig, SameSig}
 use Rattle.wat_links.specs.declared.item.ItemSig.{ItemSig}
 use Rattle.wat_links.specs.declared.import.ImportGroup1ItemOf.{ImportGroup1ItemOf}
 use Rattle.wat_links.specs.declared.import.ImportGroup2ItemOf.{ImportGroup2ItemOf}
@@ -20,7 +20,7 @@ use Rattle.wat_links.specs.declared.import.ImportItemsOf.TheVariants.{Single, Gr
 use Rattle.wat_links.specs.declared.import.ImportsOf.{ImportsOf}
 use Rattle.wat_links.specs.declared.import.InlineImport.{InlineImport}
 use Rattle.wat_links.specs.ImportItem.{sig_group, typed_item, named_item}
-use Rattle.wat_links.specs.Laws.Import.{typed_item_eats, named_item_eats}
+use Rattle.wat_links.specs.Laws.Import.{typed_item_consumes, named_item_consumes}
 
 -- ---- what contracts see
 
@@ -47,19 +47,19 @@ module_of (Single m n s) = m
 module_of (Group1 m xs) = m
 module_of (Group2 m s xs) = m
 
-abbrev pub seen_typed : ImportGroup1ItemOf HeldName ItemSig → List ℕ × SigTy
-seen_typed x = (x.name.now, seen_sig x.sig)
+abbrev pub typed_view : ImportGroup1ItemOf HeldName ItemSig → List ℕ × SigTy
+typed_view x = (x.name.now, sig_view x.sig)
 
-abbrev pub seen_named : ImportGroup2ItemOf HeldName → List ℕ
-seen_named x = x.name.now
+abbrev pub named_view : ImportGroup2ItemOf HeldName → List ℕ
+named_view x = x.name.now
 
-abbrev pub seen_items : ImportItemsOf HeldName ItemSig → ItemsTy
-seen_items (Single m n s) = single n.now (seen_sig s)
-seen_items (Group1 m xs) = group1 (map seen_typed xs.items)
-seen_items (Group2 m s xs) = group2 (seen_sig s) (map seen_named xs.items)
+abbrev pub items_view : ImportItemsOf HeldName ItemSig → ItemsTy
+items_view (Single m n s) = single n.now (sig_view s)
+items_view (Group1 m xs) = group1 (map typed_view xs.items)
+items_view (Group2 m s xs) = group2 (sig_view s) (map named_view xs.items)
 
-abbrev pub seen_imports : ImportsOf HeldName ItemSig → ImportsTy
-seen_imports i = imports_of (module_of i.items).now (seen_items i.items)
+abbrev pub imports_view : ImportsOf HeldName ItemSig → ImportsTy
+imports_view i = imports_of (module_of i.items).now (items_view i.items)
 
 -- no item in a group, and no parameter and no result in line
 abbrev pub bare_items : ItemsTy → Bool
@@ -86,11 +86,11 @@ single_item = made (λ v. single v.0 v.1) (seq text sig_group)
 
 -- ( item name ( ItemSig ) )*, as long as an item has to follow
 unfoldable pub typed_list : Production (List (List ℕ × SigTy))
-typed_list = many item_follows typed_item typed_item_eats
+typed_list = many item_follows typed_item typed_item_consumes
 
 -- ( item name )*, as long as an item has to follow
 unfoldable pub named_list : Production (List (List ℕ))
-named_list = many item_follows named_item named_item_eats
+named_list = many item_follows named_item named_item_consumes
 
 unfoldable pub typed_items : Production ItemsTy
 typed_items = made group1 typed_list
@@ -104,7 +104,7 @@ abbrev pub opens_typed : List Tok → Bool
 opens_typed (LParen ∷ Keyword k ∷ String s ∷ r) = bytes_eq k (codes "item") && more r
 opens_typed _ = false
 
--- nothing is left, or an item with more than a name stands in front
+-- nothing is left, or an item with more than a name is in front
 abbrev pub typed : List Tok → Bool
 typed t = ends t || opens_typed t
 
@@ -156,8 +156,8 @@ SameItems _ _ = ⊥
 
 -- ---- imports in line
 
-abbrev pub seen_inline_import : InlineImport → List ℕ × List ℕ
-seen_inline_import i = (i.module.now, i.field.now)
+abbrev pub inline_import_view : InlineImport → List ℕ × List ℕ
+inline_import_view i = (i.module.now, i.field.now)
 
 -- ( import name name )
 unfoldable pub inline_import : Production (List ℕ × List ℕ)

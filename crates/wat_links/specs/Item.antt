@@ -4,13 +4,13 @@ use Rattle.wat_tokens.specs.Tests.{begins_word, second}
 use Rattle.wat_tokens.specs.Production.{Production}
 use Rattle.wat_tokens.specs.Parts.{seq, made, where_else, after_word}
 use Rattle.wat_tokens.specs.Groups.{group}
-use Rattle.wat_types.specs.Function.{seen_function, bare_function, function_type}
+use Rattle.wat_types.specs.Function.{function_view, bare_function, function_type}
 use Rattle.wat_types.specs.Group.{FuncTy, begins_func}
-use Rattle.wat_types.specs.Label.{Label, seen_label, label}
-use Rattle.wat_types.specs.Limits.{TableTy, seen_table_type, table_type, memory_type}
-use Rattle.wat_types.specs.Storage.{GlobalTy, seen_global_type, global_type}
-use Rattle.wat_types.specs.Tag.{seen_tag_type, tag_type, SameTag}
-use Rattle.wat_types.specs.Use.{UseTy, seen_use, bare_use, type_use, SameFunction, SameUse}
+use Rattle.wat_types.specs.Label.{Label, label_view, label}
+use Rattle.wat_types.specs.Limits.{TableTy, table_type_view, table_type, memory_type}
+use Rattle.wat_types.specs.Storage.{GlobalTy, global_type_view, global_type}
+use Rattle.wat_types.specs.Tag.{tag_type_view, tag_type, SameTag}
+use Rattle.wat_types.specs.Use.{UseTy, use_view, bare_use, type_use, SameFunction, SameUse}
 use Rattle.wat_types.specs.declared.limits.MemoryType.{MemoryType}
 use Rattle.wat_links.specs.declared.item.ItemKind.{ItemKind}
 use Rattle.wat_links.specs.declared.item.ItemKind.TheVariants as code
@@ -34,16 +34,16 @@ pub record SigTy : Type 0 where
 abbrev pub sig_of : Label → ItemKindTy → SigTy
 sig_of l k = record { label = l; kind = k }
 
-abbrev pub seen_item_kind : ItemKind → ItemKindTy
-seen_item_kind (code.Func u) = func (seen_use seen_function u)
-seen_item_kind (code.Table t) = table (seen_table_type t)
-seen_item_kind (code.Memory m) = memory m
-seen_item_kind (code.Global g) = global (seen_global_type g)
-seen_item_kind (code.Tag t) = tag (seen_tag_type t)
-seen_item_kind (code.FuncExact u) = exact_func (seen_use seen_function u)
+abbrev pub item_kind_view : ItemKind → ItemKindTy
+item_kind_view (code.Func u) = func (use_view function_view u)
+item_kind_view (code.Table t) = table (table_type_view t)
+item_kind_view (code.Memory m) = memory m
+item_kind_view (code.Global g) = global (global_type_view g)
+item_kind_view (code.Tag t) = tag (tag_type_view t)
+item_kind_view (code.FuncExact u) = exact_func (use_view function_view u)
 
-abbrev pub seen_sig : ItemSig → SigTy
-seen_sig s = sig_of (seen_label s.id s.name) (seen_item_kind s.kind)
+abbrev pub sig_view : ItemSig → SigTy
+sig_view s = sig_of (label_view s.id s.name) (item_kind_view s.kind)
 
 -- no parameter and no result in line
 abbrev pub bare_item_kind : ItemKindTy → Bool

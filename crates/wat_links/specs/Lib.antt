@@ -13,10 +13,10 @@ pub mod Dylink
 pub mod DylinkEntries
 pub mod Entries
 pub mod Export
+pub mod FieldHead
 pub mod FlagBits
 pub mod Flags
 pub mod Forms
-pub mod Head
 pub mod Import
 pub mod ImportItem
 pub mod InlineName

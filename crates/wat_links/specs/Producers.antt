@@ -10,7 +10,7 @@ use Rattle.wat_links.specs.declared.producers.Field.TheVariants.{Language, Sdk, 
 use Rattle.wat_links.specs.declared.producers.ProducerEntry.{ProducerEntry}
 use Rattle.wat_links.specs.declared.producers.Producers.{Producers}
 use Rattle.wat_links.specs.ProducerEntry.{ProducerTy, producer_entry, Versioned}
-use Rattle.wat_links.specs.Laws.Producers.{producer_entry_eats}
+use Rattle.wat_links.specs.Laws.Producers.{producer_entry_consumes}
 
 -- ---- entries
 
@@ -25,12 +25,12 @@ same_field Sdk Sdk = true
 same_field ProcessedBy ProcessedBy = true
 same_field _ _ = false
 
-abbrev pub seen_entry : ProducerEntry → ProducerTy
-seen_entry e = (e.field, (e.name.now, e.version.now))
+abbrev pub entry_view : ProducerEntry → ProducerTy
+entry_view e = (e.field, (e.name.now, e.version.now))
 
 -- entries, to the end
 unfoldable pub producer_entries : Production (List ProducerTy)
-producer_entries = many more producer_entry producer_entry_eats
+producer_entries = many more producer_entry producer_entry_consumes
 
 -- ---- fields
 
@@ -53,14 +53,14 @@ fields_of es =
     ++ field_with_entries ProcessedBy es
 
 -- what contracts see of names with versions
-abbrev pub seen_names : List (Bor (List ℕ) × Bor (List ℕ)) → List Versioned
-seen_names xs = map (λ x. (x.0.now, x.1.now)) xs
+abbrev pub names_view : List (Bor (List ℕ) × Bor (List ℕ)) → List Versioned
+names_view xs = map (λ x. (x.0.now, x.1.now)) xs
 
-abbrev pub seen_entries : List ProducerEntry → List ProducerTy
-seen_entries es = map seen_entry es
+abbrev pub entries_view : List ProducerEntry → List ProducerTy
+entries_view es = map entry_view es
 
-abbrev pub seen_producers : Producers → List (List ℕ × List Versioned)
-seen_producers p = map (λ f. (f.0.now, seen_names f.1.items)) p.fields.items
+abbrev pub producers_view : Producers → List (List ℕ × List Versioned)
+producers_view p = map (λ f. (f.0.now, names_view f.1.items)) p.fields.items
 
 -- @producers entries
 unfoldable pub producers : Production (List (List ℕ × List Versioned))

@@ -22,8 +22,8 @@ pub record RawTy : Type 0 where
 abbrev pub raw_of : List ℕ → CustomPlace → List (List ℕ) → RawTy
 raw_of n p d = record { name = n; place = p; «data» = d }
 
-abbrev pub seen_raw : RawCustomSection → RawTy
-seen_raw r = raw_of r.name.now r.place (map (λ s. s.now) r.data.items)
+abbrev pub raw_view : RawCustomSection → RawTy
+raw_view r = raw_of r.name.now r.place (map (λ s. s.now) r.data.items)
 
 -- no string of bytes
 abbrev pub bare_raw : RawTy → Bool

@@ -2,7 +2,7 @@
 
 ghost use Rattle.std.specs.Prelude.{◌≡◌};
 ghost use Rattle.wat_tokens.specs.Views.{owning};
-ghost use Rattle.wat_links.specs.Custom.{CustomTy, seen_custom, bare_custom, place_of};
+ghost use Rattle.wat_links.specs.Custom.{CustomTy, custom_view, bare_custom, place_of};
 ghost use Rattle.wat_links.specs.Custom.{custom_name, begins_annotated, custom};
 
 use crate::dylink::Dylink0;
@@ -47,7 +47,7 @@ impl<'a> Custom<'a> {
     }
 }
 
-/// Whether the annotation of the name, given without its `@`, stands in front.
+/// Whether the annotation of the name, given without its `@`, is in front.
 fn annotation_next(parser: &Parser<'_>, name: &str) -> bool
     ensures { result ≡ begins_annotated name.now parser.now.left }
 {
@@ -57,12 +57,12 @@ fn annotation_next(parser: &Parser<'_>, name: &str) -> bool
     }
 }
 
-/// A [`Producers`] where the annotation `producers` stands in front, a [`Dylink0`] where `dylink.0`
-/// does, else a [`RawCustomSection`]. The parser stands behind the `(` of the annotation's group.
+/// A [`Producers`] where the annotation `producers` is in front, a [`Dylink0`] where `dylink.0`
+/// does, else a [`RawCustomSection`]. The parser is behind the `(` of the annotation's group.
 impl<'a> Parse<'a> for Custom<'a> {
-    ghost Seen = { CustomTy };
+    ghost View = { CustomTy };
 
-    ghost view = { owning seen_custom bare_custom };
+    ghost view = { owning custom_view bare_custom };
 
     ghost grammar = { custom };
 

@@ -4,13 +4,13 @@ ghost use Rattle.std.specs.Prelude.{◌≡◌, ℕ, codes, List, map};
 ghost use Rattle.wat_tokens.specs.Reads.{Reads};
 ghost use Rattle.wat_tokens.specs.Tests.{more};
 ghost use Rattle.wat_tokens.specs.Views.{plain, owning, no_items};
-ghost use Rattle.wat_links.specs.Dylink.{SubsectionTy, seen_dylink_export, seen_dylink_import};
-ghost use Rattle.wat_links.specs.Dylink.{seen_subsection};
-ghost use Rattle.wat_links.specs.Dylink.{seen_dylink, bare_subsection, id_of, sizes};
+ghost use Rattle.wat_links.specs.Dylink.{SubsectionTy, dylink_export_view, dylink_import_view};
+ghost use Rattle.wat_links.specs.Dylink.{subsection_view};
+ghost use Rattle.wat_links.specs.Dylink.{dylink_view, bare_subsection, id_of, sizes};
 ghost use Rattle.wat_links.specs.Dylink.{mem_info_entry, names_entry, lone_entry, begins_export};
 ghost use Rattle.wat_links.specs.Dylink.{begins_import, run, subsection};
 ghost use Rattle.wat_links.specs.DylinkEntries.{export_entry, import_entry};
-ghost use Rattle.wat_links.specs.Laws.DylinkEntries.{export_entry_eats, import_entry_eats};
+ghost use Rattle.wat_links.specs.Laws.DylinkEntries.{export_entry_consumes, import_entry_consumes};
 ghost use Rattle.wat_links.specs.Cutting.{dylink};
 
 use crate::flags::read_flags;
@@ -88,7 +88,7 @@ fn read_sizes<'a>(parser: &mut Parser<'a>, word: &str) -> Result<(u32, u32)>
 /// `( mem-info ( memory u32 u32 ) ( table u32 u32 ) )`, the inner groups there or not.
 #[tactic(auto, unfolding(crate::specs::Dylink::mem_info_entry))]
 fn read_mem_info<'a>(parser: &mut Parser<'a>) -> Result<Dylink0Subsection<'a>>
-    ensures reads { Reads (plain seen_subsection) mem_info_entry result parser.old parser.new }
+    ensures reads { Reads (plain subsection_view) mem_info_entry result parser.old parser.new }
 {
     parser.open()?;
     parser.keyword("mem-info")?;
@@ -120,7 +120,7 @@ fn read_names<'a>(parser: &mut Parser<'a>, word: &str) -> Result<Vec<&'a str>>
 /// An entry that is no export or import entry.
 #[tactic(auto, unfolding(crate::specs::Dylink::lone_entry))]
 fn read_lone<'a>(parser: &mut Parser<'a>) -> Result<Dylink0Subsection<'a>>
-    ensures reads { Reads (owning seen_subsection bare_subsection) lone_entry result parser.old
+    ensures reads { Reads (owning subsection_view bare_subsection) lone_entry result parser.old
         parser.new }
 {
     if parser.group_is("mem-info") {
@@ -143,9 +143,9 @@ fn read_lone<'a>(parser: &mut Parser<'a>) -> Result<Dylink0Subsection<'a>>
 struct ExportEntry;
 
 impl<'a> Part<'a, (&'a str, u32)> for ExportEntry {
-    ghost Seen = { List ℕ × ℕ };
+    ghost View = { List ℕ × ℕ };
 
-    ghost view = { plain seen_dylink_export };
+    ghost view = { plain dylink_export_view };
 
     ghost grammar = { export_entry };
 
@@ -170,9 +170,9 @@ impl<'a> Part<'a, (&'a str, u32)> for ExportEntry {
 struct ImportEntry;
 
 impl<'a> Part<'a, (&'a str, &'a str, u32)> for ImportEntry {
-    ghost Seen = { List ℕ × List ℕ × ℕ };
+    ghost View = { List ℕ × List ℕ × ℕ };
 
-    ghost view = { plain seen_dylink_import };
+    ghost view = { plain dylink_import_view };
 
     ghost grammar = { import_entry };
 
@@ -194,11 +194,11 @@ impl<'a> Part<'a, (&'a str, &'a str, u32)> for ImportEntry {
     }
 }
 
-/// An export entry, and all that stand behind it.
-#[tactic(auto, using(crate::specs::Laws::DylinkEntries::export_entry_eats, crate::proofs::Runs::run_not_bare))]
+/// An export entry, and all that are behind it.
+#[tactic(auto, using(crate::specs::Laws::DylinkEntries::export_entry_consumes, crate::proofs::Runs::run_not_bare))]
 fn read_exports<'a>(parser: &mut Parser<'a>) -> Result<Vec<(&'a str, u32)>>
-    ensures reads { Reads (owning (λ v. map seen_dylink_export v.items) no_items)
-        (run begins_export export_entry export_entry_eats) result parser.old parser.new }
+    ensures reads { Reads (owning (λ v. map dylink_export_view v.items) no_items)
+        (run begins_export export_entry export_entry_consumes) result parser.old parser.new }
 {
     let mut entries = Vec::new(parser.alloc());
     entries.push(ExportEntry::take(parser)?)?;
@@ -206,11 +206,11 @@ fn read_exports<'a>(parser: &mut Parser<'a>) -> Result<Vec<(&'a str, u32)>>
     Ok(entries)
 }
 
-/// An import entry, and all that stand behind it.
-#[tactic(auto, using(crate::specs::Laws::DylinkEntries::import_entry_eats, crate::proofs::Runs::run_not_bare))]
+/// An import entry, and all that are behind it.
+#[tactic(auto, using(crate::specs::Laws::DylinkEntries::import_entry_consumes, crate::proofs::Runs::run_not_bare))]
 fn read_imports<'a>(parser: &mut Parser<'a>) -> Result<Vec<(&'a str, &'a str, u32)>>
-    ensures reads { Reads (owning (λ v. map seen_dylink_import v.items) no_items)
-        (run begins_import import_entry import_entry_eats) result parser.old parser.new }
+    ensures reads { Reads (owning (λ v. map dylink_import_view v.items) no_items)
+        (run begins_import import_entry import_entry_consumes) result parser.old parser.new }
 {
     let mut entries = Vec::new(parser.alloc());
     entries.push(ImportEntry::take(parser)?)?;
@@ -222,9 +222,9 @@ fn read_imports<'a>(parser: &mut Parser<'a>) -> Result<Vec<(&'a str, &'a str, u3
 struct Subsection;
 
 impl<'a> Part<'a, Dylink0Subsection<'a>> for Subsection {
-    ghost Seen = { SubsectionTy };
+    ghost View = { SubsectionTy };
 
-    ghost view = { owning seen_subsection bare_subsection };
+    ghost view = { owning subsection_view bare_subsection };
 
     ghost grammar = { subsection };
 
@@ -251,13 +251,13 @@ impl<'a> Part<'a, Dylink0Subsection<'a>> for Subsection {
 /// )`, `( import-info module name flags )`, `( runtime-path name* )` and `( target-arch name )`.
 /// Flags are numbers and words, joined by or; another word is refused with Unexpected, at the word.
 impl<'a> Parse<'a> for Dylink0<'a> {
-    ghost Seen = { List SubsectionTy };
+    ghost View = { List SubsectionTy };
 
-    ghost view = { owning seen_dylink no_items };
+    ghost view = { owning dylink_view no_items };
 
     ghost grammar = { dylink };
 
-    #[tactic(auto, using(crate::specs::Laws::Subsections::subsection_eats), unfolding(crate::specs::Cutting::dylink, crate::specs::Cutting::cut_subsections, crate::specs::Subsections::subsections))]
+    #[tactic(auto, using(crate::specs::Laws::Subsections::subsection_consumes), unfolding(crate::specs::Cutting::dylink, crate::specs::Cutting::cut_subsections, crate::specs::Subsections::subsections))]
     fn parse(parser: &mut Parser<'a>) -> Result<Self> {
         parser.take_annotation("dylink.0")?;
         let mut subsections = Vec::new(parser.alloc());

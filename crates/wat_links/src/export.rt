@@ -6,15 +6,15 @@ ghost use Rattle.wat_tokens.specs.Lookup.{in_front};
 ghost use Rattle.wat_tokens.specs.Views.{plain, owning, no_items};
 ghost use Rattle.wat_links.specs.Item.{SameSig};
 ghost use Rattle.wat_links.specs.Export.{kind_words, export_kind, begins_kind, ExportTy};
-ghost use Rattle.wat_links.specs.Export.{seen_export, export_, ExportTypeTy, seen_export_type};
-ghost use Rattle.wat_links.specs.Export.{bare_export_type, export_type, seen_inline_export};
+ghost use Rattle.wat_links.specs.Export.{export_view, export_, ExportTypeTy, export_type_view};
+ghost use Rattle.wat_links.specs.Export.{bare_export_type, export_type, inline_export_view};
 ghost use Rattle.wat_links.specs.Export.{begins_inline_export, inline_export};
 ghost use Rattle.wat_links.specs.InlineName.{inline_name};
 
 use crate::item::ItemSig;
 use std::alloc::Global;
 use wat_tokens::repeat::{Part, parts};
-use wat_tokens::words::{Named, begins_named, take_named};
+use wat_tokens::words::{NamedByKeyword, begins_named, take_named};
 use wat_tokens::{Cursor, Index, Parse, Parser, Peek, Result, Span, kw};
 
 /// An export of a module (WebAssembly Core Specification, Text Format, Modules, "Exports").
@@ -66,7 +66,7 @@ pub struct InlineExport<'a> {
 }
 
 /// The kind that a word names.
-impl Named for ExportKind {
+impl NamedByKeyword for ExportKind {
     ghost words = { kind_words };
 
     fn named(word: &str) -> Option<Self> {
@@ -86,7 +86,7 @@ impl<'a> Parse<'a> for ExportKind {
     ghost use Rattle.wat_links.specs.declared.export.ExportKind.{ExportKind};
     ghost use Rattle.wat_links.specs.Export.{export_kind};
 
-    ghost Seen = { ExportKind };
+    ghost View = { ExportKind };
 
     ghost view = { plain (λ k. k) };
 
@@ -164,9 +164,9 @@ impl From<kw::tag> for ExportKind {
 
 /// `export`, a name, and a kind and an index in parentheses.
 impl<'a> Parse<'a> for Export<'a> {
-    ghost Seen = { ExportTy };
+    ghost View = { ExportTy };
 
-    ghost view = { plain seen_export };
+    ghost view = { plain export_view };
 
     ghost grammar = { export_ };
 
@@ -192,7 +192,7 @@ impl<'a> ExportType<'a> {
     /// line.
     pub fn clone(&self) -> Result<ExportType<'a>>
         ensures copies { Copies (λ x y. (y.span ≡ x.span) × (y.name ≡ x.name) ×
-            (SameSig x.item y.item)) (owning seen_export_type bare_export_type) result self.now }
+            (SameSig x.item y.item)) (owning export_type_view bare_export_type) result self.now }
     {
         Ok(ExportType {
             span: self.span,
@@ -204,9 +204,9 @@ impl<'a> ExportType<'a> {
 
 /// `export`, a name, and the signature in parentheses.
 impl<'a> Parse<'a> for ExportType<'a> {
-    ghost Seen = { ExportTypeTy };
+    ghost View = { ExportTypeTy };
 
-    ghost view = { owning seen_export_type bare_export_type };
+    ghost view = { owning export_type_view bare_export_type };
 
     ghost grammar = { export_type };
 
@@ -232,11 +232,11 @@ impl<'a> InlineExport<'a> {
     }
 }
 
-/// `( export name )`, as long as `(`, `export`, a string and `)` stand in front.
+/// `( export name )`, as long as `(`, `export`, a string and `)` are in front.
 struct InlineName;
 
 impl<'a> Part<'a, &'a str> for InlineName {
-    ghost Seen = { List ℕ };
+    ghost View = { List ℕ };
 
     ghost view = { plain (λ n. n.now) };
 
@@ -258,15 +258,15 @@ impl<'a> Part<'a, &'a str> for InlineName {
     }
 }
 
-/// `( export name )`, as long as `(`, `export`, a string and `)` stand in front.
+/// `( export name )`, as long as `(`, `export`, a string and `)` are in front.
 impl<'a> Parse<'a> for InlineExport<'a> {
-    ghost Seen = { List (List ℕ) };
+    ghost View = { List (List ℕ) };
 
-    ghost view = { owning seen_inline_export no_items };
+    ghost view = { owning inline_export_view no_items };
 
     ghost grammar = { inline_export };
 
-    #[tactic(auto, using(crate::specs::Laws::Export::inline_name_eats), unfolding(crate::specs::Export::inline_export))]
+    #[tactic(auto, using(crate::specs::Laws::Export::inline_name_consumes), unfolding(crate::specs::Export::inline_export))]
     fn parse(parser: &mut Parser<'a>) -> Result<Self> {
         let mut names = Vec::new(parser.alloc());
         parts::<_, InlineName>(parser, &mut names)?;

@@ -9,14 +9,14 @@ ghost use Rattle.wat_tokens.specs.Lookup.{in_front};
 ghost use Rattle.wat_tokens.specs.Reads.{Reads};
 ghost use Rattle.wat_tokens.specs.Tests.{begins_lparen};
 ghost use Rattle.wat_tokens.specs.Views.{plain, owning, no_items};
-ghost use Rattle.wat_links.specs.Item.{SigTy, seen_sig, bare_sig, SameSig};
+ghost use Rattle.wat_links.specs.Item.{SigTy, sig_view, bare_sig, SameSig};
 ghost use Rattle.wat_links.specs.Forms.{import_items, imports};
-ghost use Rattle.wat_links.specs.Import.{ItemsTy, ImportsTy, module_of, seen_typed, seen_named};
-ghost use Rattle.wat_links.specs.Import.{seen_items, seen_imports, bare_items, bare_imports};
+ghost use Rattle.wat_links.specs.Import.{ItemsTy, ImportsTy, module_of, typed_view, named_view};
+ghost use Rattle.wat_links.specs.Import.{items_view, imports_view, bare_items, bare_imports};
 ghost use Rattle.wat_links.specs.Import.{item_follows, shared_sig, single_item, typed_items};
 ghost use Rattle.wat_links.specs.Import.{named_items, opens_typed, typed, item_sigs, item_count};
 ghost use Rattle.wat_links.specs.Import.{own_sigs, SameTyped, SameAll, SameItems};
-ghost use Rattle.wat_links.specs.Import.{seen_inline_import, inline_import, begins_inline_import};
+ghost use Rattle.wat_links.specs.Import.{inline_import_view, inline_import, begins_inline_import};
 ghost use Rattle.wat_links.specs.ImportItem.{sig_group, typed_item, named_item};
 ghost use Rattle.wat_links.specs.Lend.{typed_sig_at, sig_at, LendsTyped, LendsItems, LendsImports};
 
@@ -226,7 +226,7 @@ impl<'a> ImportGroup1Item<'a> {
     /// The same once more. Memory may be answered where a type in it has a parameter or a result in
     /// line.
     pub fn clone(&self) -> Result<ImportGroup1Item<'a>>
-        ensures copies { Copies SameTyped (owning seen_typed (λ t. bare_sig t.1)) result self.now }
+        ensures copies { Copies SameTyped (owning typed_view (λ t. bare_sig t.1)) result self.now }
     {
         Ok(ImportGroup1ItemOf {
             span: self.span,
@@ -237,9 +237,9 @@ impl<'a> ImportGroup1Item<'a> {
 }
 
 /// The same items once more. Memory may be answered where there is an item.
-#[tactic(auto, using(crate::proofs::Same::same_next, crate::proofs::Same::seen_next, crate::proofs::Same::some_items))]
+#[tactic(auto, using(crate::proofs::Same::same_next, crate::proofs::Same::view_next, crate::proofs::Same::some_items))]
 fn clone_items<'a>(items: &Vec<ImportGroup1Item<'a>>) -> Result<Vec<ImportGroup1Item<'a>>>
-    ensures copies { Copies (λ x y. SameAll x.items y.items) (owning (λ v. map seen_typed v.items)
+    ensures copies { Copies (λ x y. SameAll x.items y.items) (owning (λ v. map typed_view v.items)
         no_items) result items.now }
 {
     let mut copies = Vec::new(*items.allocator());
@@ -251,7 +251,7 @@ fn clone_items<'a>(items: &Vec<ImportGroup1Item<'a>>) -> Result<Vec<ImportGroup1
 
 /// The same items once more. Memory may be answered where there is an item.
 fn clone_names<'a>(items: &Vec<ImportGroup2Item<'a>>) -> Result<Vec<ImportGroup2Item<'a>>>
-    ensures copies { Copies (λ x y. y.items ≡ x.items) (owning (λ v. map seen_named v.items)
+    ensures copies { Copies (λ x y. y.items ≡ x.items) (owning (λ v. map named_view v.items)
         no_items) result items.now }
 {
     let mut copies = Vec::new(*items.allocator());
@@ -265,7 +265,7 @@ impl<'a> ImportItems<'a> {
     /// The same once more. Memory may be answered where there is an item in a group, or where a
     /// type has a parameter or a result in line.
     pub fn clone(&self) -> Result<ImportItems<'a>>
-        ensures copies { Copies SameItems (owning seen_items bare_items) result self.now }
+        ensures copies { Copies SameItems (owning items_view bare_items) result self.now }
     {
         match self {
             ImportItemsOf::Single { module, name, sig } => Ok(ImportItemsOf::Single {
@@ -291,7 +291,7 @@ impl<'a> Imports<'a> {
     /// type has a parameter or a result in line.
     pub fn clone(&self) -> Result<Imports<'a>>
         ensures copies { Copies (λ x y. (y.span ≡ x.span) × (SameItems x.items y.items))
-            (owning seen_imports bare_imports) result self.now }
+            (owning imports_view bare_imports) result self.now }
     {
         Ok(ImportsOf {
             span: self.span,
@@ -302,7 +302,7 @@ impl<'a> Imports<'a> {
 
 /// `( ItemSig )`
 fn read_sig<'a>(parser: &mut Parser<'a>) -> Result<ItemSig<'a>>
-    ensures reads { Reads (owning seen_sig bare_sig) sig_group result parser.old parser.new }
+    ensures reads { Reads (owning sig_view bare_sig) sig_group result parser.old parser.new }
 {
     parser.open()?;
     let sig = ItemSig::parse(parser)?;
@@ -314,9 +314,9 @@ fn read_sig<'a>(parser: &mut Parser<'a>) -> Result<ItemSig<'a>>
 struct TypedItem;
 
 impl<'a> Part<'a, ImportGroup1Item<'a>> for TypedItem {
-    ghost Seen = { List ℕ × SigTy };
+    ghost View = { List ℕ × SigTy };
 
-    ghost view = { owning seen_typed (λ x. bare_sig x.1) };
+    ghost view = { owning typed_view (λ x. bare_sig x.1) };
 
     ghost grammar = { typed_item };
 
@@ -352,9 +352,9 @@ fn mixed(span: Span) -> Error
 struct NamedItem;
 
 impl<'a> Part<'a, ImportGroup2Item<'a>> for NamedItem {
-    ghost Seen = { List ℕ };
+    ghost View = { List ℕ };
 
-    ghost view = { owning seen_named (λ _. true) };
+    ghost view = { owning named_view (λ _. true) };
 
     ghost grammar = { named_item };
 
@@ -383,7 +383,7 @@ impl<'a> Part<'a, ImportGroup2Item<'a>> for NamedItem {
 /// the signature ends there, or the text.
 #[tactic(auto, using(crate::proofs::Ends::closes_none), unfolding(crate::specs::Import::shared_sig))]
 fn read_shared_sig<'a>(parser: &mut Parser<'a>) -> Result<ItemSig<'a>>
-    ensures reads { Reads (owning seen_sig bare_sig) shared_sig result parser.old parser.new }
+    ensures reads { Reads (owning sig_view bare_sig) shared_sig result parser.old parser.new }
 {
     parser.open()?;
     let sig = ItemSig::parse(parser)?;
@@ -397,14 +397,14 @@ fn read_shared_sig<'a>(parser: &mut Parser<'a>) -> Result<ItemSig<'a>>
     Ok(sig)
 }
 
-/// Whether a `(` stands in front.
+/// Whether a `(` is in front.
 fn lparen_next(parser: &Parser<'_>) -> bool
     ensures { result ≡ begins_lparen parser.now.left }
 {
     parser.cursor().lparen().is_some()
 }
 
-/// Whether `(`, `item` and a string stand there, and then not what closes the group.
+/// Whether `(`, `item` and a string are there, and then not what closes the group.
 fn opens_typed(cursor: Cursor<'_>) -> bool
     ensures { result ≡ opens_typed (in_front cursor.entry) }
 {
@@ -420,7 +420,7 @@ fn opens_typed(cursor: Cursor<'_>) -> bool
     }
 }
 
-/// Whether nothing is left, or an item with more than a name stands in front.
+/// Whether nothing is left, or an item with more than a name is in front.
 fn typed_next(parser: &Parser<'_>) -> bool
     ensures { result ≡ typed parser.now.left }
 {
@@ -430,7 +430,7 @@ fn typed_next(parser: &Parser<'_>) -> bool
 /// A single item.
 #[tactic(auto, unfolding(crate::specs::Import::single_item))]
 fn read_single<'a>(parser: &mut Parser<'a>, module: &'a str) -> Result<ImportItems<'a>>
-    ensures reads { Reads (owning seen_items bare_items) single_item result parser.old parser.new }
+    ensures reads { Reads (owning items_view bare_items) single_item result parser.old parser.new }
     ensures module { IfOk result (λ i. (module_of i).now ≡ «module».now) }
 {
     let name = <&str as Parse>::parse(parser)?;
@@ -439,9 +439,9 @@ fn read_single<'a>(parser: &mut Parser<'a>, module: &'a str) -> Result<ImportIte
 }
 
 /// Items with signatures.
-#[tactic(auto, using(crate::specs::Laws::Import::typed_item_eats), unfolding(crate::specs::Import::typed_items, crate::specs::Import::typed_list))]
+#[tactic(auto, using(crate::specs::Laws::Import::typed_item_consumes), unfolding(crate::specs::Import::typed_items, crate::specs::Import::typed_list))]
 fn read_typed<'a>(parser: &mut Parser<'a>, module: &'a str) -> Result<ImportItems<'a>>
-    ensures reads { Reads (owning seen_items bare_items) typed_items result parser.old parser.new }
+    ensures reads { Reads (owning items_view bare_items) typed_items result parser.old parser.new }
     ensures module { IfOk result (λ i. (module_of i).now ≡ «module».now) }
 {
     let mut items = Vec::new(parser.alloc());
@@ -450,9 +450,9 @@ fn read_typed<'a>(parser: &mut Parser<'a>, module: &'a str) -> Result<ImportItem
 }
 
 /// Items without signatures, and the one that they share.
-#[tactic(auto, using(crate::specs::Laws::Import::named_item_eats), unfolding(crate::specs::Import::named_items, crate::specs::Import::named_list))]
+#[tactic(auto, using(crate::specs::Laws::Import::named_item_consumes), unfolding(crate::specs::Import::named_items, crate::specs::Import::named_list))]
 fn read_named<'a>(parser: &mut Parser<'a>, module: &'a str) -> Result<ImportItems<'a>>
-    ensures reads { Reads (owning seen_items bare_items) named_items result parser.old parser.new }
+    ensures reads { Reads (owning items_view bare_items) named_items result parser.old parser.new }
     ensures module { IfOk result (λ i. (module_of i).now ≡ «module».now) }
 {
     let mut items = Vec::new(parser.alloc());
@@ -464,7 +464,7 @@ fn read_named<'a>(parser: &mut Parser<'a>, module: &'a str) -> Result<ImportItem
 /// What is imported from the module.
 #[tactic(auto, unfolding(crate::specs::Forms::import_items, crate::specs::Import::import_choice))]
 fn read_items<'a>(parser: &mut Parser<'a>, module: &'a str) -> Result<ImportItems<'a>>
-    ensures reads { Reads (owning seen_items bare_items) import_items result parser.old parser.new }
+    ensures reads { Reads (owning items_view bare_items) import_items result parser.old parser.new }
     ensures module { IfOk result (λ i. (module_of i).now ≡ «module».now) }
 {
     if typed_next(parser) {
@@ -483,9 +483,9 @@ fn read_items<'a>(parser: &mut Parser<'a>, module: &'a str) -> Result<ImportItem
 /// refused with ImportMixed, at its word `item`; an identifier of the signature that items share
 /// with ImportId, at the identifier.
 impl<'a> Parse<'a> for Imports<'a> {
-    ghost Seen = { ImportsTy };
+    ghost View = { ImportsTy };
 
-    ghost view = { owning seen_imports bare_imports };
+    ghost view = { owning imports_view bare_imports };
 
     ghost grammar = { imports };
 
@@ -500,9 +500,9 @@ impl<'a> Parse<'a> for Imports<'a> {
 
 /// `( import name name )`
 impl<'a> Parse<'a> for InlineImport<'a> {
-    ghost Seen = { List ℕ × List ℕ };
+    ghost View = { List ℕ × List ℕ };
 
-    ghost view = { plain seen_inline_import };
+    ghost view = { plain inline_import_view };
 
     ghost grammar = { inline_import };
 

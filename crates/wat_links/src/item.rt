@@ -4,8 +4,8 @@ ghost use Rattle.std.specs.Prelude.{◌≡◌};
 ghost use Rattle.wat_tokens.specs.Copies.{Copies};
 ghost use Rattle.wat_tokens.specs.Reads.{Reads};
 ghost use Rattle.wat_tokens.specs.Views.{plain, owning};
-ghost use Rattle.wat_types.specs.Label.{seen_label, label};
-ghost use Rattle.wat_links.specs.Item.{seen_item_kind, bare_item_kind, SigTy, seen_sig, bare_sig};
+ghost use Rattle.wat_types.specs.Label.{label_view, label};
+ghost use Rattle.wat_links.specs.Item.{item_kind_view, bare_item_kind, SigTy, sig_view, bare_sig};
 ghost use Rattle.wat_links.specs.Item.{func_kind};
 ghost use Rattle.wat_links.specs.Item.{global_or_tag, item_sig, SameKind, SameSig};
 
@@ -48,7 +48,7 @@ impl<'a> ItemKind<'a> {
     /// The same once more. Memory may be answered where a type in it has a parameter or a result in
     /// line.
     pub fn clone(&self) -> Result<ItemKind<'a>>
-        ensures copies { Copies SameKind (owning seen_item_kind bare_item_kind) result self.now }
+        ensures copies { Copies SameKind (owning item_kind_view bare_item_kind) result self.now }
     {
         match self {
             ItemKind::Func(ty) => Ok(ItemKind::Func(ty.clone()?)),
@@ -65,7 +65,7 @@ impl<'a> ItemSig<'a> {
     /// The same signature once more. Memory may be answered where a type in it has a parameter or a
     /// result in line.
     pub fn clone(&self) -> Result<ItemSig<'a>>
-        ensures copies { Copies SameSig (owning seen_sig bare_sig) result self.now }
+        ensures copies { Copies SameSig (owning sig_view bare_sig) result self.now }
     {
         Ok(ItemSig {
             span: self.span,
@@ -79,7 +79,7 @@ impl<'a> ItemSig<'a> {
 /// An identifier and a name, each there or not.
 #[tactic(auto, unfolding(wat_types::specs::Label::label))]
 fn read_label<'a>(parser: &mut Parser<'a>) -> Result<(Option<Id<'a>>, Option<NameAnnotation<'a>>)>
-    ensures reads { Reads (plain (λ l. seen_label l.0 l.1)) label result parser.old parser.new }
+    ensures reads { Reads (plain (λ l. label_view l.0 l.1)) label result parser.old parser.new }
 {
     let id = Option::<Id>::parse(parser)?;
     let name = Option::<NameAnnotation>::parse(parser)?;
@@ -89,7 +89,7 @@ fn read_label<'a>(parser: &mut Parser<'a>) -> Result<(Option<Id<'a>>, Option<Nam
 /// Where the second token is `exact`, a type use in `( exact .. )`, else a type use.
 #[tactic(auto, unfolding(crate::specs::Item::func_kind))]
 fn read_func_kind<'a>(parser: &mut Parser<'a>) -> Result<ItemKind<'a>>
-    ensures reads { Reads (owning seen_item_kind bare_item_kind) func_kind result parser.old
+    ensures reads { Reads (owning item_kind_view bare_item_kind) func_kind result parser.old
         parser.new }
 {
     if !parser.second_is("exact") {
@@ -105,7 +105,7 @@ fn read_func_kind<'a>(parser: &mut Parser<'a>) -> Result<ItemKind<'a>>
 /// `global` or `tag`, a label, and a type.
 #[tactic(auto, unfolding(crate::specs::Item::global_or_tag))]
 fn read_global_or_tag<'a>(parser: &mut Parser<'a>) -> Result<ItemSig<'a>>
-    ensures reads { Reads (owning seen_sig bare_sig) global_or_tag result parser.old parser.new }
+    ensures reads { Reads (owning sig_view bare_sig) global_or_tag result parser.old parser.new }
 {
     if parser.next_is("global") {
         let span = parser.keyword("global")?;
@@ -133,9 +133,9 @@ fn read_global_or_tag<'a>(parser: &mut Parser<'a>) -> Result<ItemSig<'a>>
 /// type: that of a function is a type use, in `( exact .. )` where the second token behind the
 /// label is `exact`. Another token in front is refused with Unexpected, at the token.
 impl<'a> Parse<'a> for ItemSig<'a> {
-    ghost Seen = { SigTy };
+    ghost View = { SigTy };
 
-    ghost view = { owning seen_sig bare_sig };
+    ghost view = { owning sig_view bare_sig };
 
     ghost grammar = { item_sig };
 

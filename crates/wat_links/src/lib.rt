@@ -4,14 +4,14 @@
 //!
 //! Each is read from tokens by [`wat_tokens::Parse`]. Indices stay as they are written: nothing is
 //! resolved. Custom sections are written as annotations, which a parser sees only where they are
-//! known: it then stands in front of the annotation, directly behind its `(`.
+//! known: it then is in front of the annotation, directly behind its `(`.
 #![tactic(auto)]
 
 pub mod custom;
 pub mod dylink;
 pub mod export;
+pub mod field_head;
 pub mod flags;
-pub mod head;
 pub mod import;
 pub mod item;
 pub mod laws;
@@ -22,7 +22,7 @@ pub mod raw;
 pub use custom::Custom;
 pub use dylink::{Dylink0, Dylink0Subsection};
 pub use export::{Export, ExportKind, ExportType, InlineExport};
-pub use head::Head;
+pub use field_head::FieldHead;
 pub use import::{
     ImportGroup1Item, ImportGroup1ItemOf, ImportGroup2Item, ImportGroup2ItemOf, ImportItems,
     ImportItemsOf, Imports, ImportsOf, InlineImport,

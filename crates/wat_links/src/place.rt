@@ -4,7 +4,7 @@ ghost use Rattle.wat_links.specs.Place.{anchor_words, before, after};
 ghost use Rattle.wat_tokens.specs.Reads.{Reads};
 ghost use Rattle.wat_tokens.specs.Views.{plain};
 
-use wat_tokens::words::{Named, take_named};
+use wat_tokens::words::{NamedByKeyword, take_named};
 use wat_tokens::{Parse, Parser, Result};
 
 /// Where among the sections of a binary module a custom section stands (WebAssembly Core
@@ -52,7 +52,7 @@ pub enum CustomPlaceAnchor {
 }
 
 /// The section that a word names.
-impl Named for CustomPlaceAnchor {
+impl NamedByKeyword for CustomPlaceAnchor {
     ghost words = { anchor_words };
 
     fn named(word: &str) -> Option<Self> {
@@ -79,7 +79,7 @@ impl<'a> Parse<'a> for CustomPlaceAnchor {
     ghost use Rattle.wat_links.specs.declared.place.CustomPlaceAnchor.{CustomPlaceAnchor};
     ghost use Rattle.wat_links.specs.Place.{section};
 
-    ghost Seen = { CustomPlaceAnchor };
+    ghost View = { CustomPlaceAnchor };
 
     ghost view = { plain (λ a. a) };
 
@@ -122,7 +122,7 @@ impl<'a> Parse<'a> for CustomPlace {
     ghost use Rattle.wat_links.specs.declared.place.CustomPlace.{CustomPlace};
     ghost use Rattle.wat_links.specs.Place.{custom_place};
 
-    ghost Seen = { CustomPlace };
+    ghost View = { CustomPlace };
 
     ghost view = { plain (λ p. p) };
 

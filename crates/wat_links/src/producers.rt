@@ -2,8 +2,8 @@
 
 ghost use Rattle.std.specs.Prelude.{◌≡◌, ◌++◌, ℕ, false, List, map, IfOk, IfErr};
 ghost use Rattle.wat_tokens.specs.Views.{plain, owning, no_items};
-ghost use Rattle.wat_links.specs.Producers.{word_of, same_field, seen_entry, seen_entries};
-ghost use Rattle.wat_links.specs.Producers.{seen_names, seen_producers, field_entries};
+ghost use Rattle.wat_links.specs.Producers.{word_of, same_field, entry_view, entries_view};
+ghost use Rattle.wat_links.specs.Producers.{names_view, producers_view, field_entries};
 ghost use Rattle.wat_links.specs.Producers.{field_with_entries};
 ghost use Rattle.wat_links.specs.Producers.{fields_of, producers};
 ghost use Rattle.wat_links.specs.ProducerEntry.{field_words, Versioned, ProducerTy, field_word};
@@ -11,7 +11,7 @@ ghost use Rattle.wat_links.specs.ProducerEntry.{producer_entry};
 
 use std::alloc::Global;
 use wat_tokens::repeat::rest_of_group;
-use wat_tokens::words::{Named, take_named};
+use wat_tokens::words::{NamedByKeyword, take_named};
 use wat_tokens::{Error, Fault, Parse, Parser, Result};
 
 /// The `producers` section: by which languages and tools a module was made (WebAssembly Core
@@ -43,7 +43,7 @@ struct ProducerEntry<'a> {
 }
 
 /// The field that a word names.
-impl Named for Field {
+impl NamedByKeyword for Field {
     ghost words = { field_words };
 
     fn named(word: &str) -> Option<Self> {
@@ -85,7 +85,7 @@ impl Field {
 impl<'a> Parse<'a> for Field {
     ghost use Rattle.wat_links.specs.declared.producers.Field.{Field};
 
-    ghost Seen = { Field };
+    ghost View = { Field };
 
     ghost view = { plain (λ f. f) };
 
@@ -99,9 +99,9 @@ impl<'a> Parse<'a> for Field {
 
 /// A field's word, a name and a version, in parentheses.
 impl<'a> Parse<'a> for ProducerEntry<'a> {
-    ghost Seen = { ProducerTy };
+    ghost View = { ProducerTy };
 
-    ghost view = { plain seen_entry };
+    ghost view = { plain entry_view };
 
     ghost grammar = { producer_entry };
 
@@ -126,8 +126,8 @@ fn field_entries<'a>(
     entries: &[ProducerEntry<'a>],
     field: Field,
 ) -> Result<Vec<(&'a str, &'a str)>>
-    ensures ok { IfOk result (λ v. seen_names v.items ≡ field_entries field
-        (seen_entries entries.now)) }
+    ensures ok { IfOk result (λ v. names_view v.items ≡ field_entries field
+        (entries_view entries.now)) }
     ensures memory { IfErr result (λ e. e.fault ≡ Fault.Memory) }
 {
     let mut found = Vec::new(alloc);
@@ -145,9 +145,9 @@ fn add_field<'a>(
     entries: &[ProducerEntry<'a>],
     field: Field,
 ) -> Result<()>
-    ensures ok { IfOk result (λ _. map (λ f. (f.0.now, seen_names f.1.items)) fields.new.items ≡ map
-        (λ f. (f.0.now, seen_names f.1.items)) fields.old.items ++ field_with_entries field
-        (seen_entries entries.now)) }
+    ensures ok { IfOk result (λ _. map (λ f. (f.0.now, names_view f.1.items)) fields.new.items ≡ map
+        (λ f. (f.0.now, names_view f.1.items)) fields.old.items ++ field_with_entries field
+        (entries_view entries.now)) }
     ensures memory { IfErr result (λ e. e.fault ≡ Fault.Memory) }
 {
     let found = field_entries(*fields.allocator(), entries, field)?;
@@ -162,10 +162,10 @@ fn fields_of<'a>(
     alloc: Global,
     entries: &[ProducerEntry<'a>],
 ) -> Result<Vec<(&'a str, Vec<(&'a str, &'a str)>)>>
-    ensures ok { IfOk result (λ v. map (λ f. (f.0.now, seen_names f.1.items)) v.items ≡ fields_of
-        (seen_entries entries.now)) }
+    ensures ok { IfOk result (λ v. map (λ f. (f.0.now, names_view f.1.items)) v.items ≡ fields_of
+        (entries_view entries.now)) }
     ensures memory { IfErr result (λ e. (e.fault ≡ Fault.Memory)
-        × (no_items (seen_entries entries.now) ≡ false)) }
+        × (no_items (entries_view entries.now) ≡ false)) }
 {
     let mut fields = Vec::new(alloc);
     if entries.is_empty() {
@@ -180,13 +180,13 @@ fn fields_of<'a>(
 /// `@producers`, and entries up to the end of the group. Each is the word of a field, a name and a
 /// version, in parentheses.
 impl<'a> Parse<'a> for Producers<'a> {
-    ghost Seen = { List (List ℕ × List Versioned) };
+    ghost View = { List (List ℕ × List Versioned) };
 
-    ghost view = { owning seen_producers no_items };
+    ghost view = { owning producers_view no_items };
 
     ghost grammar = { producers };
 
-    #[tactic(auto, using(crate::specs::Laws::Producers::producer_entry_eats, crate::proofs::Fields::fields_not_bare, crate::proofs::Fields::entries_not_bare), unfolding(crate::specs::Producers::producers, crate::specs::Producers::producer_entries))]
+    #[tactic(auto, using(crate::specs::Laws::Producers::producer_entry_consumes, crate::proofs::Fields::fields_not_bare, crate::proofs::Fields::entries_not_bare), unfolding(crate::specs::Producers::producers, crate::specs::Producers::producer_entries))]
     fn parse(parser: &mut Parser<'a>) -> Result<Self> {
         parser.take_annotation("producers")?;
         let mut entries = Vec::new(parser.alloc());

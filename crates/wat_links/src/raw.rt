@@ -1,7 +1,7 @@
 //! Custom sections of any name, with their bytes.
 
 ghost use Rattle.std.specs.Prelude.{◌≡◌};
-ghost use Rattle.wat_links.specs.Raw.{RawTy, seen_raw, bare_raw, raw_place, raw_custom};
+ghost use Rattle.wat_links.specs.Raw.{RawTy, raw_view, bare_raw, raw_place, raw_custom};
 ghost use Rattle.wat_tokens.specs.Reads.{Reads};
 ghost use Rattle.wat_tokens.specs.Tests.{begins_lparen};
 ghost use Rattle.wat_tokens.specs.Views.{plain, owning};
@@ -24,14 +24,14 @@ pub struct RawCustomSection<'a> {
     pub data: Vec<&'a [u8]>,
 }
 
-/// Whether a `(` stands in front.
+/// Whether a `(` is in front.
 fn lparen_next(parser: &Parser<'_>) -> bool
     ensures { result ≡ begins_lparen parser.now.left }
 {
     parser.cursor().lparen().is_some()
 }
 
-/// `( place )`, where a `(` stands in front; else behind the last section.
+/// `( place )`, where a `(` is in front; else behind the last section.
 #[tactic(auto, unfolding(crate::specs::Raw::raw_place))]
 fn read_place<'a>(parser: &mut Parser<'a>) -> Result<CustomPlace>
     ensures reads { Reads (plain (λ p. p)) raw_place result parser.old parser.new }
@@ -47,9 +47,9 @@ fn read_place<'a>(parser: &mut Parser<'a>) -> Result<CustomPlace>
 
 /// `@custom`, a name, a place in parentheses or none, and strings up to the end of the group.
 impl<'a> Parse<'a> for RawCustomSection<'a> {
-    ghost Seen = { RawTy };
+    ghost View = { RawTy };
 
-    ghost view = { owning seen_raw bare_raw };
+    ghost view = { owning raw_view bare_raw };
 
     ghost grammar = { raw_custom };
 

@@ -8,37 +8,37 @@ use Rattle.wat_tokens.specs.Tests.{as_keyword}
 use Rattle.wat_tokens.specs.Production.{some_of}
 use Rattle.wat_tokens.specs.Laws.Production.{by_test, some_is}
 use Rattle.wat_tokens.specs.PartSpells.{one_reads}
-use Rattle.wat_mnemonics.specs.Heads.{head_word}
-use Rattle.wat_mnemonics.specs.declared.head.Head.{Head}
-use Rattle.wat_mnemonics.specs.Table.{all_heads}
-use Rattle.wat_mnemonics.specs.Word.{first_with, head_of, mnemonic_reads}
-use Rattle.wat_mnemonics.specs.Laws.Word.{head_of_word}
+use Rattle.wat_mnemonics.specs.Heads.{mnemonic_word}
+use Rattle.wat_mnemonics.specs.declared.mnemonic.Mnemonic.{Mnemonic}
+use Rattle.wat_mnemonics.specs.Table.{all_mnemonics}
+use Rattle.wat_mnemonics.specs.Word.{first_with, mnemonic_of, mnemonic_reads}
+use Rattle.wat_mnemonics.specs.Laws.Word.{mnemonic_of_word}
 
-first_none : (w : List ℕ) (xs : List Head) → ((x : Head) → head_word x ≡ w → ⊥) → first_with w xs ≡ None
+first_none : (w : List ℕ) (xs : List Mnemonic) → ((x : Mnemonic) → mnemonic_word x ≡ w → ⊥) → first_with w xs ≡ None
 first_none w [] f = refl
 first_none w (y ∷ ys) f =
-    by_test (bytes_eq (head_word y) w)
-    (λ t. absurd (f y ((bytes_decides (head_word y) w).0 t)))
+    by_test (bytes_eq (mnemonic_word y) w)
+    (λ t. absurd (f y ((bytes_decides (mnemonic_word y) w).0 t)))
     (λ t. rw t (first_none w ys f))
 
-pub head_of_none : (w : List ℕ) → ((x : Head) → head_word x ≡ w → ⊥) → head_of w ≡ None
-unfolding head_of
-head_of_none w f = first_none w all_heads f
+pub mnemonic_of_none : (w : List ℕ) → ((x : Mnemonic) → mnemonic_word x ≡ w → ⊥) → mnemonic_of w ≡ None
+unfolding mnemonic_of
+mnemonic_of_none w f = first_none w all_mnemonics f
 
 -- ---- by what the word in front is
 
-pub reads_word : (t : List Tok) (w : List ℕ) (r : List Tok) (x : Head) → one_reads as_keyword t ≡ Some (w, r) → head_word x ≡ w → mnemonic_reads t ≡ Some (x, r)
+pub reads_word : (t : List Tok) (w : List ℕ) (r : List Tok) (x : Mnemonic) → one_reads as_keyword t ≡ Some (w, r) → mnemonic_word x ≡ w → mnemonic_reads t ≡ Some (x, r)
 reads_word [] w r x e h = absurd cc
 reads_word (Keyword k ∷ t) w r x e h =
     let p = some_is (k, t) (w, r) e in
-    rw (head_of_word x k (h ∙ sym (ap (λ (u : List ℕ × List Tok). u.0) p))) (ap (λ (u : List ℕ × List Tok). some_of (x, u.1)) p)
+    rw (mnemonic_of_word x k (h ∙ sym (ap (λ (u : List ℕ × List Tok). u.0) p))) (ap (λ (u : List ℕ × List Tok). some_of (x, u.1)) p)
 reads_word (_ ∷ t) w r x e h = absurd cc
 
-pub reads_other_word : (t : List Tok) (w : List ℕ) (r : List Tok) → one_reads as_keyword t ≡ Some (w, r) → ((x : Head) → head_word x ≡ w → ⊥) → mnemonic_reads t ≡ None
+pub reads_other_word : (t : List Tok) (w : List ℕ) (r : List Tok) → one_reads as_keyword t ≡ Some (w, r) → ((x : Mnemonic) → mnemonic_word x ≡ w → ⊥) → mnemonic_reads t ≡ None
 reads_other_word [] w r e f = refl
 reads_other_word (Keyword k ∷ t) w r e f =
     let p = some_is (k, t) (w, r) e in
-    rw (head_of_none k (λ x h. f x (h ∙ ap (λ (u : List ℕ × List Tok). u.0) p))) refl
+    rw (mnemonic_of_none k (λ x h. f x (h ∙ ap (λ (u : List ℕ × List Tok). u.0) p))) refl
 reads_other_word (_ ∷ t) w r e f = refl
 
 pub reads_no_word : (t : List Tok) → one_reads as_keyword t ≡ None → mnemonic_reads t ≡ None

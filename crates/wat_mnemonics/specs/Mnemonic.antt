@@ -1,14 +1,14 @@
 -- The word of an instruction.
 use Rattle.wat_tokens.specs.Production.{Production}
-use Rattle.wat_mnemonics.specs.declared.head.Head.{Head}
+use Rattle.wat_mnemonics.specs.declared.mnemonic.Mnemonic.{Mnemonic}
 use Rattle.wat_mnemonics.specs.Word.{mnemonic_spells, mnemonic_reads}
 use Rattle.wat_mnemonics.specs.Laws.Word.{mnemonic_sound, mnemonic_complete, mnemonic_takes}
-use Rattle.wat_mnemonics.specs.Laws.Word.{mnemonic_level}
+use Rattle.wat_mnemonics.specs.Laws.Word.{mnemonic_balanced}
 
 -- ---- the production
 
 -- the word of an instruction
-abbrev pub mnemonic : Production Head
+abbrev pub mnemonic : Production Mnemonic
 mnemonic = record {
   spells = mnemonic_spells;
   reads = mnemonic_reads;
@@ -16,5 +16,5 @@ mnemonic = record {
   sound = mnemonic_sound;
   complete = mnemonic_complete;
   takes = mnemonic_takes;
-  level = mnemonic_level;
+  balanced = mnemonic_balanced;
 }

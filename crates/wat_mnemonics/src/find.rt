@@ -3,42 +3,42 @@
 ghost use Rattle.std.specs.Prelude.{◌≡◌, ◌≢◌, ◌<◌, ◌≤◌, ◌+◌, ◌∷◌, ℕ, List, IfSome, IfNone, IfErr};
 ghost use Rattle.std.specs.Prelude.{slice_index_or};
 ghost use Rattle.wat_tokens.specs.Token.{Tok, Keyword};
-ghost use Rattle.wat_mnemonics.specs.Heads.{head_word};
+ghost use Rattle.wat_mnemonics.specs.Heads.{mnemonic_word};
 ghost use Rattle.wat_mnemonics.specs.Keys.{key as key_of};
 ghost use Rattle.wat_mnemonics.specs.Order.{cmp, first};
 ghost use Rattle.wat_mnemonics.specs.Probes.{ReadsWord, AtMostTen};
-ghost use Rattle.wat_mnemonics.specs.Table.{all_heads};
-ghost use Rattle.wat_mnemonics.specs.declared.head.Head.{Head as AnyHead};
+ghost use Rattle.wat_mnemonics.specs.Table.{all_mnemonics};
+ghost use Rattle.wat_mnemonics.specs.declared.mnemonic.Mnemonic.{Mnemonic as AnyMnemonic};
 ghost use Rattle.wat_tokens.specs.Counts.{Carries};
 
-use crate::head::Head;
 use crate::keys::{KEYS, key_of};
-use crate::table::HEADS;
+use crate::mnemonic::Mnemonic;
+use crate::table::MNEMONICS;
 use std::cmp::Ordering;
 use wat_tokens::{Error, Fault, Parser, Result};
 
 /// An entry of the table.
-fn head_at(place: usize) -> Head
+fn mnemonic_at(place: usize) -> Mnemonic
     requires { place < 623 }
-    ensures { result ≡ slice_index_or all_heads place first }
+    ensures { result ≡ slice_index_or all_mnemonics place first }
 {
-    HEADS[place]
+    MNEMONICS[place]
 }
 
 /// How the word of an entry and a text compare.
 #[cold]
 fn compared_whole(place: usize, text: &str) -> Ordering
     requires { place < 623 }
-    ensures { result ≡ cmp (head_word (slice_index_or all_heads place first)) text.now }
+    ensures { result ≡ cmp (mnemonic_word (slice_index_or all_mnemonics place first)) text.now }
 {
-    head_at(place).mnemonic().cmp(text)
+    mnemonic_at(place).mnemonic().cmp(text)
 }
 
 /// The same, by their keys where these differ.
 fn compared(place: usize, key: u64, text: &str) -> Ordering
     requires place { place < 623 }
     requires key { key ≡ key_of text.now }
-    ensures { result ≡ cmp (head_word (slice_index_or all_heads place first)) text.now }
+    ensures { result ≡ cmp (mnemonic_word (slice_index_or all_mnemonics place first)) text.now }
 {
     let entry = KEYS[place];
     if entry == key {
@@ -53,9 +53,9 @@ fn compared(place: usize, key: u64, text: &str) -> Ordering
 
 /// The head of a word, or None where the word is no mnemonic. The parser counts each comparison
 /// with an entry of the table, of which there are 1 to 10; it changes in nothing else.
-pub fn find(parser: &mut Parser<'_>, text: &str) -> Option<Head>
-    ensures found { IfSome result (λ h. head_word h ≡ text.now) }
-    ensures missing { IfNone result ((h : AnyHead) → head_word h ≢ text.now) }
+pub fn find(parser: &mut Parser<'_>, text: &str) -> Option<Mnemonic>
+    ensures found { IfSome result (λ h. mnemonic_word h ≡ text.now) }
+    ensures missing { IfNone result ((h : AnyMnemonic) → mnemonic_word h ≢ text.now) }
     ensures only { parser.new ≡ record parser.old { probes = parser.new.probes } }
     ensures counts { Carries parser.old parser.new }
     ensures probed { parser.old.probes + 1 ≤ parser.new.probes }
@@ -72,19 +72,19 @@ pub fn find(parser: &mut Parser<'_>, text: &str) -> Option<Head>
         parser.probe();
         match compared(place, key, text) {
             Ordering::Less => base += half,
-            Ordering::Equal => return Some(head_at(place)),
+            Ordering::Equal => return Some(mnemonic_at(place)),
             Ordering::Greater => {}
         }
     }
     None
 }
 
-impl Head {
-    /// Takes the word of an instruction that stands in front.
+impl Mnemonic {
+    /// Takes the word of an instruction that is in front.
     ///
     /// A word that is no mnemonic, or any other token, is refused with Operator at it.
     #[tactic(auto, using(crate::proofs::WordReads::reads_other_word, crate::proofs::WordReads::reads_no_word))]
-    pub fn take(parser: &mut Parser<'_>) -> Result<Head>
+    pub fn take(parser: &mut Parser<'_>) -> Result<Mnemonic>
         ensures reads { ReadsWord result parser.old parser.new }
         ensures probes { AtMostTen parser.old parser.new }
         ensures probed { (w : List ℕ) (r : List Tok) → parser.old.left ≡ Keyword w ∷ r

@@ -1,16 +1,16 @@
 //! The words of the 623 instructions of the WebAssembly text format, without what follows them.
 //!
-//! A [`Head`](head::Head) is an instruction without its operand. A word finds its head by a binary
-//! search, which counts each comparison; a head has its word, and its opcode where Core
+//! A [`Mnemonic`](head::Head) is an instruction without its operand. A word finds its head by a
+//! binary search, which counts each comparison; a head has its word, and its opcode where Core
 //! Specification 2.0 gives it one.
 #![tactic(auto)]
 
 pub mod access;
 pub mod find;
-pub mod head;
 pub mod indexed;
 pub(crate) mod keys;
 pub mod laws;
+pub mod mnemonic;
 pub mod opcode;
 pub mod ordered;
 pub mod scalar;
@@ -18,10 +18,10 @@ pub mod table;
 pub mod vector;
 
 pub use access::{AccessOp, AtomicAccessOp, LaneAccessOp, RmwAccessOp};
-pub use head::Head;
 pub use indexed::{
     ArrayInitOp, BlockOp, CallIndirectOp, IndexedOp, LabelOp, LaneOp, MemoryOp, StructOp, TableOp,
 };
+pub use mnemonic::Mnemonic;
 pub use opcode::Opcode;
 pub use ordered::{OrderedIndexOp, OrderedStructOp, OrderedTableOp};
 pub use scalar::ScalarOp;

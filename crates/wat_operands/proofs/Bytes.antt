@@ -81,7 +81,7 @@ digits n i k =
     ∙ ap (λ (q : ℕ). (q % 256 ^ k) * 256 + n / 256 ^ i % 256) (shifts n i)
     ∙ ap (λ (b : ℕ). (n / 256 ^ suc i % 256 ^ k) * 256 + b) (sym (byte_is i n))
 
--- k bytes from byte i upward tell what stands in them
+-- k bytes from byte i upward tell what is in them
 bytes_tell : (k i n m : ℕ) → bytes_low_first i k n ≡ bytes_low_first i k m → n / 256 ^ i % 256 ^ k ≡ m / 256 ^ i % 256 ^ k
 bytes_tell zero i n m e = omega arith
 bytes_tell (suc k) i n m e =

@@ -1,4 +1,4 @@
--- What stands behind the front of a word.
+-- What is behind the prefix of a word.
 use Rattle.std.proofs.Common.{◌≡◌, ◌≢◌, ℕ, ◌==◌, true, List, [], ◌∷◌, ◌++◌, drop, Option, Some, None, option_map, MatchOption, refl, ap, sym, ◌∙◌, Bor}
 use Rattle.std.specs.Cmp.{unsigned_Decides}
 use Rattle.std.specs.Str.Pattern.{LacksTextAt, FindsTextPrefix, StripsPrefix}
@@ -11,7 +11,7 @@ some_text u = Some u
 same : (b : ℕ) → (b == b) ≡ true
 same b = (unsigned_Decides b b).1 refl
 
--- behind a front stands what was put there
+-- behind a prefix stands what was put there
 behind_front : (front rest : List ℕ) → past_front front (front ++ rest) ≡ Some rest
 unfolding past_front
 behind_front [] rest = refl

@@ -2,7 +2,7 @@
 use Rattle.std.specs.Prelude.{ℕ}
 use Rattle.wat_tokens.specs.Production.{Production}
 use Rattle.wat_tokens.specs.Parts.{seq}
-use Rattle.wat_tokens.specs.Index.{Idx, seen_index, index}
+use Rattle.wat_tokens.specs.Index.{Idx, index_view, index}
 use Rattle.wat_tokens.specs.Integers.{unsigned}
 use Rattle.wat_tokens.specs.declared.index.Index.{Index}
 use Rattle.wat_operands.specs.declared.aggregates.ArrayCopyOf.{ArrayCopyOf}
@@ -16,39 +16,39 @@ use Rattle.wat_operands.specs.declared.aggregates.StructAccessOf.{StructAccessOf
 use Rattle.wat_operands.specs.declared.aggregates.SwitchOf.{SwitchOf}
 
 -- the structure type, and the field
-abbrev pub seen_struct_access : StructAccessOf Index → Idx × Idx
-seen_struct_access s = (seen_index s.struct_, seen_index s.field)
+abbrev pub struct_access_view : StructAccessOf Index → Idx × Idx
+struct_access_view s = (index_view s.struct_, index_view s.field)
 
 -- the argument, and the result
-abbrev pub seen_cont_bind : ContBindOf Index → Idx × Idx
-seen_cont_bind b = (seen_index b.argument_index, seen_index b.result_index)
+abbrev pub cont_bind_view : ContBindOf Index → Idx × Idx
+cont_bind_view b = (index_view b.argument_index, index_view b.result_index)
 
 -- the type, and the tag
-abbrev pub seen_switch : SwitchOf Index → Idx × Idx
-seen_switch s = (seen_index s.type_index, seen_index s.tag_index)
+abbrev pub switch_view : SwitchOf Index → Idx × Idx
+switch_view s = (index_view s.type_index, index_view s.tag_index)
 
-abbrev pub seen_array_fill : ArrayFillOf Index → Idx
-seen_array_fill a = seen_index a.array
+abbrev pub array_fill_view : ArrayFillOf Index → Idx
+array_fill_view a = index_view a.array
 
 -- the destination, and the source
-abbrev pub seen_array_copy : ArrayCopyOf Index → Idx × Idx
-seen_array_copy a = (seen_index a.dest_array, seen_index a.src_array)
+abbrev pub array_copy_view : ArrayCopyOf Index → Idx × Idx
+array_copy_view a = (index_view a.dest_array, index_view a.src_array)
 
 -- the array, and the segment
-abbrev pub seen_array_init : ArrayInitOf Index → Idx × Idx
-seen_array_init a = (seen_index a.array, seen_index a.segment)
+abbrev pub array_init_view : ArrayInitOf Index → Idx × Idx
+array_init_view a = (index_view a.array, index_view a.segment)
 
 -- the array, and the length
-abbrev pub seen_array_new_fixed : ArrayNewFixedOf Index → Idx × ℕ
-seen_array_new_fixed a = (seen_index a.array, a.length)
+abbrev pub array_new_fixed_view : ArrayNewFixedOf Index → Idx × ℕ
+array_new_fixed_view a = (index_view a.array, a.length)
 
 -- the array, and the data segment
-abbrev pub seen_array_new_data : ArrayNewDataOf Index → Idx × Idx
-seen_array_new_data a = (seen_index a.array, seen_index a.data_idx)
+abbrev pub array_new_data_view : ArrayNewDataOf Index → Idx × Idx
+array_new_data_view a = (index_view a.array, index_view a.data_idx)
 
 -- the array, and the element segment
-abbrev pub seen_array_new_elem : ArrayNewElemOf Index → Idx × Idx
-seen_array_new_elem a = (seen_index a.array, seen_index a.elem_idx)
+abbrev pub array_new_elem_view : ArrayNewElemOf Index → Idx × Idx
+array_new_elem_view a = (index_view a.array, index_view a.elem_idx)
 
 -- idx u32
 unfoldable pub array_of_length : Production (Idx × ℕ)

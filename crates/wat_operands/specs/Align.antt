@@ -10,7 +10,7 @@ use Rattle.wat_operands.specs.Power.{IsPowerOfTwo}
 
 -- ---- words that hold a number
 
--- what stands behind the front of a text, where it begins so
+-- what is behind the front of a text, where it begins so
 unfoldable pub past_front : List ℕ → List ℕ → Option (List ℕ)
 past_front [] text = Some text
 past_front (b ∷ bs) [] = None

@@ -2,10 +2,10 @@
 use Rattle.std.specs.Prelude.{◌≡◌, Bool}
 use Rattle.wat_tokens.specs.Production.{Production}
 use Rattle.wat_tokens.specs.Parts.{seq, made}
-use Rattle.wat_types.specs.Label.{Label, seen_label, label}
+use Rattle.wat_types.specs.Label.{Label, label_view, label}
 use Rattle.wat_types.specs.Group.{FuncTy, begins_func}
-use Rattle.wat_types.specs.Function.{seen_function, bare_function}
-use Rattle.wat_types.specs.Use.{UseTy, seen_use, bare_use, type_use, SameFunction, SameUse}
+use Rattle.wat_types.specs.Function.{function_view, bare_function}
+use Rattle.wat_types.specs.Use.{UseTy, use_view, bare_use, type_use, SameFunction, SameUse}
 use Rattle.wat_types.specs.declared.function.FunctionType.{FunctionType}
 use Rattle.wat_types.specs.declared.type_use.TypeUse.{TypeUse}
 use Rattle.wat_types.specs.FunctionNoNames.{function_type_no_names}
@@ -13,8 +13,8 @@ use Rattle.wat_operands.specs.declared.block.BlockType.{BlockType}
 
 -- ---- the type of a block or of a call
 
-abbrev pub seen_signature : TypeUse FunctionType → UseTy FuncTy
-seen_signature u = seen_use seen_function u
+abbrev pub signature_view : TypeUse FunctionType → UseTy FuncTy
+signature_view u = use_view function_view u
 
 -- no inline type with a parameter or a result
 abbrev pub bare_signature : UseTy FuncTy → Bool
@@ -34,8 +34,8 @@ pub record BlockTy : Type 0 where
 abbrev pub block_of : Label → UseTy FuncTy → BlockTy
 block_of l t = record { label = l; ty = t }
 
-abbrev pub seen_block : BlockType → BlockTy
-seen_block b = block_of (seen_label b.label b.label_name) (seen_signature b.ty)
+abbrev pub block_view : BlockType → BlockTy
+block_view b = block_of (label_view b.label b.label_name) (signature_view b.ty)
 
 -- no inline type with a parameter or a result
 abbrev pub bare_block : BlockTy → Bool

@@ -5,7 +5,7 @@ use Rattle.wat_tokens.specs.Token.{Tok}
 use Rattle.wat_tokens.specs.Production.{Production}
 use Rattle.wat_tokens.specs.Parts.{seq, made}
 use Rattle.wat_tokens.specs.Many.{many}
-use Rattle.wat_tokens.specs.Index.{Idx, seen_index, index, begins_index}
+use Rattle.wat_tokens.specs.Index.{Idx, index_view, index, begins_index}
 use Rattle.wat_tokens.specs.Views.{no_items}
 use Rattle.wat_tokens.specs.declared.index.Index.{Index}
 use Rattle.wat_operands.specs.declared.branch.BrTableIndicesOf.{BrTableIndicesOf}
@@ -18,8 +18,8 @@ pub record BrTableTy : Type 0 where
 abbrev pub br_table_of : List Idx → Idx → BrTableTy
 br_table_of ls d = record { labels = ls; default = d }
 
-abbrev pub seen_br_table : BrTableIndicesOf Index → BrTableTy
-seen_br_table b = br_table_of (map seen_index b.labels.items) (seen_index b.default)
+abbrev pub br_table_view : BrTableIndicesOf Index → BrTableTy
+br_table_view b = br_table_of (map index_view b.labels.items) (index_view b.default)
 
 -- no labels
 abbrev pub bare_br_table : BrTableTy → Bool

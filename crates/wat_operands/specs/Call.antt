@@ -2,10 +2,10 @@
 use Rattle.std.specs.Prelude.{◌≡◌, Bool, Option, Some, None}
 use Rattle.wat_tokens.specs.Production.{Production}
 use Rattle.wat_tokens.specs.Parts.{seq, made, opt}
-use Rattle.wat_tokens.specs.Index.{Idx, number, seen_index, index, begins_index}
+use Rattle.wat_tokens.specs.Index.{Idx, number, index_view, index, begins_index}
 use Rattle.wat_types.specs.Group.{FuncTy}
 use Rattle.wat_types.specs.Use.{UseTy, SameFunction, SameUse}
-use Rattle.wat_operands.specs.Block.{seen_signature, bare_signature, signature}
+use Rattle.wat_operands.specs.Block.{signature_view, bare_signature, signature}
 use Rattle.wat_operands.specs.declared.call.CallIndirect.{CallIndirect}
 
 -- an indirect call, without places
@@ -16,8 +16,8 @@ pub record CallTy : Type 0 where
 abbrev pub call_of : Idx → UseTy FuncTy → CallTy
 call_of i t = record { table = i; ty = t }
 
-abbrev pub seen_call : CallIndirect → CallTy
-seen_call c = call_of (seen_index c.table) (seen_signature c.ty)
+abbrev pub call_view : CallIndirect → CallTy
+call_view c = call_of (index_view c.table) (signature_view c.ty)
 
 -- no inline type with a parameter or a result
 abbrev pub bare_call : CallTy → Bool

@@ -6,8 +6,8 @@ use Rattle.wat_tokens.specs.Tests.{begins_group}
 use Rattle.wat_tokens.specs.Production.{Production}
 use Rattle.wat_tokens.specs.Parts.{seq, made}
 use Rattle.wat_tokens.specs.Many.{many}
-use Rattle.wat_tokens.specs.Index.{seen_index}
-use Rattle.wat_operands.specs.Block.{BlockTy, seen_block, block_type, SameBlock}
+use Rattle.wat_tokens.specs.Index.{index_view}
+use Rattle.wat_operands.specs.Block.{BlockTy, block_view, block_type, SameBlock}
 use Rattle.wat_operands.specs.contracts.catches.CatchKind as kinds
 use Rattle.wat_operands.specs.declared.catches.CatchKind.{CatchKind}
 use Rattle.wat_operands.specs.declared.catches.CatchKind.TheVariants.{Catch, CatchRef, CatchAll}
@@ -15,7 +15,7 @@ use Rattle.wat_operands.specs.declared.catches.CatchKind.TheVariants.{CatchAllRe
 use Rattle.wat_operands.specs.declared.catches.TryTable.{TryTable}
 use Rattle.wat_operands.specs.declared.catches.TryTableCatch.{TryTableCatch}
 use Rattle.wat_operands.specs.CatchClause.{CatchTy, catch_of, catch_clause}
-use Rattle.wat_operands.specs.Laws.Catches.{catch_clause_eats}
+use Rattle.wat_operands.specs.Laws.Catches.{catch_clause_consumes}
 
 -- ---- the tag of what is caught
 
@@ -39,14 +39,14 @@ LendsTag I s r = LendsIf (kinds.the_row I) I s r (with_tag s.now) s.now
 -- ---- what contracts see
 
 -- its tag seen by view
-abbrev pub seen_catch_kind : {I A : Type 0} → (I → A) → CatchKind I → CatchKind A
-seen_catch_kind view (Catch x) = Catch (view x)
-seen_catch_kind view (CatchRef x) = CatchRef (view x)
-seen_catch_kind view CatchAll = CatchAll
-seen_catch_kind view CatchAllRef = CatchAllRef
+abbrev pub catch_kind_view : {I A : Type 0} → (I → A) → CatchKind I → CatchKind A
+catch_kind_view view (Catch x) = Catch (view x)
+catch_kind_view view (CatchRef x) = CatchRef (view x)
+catch_kind_view view CatchAll = CatchAll
+catch_kind_view view CatchAllRef = CatchAllRef
 
-abbrev pub seen_catch : TryTableCatch → CatchTy
-seen_catch c = catch_of (seen_catch_kind seen_index c.kind) (seen_index c.label)
+abbrev pub catch_view : TryTableCatch → CatchTy
+catch_view c = catch_of (catch_kind_view index_view c.kind) (index_view c.label)
 
 -- a try_table, without places
 pub record TryTy : Type 0 where
@@ -56,8 +56,8 @@ pub record TryTy : Type 0 where
 abbrev pub try_of : BlockTy → List CatchTy → TryTy
 try_of b cs = record { block = b; catches = cs }
 
-abbrev pub seen_try : TryTable → TryTy
-seen_try t = try_of (seen_block t.block.value) (map seen_catch t.catches.items)
+abbrev pub try_view : TryTable → TryTy
+try_view t = try_of (block_view t.block.value) (map catch_view t.catches.items)
 
 -- ---- the grammar
 
@@ -70,7 +70,8 @@ begins_catch t =
 -- BlockType, and then a clause wherever a group begins with one of the four words
 unfoldable pub try_table : Production TryTy
 try_table =
-    made (λ v. try_of v.0 v.1) (seq block_type (many begins_catch catch_clause catch_clause_eats))
+    made (λ v. try_of v.0 v.1) (seq block_type
+    (many begins_catch catch_clause catch_clause_consumes))
 
 -- ---- the same value
 

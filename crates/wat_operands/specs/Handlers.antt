@@ -5,7 +5,7 @@ use Rattle.wat_tokens.specs.Tests.{begins_group}
 use Rattle.wat_tokens.specs.Production.{Production}
 use Rattle.wat_tokens.specs.Parts.{seq, made}
 use Rattle.wat_tokens.specs.Many.{many}
-use Rattle.wat_tokens.specs.Index.{Idx, seen_index, index}
+use Rattle.wat_tokens.specs.Index.{Idx, index_view, index}
 use Rattle.wat_tokens.specs.Views.{no_items}
 use Rattle.wat_tokens.specs.declared.index.Index.{Index}
 use Rattle.wat_operands.specs.declared.handlers.HandleOf.{HandleOf}
@@ -15,13 +15,13 @@ use Rattle.wat_operands.specs.declared.handlers.ResumeTableOf.{ResumeTableOf}
 use Rattle.wat_operands.specs.declared.handlers.ResumeThrowOf.{ResumeThrowOf}
 use Rattle.wat_operands.specs.declared.handlers.ResumeThrowRefOf.{ResumeThrowRefOf}
 use Rattle.wat_operands.specs.Handler.{HandleTy, on_label, on_switch, handler}
-use Rattle.wat_operands.specs.Laws.Handlers.{handler_eats}
+use Rattle.wat_operands.specs.Laws.Handlers.{handler_consumes}
 
 -- ---- handlers
 
-abbrev pub seen_handle : HandleOf Index → HandleTy
-seen_handle (code.OnLabel tag label) = on_label (seen_index tag) (seen_index label)
-seen_handle (code.OnSwitch tag) = on_switch (seen_index tag)
+abbrev pub handle_view : HandleOf Index → HandleTy
+handle_view (code.OnLabel tag label) = on_label (index_view tag) (index_view label)
+handle_view (code.OnSwitch tag) = on_switch (index_view tag)
 
 -- a group that begins with `on`
 abbrev pub begins_handler : List Tok → Bool
@@ -29,12 +29,12 @@ begins_handler t = begins_group (codes "on") t
 
 -- ---- tables of them
 
-abbrev pub seen_resume_table : ResumeTableOf Index → List HandleTy
-seen_resume_table t = map seen_handle t.handlers.items
+abbrev pub resume_table_view : ResumeTableOf Index → List HandleTy
+resume_table_view t = map handle_view t.handlers.items
 
 -- a handler wherever a group begins with `on`
 unfoldable pub resume_table : Production (List HandleTy)
-resume_table = many begins_handler handler handler_eats
+resume_table = many begins_handler handler handler_consumes
 
 -- ---- the operands that have one
 
@@ -46,11 +46,11 @@ pub record ResumeTy : Type 0 where
 abbrev pub resume_of : Idx → List HandleTy → ResumeTy
 resume_of i t = record { type_index = i; table = t }
 
-abbrev pub seen_resume : ResumeOf Index → ResumeTy
-seen_resume r = resume_of (seen_index r.type_index) (seen_resume_table r.table)
+abbrev pub resume_view : ResumeOf Index → ResumeTy
+resume_view r = resume_of (index_view r.type_index) (resume_table_view r.table)
 
-abbrev pub seen_resume_throw_ref : ResumeThrowRefOf Index → ResumeTy
-seen_resume_throw_ref r = resume_of (seen_index r.type_index) (seen_resume_table r.table)
+abbrev pub resume_throw_ref_view : ResumeThrowRefOf Index → ResumeTy
+resume_throw_ref_view r = resume_of (index_view r.type_index) (resume_table_view r.table)
 
 -- no handler
 abbrev pub bare_resume : ResumeTy → Bool
@@ -69,9 +69,9 @@ pub record ThrowTy : Type 0 where
 abbrev pub throw_of : Idx → Idx → List HandleTy → ThrowTy
 throw_of i j t = record { type_index = i; tag_index = j; table = t }
 
-abbrev pub seen_resume_throw : ResumeThrowOf Index → ThrowTy
-seen_resume_throw r =
-    throw_of (seen_index r.type_index) (seen_index r.tag_index) (seen_resume_table r.table)
+abbrev pub resume_throw_view : ResumeThrowOf Index → ThrowTy
+resume_throw_view r =
+    throw_of (index_view r.type_index) (index_view r.tag_index) (resume_table_view r.table)
 
 -- no handler
 abbrev pub bare_throw : ThrowTy → Bool

@@ -7,7 +7,7 @@ use Rattle.wat_tokens.specs.Tests.{begins_integer}
 use Rattle.wat_tokens.specs.Production.{Production}
 use Rattle.wat_tokens.specs.Parts.{one, seq, made, where_else}
 use Rattle.wat_tokens.specs.Index.{number}
-use Rattle.wat_operands.specs.Memory.{MemArgTy, memory, mem_arg_of, mem_arg, seen_mem_arg}
+use Rattle.wat_operands.specs.Memory.{MemArgTy, memory, mem_arg_of, mem_arg, mem_arg_view}
 use Rattle.wat_operands.specs.Memory.{begins_with}
 use Rattle.wat_operands.specs.declared.lanes.LaneArg.{LaneArg}
 use Rattle.wat_operands.specs.declared.lanes.LaneOf.{LaneOf}
@@ -34,8 +34,8 @@ pub record LaneAccessTy : Type 0 where
   pub memarg : MemArgTy
   pub lane : LaneArg
 
-abbrev pub seen_lane_access : LaneOf MemArg → LaneAccessTy
-seen_lane_access l = record { memarg = seen_mem_arg l.memarg; lane = l.lane }
+abbrev pub lane_access_view : LaneOf MemArg → LaneAccessTy
+lane_access_view l = record { memarg = mem_arg_view l.memarg; lane = l.lane }
 
 abbrev pub access_of : MemArgTy × LaneArg → LaneAccessTy
 access_of v = record { memarg = v.0; lane = v.1 }

@@ -7,7 +7,7 @@ use Rattle.wat_tokens.specs.Tests.{begins_word, second}
 use Rattle.wat_tokens.specs.Production.{Production}
 use Rattle.wat_tokens.specs.Parts.{seq, made, where_else, opt}
 use Rattle.wat_tokens.specs.Groups.{group}
-use Rattle.wat_tokens.specs.Index.{Idx, seen_index, index}
+use Rattle.wat_tokens.specs.Index.{Idx, index_view, index}
 use Rattle.wat_tokens.specs.Restated.{restated}
 use Rattle.wat_operands.specs.Ordering.{ordering, begins_ordering}
 use Rattle.wat_operands.specs.Tables.{index_or_0}
@@ -27,9 +27,9 @@ pub data TargetTy : Type 0 where
   memory : Idx → TargetTy
   array : Idx → TargetTy
 
-abbrev pub seen_target : MemArgTarget → TargetTy
-seen_target (code.Memory i) = memory (seen_index i)
-seen_target (code.Array i) = array (seen_index i)
+abbrev pub target_view : MemArgTarget → TargetTy
+target_view (code.Memory i) = memory (index_view i)
+target_view (code.Array i) = array (index_view i)
 
 -- the second token is `type`, whatever the first is
 abbrev pub array_follows : List Tok → Bool
@@ -67,12 +67,12 @@ pub record MemArgTy : Type 0 where
   pub target : TargetTy
   pub ordering : Option MemArgOrdering
 
-abbrev pub seen_mem_arg : MemArg → MemArgTy
-seen_mem_arg m =
+abbrev pub mem_arg_view : MemArg → MemArgTy
+mem_arg_view m =
     record {
       align = m.align;
       offset = m.offset;
-      target = seen_target m.target;
+      target = target_view m.target;
       ordering =
           m.ordering;
     }

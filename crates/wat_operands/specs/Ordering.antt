@@ -1,4 +1,4 @@
--- Orderings of atomic accesses, and what an ordering stands in front of.
+-- Orderings of atomic accesses, and what an ordering is in front of.
 use Rattle.std.specs.Prelude.{Bool, ◌||◌, List, codes}
 use Rattle.wat_tokens.specs.Token.{Tok}
 use Rattle.wat_tokens.specs.Tests.{begins_word}
@@ -17,9 +17,9 @@ ordering =
 abbrev pub begins_ordering : List Tok → Bool
 begins_ordering t = begins_word (codes "seqcst") t || begins_word (codes "acqrel") t
 
--- the ordering, and what it stands in front of, seen by view
-abbrev pub seen_ordered : {T A : Type 0} → (T → A) → Ordered T → Ordering × A
-seen_ordered view o = (o.ordering, view o.inner)
+-- the ordering, and what it is in front of, seen by view
+abbrev pub ordered_view : {T A : Type 0} → (T → A) → Ordered T → Ordering × A
+ordered_view view o = (o.ordering, view o.inner)
 
 -- Ordering, and then T
 abbrev pub ordered : {A : Type 0} → Production A → Production (Ordering × A)

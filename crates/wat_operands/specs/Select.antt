@@ -6,21 +6,21 @@ use Rattle.wat_tokens.specs.Tests.{begins_word, second}
 use Rattle.wat_tokens.specs.Production.{Production}
 use Rattle.wat_tokens.specs.Parts.{opt}
 use Rattle.wat_tokens.specs.Joined.{joined}
-use Rattle.wat_tokens.specs.Views.{no_items, seen_option, bare_option}
+use Rattle.wat_tokens.specs.Views.{no_items, option_view, bare_option}
 use Rattle.wat_types.specs.Use.{SameOption}
-use Rattle.wat_types.specs.Value.{ValTy, seen_val}
+use Rattle.wat_types.specs.Value.{ValTy, val_view}
 use Rattle.wat_types.specs.declared.value.ValType.{ValType}
 use Rattle.wat_operands.specs.declared.select.SelectTypes.{SelectTypes}
 use Rattle.wat_operands.specs.ResultGroup.{result_group}
-use Rattle.wat_operands.specs.Laws.Select.{result_group_eats}
+use Rattle.wat_operands.specs.Laws.Select.{result_group_consumes}
 
 -- ---- what contracts see
 
-abbrev pub seen_select_types : Option (Vec ValType Global) → Option (List ValTy)
-seen_select_types ts = seen_option (λ v. map seen_val v.items) ts
+abbrev pub select_types_view : Option (Vec ValType Global) → Option (List ValTy)
+select_types_view ts = option_view (λ v. map val_view v.items) ts
 
-abbrev pub seen_select : SelectTypes → Option (List ValTy)
-seen_select s = seen_select_types s.tys
+abbrev pub select_view : SelectTypes → Option (List ValTy)
+select_view s = select_types_view s.tys
 
 -- no type is written, in a group or without one
 abbrev pub bare_select : Option (List ValTy) → Bool
@@ -39,4 +39,4 @@ result_follows t = second (begins_word (codes "result")) t
 -- None where no group has to follow; else groups, to where none has to: the types of all, one
 -- behind the other
 unfoldable pub select_types : Production (Option (List ValTy))
-select_types = opt result_follows (joined result_follows result_group result_group_eats)
+select_types = opt result_follows (joined result_follows result_group result_group_consumes)

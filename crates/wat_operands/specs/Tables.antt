@@ -3,7 +3,7 @@ use Rattle.std.specs.Prelude.{unwrap_or}
 use Rattle.wat_tokens.specs.Tests.{second}
 use Rattle.wat_tokens.specs.Production.{Production}
 use Rattle.wat_tokens.specs.Parts.{seq, made, where_else, opt}
-use Rattle.wat_tokens.specs.Index.{Idx, number, seen_index, index, begins_index}
+use Rattle.wat_tokens.specs.Index.{Idx, number, index_view, index, begins_index}
 use Rattle.wat_tokens.specs.declared.index.Index.{Index}
 use Rattle.wat_operands.specs.declared.tables.MemoryArgOf.{MemoryArgOf}
 use Rattle.wat_operands.specs.declared.tables.MemoryCopyOf.{MemoryCopyOf}
@@ -18,11 +18,11 @@ use Rattle.wat_operands.specs.declared.tables.TableInitOf.{TableInitOf}
 unfoldable pub index_or_0 : Production Idx
 index_or_0 = made (λ o. unwrap_or o (number 0)) (opt begins_index index)
 
-abbrev pub seen_table_arg : TableArgOf Index → Idx
-seen_table_arg a = seen_index a.dst
+abbrev pub table_arg_view : TableArgOf Index → Idx
+table_arg_view a = index_view a.dst
 
-abbrev pub seen_memory_arg : MemoryArgOf Index → Idx
-seen_memory_arg a = seen_index a.mem
+abbrev pub memory_arg_view : MemoryArgOf Index → Idx
+memory_arg_view a = index_view a.mem
 
 -- ---- two indices
 
@@ -33,12 +33,12 @@ index_pair = seq index index
 -- ---- a target and a segment
 
 -- the table, and the element segment
-abbrev pub seen_table_init : TableInitOf Index → Idx × Idx
-seen_table_init i = (seen_index i.table, seen_index i.elem)
+abbrev pub table_init_view : TableInitOf Index → Idx × Idx
+table_init_view i = (index_view i.table, index_view i.elem)
 
 -- the memory, and the data segment
-abbrev pub seen_memory_init : MemoryInitOf Index → Idx × Idx
-seen_memory_init i = (seen_index i.mem, seen_index i.«data»)
+abbrev pub memory_init_view : MemoryInitOf Index → Idx × Idx
+memory_init_view i = (index_view i.mem, index_view i.«data»)
 
 -- the target that is meant where none is written, and the segment
 abbrev pub into_0 : Idx → Idx × Idx
@@ -52,11 +52,11 @@ init = where_else (second begins_index) index_pair (made into_0 index)
 -- ---- a destination and a source
 
 -- the destination, and the source
-abbrev pub seen_table_copy : TableCopyOf Index → Idx × Idx
-seen_table_copy c = (seen_index c.dst, seen_index c.src)
+abbrev pub table_copy_view : TableCopyOf Index → Idx × Idx
+table_copy_view c = (index_view c.dst, index_view c.src)
 
-abbrev pub seen_memory_copy : MemoryCopyOf Index → Idx × Idx
-seen_memory_copy c = (seen_index c.dst, seen_index c.src)
+abbrev pub memory_copy_view : MemoryCopyOf Index → Idx × Idx
+memory_copy_view c = (index_view c.dst, index_view c.src)
 
 -- idx (destination) idx (source), or nothing: 0 and 0
 unfoldable pub copy : Production (Idx × Idx)

@@ -3,10 +3,10 @@
 ghost use Rattle.std.specs.Prelude.{ℕ};
 ghost use Rattle.wat_tokens.specs.Index.{Idx, index};
 ghost use Rattle.wat_tokens.specs.Views.{plain};
-ghost use Rattle.wat_operands.specs.Aggregates.{seen_struct_access, seen_cont_bind, seen_switch};
-ghost use Rattle.wat_operands.specs.Aggregates.{seen_array_fill, seen_array_copy};
-ghost use Rattle.wat_operands.specs.Aggregates.{seen_array_init, seen_array_new_fixed};
-ghost use Rattle.wat_operands.specs.Aggregates.{seen_array_new_data, seen_array_new_elem};
+ghost use Rattle.wat_operands.specs.Aggregates.{struct_access_view, cont_bind_view, switch_view};
+ghost use Rattle.wat_operands.specs.Aggregates.{array_fill_view, array_copy_view};
+ghost use Rattle.wat_operands.specs.Aggregates.{array_init_view, array_new_fixed_view};
+ghost use Rattle.wat_operands.specs.Aggregates.{array_new_data_view, array_new_elem_view};
 ghost use Rattle.wat_operands.specs.Aggregates.{array_of_length};
 ghost use Rattle.wat_operands.specs.Tables.{index_pair};
 
@@ -129,9 +129,9 @@ pub type ArrayNewElem<'a> = ArrayNewElemOf<Index<'a>>;
 
 /// A structure type, and a field.
 impl<'a> Parse<'a> for StructAccess<'a> {
-    ghost Seen = { Idx × Idx };
+    ghost View = { Idx × Idx };
 
-    ghost view = { plain seen_struct_access };
+    ghost view = { plain struct_access_view };
 
     ghost grammar = { index_pair };
 
@@ -145,9 +145,9 @@ impl<'a> Parse<'a> for StructAccess<'a> {
 
 /// The continuation type that is taken, and the one that is made.
 impl<'a> Parse<'a> for ContBind<'a> {
-    ghost Seen = { Idx × Idx };
+    ghost View = { Idx × Idx };
 
-    ghost view = { plain seen_cont_bind };
+    ghost view = { plain cont_bind_view };
 
     ghost grammar = { index_pair };
 
@@ -164,9 +164,9 @@ impl<'a> Parse<'a> for ContBind<'a> {
 
 /// A continuation type, and a tag.
 impl<'a> Parse<'a> for Switch<'a> {
-    ghost Seen = { Idx × Idx };
+    ghost View = { Idx × Idx };
 
-    ghost view = { plain seen_switch };
+    ghost view = { plain switch_view };
 
     ghost grammar = { index_pair };
 
@@ -183,9 +183,9 @@ impl<'a> Parse<'a> for Switch<'a> {
 
 /// An array type.
 impl<'a> Parse<'a> for ArrayFill<'a> {
-    ghost Seen = { Idx };
+    ghost View = { Idx };
 
-    ghost view = { plain seen_array_fill };
+    ghost view = { plain array_fill_view };
 
     ghost grammar = { index };
 
@@ -197,9 +197,9 @@ impl<'a> Parse<'a> for ArrayFill<'a> {
 
 /// The type of the array that is written, and that of the one that is read.
 impl<'a> Parse<'a> for ArrayCopy<'a> {
-    ghost Seen = { Idx × Idx };
+    ghost View = { Idx × Idx };
 
-    ghost view = { plain seen_array_copy };
+    ghost view = { plain array_copy_view };
 
     ghost grammar = { index_pair };
 
@@ -216,9 +216,9 @@ impl<'a> Parse<'a> for ArrayCopy<'a> {
 
 /// An array type, and a segment.
 impl<'a> Parse<'a> for ArrayInit<'a> {
-    ghost Seen = { Idx × Idx };
+    ghost View = { Idx × Idx };
 
-    ghost view = { plain seen_array_init };
+    ghost view = { plain array_init_view };
 
     ghost grammar = { index_pair };
 
@@ -233,9 +233,9 @@ impl<'a> Parse<'a> for ArrayInit<'a> {
 /// An array type, and a number, which is read without a sign in 32 bits: it is refused with Range,
 /// at the number, where it is too large or a `-` is written.
 impl<'a> Parse<'a> for ArrayNewFixed<'a> {
-    ghost Seen = { Idx × ℕ };
+    ghost View = { Idx × ℕ };
 
-    ghost view = { plain seen_array_new_fixed };
+    ghost view = { plain array_new_fixed_view };
 
     ghost grammar = { array_of_length };
 
@@ -249,9 +249,9 @@ impl<'a> Parse<'a> for ArrayNewFixed<'a> {
 
 /// An array type, and a data segment.
 impl<'a> Parse<'a> for ArrayNewData<'a> {
-    ghost Seen = { Idx × Idx };
+    ghost View = { Idx × Idx };
 
-    ghost view = { plain seen_array_new_data };
+    ghost view = { plain array_new_data_view };
 
     ghost grammar = { index_pair };
 
@@ -265,9 +265,9 @@ impl<'a> Parse<'a> for ArrayNewData<'a> {
 
 /// An array type, and an element segment.
 impl<'a> Parse<'a> for ArrayNewElem<'a> {
-    ghost Seen = { Idx × Idx };
+    ghost View = { Idx × Idx };
 
-    ghost view = { plain seen_array_new_elem };
+    ghost view = { plain array_new_elem_view };
 
     ghost grammar = { index_pair };
 

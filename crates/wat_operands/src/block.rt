@@ -4,8 +4,8 @@ ghost use Rattle.std.specs.Prelude.{◌≡◌};
 ghost use Rattle.wat_tokens.specs.Copies.{Copies};
 ghost use Rattle.wat_tokens.specs.Reads.{Reads};
 ghost use Rattle.wat_tokens.specs.Views.{owning};
-ghost use Rattle.wat_operands.specs.Block.{seen_signature, bare_signature, signature, BlockTy};
-ghost use Rattle.wat_operands.specs.Block.{seen_block, bare_block, block_type, SameBlock};
+ghost use Rattle.wat_operands.specs.Block.{signature_view, bare_signature, signature, BlockTy};
+ghost use Rattle.wat_operands.specs.Block.{block_view, bare_block, block_type, SameBlock};
 
 use wat_tokens::{Fault, Id, NameAnnotation, Parse, Parser, Result};
 use wat_types::{FunctionType, FunctionTypeNoNames, TypeUse};
@@ -23,9 +23,9 @@ pub struct BlockType<'a> {
 }
 
 /// A type use of a [`FunctionTypeNoNames`], as one of a [`FunctionType`].
-#[tactic(auto, using(crate::proofs::SeenNames::seen_with_names))]
+#[tactic(auto, using(crate::proofs::ViewWithNames::view_with_names))]
 pub(crate) fn read_signature<'a>(parser: &mut Parser<'a>) -> Result<TypeUse<'a, FunctionType<'a>>>
-    ensures reads { Reads (owning seen_signature bare_signature) signature result parser.old
+    ensures reads { Reads (owning signature_view bare_signature) signature result parser.old
         parser.new }
 {
     let found = TypeUse::<FunctionTypeNoNames>::parse(parser)?;
@@ -36,7 +36,7 @@ impl<'a> BlockType<'a> {
     /// The same type once more. Memory may be answered where its inline type has a parameter or a
     /// result.
     pub fn clone(&self) -> Result<BlockType<'a>>
-        ensures copies { Copies SameBlock (owning seen_block bare_block) result self.now }
+        ensures copies { Copies SameBlock (owning block_view bare_block) result self.now }
     {
         Ok(BlockType {
             label: self.label,
@@ -48,9 +48,9 @@ impl<'a> BlockType<'a> {
 
 /// `id? name?`, and a type use of a [`FunctionTypeNoNames`].
 impl<'a> Parse<'a> for BlockType<'a> {
-    ghost Seen = { BlockTy };
+    ghost View = { BlockTy };
 
-    ghost view = { owning seen_block bare_block };
+    ghost view = { owning block_view bare_block };
 
     ghost grammar = { block_type };
 

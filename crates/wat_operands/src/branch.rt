@@ -3,7 +3,7 @@
 ghost use Rattle.std.specs.Prelude.{◌≡◌, ◌≢◌, [], ◌∷◌, ◌++◌};
 ghost use Rattle.wat_tokens.specs.Copies.{Copies};
 ghost use Rattle.wat_tokens.specs.Views.{owning};
-ghost use Rattle.wat_operands.specs.Branch.{BrTableTy, seen_br_table, bare_br_table};
+ghost use Rattle.wat_operands.specs.Branch.{BrTableTy, br_table_view, bare_br_table};
 ghost use Rattle.wat_operands.specs.BranchTable.{br_table};
 
 use wat_tokens::repeat::while_begun;
@@ -26,7 +26,7 @@ impl<'a> BrTableIndices<'a> {
     /// The same labels once more. Memory may be answered where there is one beside the default.
     pub fn clone(&self) -> Result<BrTableIndices<'a>>
         ensures copies { Copies (λ x y. (y.labels.items ≡ x.labels.items) × (y.default ≡ x.default))
-            (owning seen_br_table bare_br_table) result self.now }
+            (owning br_table_view bare_br_table) result self.now }
     {
         let mut labels = Vec::new(*self.labels.allocator());
         labels.extend_from_slice(&self.labels)?;
@@ -50,9 +50,9 @@ fn take_last<'a>(indices: &mut Vec<Index<'a>>) -> Index<'a>
 
 /// One or more indices: the last is the default, and the others are the labels.
 impl<'a> Parse<'a> for BrTableIndices<'a> {
-    ghost Seen = { BrTableTy };
+    ghost View = { BrTableTy };
 
-    ghost view = { owning seen_br_table bare_br_table };
+    ghost view = { owning br_table_view bare_br_table };
 
     ghost grammar = { br_table };
 

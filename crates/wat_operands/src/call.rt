@@ -3,7 +3,7 @@
 ghost use Rattle.std.specs.Prelude.{◌≡◌};
 ghost use Rattle.wat_tokens.specs.Copies.{Copies};
 ghost use Rattle.wat_tokens.specs.Views.{owning};
-ghost use Rattle.wat_operands.specs.Call.{CallTy, seen_call, bare_call, call_indirect, SameCall};
+ghost use Rattle.wat_operands.specs.Call.{CallTy, call_view, bare_call, call_indirect, SameCall};
 
 use crate::block::read_signature;
 use wat_tokens::{Fault, Index, Parse, Parser, Result};
@@ -24,7 +24,7 @@ impl<'a> CallIndirect<'a> {
     /// The same operand once more. Memory may be answered where its inline type has a parameter or
     /// a result.
     pub fn clone(&self) -> Result<CallIndirect<'a>>
-        ensures copies { Copies SameCall (owning seen_call bare_call) result self.now }
+        ensures copies { Copies SameCall (owning call_view bare_call) result self.now }
     {
         Ok(CallIndirect {
             table: self.table,
@@ -35,9 +35,9 @@ impl<'a> CallIndirect<'a> {
 
 /// `idx?`, and a type use of a function type without names.
 impl<'a> Parse<'a> for CallIndirect<'a> {
-    ghost Seen = { CallTy };
+    ghost View = { CallTy };
 
-    ghost view = { owning seen_call bare_call };
+    ghost view = { owning call_view bare_call };
 
     ghost grammar = { call_indirect };
 

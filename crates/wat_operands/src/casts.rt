@@ -1,9 +1,9 @@
 //! Casts of references, and branches on them (WebAssembly Core Specification, Text Format,
 //! Instructions, "Reference Instructions" and "Control Instructions").
 
-ghost use Rattle.wat_operands.specs.Casts.{seen_test, seen_cast, seen_cast_desc_eq, BranchTy};
-ghost use Rattle.wat_operands.specs.Casts.{seen_branch, seen_branch_fail, seen_branch_desc_eq};
-ghost use Rattle.wat_operands.specs.Casts.{seen_branch_desc_eq_fail, branch_between, cast_branch};
+ghost use Rattle.wat_operands.specs.Casts.{test_view, cast_view, cast_desc_eq_view, BranchTy};
+ghost use Rattle.wat_operands.specs.Casts.{branch_view, branch_fail_view, branch_desc_eq_view};
+ghost use Rattle.wat_operands.specs.Casts.{branch_desc_eq_fail_view, branch_between, cast_branch};
 ghost use Rattle.wat_types.specs.Reference.{RefTy, ref_type};
 ghost use Rattle.wat_tokens.specs.Reads.{Reads};
 ghost use Rattle.wat_tokens.specs.Views.{plain};
@@ -78,9 +78,9 @@ pub struct BrOnCastDescEqFail<'a> {
 
 /// A reference type.
 impl<'a> Parse<'a> for RefTest<'a> {
-    ghost Seen = { RefTy };
+    ghost View = { RefTy };
 
-    ghost view = { plain seen_test };
+    ghost view = { plain test_view };
 
     ghost grammar = { ref_type };
 
@@ -93,9 +93,9 @@ impl<'a> Parse<'a> for RefTest<'a> {
 
 /// A reference type.
 impl<'a> Parse<'a> for RefCast<'a> {
-    ghost Seen = { RefTy };
+    ghost View = { RefTy };
 
-    ghost view = { plain seen_cast };
+    ghost view = { plain cast_view };
 
     ghost grammar = { ref_type };
 
@@ -108,9 +108,9 @@ impl<'a> Parse<'a> for RefCast<'a> {
 
 /// A reference type.
 impl<'a> Parse<'a> for RefCastDescEq<'a> {
-    ghost Seen = { RefTy };
+    ghost View = { RefTy };
 
-    ghost view = { plain seen_cast_desc_eq };
+    ghost view = { plain cast_desc_eq_view };
 
     ghost grammar = { ref_type };
 
@@ -135,9 +135,9 @@ fn branch<'a>(parser: &mut Parser<'a>) -> Result<(Index<'a>, RefType<'a>, RefTyp
 
 /// An index, and two reference types: the label, from, to.
 impl<'a> Parse<'a> for BrOnCast<'a> {
-    ghost Seen = { BranchTy };
+    ghost View = { BranchTy };
 
-    ghost view = { plain seen_branch };
+    ghost view = { plain branch_view };
 
     ghost grammar = { cast_branch };
 
@@ -153,9 +153,9 @@ impl<'a> Parse<'a> for BrOnCast<'a> {
 
 /// An index, and two reference types: the label, from, to.
 impl<'a> Parse<'a> for BrOnCastFail<'a> {
-    ghost Seen = { BranchTy };
+    ghost View = { BranchTy };
 
-    ghost view = { plain seen_branch_fail };
+    ghost view = { plain branch_fail_view };
 
     ghost grammar = { cast_branch };
 
@@ -171,9 +171,9 @@ impl<'a> Parse<'a> for BrOnCastFail<'a> {
 
 /// An index, and two reference types: the label, from, to.
 impl<'a> Parse<'a> for BrOnCastDescEq<'a> {
-    ghost Seen = { BranchTy };
+    ghost View = { BranchTy };
 
-    ghost view = { plain seen_branch_desc_eq };
+    ghost view = { plain branch_desc_eq_view };
 
     ghost grammar = { cast_branch };
 
@@ -189,9 +189,9 @@ impl<'a> Parse<'a> for BrOnCastDescEq<'a> {
 
 /// An index, and two reference types: the label, from, to.
 impl<'a> Parse<'a> for BrOnCastDescEqFail<'a> {
-    ghost Seen = { BranchTy };
+    ghost View = { BranchTy };
 
-    ghost view = { plain seen_branch_desc_eq_fail };
+    ghost view = { plain branch_desc_eq_fail_view };
 
     ghost grammar = { cast_branch };
 

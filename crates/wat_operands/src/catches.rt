@@ -3,12 +3,12 @@
 ghost use Rattle.std.specs.Borrow.{sem};
 ghost use Rattle.std.specs.Option.{option_map};
 ghost use Rattle.std.specs.Prelude.{◌≡◌, false};
-ghost use Rattle.wat_operands.specs.Catches.{caught_tag, LendsTag, seen_catch_kind, seen_catch};
+ghost use Rattle.wat_operands.specs.Catches.{caught_tag, LendsTag, catch_kind_view, catch_view};
 ghost use Rattle.wat_operands.specs.Catches.{begins_catch};
-ghost use Rattle.wat_operands.specs.Catches.{TryTy, seen_try, try_table, SameTry};
+ghost use Rattle.wat_operands.specs.Catches.{TryTy, try_view, try_table, SameTry};
 ghost use Rattle.wat_operands.specs.CatchClause.{CatchTy, catch_kind, catch_clause};
 ghost use Rattle.wat_tokens.specs.Copies.{Copies};
-ghost use Rattle.wat_tokens.specs.Index.{seen_index};
+ghost use Rattle.wat_tokens.specs.Index.{index_view};
 ghost use Rattle.wat_tokens.specs.Reads.{Reads};
 ghost use Rattle.wat_tokens.specs.Views.{plain, owning};
 
@@ -71,8 +71,8 @@ pub struct TryTable<'a> {
 
 /// The word of a clause, and the tag where it has one.
 #[tactic(auto, unfolding(crate::specs::CatchClause::catch_kind))]
-fn read_kind<'a>(parser: &mut Parser<'a>) -> Result<TryTableCatchKind<'a>>
-    ensures reads { Reads (plain (seen_catch_kind seen_index)) catch_kind result parser.old
+fn read_catch_kind<'a>(parser: &mut Parser<'a>) -> Result<TryTableCatchKind<'a>>
+    ensures reads { Reads (plain (catch_kind_view index_view)) catch_kind result parser.old
         parser.new }
 {
     if parser.next_is("catch") {
@@ -96,9 +96,9 @@ fn read_kind<'a>(parser: &mut Parser<'a>) -> Result<TryTableCatchKind<'a>>
 struct Clause;
 
 impl<'a> Part<'a, TryTableCatch<'a>> for Clause {
-    ghost Seen = { CatchTy };
+    ghost View = { CatchTy };
 
-    ghost view = { plain seen_catch };
+    ghost view = { plain catch_view };
 
     ghost grammar = { catch_clause };
 
@@ -112,7 +112,7 @@ impl<'a> Part<'a, TryTableCatch<'a>> for Clause {
     #[tactic(auto, unfolding(crate::specs::CatchClause::catch_clause))]
     fn take(parser: &mut Parser<'a>) -> Result<TryTableCatch<'a>> {
         parser.open()?;
-        let kind = read_kind(parser)?;
+        let kind = read_catch_kind(parser)?;
         let label = Index::parse(parser)?;
         parser.close()?;
         Ok(TryTableCatch { kind, label })
@@ -122,7 +122,7 @@ impl<'a> Part<'a, TryTableCatch<'a>> for Clause {
 impl<'a> TryTable<'a> {
     /// The same operand once more. Memory may be answered, since the block is in a box.
     pub fn clone(&self) -> Result<TryTable<'a>>
-        ensures copies { Copies SameTry (owning seen_try (λ _. false)) result self.now }
+        ensures copies { Copies SameTry (owning try_view (λ _. false)) result self.now }
     {
         let alloc = *self.catches.allocator();
         let block = BlockType::clone(&self.block)?;
@@ -137,13 +137,13 @@ impl<'a> TryTable<'a> {
 /// `catch_ref`, `catch_all` or `catch_all_ref`. Such a group that is no clause, as one without its
 /// label, is refused.
 impl<'a> Parse<'a> for TryTable<'a> {
-    ghost Seen = { TryTy };
+    ghost View = { TryTy };
 
-    ghost view = { owning seen_try (λ _. false) };
+    ghost view = { owning try_view (λ _. false) };
 
     ghost grammar = { try_table };
 
-    #[tactic(auto, using(crate::specs::Laws::Catches::catch_clause_eats), unfolding(crate::specs::Catches::try_table))]
+    #[tactic(auto, using(crate::specs::Laws::Catches::catch_clause_consumes), unfolding(crate::specs::Catches::try_table))]
     fn parse(parser: &mut Parser<'a>) -> Result<Self> {
         let block = Box::<BlockType>::parse(parser)?;
         let mut catches = Vec::new(parser.alloc());

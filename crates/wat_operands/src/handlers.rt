@@ -1,10 +1,10 @@
 //! Tables of handlers, and the operands that have one.
 
 ghost use Rattle.std.specs.Prelude.{◌≡◌, List};
-ghost use Rattle.wat_operands.specs.Handlers.{seen_handle, begins_handler, seen_resume_table};
-ghost use Rattle.wat_operands.specs.Handlers.{resume_table, ResumeTy, seen_resume};
-ghost use Rattle.wat_operands.specs.Handlers.{seen_resume_throw_ref, bare_resume, resume, ThrowTy};
-ghost use Rattle.wat_operands.specs.Handlers.{seen_resume_throw, bare_throw, resume_throw};
+ghost use Rattle.wat_operands.specs.Handlers.{handle_view, begins_handler, resume_table_view};
+ghost use Rattle.wat_operands.specs.Handlers.{resume_table, ResumeTy, resume_view};
+ghost use Rattle.wat_operands.specs.Handlers.{resume_throw_ref_view, bare_resume, resume, ThrowTy};
+ghost use Rattle.wat_operands.specs.Handlers.{resume_throw_view, bare_throw, resume_throw};
 ghost use Rattle.wat_operands.specs.Handler.{HandleTy, handler};
 ghost use Rattle.wat_tokens.specs.Copies.{Copies};
 ghost use Rattle.wat_tokens.specs.Views.{plain, owning, no_items};
@@ -90,9 +90,9 @@ pub type ResumeThrowRef<'a> = ResumeThrowRefOf<Index<'a>>;
 struct Handler;
 
 impl<'a> Part<'a, Handle<'a>> for Handler {
-    ghost Seen = { HandleTy };
+    ghost View = { HandleTy };
 
-    ghost view = { plain seen_handle };
+    ghost view = { plain handle_view };
 
     ghost grammar = { handler };
 
@@ -124,7 +124,7 @@ impl<'a> ResumeTable<'a> {
     #[tactic(auto, using(std::proofs::lemmas::List::Elements::same_from_all_zip))]
     pub fn clone(&self) -> Result<ResumeTable<'a>>
         ensures copies { Copies (λ x y. y.handlers.items ≡ x.handlers.items)
-            (owning seen_resume_table no_items) result self.now }
+            (owning resume_table_view no_items) result self.now }
     {
         let mut handlers = Vec::new(*self.handlers.allocator());
         if self.handlers.is_empty() {
@@ -138,13 +138,13 @@ impl<'a> ResumeTable<'a> {
 /// Every handler that follows: each group that begins with `on`. Such a group that is no handler is
 /// refused.
 impl<'a> Parse<'a> for ResumeTable<'a> {
-    ghost Seen = { List HandleTy };
+    ghost View = { List HandleTy };
 
-    ghost view = { owning seen_resume_table no_items };
+    ghost view = { owning resume_table_view no_items };
 
     ghost grammar = { resume_table };
 
-    #[tactic(auto, using(crate::specs::Laws::Handlers::handler_eats), unfolding(crate::specs::Handlers::resume_table))]
+    #[tactic(auto, using(crate::specs::Laws::Handlers::handler_consumes), unfolding(crate::specs::Handlers::resume_table))]
     fn parse(parser: &mut Parser<'a>) -> Result<Self> {
         let mut handlers = Vec::new(parser.alloc());
         parts::<_, Handler>(parser, &mut handlers)?;
@@ -156,7 +156,7 @@ impl<'a> Resume<'a> {
     /// The same operand once more. Memory may be answered where it has a handler.
     pub fn clone(&self) -> Result<Resume<'a>>
         ensures copies { Copies (λ x y. (y.type_index ≡ x.type_index) ×
-            (y.table.handlers.items ≡ x.table.handlers.items)) (owning seen_resume bare_resume)
+            (y.table.handlers.items ≡ x.table.handlers.items)) (owning resume_view bare_resume)
             result self.now }
     {
         Ok(Resume {
@@ -168,9 +168,9 @@ impl<'a> Resume<'a> {
 
 /// `idx`, and a [`ResumeTable`].
 impl<'a> Parse<'a> for Resume<'a> {
-    ghost Seen = { ResumeTy };
+    ghost View = { ResumeTy };
 
-    ghost view = { owning seen_resume bare_resume };
+    ghost view = { owning resume_view bare_resume };
 
     ghost grammar = { resume };
 
@@ -187,7 +187,7 @@ impl<'a> ResumeThrow<'a> {
     pub fn clone(&self) -> Result<ResumeThrow<'a>>
         ensures copies { Copies (λ x y. (y.type_index ≡ x.type_index) × (y.tag_index ≡ x.tag_index)
             × (y.table.handlers.items ≡ x.table.handlers.items))
-            (owning seen_resume_throw bare_throw) result self.now }
+            (owning resume_throw_view bare_throw) result self.now }
     {
         Ok(ResumeThrow {
             type_index: self.type_index,
@@ -199,9 +199,9 @@ impl<'a> ResumeThrow<'a> {
 
 /// `idx idx`, and a [`ResumeTable`].
 impl<'a> Parse<'a> for ResumeThrow<'a> {
-    ghost Seen = { ThrowTy };
+    ghost View = { ThrowTy };
 
-    ghost view = { owning seen_resume_throw bare_throw };
+    ghost view = { owning resume_throw_view bare_throw };
 
     ghost grammar = { resume_throw };
 
@@ -223,7 +223,7 @@ impl<'a> ResumeThrowRef<'a> {
     pub fn clone(&self) -> Result<ResumeThrowRef<'a>>
         ensures copies { Copies (λ x y. (y.type_index ≡ x.type_index) ×
             (y.table.handlers.items ≡ x.table.handlers.items))
-            (owning seen_resume_throw_ref bare_resume) result self.now }
+            (owning resume_throw_ref_view bare_resume) result self.now }
     {
         Ok(ResumeThrowRef {
             type_index: self.type_index,
@@ -234,9 +234,9 @@ impl<'a> ResumeThrowRef<'a> {
 
 /// `idx`, and a [`ResumeTable`].
 impl<'a> Parse<'a> for ResumeThrowRef<'a> {
-    ghost Seen = { ResumeTy };
+    ghost View = { ResumeTy };
 
-    ghost view = { owning seen_resume_throw_ref bare_resume };
+    ghost view = { owning resume_throw_ref_view bare_resume };
 
     ghost grammar = { resume };
 

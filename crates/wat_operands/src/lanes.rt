@@ -4,7 +4,7 @@ ghost use Rattle.std.specs.Prelude.{◌≡◌};
 ghost use Rattle.wat_tokens.specs.Lookup.{in_front};
 ghost use Rattle.wat_tokens.specs.Reads.{Reads};
 ghost use Rattle.wat_tokens.specs.Views.{plain};
-ghost use Rattle.wat_operands.specs.Lanes.{lane_arg, goes_on, is_alone, seen_lane_access};
+ghost use Rattle.wat_operands.specs.Lanes.{lane_arg, goes_on, is_alone, lane_access_view};
 ghost use Rattle.wat_operands.specs.Lanes.{lane_access};
 
 use crate::memory::{MemArg, MemArgTarget, begins_with};
@@ -37,7 +37,7 @@ pub type LoadOrStoreLane<'a> = LaneOf<MemArg<'a>>;
 impl<'a> Parse<'a> for LaneArg {
     ghost use Rattle.wat_operands.specs.declared.lanes.LaneArg.{LaneArg};
 
-    ghost Seen = { LaneArg };
+    ghost View = { LaneArg };
 
     ghost view = { plain (λ l. l) };
 
@@ -57,14 +57,14 @@ impl<'a> Parse<'a> for LaneArg {
     }
 }
 
-/// Whether an integer stands there, or a keyword that begins with `offset=` or `align=`.
+/// Whether an integer is there, or a keyword that begins with `offset=` or `align=`.
 fn goes_on(cursor: Cursor<'_>) -> bool
     ensures { result ≡ goes_on (in_front cursor.entry) }
 {
     cursor.integer().is_some() || begins_with(cursor, "offset=") || begins_with(cursor, "align=")
 }
 
-/// Whether an integer stands there that is a lane, and not a memory.
+/// Whether an integer is there that is a lane, and not a memory.
 fn is_alone(cursor: Cursor<'_>) -> bool
     ensures { result ≡ is_alone (in_front cursor.entry) }
 {
@@ -84,7 +84,7 @@ impl<'a> LoadOrStoreLane<'a> {
     /// (WebAssembly Core Specification, Text Format, Instructions, "Memory Instructions".)
     #[tactic(auto, unfolding(crate::specs::Lanes::lane_access))]
     pub fn read(parser: &mut Parser<'a>, align: u64) -> Result<LoadOrStoreLane<'a>>
-        ensures reads { Reads (plain seen_lane_access) (lane_access align) result parser.old
+        ensures reads { Reads (plain lane_access_view) (lane_access align) result parser.old
             parser.new }
     {
         let memarg = if is_alone(parser.cursor()) {

@@ -8,8 +8,8 @@ ghost use Rattle.wat_operands.specs.ImmediateRows.{TableInits, TableCopies, Vect
 ghost use Rattle.std.specs.Prelude.{ℕ, Bool};
 ghost use Rattle.wat_operands.specs.GroupRows.{Catches, Handlers, Selects};
 
-/// No two fronts of one token list spell a memory access, unless they are one front and one access:
-/// of one default alignment, and of one kind of atomic instruction.
+/// No two prefixes of one token list spell a memory access, unless they are one prefix and one
+/// access: of one default alignment, and of one kind of atomic instruction.
 #[tactic(auto, using(wat_tokens::specs::Laws::Once::reads_once))]
 pub fn one_reading()
     ensures access { (align : ℕ) → HasOneReading (mem_arg align) }

@@ -6,8 +6,8 @@ ghost use Rattle.wat_tokens.specs.Lookup.{in_front};
 ghost use Rattle.wat_tokens.specs.Number.{unsigned_value};
 ghost use Rattle.wat_tokens.specs.Reads.{Reads};
 ghost use Rattle.wat_tokens.specs.Views.{plain};
-ghost use Rattle.wat_operands.specs.Memory.{seen_target, target, begins_with, offset_or_0, align};
-ghost use Rattle.wat_operands.specs.Memory.{align_or, seen_mem_arg, mem_arg, atomic_mem_arg};
+ghost use Rattle.wat_operands.specs.Memory.{target_view, target, begins_with, offset_or_0, align};
+ghost use Rattle.wat_operands.specs.Memory.{align_or, mem_arg_view, mem_arg, atomic_mem_arg};
 ghost use Rattle.wat_operands.specs.Align.{past_front, field};
 
 use crate::ordering::Ordering;
@@ -48,14 +48,14 @@ pub struct MemArg<'a> {
     pub ordering: Option<MemArgOrdering>,
 }
 
-/// What stands behind the front of a text, where the text begins so.
+/// What is behind the front of a text, where the text begins so.
 fn behind<'a>(text: &'a str, front: &str) -> Option<&'a str>
     ensures { option_map (λ x. x.now) result ≡ past_front front.now text.entry.now }
 {
     text.strip_prefix(front)
 }
 
-/// Whether a keyword that begins so stands there.
+/// Whether a keyword that begins so is there.
 pub fn begins_with(cursor: Cursor<'_>, start: &str) -> bool
     ensures { result ≡ begins_with start.now (in_front cursor.entry) }
 {
@@ -134,7 +134,7 @@ fn read_align(parser: &mut Parser<'_>, default: u64) -> Result<u64>
 /// Takes the target: where the second token is `type`, an array, else a memory, whose default is 0.
 #[tactic(auto, unfolding(crate::specs::Memory::target))]
 fn read_target<'a>(parser: &mut Parser<'a>) -> Result<MemArgTarget<'a>>
-    ensures reads { Reads (plain seen_target) target result parser.old parser.new }
+    ensures reads { Reads (plain target_view) target result parser.old parser.new }
 {
     if !parser.second_is("type") {
         return index_or_zero(parser).map(MemArgTarget::Memory);
@@ -158,7 +158,7 @@ impl<'a> MemArg<'a> {
     /// two. (WebAssembly Core Specification, Text Format, Instructions, "Memory Instructions".)
     #[tactic(auto, unfolding(crate::specs::Memory::mem_arg))]
     pub fn read(parser: &mut Parser<'a>, align: u64) -> Result<MemArg<'a>>
-        ensures reads { Reads (plain seen_mem_arg) (mem_arg align) result parser.old parser.new }
+        ensures reads { Reads (plain mem_arg_view) (mem_arg align) result parser.old parser.new }
     {
         let target = read_target(parser)?;
         let offset = read_offset(parser)?;
@@ -178,7 +178,7 @@ impl<'a> MemArg<'a> {
     /// threads.)
     #[tactic(auto, unfolding(crate::specs::Memory::atomic_mem_arg))]
     pub fn read_atomic(parser: &mut Parser<'a>, align: u64, rmw: bool) -> Result<MemArg<'a>>
-        ensures reads { Reads (plain seen_mem_arg) (atomic_mem_arg align rmw) result parser.old
+        ensures reads { Reads (plain mem_arg_view) (atomic_mem_arg align rmw) result parser.old
             parser.new }
     {
         let mut access = MemArg::read(parser, align)?;

@@ -4,7 +4,7 @@ ghost use Rattle.std.specs.Prelude.{◌≡◌};
 ghost use Rattle.wat_tokens.specs.Lookup.{in_front};
 ghost use Rattle.wat_tokens.specs.Tests.{begins_word};
 ghost use Rattle.wat_tokens.specs.Views.{plain, holding};
-ghost use Rattle.wat_operands.specs.Ordering.{ordering, begins_ordering, seen_ordered, ordered};
+ghost use Rattle.wat_operands.specs.Ordering.{ordering, begins_ordering, ordered_view, ordered};
 
 use wat_tokens::{Cursor, Parse, Parser, Peek, Result};
 
@@ -33,7 +33,7 @@ pub struct Ordered<T> {
 impl<'a> Parse<'a> for Ordering {
     ghost use Rattle.wat_operands.specs.declared.ordering.Ordering.{Ordering};
 
-    ghost Seen = { Ordering };
+    ghost View = { Ordering };
 
     ghost view = { plain (λ o. o) };
 
@@ -49,7 +49,7 @@ impl<'a> Parse<'a> for Ordering {
     }
 }
 
-/// Whether the keyword stands there.
+/// Whether the keyword is there.
 fn stands(cursor: Cursor<'_>, word: &str) -> bool
     ensures { result ≡ begins_word word.now (in_front cursor.entry) }
 {
@@ -76,9 +76,9 @@ impl Peek for Ordering {
 impl<'a, T: Parse<'a> + Drop> Parse<'a> for Ordered<T> {
     ghost use Rattle.wat_operands.specs.declared.ordering.Ordering.{Ordering};
 
-    ghost Seen = { Ordering × T.Seen };
+    ghost View = { Ordering × T.View };
 
-    ghost view = { holding T.view (seen_ordered T.view.of) (λ v. T.view.bare v.1) };
+    ghost view = { holding T.view (ordered_view T.view.of) (λ v. T.view.bare v.1) };
 
     ghost cost = { T.cost };
 

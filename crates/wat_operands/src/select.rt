@@ -3,10 +3,10 @@
 ghost use Rattle.std.specs.Prelude.{◌≡◌, List, Option};
 ghost use Rattle.wat_tokens.specs.Copies.{Copies};
 ghost use Rattle.wat_tokens.specs.Views.{plain, owning};
-ghost use Rattle.wat_operands.specs.Select.{seen_select, bare_select, result_follows, select_types};
+ghost use Rattle.wat_operands.specs.Select.{select_view, bare_select, result_follows, select_types};
 ghost use Rattle.wat_operands.specs.Select.{SameTypes};
 ghost use Rattle.wat_operands.specs.ResultGroup.{result_group};
-ghost use Rattle.wat_types.specs.Value.{ValTy, seen_val};
+ghost use Rattle.wat_types.specs.Value.{ValTy, val_view};
 
 use wat_tokens::repeat::{Group, groups, rest_of_group};
 use wat_tokens::{Fault, Parse, Parser, Result};
@@ -24,9 +24,9 @@ pub struct SelectTypes<'a> {
 struct ResultGroup;
 
 impl<'a> Group<'a, ValType<'a>> for ResultGroup {
-    ghost Seen = { ValTy };
+    ghost View = { ValTy };
 
-    ghost view = { plain seen_val };
+    ghost view = { plain val_view };
 
     ghost grammar = { result_group };
 
@@ -36,7 +36,7 @@ impl<'a> Group<'a, ValType<'a>> for ResultGroup {
         parser.second_is("result")
     }
 
-    #[tactic(auto, using(wat_types::specs::Laws::Value::val_type_eats), unfolding(wat_types::specs::Group::val_types))]
+    #[tactic(auto, using(wat_types::specs::Laws::Value::val_type_consumes), unfolding(wat_types::specs::Group::val_types))]
     fn take(parser: &mut Parser<'a>, out: &mut Vec<ValType<'a>>) -> Result<()> {
         parser.open()?;
         parser.keyword("result")?;
@@ -49,7 +49,7 @@ impl<'a> Group<'a, ValType<'a>> for ResultGroup {
 impl<'a> SelectTypes<'a> {
     /// The same operand once more. Memory may be answered where it has a type.
     pub fn clone(&self) -> Result<SelectTypes<'a>>
-        ensures copies { Copies (λ x y. SameTypes x.tys y.tys) (owning seen_select bare_select)
+        ensures copies { Copies (λ x y. SameTypes x.tys y.tys) (owning select_view bare_select)
             result self.now }
     {
         match &self.tys {
@@ -66,13 +66,13 @@ impl<'a> SelectTypes<'a> {
 /// Groups `( result ValType* )`, to where the second token isn't `result`, whatever the first is:
 /// None where there is none, else the types of all.
 impl<'a> Parse<'a> for SelectTypes<'a> {
-    ghost Seen = { Option (List ValTy) };
+    ghost View = { Option (List ValTy) };
 
-    ghost view = { owning seen_select bare_select };
+    ghost view = { owning select_view bare_select };
 
     ghost grammar = { select_types };
 
-    #[tactic(auto, using(wat_tokens::specs::Laws::Joined::joined_reads, crate::specs::Laws::Select::result_group_eats), unfolding(crate::specs::Select::select_types))]
+    #[tactic(auto, using(wat_tokens::specs::Laws::Joined::joined_reads, crate::specs::Laws::Select::result_group_consumes), unfolding(crate::specs::Select::select_types))]
     fn parse(parser: &mut Parser<'a>) -> Result<Self> {
         if !ResultGroup::follows(parser) {
             return Ok(SelectTypes { tys: None });

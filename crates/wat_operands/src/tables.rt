@@ -1,12 +1,12 @@
 //! Operands that name tables and memories.
 
 ghost use Rattle.std.specs.Prelude.{◌≡◌};
-ghost use Rattle.wat_tokens.specs.Index.{Idx, number, seen_index};
+ghost use Rattle.wat_tokens.specs.Index.{Idx, number, index_view};
 ghost use Rattle.wat_tokens.specs.Reads.{Reads};
 ghost use Rattle.wat_tokens.specs.Views.{plain};
-ghost use Rattle.wat_operands.specs.Tables.{index_or_0, seen_table_arg, seen_memory_arg, init};
-ghost use Rattle.wat_operands.specs.Tables.{seen_table_init, seen_memory_init, copy};
-ghost use Rattle.wat_operands.specs.Tables.{seen_table_copy, seen_memory_copy};
+ghost use Rattle.wat_operands.specs.Tables.{index_or_0, table_arg_view, memory_arg_view, init};
+ghost use Rattle.wat_operands.specs.Tables.{table_init_view, memory_init_view, copy};
+ghost use Rattle.wat_operands.specs.Tables.{table_copy_view, memory_copy_view};
 
 use wat_tokens::{Index, Parse, Parser, Result};
 
@@ -84,9 +84,9 @@ pub struct MemoryCopyOf<I> {
 /// The operands of `memory.copy`.
 pub type MemoryCopy<'a> = MemoryCopyOf<Index<'a>>;
 
-/// The index 0 that is meant where none is written. It stands at the token that was taken last.
+/// The index 0 that is meant where none is written. It is at the token that was taken last.
 pub(crate) fn zero<'a>(parser: &Parser<'a>) -> Index<'a>
-    ensures { seen_index result ≡ number 0 }
+    ensures { index_view result ≡ number 0 }
 {
     Index::Num(0, parser.prev_span())
 }
@@ -94,7 +94,7 @@ pub(crate) fn zero<'a>(parser: &Parser<'a>) -> Index<'a>
 /// Takes an index, where one begins in front, and else answers 0.
 #[tactic(auto, unfolding(crate::specs::Tables::index_or_0))]
 pub fn index_or_zero<'a>(parser: &mut Parser<'a>) -> Result<Index<'a>>
-    ensures reads { Reads (plain seen_index) index_or_0 result parser.old parser.new }
+    ensures reads { Reads (plain index_view) index_or_0 result parser.old parser.new }
 {
     if parser.peek::<Index>() {
         Index::parse(parser)
@@ -107,7 +107,7 @@ pub fn index_or_zero<'a>(parser: &mut Parser<'a>) -> Result<Index<'a>>
 /// target is 0.
 #[tactic(auto, unfolding(crate::specs::Tables::init, crate::specs::Tables::index_pair))]
 fn target_and_segment<'a>(parser: &mut Parser<'a>) -> Result<(Index<'a>, Index<'a>)>
-    ensures reads { Reads (plain (λ p. (seen_index p.0, seen_index p.1))) init result parser.old
+    ensures reads { Reads (plain (λ p. (index_view p.0, index_view p.1))) init result parser.old
         parser.new }
 {
     let target = if parser.peek2::<Index>() {
@@ -122,7 +122,7 @@ fn target_and_segment<'a>(parser: &mut Parser<'a>) -> Result<(Index<'a>, Index<'
 /// Where an index begins, takes a destination and a source; else both are 0.
 #[tactic(auto, unfolding(crate::specs::Tables::copy, crate::specs::Tables::index_pair))]
 fn destination_and_source<'a>(parser: &mut Parser<'a>) -> Result<(Index<'a>, Index<'a>)>
-    ensures reads { Reads (plain (λ p. (seen_index p.0, seen_index p.1))) copy result parser.old
+    ensures reads { Reads (plain (λ p. (index_view p.0, index_view p.1))) copy result parser.old
         parser.new }
 {
     if !parser.peek::<Index>() {
@@ -135,9 +135,9 @@ fn destination_and_source<'a>(parser: &mut Parser<'a>) -> Result<(Index<'a>, Ind
 
 /// An index, or none: table 0.
 impl<'a> Parse<'a> for TableArg<'a> {
-    ghost Seen = { Idx };
+    ghost View = { Idx };
 
-    ghost view = { plain seen_table_arg };
+    ghost view = { plain table_arg_view };
 
     ghost grammar = { index_or_0 };
 
@@ -150,9 +150,9 @@ impl<'a> Parse<'a> for TableArg<'a> {
 
 /// An index, or none: memory 0.
 impl<'a> Parse<'a> for MemoryArg<'a> {
-    ghost Seen = { Idx };
+    ghost View = { Idx };
 
-    ghost view = { plain seen_memory_arg };
+    ghost view = { plain memory_arg_view };
 
     ghost grammar = { index_or_0 };
 
@@ -166,9 +166,9 @@ impl<'a> Parse<'a> for MemoryArg<'a> {
 /// Where the second token is an identifier or an integer, a table and an element segment; else an
 /// element segment, and table 0.
 impl<'a> Parse<'a> for TableInit<'a> {
-    ghost Seen = { Idx × Idx };
+    ghost View = { Idx × Idx };
 
-    ghost view = { plain seen_table_init };
+    ghost view = { plain table_init_view };
 
     ghost grammar = { init };
 
@@ -181,9 +181,9 @@ impl<'a> Parse<'a> for TableInit<'a> {
 /// Where the second token is an identifier or an integer, a memory and a data segment; else a data
 /// segment, and memory 0.
 impl<'a> Parse<'a> for MemoryInit<'a> {
-    ghost Seen = { Idx × Idx };
+    ghost View = { Idx × Idx };
 
-    ghost view = { plain seen_memory_init };
+    ghost view = { plain memory_init_view };
 
     ghost grammar = { init };
 
@@ -195,9 +195,9 @@ impl<'a> Parse<'a> for MemoryInit<'a> {
 
 /// A destination and a source, or nothing: table 0 for both.
 impl<'a> Parse<'a> for TableCopy<'a> {
-    ghost Seen = { Idx × Idx };
+    ghost View = { Idx × Idx };
 
-    ghost view = { plain seen_table_copy };
+    ghost view = { plain table_copy_view };
 
     ghost grammar = { copy };
 
@@ -209,9 +209,9 @@ impl<'a> Parse<'a> for TableCopy<'a> {
 
 /// A destination and a source, or nothing: memory 0 for both.
 impl<'a> Parse<'a> for MemoryCopy<'a> {
-    ghost Seen = { Idx × Idx };
+    ghost View = { Idx × Idx };
 
-    ghost view = { plain seen_memory_copy };
+    ghost view = { plain memory_copy_view };
 
     ghost grammar = { copy };
 

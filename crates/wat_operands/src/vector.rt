@@ -146,7 +146,7 @@ fn read_wide<'a>(parser: &mut Parser<'a>) -> Result<V128Const>
 impl<'a> Parse<'a> for V128Const {
     ghost use Rattle.wat_operands.specs.declared.vector.V128Const.{V128Const};
 
-    ghost Seen = { V128Const };
+    ghost View = { V128Const };
 
     ghost view = { plain (λ v. v) };
 
@@ -171,7 +171,7 @@ impl<'a> Parse<'a> for V128Const {
 impl<'a> Parse<'a> for I8x16Shuffle {
     ghost use Rattle.wat_operands.specs.declared.vector.I8x16Shuffle.{I8x16Shuffle};
 
-    ghost Seen = { I8x16Shuffle };
+    ghost View = { I8x16Shuffle };
 
     ghost view = { plain (λ s. s) };
 

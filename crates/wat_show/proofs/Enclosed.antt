@@ -8,8 +8,8 @@ use Rattle.wat_tokens.specs.Cut.{IsCut}
 use Rattle.wat_tokens.specs.PartSpells.{one_reads}
 use Rattle.wat_tokens.specs.Production.{Front}
 use Rattle.wat_tokens.specs.Laws.Production.{some_is}
-use Rattle.wat_tokens.specs.Sight.{hides, annotated, annotation_name, is_standard, shuts, deeper, visible, as_shown, hidden_at, hidden}
-use Rattle.wat_tokens.specs.State.{State, IsFresh, behind, lit}
+use Rattle.wat_tokens.specs.Sight.{begins_hidden_group, begins_annotation_group, annotation_name, is_standard, shuts, deeper, visible, visible_tokens, hidden_count_at, hidden_count}
+use Rattle.wat_tokens.specs.State.{State, IsFresh, behind, annotated}
 use Rattle.wat_tokens.specs.Laws.State.{behind_then}
 use Rattle.wat_tokens.specs.Tests.{as_lparen, ends}
 use Rattle.wat_tokens.specs.Token.{Tok, Placed, LParen, RParen, tokens_of}
@@ -19,25 +19,25 @@ use Rattle.wat_tokens.specs.Token.{Tok, Placed, LParen, RParen, tokens_of}
 past : (n : ℕ) (x : Tok) (r : List Tok) → drop (suc n + 1) (x ∷ r) ≡ drop (n + 1) r
 past n x r = ap (λ (k : ℕ). drop k (x ∷ r)) {x = suc n + 1} {y = suc (n + 1)} (omega arith)
 
-seen_behind_at : (known : Bool) (place : Option ℕ) (t : List Tok) (x : Tok) (l : List Tok) → visible known place t ≡ x ∷ l → visible known None (drop (hidden_at known place t + 1) t) ≡ l
-unfolding visible hidden_at
+seen_behind_at : (known : Bool) (place : Option ℕ) (t : List Tok) (x : Tok) (l : List Tok) → visible known place t ≡ x ∷ l → visible known None (drop (hidden_count_at known place t + 1) t) ≡ l
+unfolding visible hidden_count_at
 seen_behind_at known None [] x l e = cc
 seen_behind_at known (Some d) [] x l e = cc
-seen_behind_at known None (y ∷ r) x l e = elim (cases_Bool (hides known (y ∷ r))) [
+seen_behind_at known None (y ∷ r) x l e = elim (cases_Bool (begins_hidden_group known (y ∷ r))) [
   | inl h ↦ (let f : visible known (Some 0) r ≡ x ∷ l = rw h at e in
-      rw h (ap (visible known None) (past (hidden_at known (Some 0) r) y r) ∙ seen_behind_at known (Some 0) r x l f))
+      rw h (ap (visible known None) (past (hidden_count_at known (Some 0) r) y r) ∙ seen_behind_at known (Some 0) r x l f))
   | inr h ↦ (let f : y ∷ visible known None r ≡ x ∷ l = rw h at e in rw h cc)
 ]
 seen_behind_at known (Some d) (y ∷ r) x l e = elim (cases_Bool (shuts y d)) [
   | inl h ↦ (let f : visible known None r ≡ x ∷ l = rw h at e in
-      rw h (ap (visible known None) (past (hidden_at known None r) y r) ∙ seen_behind_at known None r x l f))
+      rw h (ap (visible known None) (past (hidden_count_at known None r) y r) ∙ seen_behind_at known None r x l f))
   | inr h ↦ (let f : visible known (Some (deeper y d)) r ≡ x ∷ l = rw h at e in
-      rw h (ap (visible known None) (past (hidden_at known (Some (deeper y d)) r) y r) ∙ seen_behind_at known (Some (deeper y d)) r x l f))
+      rw h (ap (visible known None) (past (hidden_count_at known (Some (deeper y d)) r) y r) ∙ seen_behind_at known (Some (deeper y d)) r x l f))
 ]
 
 -- behind the first visible token stands what is visible behind it
-pub seen_behind : (known : Bool) (t : List Tok) (x : Tok) (l : List Tok) → as_shown known t ≡ x ∷ l → as_shown known (behind known 1 t) ≡ l
-unfolding as_shown hidden behind
+pub seen_behind : (known : Bool) (t : List Tok) (x : Tok) (l : List Tok) → visible_tokens known t ≡ x ∷ l → visible_tokens known (behind known 1 t) ≡ l
+unfolding visible_tokens hidden_count behind
 seen_behind known t x l e = seen_behind_at known None t x l e
 
 -- ---- a `)` that is visible with the five names is visible without, and at the same place
@@ -46,23 +46,23 @@ first_so : (a b : Bool) → (a && b) ≡ true → a ≡ true
 first_so true b e = refl
 first_so false b e = cc
 
-hides_anyway : (t : List Tok) → hides true t ≡ true → hides false t ≡ true
-hides_anyway t h = rw (first_so (annotated t) (not (true && is_standard (annotation_name t))) h) refl
+begins_hidden_anyway : (t : List Tok) → begins_hidden_group true t ≡ true → begins_hidden_group false t ≡ true
+begins_hidden_anyway t h = rw (first_so (begins_annotation_group t) (not (true && is_standard (annotation_name t))) h) refl
 
 -- the same tokens are hidden before it
 record SameClose (place : Option ℕ) (t : List Tok) : Type 0 where
-  at : hidden_at false place t ≡ hidden_at true place t
+  at : hidden_count_at false place t ≡ hidden_count_at true place t
   more : List Tok
   seen : visible false place t ≡ RParen ∷ more
 
 close_at : (place : Option ℕ) (t : List Tok) (l : List Tok) → visible true place t ≡ RParen ∷ l → SameClose place t
-unfolding visible hidden_at
+unfolding visible hidden_count_at
 close_at None [] l e = absurd cc
 close_at (Some d) [] l e = absurd cc
-close_at None (y ∷ r) l e = elim (cases_Bool (hides true (y ∷ r))) [
+close_at None (y ∷ r) l e = elim (cases_Bool (begins_hidden_group true (y ∷ r))) [
   | inl h ↦ (let f : visible true (Some 0) r ≡ RParen ∷ l = rw h at e in
       let p = close_at (Some 0) r l f in
-      let g = hides_anyway (y ∷ r) h in
+      let g = begins_hidden_anyway (y ∷ r) h in
       record { at = rw (h, g) (ap (λ (n : ℕ). suc n) p.at); more = p.more; seen = rw g p.seen })
   | inr h ↦ (let f : y ∷ visible true None r ≡ RParen ∷ l = rw h at e in
       let here : RParen ≡ y = cc in
@@ -82,8 +82,8 @@ none_at : (place : Option ℕ) (t : List Tok) → visible true place t ≡ [] �
 unfolding visible
 none_at None [] e = refl
 none_at (Some d) [] e = refl
-none_at None (y ∷ r) e = elim (cases_Bool (hides true (y ∷ r))) [
-  | inl h ↦ (let f : visible true (Some 0) r ≡ [] = rw h at e in rw (hides_anyway (y ∷ r) h) (none_at (Some 0) r f))
+none_at None (y ∷ r) e = elim (cases_Bool (begins_hidden_group true (y ∷ r))) [
+  | inl h ↦ (let f : visible true (Some 0) r ≡ [] = rw h at e in rw (begins_hidden_anyway (y ∷ r) h) (none_at (Some 0) r f))
   | inr h ↦ (let f : y ∷ visible true None r ≡ [] = rw h at e in absurd cc)
 ]
 none_at (Some d) (y ∷ r) e = elim (cases_Bool (shuts y d)) [
@@ -91,17 +91,17 @@ none_at (Some d) (y ∷ r) e = elim (cases_Bool (shuts y d)) [
   | inr h ↦ (let f : visible true (Some (deeper y d)) r ≡ [] = rw h at e in rw h (none_at (Some (deeper y d)) r f))
 ]
 
-pub none_seen : (t : List Tok) → as_shown true t ≡ [] → as_shown false t ≡ []
-unfolding as_shown
+pub none_seen : (t : List Tok) → visible_tokens true t ≡ [] → visible_tokens false t ≡ []
+unfolding visible_tokens
 none_seen t e = none_at None t e
 
 pub record ClosesAlike (t : List Tok) : Type 0 where
   pub more : List Tok
-  pub seen : as_shown false t ≡ RParen ∷ more
+  pub seen : visible_tokens false t ≡ RParen ∷ more
   pub behind : behind false 1 t ≡ behind true 1 t
 
-pub closes_alike : (t l : List Tok) → as_shown true t ≡ RParen ∷ l → ClosesAlike t
-unfolding as_shown hidden behind
+pub closes_alike : (t l : List Tok) → visible_tokens true t ≡ RParen ∷ l → ClosesAlike t
+unfolding visible_tokens hidden_count behind
 closes_alike t l e = let p = close_at None t l e in record { more = p.more; seen = p.seen; behind = ap (λ (n : ℕ). drop (n + 1) t) p.at }
 
 -- ---- the end of the group
@@ -112,19 +112,19 @@ ends_cases (RParen ∷ l) e some = (l, refl)
 ends_cases (_ ∷ l) e some = absurd cc
 
 -- Behind a module its `)` alone is visible where no annotation is known: it is visible with the five names, and behind it nothing is visible.
-pub last_seen : (t : List Tok) → ends (as_shown true t) ≡ true → as_shown false t ≡ RParen ∷ [] → (more : List Tok) × (as_shown true t ≡ RParen ∷ more) × (as_shown false (behind true 1 t) ≡ [])
+pub last_seen : (t : List Tok) → ends (visible_tokens true t) ≡ true → visible_tokens false t ≡ RParen ∷ [] → (more : List Tok) × (visible_tokens true t ≡ RParen ∷ more) × (visible_tokens false (behind true 1 t) ≡ [])
 last_seen t e alone =
-    let some : as_shown true t ≢ [] = λ none. (let f = none_seen t none in cc) in
-    let (more, is) = ends_cases (as_shown true t) e some in
+    let some : visible_tokens true t ≢ [] = λ none. (let f = none_seen t none in cc) in
+    let (more, is) = ends_cases (visible_tokens true t) e some in
     let p = closes_alike t more is in
-    (more, is, ap (λ (s : List Tok). as_shown false s) (sym p.behind) ∙ seen_behind false t RParen [] alone)
+    (more, is, ap (λ (s : List Tok). visible_tokens false s) (sym p.behind) ∙ seen_behind false t RParen [] alone)
 
 -- and the other way
-pub alone_seen : (t more : List Tok) → as_shown true t ≡ RParen ∷ more → as_shown false (behind true 1 t) ≡ [] → as_shown false t ≡ RParen ∷ []
+pub alone_seen : (t more : List Tok) → visible_tokens true t ≡ RParen ∷ more → visible_tokens false (behind true 1 t) ≡ [] → visible_tokens false t ≡ RParen ∷ []
 alone_seen t more is none =
     let p = closes_alike t more is in
     let q = seen_behind false t RParen p.more p.seen in
-    let rest : p.more ≡ [] = sym q ∙ ap (λ (s : List Tok). as_shown false s) p.behind ∙ none in
+    let rest : p.more ≡ [] = sym q ∙ ap (λ (s : List Tok). visible_tokens false s) p.behind ∙ none in
     p.seen ∙ ap (λ (l : List Tok). RParen ∷ l) rest
 
 -- ---- the whole group
@@ -134,23 +134,23 @@ opens_is [] r u e = absurd cc
 opens_is (LParen ∷ l) r u e = ap (λ (x : Unit {0} × List Tok). LParen ∷ x.1) (some_is (tt, l) (u, r) e)
 opens_is (_ ∷ l) r u e = absurd cc
 
--- q stands directly behind the `(` that a text begins with
+-- q is directly behind the `(` that a text begins with
 pub record Opened (text : List ℕ) (q : State) : Type 0 where
   pub all : List Placed
   pub cut : IsCut text all
   pub left : List Tok
-  pub opens : as_shown false (tokens_of all) ≡ LParen ∷ left
+  pub opens : visible_tokens false (tokens_of all) ≡ LParen ∷ left
   pub rest : q.rest ≡ behind false 1 (tokens_of all)
   pub off : q.known ≡ false
 
-pub opened : (text : List ℕ) (p q : State) (u : Unit {0}) → IsFresh text p → one_reads as_lparen p.left ≡ Some (u, q.left) → q.rest ≡ drop (hidden p.known p.rest + 1) p.rest → q.known ≡ p.known → Opened text q
+pub opened : (text : List ℕ) (p q : State) (u : Unit {0}) → IsFresh text p → one_reads as_lparen p.left ≡ Some (u, q.left) → q.rest ≡ drop (hidden_count p.known p.rest + 1) p.rest → q.known ≡ p.known → Opened text q
 unfolding behind
 opened text p q u (ts, cut, is) reads stands known = record {
   all = ts;
   cut = cut;
   left = q.left;
   opens = sym (ap (λ (s : State). s.left) is) ∙ opens_is p.left q.left u reads;
-  rest = stands ∙ ap (λ (s : State). drop (hidden s.known s.rest + 1) s.rest) is;
+  rest = stands ∙ ap (λ (s : State). drop (hidden_count s.known s.rest + 1) s.rest) is;
   off = known ∙ ap (λ (s : State). s.known) is;
 }
 
@@ -158,16 +158,16 @@ opened text p q u (ts, cut, is) reads stands known = record {
 abbrev pub OneCut : Type 0
 OneCut = (text : List ℕ) (ts us : List Placed) → IsCut text ts → IsCut text us → ts ≡ us
 
--- q stands behind `(`, and e behind what was taken then
+-- q is behind `(`, and e behind what was taken then
 module _ (text : List ℕ) (q e : State) (o : Opened text q) where
-  off_too : e.known ≡ q.known → e.left ≡ as_shown e.known e.rest → e.left ≡ as_shown false e.rest
-  off_too known seen = seen ∙ ap (λ (k : Bool). as_shown k e.rest) (known ∙ o.off)
+  off_too : e.known ≡ q.known → e.left ≡ visible_tokens e.known e.rest → e.left ≡ visible_tokens false e.rest
+  off_too known seen = seen ∙ ap (λ (k : Bool). visible_tokens k e.rest) (known ∙ o.off)
 
   -- behind the `)` that follows c
   next : (c : List Tok) → e.rest ≡ behind true (length c) q.rest → behind true 1 e.rest ≡ behind true (length c + 1) (behind false 1 (tokens_of o.all))
   next c s = ap (λ (r : List Tok). behind true 1 r) (s ∙ ap (λ (r : List Tok). behind true (length c) r) o.rest) ∙ behind_then true (length c) 1 (behind false 1 (tokens_of o.all))
 
-  pub module_found : (m : ModuleTy) → Front module_.spells (lit q).left (m, (lit e).left) → ends (lit e).left ≡ true → ((c : List Tok) → (lit q).left ≡ c ++ (lit e).left → e.rest ≡ behind true (length c) q.rest) → e.known ≡ q.known → e.left ≡ as_shown e.known e.rest → e.left ≡ RParen ∷ [] → SpelledModule text m
+  pub module_found : (m : ModuleTy) → Front module_.spells (annotated q).left (m, (annotated e).left) → ends (annotated e).left ≡ true → ((c : List Tok) → (annotated q).left ≡ c ++ (annotated e).left → e.rest ≡ behind true (length c) q.rest) → e.known ≡ q.known → e.left ≡ visible_tokens e.known e.rest → e.left ≡ RParen ∷ [] → SpelledModule text m
   module_found m (c, cut, spells) end follows known seen alone =
       let (more, is, none) = last_seen e.rest end (sym (off_too known seen) ∙ alone) in (
         o.all,
@@ -177,31 +177,31 @@ module _ (text : List ℕ) (q e : State) (o : Opened text q) where
           opens = o.opens;
           tokens = c;
           more = more;
-          inside = ap (λ (r : List Tok). as_shown true r) (sym o.rest) ∙ cut ∙ ap (λ (l : List Tok). c ++ l) is;
+          inside = ap (λ (r : List Tok). visible_tokens true r) (sym o.rest) ∙ cut ∙ ap (λ (l : List Tok). c ++ l) is;
           spelled = subst (λ (l : List Tok). module_.spells m c l) is spells;
-          last = ap (λ (r : List Tok). as_shown false r) (sym (next c (follows c cut))) ∙ none;
+          last = ap (λ (r : List Tok). visible_tokens false r) (sym (next c (follows c cut))) ∙ none;
         },
       )
 
   this_cut : (v : ModuleTy) → OneCut → SpelledModule text v → IsModule (tokens_of o.all) v
   this_cut v one (ts, cut, s) = subst (λ (us : List Placed). IsModule (tokens_of us) v) (one text ts o.all cut o.cut) s
 
-  inside_is : (v : ModuleTy) (s : IsModule (tokens_of o.all) v) → (lit q).left ≡ s.tokens ++ RParen ∷ s.more
-  inside_is v s = ap (λ (r : List Tok). as_shown true r) o.rest ∙ s.inside
+  inside_is : (v : ModuleTy) (s : IsModule (tokens_of o.all) v) → (annotated q).left ≡ s.tokens ++ RParen ∷ s.more
+  inside_is v s = ap (λ (r : List Tok). visible_tokens true r) o.rest ∙ s.inside
 
   -- where the text spells a module, its tokens aren't refused
-  pub module_stands : (v : ModuleTy) → OneCut → SpelledModule text v → ((w : ModuleTy) (c r : List Tok) → (lit q).left ≡ c ++ r → module_.spells w c r → ⊥) → ⊥
+  pub module_stands : (v : ModuleTy) → OneCut → SpelledModule text v → ((w : ModuleTy) (c r : List Tok) → (annotated q).left ≡ c ++ r → module_.spells w c r → ⊥) → ⊥
   module_stands v one spelled refused =
       let s = this_cut v one spelled in
       refused v s.tokens (RParen ∷ s.more) (inside_is v s) s.spelled
 
   -- and behind them `)` alone is visible
-  pub module_closes : (v : ModuleTy) → OneCut → SpelledModule text v → ((c r : List Tok) → (lit q).left ≡ c ++ r → module_.spells v c r → (lit e).left ≡ r) → ((c : List Tok) → (lit q).left ≡ c ++ (lit e).left → e.rest ≡ behind true (length c) q.rest) → e.known ≡ q.known → e.left ≡ as_shown e.known e.rest → e.left ≡ RParen ∷ []
+  pub module_closes : (v : ModuleTy) → OneCut → SpelledModule text v → ((c r : List Tok) → (annotated q).left ≡ c ++ r → module_.spells v c r → (annotated e).left ≡ r) → ((c : List Tok) → (annotated q).left ≡ c ++ (annotated e).left → e.rest ≡ behind true (length c) q.rest) → e.known ≡ q.known → e.left ≡ visible_tokens e.known e.rest → e.left ≡ RParen ∷ []
   module_closes v one spelled accepts follows known seen =
       let s = this_cut v one spelled in
-      let is : (lit e).left ≡ RParen ∷ s.more = accepts s.tokens (RParen ∷ s.more) (inside_is v s) s.spelled in
-      let cut : (lit q).left ≡ s.tokens ++ (lit e).left = inside_is v s ∙ ap (λ (l : List Tok). s.tokens ++ l) (sym is) in
-      off_too known seen ∙ alone_seen e.rest s.more is (ap (λ (r : List Tok). as_shown false r) (next s.tokens (follows s.tokens cut)) ∙ s.last)
+      let is : (annotated e).left ≡ RParen ∷ s.more = accepts s.tokens (RParen ∷ s.more) (inside_is v s) s.spelled in
+      let cut : (annotated q).left ≡ s.tokens ++ (annotated e).left = inside_is v s ∙ ap (λ (l : List Tok). s.tokens ++ l) (sym is) in
+      off_too known seen ∙ alone_seen e.rest s.more is (ap (λ (r : List Tok). visible_tokens false r) (next s.tokens (follows s.tokens cut)) ∙ s.last)
 
 -- a value that is passed on has what the call shows of it
 pub passed_on : {X E : Type 0} (r : Result X E) (x : X) (P : X → Type 0) (Q : Type 0) → IfOk r (λ v. v ≡ x) → IfOk r (λ _. Q) → (Q → P x) → IfOk r P

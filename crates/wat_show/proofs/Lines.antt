@@ -4,11 +4,11 @@ use Rattle.std.specs.Prelude.{◌==◌, true, false, if◌then◌else◌, Option
 use Rattle.std.proofs.lemmas.Bool.{eqb-true, eq-eqb}
 use Rattle.std.proofs.lemmas.Grind.{get_or-set_at}
 use Rattle.std.proofs.lemmas.List.{get_or-set_other, map_more, length-map, length-take-le}
-use Rattle.wat_expr.specs.Expression.{seen_hint, seen_expression}
+use Rattle.wat_expr.specs.Expression.{hint_view, expression_view}
 use Rattle.wat_expr.specs.declared.expression.BranchHint.{BranchHint}
 use Rattle.wat_expr.specs.declared.expression.Expression.{Expression}
-use Rattle.wat_instr.specs.Instruction.{Instr, Instruction, head_in, operand_in, seen_instruction}
-use Rattle.wat_mnemonics.specs.Heads.{head_word}
+use Rattle.wat_instr.specs.Instruction.{Instr, Instruction, head_in, operand_in, instruction_view}
+use Rattle.wat_mnemonics.specs.Heads.{mnemonic_word}
 use Rattle.wat_show.specs.Expressions.{hint_at, line, lines, AreMarks, lines_of}
 use Rattle.wat_show.specs.Instructions.{instr_text, shown_operand}
 use Rattle.wat_show.proofs.InstructionText.{instruction_text}
@@ -74,8 +74,8 @@ module _ (hs : List (ℕ × ℕ)) (marks : List (Option ℕ)) (i v : ℕ) where
       are k l ∙ sym (hint_other hs (i, v) k (not_same i k (λ e. absurd (omega arith))))
 
 -- one more hint is noted
-pub marks_more : (hints : List BranchHint) (n : ℕ) (d : BranchHint) (marks : List (Option ℕ)) → n < length hints → AreMarks (map seen_hint (take n hints) ++ seen_hint (get_or hints n d) ∷ []) marks → AreMarks (map seen_hint (take (n + 1) hints)) marks
-marks_more hints n d marks lt are = subst (λ (hs : List (ℕ × ℕ)). AreMarks hs marks) (sym (map_more seen_hint hints n d lt)) are
+pub marks_more : (hints : List BranchHint) (n : ℕ) (d : BranchHint) (marks : List (Option ℕ)) → n < length hints → AreMarks (map hint_view (take n hints) ++ hint_view (get_or hints n d) ∷ []) marks → AreMarks (map hint_view (take (n + 1) hints)) marks
+marks_more hints n d marks lt are = subst (λ (hs : List (ℕ × ℕ)). AreMarks hs marks) (sym (map_more hint_view hints n d lt)) are
 
 module _ (front : List ℕ) where
   -- one more instruction is one more line
@@ -84,13 +84,13 @@ module _ (front : List ℕ) where
   lines_more hint k (j ∷ is) i n e =
       rw (lines_more hint (k + 1) is i n (omega arith)) (sym (append_assoc (line front j (hint k)) (lines front hint (k + 1) is) (line front i (hint n))))
 
-  pub added_line : (hint : ℕ → Option ℕ) (old out new : List ℕ) (instrs : List Instruction) (n : ℕ) (x : Instruction) → n < length instrs → x ≡ get_or instrs n x → out ≡ old ++ lines front hint 0 (map seen_instruction (take n instrs)) → new ≡ out ++ line front (seen_instruction x) (hint n) → new ≡ old ++ lines front hint 0 (map seen_instruction (take (n + 1) instrs))
+  pub added_line : (hint : ℕ → Option ℕ) (old out new : List ℕ) (instrs : List Instruction) (n : ℕ) (x : Instruction) → n < length instrs → x ≡ get_or instrs n x → out ≡ old ++ lines front hint 0 (map instruction_view (take n instrs)) → new ≡ out ++ line front (instruction_view x) (hint n) → new ≡ old ++ lines front hint 0 (map instruction_view (take (n + 1) instrs))
   added_line hint old out new instrs n x lt is was adds =
-      let before = map seen_instruction (take n instrs) in
-      let count : 0 + length before ≡ n = omega (arith, length-map (take n instrs) seen_instruction, length-take-le n instrs (omega arith)) in
-      let whole : before ++ seen_instruction x ∷ [] ≡ map seen_instruction (take (n + 1) instrs) = ap (λ (y : Instruction). before ++ seen_instruction y ∷ []) is ∙ sym (map_more seen_instruction instrs n x lt) in
-      let text : lines front hint 0 (map seen_instruction (take (n + 1) instrs)) ≡ lines front hint 0 before ++ line front (seen_instruction x) (hint n) = ap (λ (l : List Instr). lines front hint 0 l) (sym whole) ∙ lines_more hint 0 before (seen_instruction x) n count in
-      adds ∙ ap (λ (l : List ℕ). l ++ line front (seen_instruction x) (hint n)) was ∙ append_assoc old (lines front hint 0 before) (line front (seen_instruction x) (hint n)) ∙ ap (λ (l : List ℕ). old ++ l) (sym text)
+      let before = map instruction_view (take n instrs) in
+      let count : 0 + length before ≡ n = omega (arith, length-map (take n instrs) instruction_view, length-take-le n instrs (omega arith)) in
+      let whole : before ++ instruction_view x ∷ [] ≡ map instruction_view (take (n + 1) instrs) = ap (λ (y : Instruction). before ++ instruction_view y ∷ []) is ∙ sym (map_more instruction_view instrs n x lt) in
+      let text : lines front hint 0 (map instruction_view (take (n + 1) instrs)) ≡ lines front hint 0 before ++ line front (instruction_view x) (hint n) = ap (λ (l : List Instr). lines front hint 0 l) (sym whole) ∙ lines_more hint 0 before (instruction_view x) n count in
+      adds ∙ ap (λ (l : List ℕ). l ++ line front (instruction_view x) (hint n)) was ∙ append_assoc old (lines front hint 0 before) (line front (instruction_view x) (hint n)) ∙ ap (λ (l : List ℕ). old ++ l) (sym text)
 
   -- lines are one where the hints below their number are
   pub lines_agree : (f g : ℕ → Option ℕ) (k : ℕ) (is : List Instr) → ((j : ℕ) → j < k + length is → f j ≡ g j) → lines front f k is ≡ lines front g k is
@@ -99,14 +99,14 @@ module _ (front : List ℕ) where
       rw (same k (omega arith), lines_agree f g (k + 1) is (λ j l. same j (omega arith))) refl
 
   -- what is added of an expression
-  pub expression_added : {X E : Type 0} (r : Result X E) (e : Expression) (old new : List ℕ) (marks : List (Option ℕ)) → length marks ≡ length e.instrs.items → AreMarks (map seen_hint e.branch_hints.items) marks → OnOk r (new ≡ old ++ lines front (λ k. get_or marks k None) 0 (map seen_instruction e.instrs.items)) → OnOk r (new ≡ old ++ lines_of front (seen_expression e))
+  pub expression_added : {X E : Type 0} (r : Result X E) (e : Expression) (old new : List ℕ) (marks : List (Option ℕ)) → length marks ≡ length e.instrs.items → AreMarks (map hint_view e.branch_hints.items) marks → OnOk r (new ≡ old ++ lines front (λ k. get_or marks k None) 0 (map instruction_view e.instrs.items)) → OnOk r (new ≡ old ++ lines_of front (expression_view e))
   unfolding lines_of
   expression_added (Ok x) e old new marks count are adds =
-      let same : lines front (λ k. get_or marks k None) 0 (map seen_instruction e.instrs.items) ≡ lines front (hint_at (map seen_hint e.branch_hints.items)) 0 (map seen_instruction e.instrs.items) = lines_agree (λ k. get_or marks k None) (hint_at (map seen_hint e.branch_hints.items)) 0 (map seen_instruction e.instrs.items) (λ j l. are j (omega (arith, length-map e.instrs.items seen_instruction))) in
+      let same : lines front (λ k. get_or marks k None) 0 (map instruction_view e.instrs.items) ≡ lines front (hint_at (map hint_view e.branch_hints.items)) 0 (map instruction_view e.instrs.items) = lines_agree (λ k. get_or marks k None) (hint_at (map hint_view e.branch_hints.items)) 0 (map instruction_view e.instrs.items) (λ j l. are j (omega (arith, length-map e.instrs.items instruction_view))) in
       adds ∙ ap (λ (l : List ℕ). old ++ l) same
   expression_added (Err x) e old new marks count are adds = tt
 
 -- what is added of an instruction
-pub instruction_added : {X E : Type 0} (r : Result X E) (i : Instruction) (old mid new : List ℕ) → mid ≡ old ++ head_word (head_in i) → OnOk r (new ≡ mid ++ shown_operand (head_in i) (operand_in i)) → OnOk r (new ≡ old ++ instr_text (seen_instruction i))
+pub instruction_added : {X E : Type 0} (r : Result X E) (i : Instruction) (old mid new : List ℕ) → mid ≡ old ++ mnemonic_word (head_in i) → OnOk r (new ≡ mid ++ shown_operand (head_in i) (operand_in i)) → OnOk r (new ≡ old ++ instr_text (instruction_view i))
 instruction_added r i old mid new was adds =
-    subst (λ (l : List ℕ). OnOk r (new ≡ old ++ l)) (sym (instruction_text i)) (added_both r old mid new (head_word (head_in i)) (shown_operand (head_in i) (operand_in i)) was adds)
+    subst (λ (l : List ℕ). OnOk r (new ≡ old ++ l)) (sym (instruction_text i)) (added_both r old mid new (mnemonic_word (head_in i)) (shown_operand (head_in i) (operand_in i)) was adds)

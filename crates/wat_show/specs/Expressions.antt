@@ -16,17 +16,17 @@ abbrev pub hint_text : Option ℕ → List ℕ
 hint_text None = []
 hint_text (Some v) = codes " hint " ++ decimal v
 
--- a front, an instruction and its hint, on a line
+-- a prefix, an instruction and its hint, on a line
 abbrev pub line : List ℕ → Instr → Option ℕ → List ℕ
 line front i hint = front ++ (instr_text i ++ (hint_text hint ++ codes "\n"))
 
--- Instructions, one a line behind the front, the first of which has the index k; each with what
+-- Instructions, one a line behind the prefix, the first of which has the index k; each with what
 -- hint says of its index.
 abbrev pub lines : List ℕ → (ℕ → Option ℕ) → ℕ → List Instr → List ℕ
 lines front hint k [] = []
 lines front hint k (i ∷ is) = line front i (hint k) ++ lines front hint (k + 1) is
 
--- its instructions, one a line behind the front, each with the hint that has its index
+-- its instructions, one a line behind the prefix, each with the hint that has its index
 unfoldable pub lines_of : List ℕ → Expr → List ℕ
 lines_of front e = lines front (hint_at e.hints) 0 e.instrs
 

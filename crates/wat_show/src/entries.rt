@@ -1,8 +1,8 @@
 //! Values that are listed one behind the other.
 
 ghost use Rattle.std.specs.Prelude.{◌≡◌, ◌++◌, ℕ, List, OnOk, flat_map};
-ghost use Rattle.wat_core.specs.Field.{seen_field};
-ghost use Rattle.wat_expr.specs.Expression.{seen_expression};
+ghost use Rattle.wat_core.specs.Field.{field_view};
+ghost use Rattle.wat_expr.specs.Expression.{expression_view};
 ghost use Rattle.wat_show.specs.Expressions.{below};
 ghost use Rattle.wat_show.specs.Fields.{field_text};
 
@@ -23,7 +23,7 @@ pub trait Entry {
 }
 
 impl<'a> Entry for Expression<'a> {
-    ghost text = { λ expression. below (seen_expression expression) };
+    ghost text = { λ expression. below (expression_view expression) };
 
     fn add_to(&self, out: &mut Vec<u8>) -> Result<(), AllocError> {
         add_below(out, self)
@@ -31,7 +31,7 @@ impl<'a> Entry for Expression<'a> {
 }
 
 impl<'a> Entry for ModuleField<'a> {
-    ghost text = { λ field. field_text (seen_field field) };
+    ghost text = { λ field. field_text (field_view field) };
 
     fn add_to(&self, out: &mut Vec<u8>) -> Result<(), AllocError> {
         add_field(out, self)

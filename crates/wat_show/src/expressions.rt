@@ -1,8 +1,8 @@
 //! How expressions are listed.
 ghost use Rattle.std.specs.Prelude.{◌≡◌, ◌++◌, ◌∷◌, [], List, ℕ, None, OnOk, IfOk, length, map};
 ghost use Rattle.std.proofs.Common.{get_or};
-ghost use Rattle.wat_expr.specs.Expression.{seen_hint, seen_expression};
-ghost use Rattle.wat_instr.specs.Instruction.{seen_instruction};
+ghost use Rattle.wat_expr.specs.Expression.{hint_view, expression_view};
+ghost use Rattle.wat_instr.specs.Instruction.{instruction_view};
 ghost use Rattle.wat_show.specs.Expressions.{AreMarks, line, lines, lines_of, hint_text};
 ghost use Rattle.wat_show.specs.Expressions.{expression_text, below};
 
@@ -16,7 +16,7 @@ use wat_instr::Instruction;
 fn mark(marks: &mut Vec<Option<u32>>, hint: &BranchHint)
     ensures count { length marks.new.items ≡ length marks.old.items }
     ensures marks { (hints : List (ℕ × ℕ)) → AreMarks hints marks.old.items
-        → AreMarks (hints ++ seen_hint hint.now ∷ []) marks.new.items }
+        → AreMarks (hints ++ hint_view hint.now ∷ []) marks.new.items }
 {
     let index = hint.instr_index;
     if index >= marks.len() {
@@ -35,7 +35,7 @@ pub(crate) fn marks_of(
     hints: &[BranchHint],
 ) -> Result<Vec<Option<u32>>, AllocError>
     ensures count { IfOk result (λ marks. length marks.items ≡ count) }
-    ensures marks { IfOk result (λ marks. AreMarks (map seen_hint hints.now) marks.items) }
+    ensures marks { IfOk result (λ marks. AreMarks (map hint_view hints.now) marks.items) }
 {
     let mut marks = vec![in alloc; None; count]?;
     for hint in hints {
@@ -56,7 +56,7 @@ fn add_hint(out: &mut Vec<u8>, hint: Option<u32>) -> Result<(), AllocError>
     }
 }
 
-/// Adds a front, an instruction and its hint, on a line.
+/// Adds a prefix, an instruction and its hint, on a line.
 fn add_line(
     out: &mut Vec<u8>,
     front: &str,
@@ -64,7 +64,7 @@ fn add_line(
     hint: Option<u32>,
 ) -> Result<(), AllocError>
     ensures { OnOk result (out.new.items ≡ out.old.items ++ line front.now
-        (seen_instruction instr.now) hint) }
+        (instruction_view instr.now) hint) }
 {
     add(out, front)?;
     add_instruction(out, instr)?;
@@ -72,7 +72,7 @@ fn add_line(
     add(out, "\n")
 }
 
-/// Adds instructions, one a line behind the front, each with what is noted at its index.
+/// Adds instructions, one a line behind the prefix, each with what is noted at its index.
 fn add_lines(
     out: &mut Vec<u8>,
     front: &str,
@@ -81,7 +81,7 @@ fn add_lines(
 ) -> Result<(), AllocError>
     requires { length marks.now ≡ length instrs.now }
     ensures { OnOk result (out.new.items ≡ out.old.items ++ lines front.now
-        (λ k. get_or marks.now k None) 0 (map seen_instruction instrs.now)) }
+        (λ k. get_or marks.now k None) 0 (map instruction_view instrs.now)) }
 {
     for (index, instr) in instrs.iter().enumerate() {
         add_line(out, front, instr, marks[index])?;
@@ -89,11 +89,11 @@ fn add_lines(
     Ok(())
 }
 
-/// Adds the instructions of an expression, one a line behind the front, each with the hint that has
-/// its index.
+/// Adds the instructions of an expression, one a line behind the prefix, each with the hint that
+/// has its index.
 fn add_lines_of(out: &mut Vec<u8>, front: &str, expression: &Expression) -> Result<(), AllocError>
     ensures { OnOk result (out.new.items ≡ out.old.items ++ lines_of front.now
-        (seen_expression expression.now)) }
+        (expression_view expression.now)) }
 {
     let marks = marks_of(
         *out.allocator(),
@@ -106,7 +106,7 @@ fn add_lines_of(out: &mut Vec<u8>, front: &str, expression: &Expression) -> Resu
 /// Adds the instructions of an expression, one a line, each with the hint that has its index.
 pub fn add_expression(out: &mut Vec<u8>, expression: &Expression) -> Result<(), AllocError>
     ensures { OnOk result (out.new.items ≡ out.old.items ++ expression_text
-        (seen_expression expression.now)) }
+        (expression_view expression.now)) }
 {
     add_lines_of(out, "", expression)
 }
@@ -114,7 +114,7 @@ pub fn add_expression(out: &mut Vec<u8>, expression: &Expression) -> Result<(), 
 /// Adds the lines of an expression below another line: each behind two spaces.
 pub fn add_below(out: &mut Vec<u8>, expression: &Expression) -> Result<(), AllocError>
     ensures { OnOk result (out.new.items ≡ out.old.items ++ below
-        (seen_expression expression.now)) }
+        (expression_view expression.now)) }
 {
     add_lines_of(out, "  ", expression)
 }

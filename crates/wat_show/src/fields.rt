@@ -1,19 +1,19 @@
 //! How the fields of a module are listed.
 
 ghost use Rattle.std.specs.Prelude.{◌≡◌, ◌++◌, OnOk};
-ghost use Rattle.wat_core.specs.Field.{seen_field};
-ghost use Rattle.wat_links.specs.Custom.{seen_custom};
-ghost use Rattle.wat_fields.specs.Data.{seen_data_kind};
-ghost use Rattle.wat_fields.specs.DataVal.{seen_data_vals};
-ghost use Rattle.wat_fields.specs.Elem.{seen_elem_kind};
-ghost use Rattle.wat_fields.specs.Func.{seen_func_kind};
-ghost use Rattle.wat_fields.specs.Global.{seen_global_kind};
-ghost use Rattle.wat_fields.specs.Memory.{seen_memory_kind};
-ghost use Rattle.wat_fields.specs.Payload.{seen_payload};
-ghost use Rattle.wat_fields.specs.Table.{seen_table_kind};
-ghost use Rattle.wat_fields.specs.Tag.{seen_tag_kind};
-ghost use Rattle.wat_links.specs.Import.{seen_items};
-ghost use Rattle.wat_tokens.specs.Index.{seen_index};
+ghost use Rattle.wat_core.specs.Field.{field_view};
+ghost use Rattle.wat_links.specs.Custom.{custom_view};
+ghost use Rattle.wat_fields.specs.Data.{data_kind_view};
+ghost use Rattle.wat_fields.specs.DataVal.{data_vals_view};
+ghost use Rattle.wat_fields.specs.Elem.{elem_kind_view};
+ghost use Rattle.wat_fields.specs.Func.{func_kind_view};
+ghost use Rattle.wat_fields.specs.Global.{global_kind_view};
+ghost use Rattle.wat_fields.specs.Memory.{memory_kind_view};
+ghost use Rattle.wat_fields.specs.Payload.{payload_view};
+ghost use Rattle.wat_fields.specs.Table.{table_kind_view};
+ghost use Rattle.wat_fields.specs.Tag.{tag_kind_view};
+ghost use Rattle.wat_links.specs.Import.{items_view};
+ghost use Rattle.wat_tokens.specs.Index.{index_view};
 ghost use Rattle.wat_show.specs.Fields.{import_text, export_text, func_text, global_text, tag_text};
 ghost use Rattle.wat_show.specs.Fields.{payload_line, payload_lines, table_text, elem_word};
 ghost use Rattle.wat_show.specs.Fields.{offset_lines, elem_text, start_text, memory_text};
@@ -33,7 +33,7 @@ use wat_links::{Custom, ExportKind, ImportItems};
 use wat_tokens::Index;
 
 fn add_import(out: &mut Vec<u8>, items: &ImportItems) -> Result<(), AllocError>
-    ensures { OnOk result (out.new.items ≡ out.old.items ++ import_text (seen_items items.now)) }
+    ensures { OnOk result (out.new.items ≡ out.old.items ++ import_text (items_view items.now)) }
 {
     match items {
         ImportItems::Single { .. } => add_counted(out, "import single ", 1),
@@ -59,7 +59,7 @@ fn add_export(out: &mut Vec<u8>, kind: ExportKind) -> Result<(), AllocError>
 }
 
 fn add_func(out: &mut Vec<u8>, kind: &FuncKind) -> Result<(), AllocError>
-    ensures { OnOk result (out.new.items ≡ out.old.items ++ func_text (seen_func_kind kind.now)) }
+    ensures { OnOk result (out.new.items ≡ out.old.items ++ func_text (func_kind_view kind.now)) }
 {
     match kind {
         FuncKind::Import(_, _) => add(out, "func import\n"),
@@ -72,7 +72,7 @@ fn add_func(out: &mut Vec<u8>, kind: &FuncKind) -> Result<(), AllocError>
 
 fn add_global(out: &mut Vec<u8>, kind: &GlobalKind) -> Result<(), AllocError>
     ensures { OnOk result (out.new.items ≡ out.old.items ++ global_text
-        (seen_global_kind kind.now)) }
+        (global_kind_view kind.now)) }
 {
     match kind {
         GlobalKind::Import(_) => add(out, "global import\n"),
@@ -84,7 +84,7 @@ fn add_global(out: &mut Vec<u8>, kind: &GlobalKind) -> Result<(), AllocError>
 }
 
 fn add_tag(out: &mut Vec<u8>, kind: &TagKind) -> Result<(), AllocError>
-    ensures { OnOk result (out.new.items ≡ out.old.items ++ tag_text (seen_tag_kind kind.now)) }
+    ensures { OnOk result (out.new.items ≡ out.old.items ++ tag_text (tag_kind_view kind.now)) }
 {
     match kind {
         TagKind::Import(_) => add(out, "tag import\n"),
@@ -95,7 +95,7 @@ fn add_tag(out: &mut Vec<u8>, kind: &TagKind) -> Result<(), AllocError>
 /// Adds what a payload holds, indices or expressions, and how many.
 fn add_payload_line(out: &mut Vec<u8>, payload: &ElemPayload) -> Result<(), AllocError>
     ensures { OnOk result (out.new.items ≡ out.old.items ++ payload_line
-        (seen_payload payload.now)) }
+        (payload_view payload.now)) }
 {
     match payload {
         ElemPayload::Indices(indices) => add_counted(out, "indices ", indices.len() as u128),
@@ -107,7 +107,7 @@ fn add_payload_line(out: &mut Vec<u8>, payload: &ElemPayload) -> Result<(), Allo
 #[tactic(auto, using(crate::proofs::Lists::of_seen))]
 fn add_payload_lines(out: &mut Vec<u8>, payload: &ElemPayload) -> Result<(), AllocError>
     ensures { OnOk result (out.new.items ≡ out.old.items ++ payload_lines
-        (seen_payload payload.now)) }
+        (payload_view payload.now)) }
 {
     match payload {
         ElemPayload::Indices(_) => Ok(()),
@@ -116,7 +116,7 @@ fn add_payload_lines(out: &mut Vec<u8>, payload: &ElemPayload) -> Result<(), All
 }
 
 fn add_table(out: &mut Vec<u8>, kind: &TableKind) -> Result<(), AllocError>
-    ensures { OnOk result (out.new.items ≡ out.old.items ++ table_text (seen_table_kind kind.now)) }
+    ensures { OnOk result (out.new.items ≡ out.old.items ++ table_text (table_kind_view kind.now)) }
 {
     match kind {
         TableKind::Import { .. } => add(out, "table import\n"),
@@ -137,7 +137,7 @@ fn add_table(out: &mut Vec<u8>, kind: &TableKind) -> Result<(), AllocError>
 
 /// Adds the word of where a segment is put.
 fn add_elem_word(out: &mut Vec<u8>, kind: &ElemKind) -> Result<(), AllocError>
-    ensures { OnOk result (out.new.items ≡ out.old.items ++ elem_word (seen_elem_kind kind.now)) }
+    ensures { OnOk result (out.new.items ≡ out.old.items ++ elem_word (elem_kind_view kind.now)) }
 {
     match kind {
         ElemKind::Passive => add(out, "elem passive "),
@@ -149,7 +149,7 @@ fn add_elem_word(out: &mut Vec<u8>, kind: &ElemKind) -> Result<(), AllocError>
 /// Adds the lines of a segment's offset.
 fn add_elem_offset(out: &mut Vec<u8>, kind: &ElemKind) -> Result<(), AllocError>
     ensures { OnOk result (out.new.items ≡ out.old.items ++ offset_lines
-        (seen_elem_kind kind.now)) }
+        (elem_kind_view kind.now)) }
 {
     match kind {
         ElemKind::Passive | ElemKind::Declared => Ok(()),
@@ -159,7 +159,7 @@ fn add_elem_offset(out: &mut Vec<u8>, kind: &ElemKind) -> Result<(), AllocError>
 
 fn add_elem(out: &mut Vec<u8>, kind: &ElemKind, payload: &ElemPayload) -> Result<(), AllocError>
     ensures { OnOk result (out.new.items ≡ out.old.items ++ elem_text
-        (seen_elem_kind kind.now, seen_payload payload.now)) }
+        (elem_kind_view kind.now, payload_view payload.now)) }
 {
     add_elem_word(out, kind)?;
     add_payload_line(out, payload)?;
@@ -169,7 +169,7 @@ fn add_elem(out: &mut Vec<u8>, kind: &ElemKind, payload: &ElemPayload) -> Result
 
 fn add_memory(out: &mut Vec<u8>, kind: &MemoryKind) -> Result<(), AllocError>
     ensures { OnOk result (out.new.items ≡ out.old.items ++ memory_text
-        (seen_memory_kind kind.now)) }
+        (memory_kind_view kind.now)) }
 {
     match kind {
         MemoryKind::Import { .. } => add(out, "memory import\n"),
@@ -179,8 +179,8 @@ fn add_memory(out: &mut Vec<u8>, kind: &MemoryKind) -> Result<(), AllocError>
 }
 
 fn add_data(out: &mut Vec<u8>, kind: &DataKind, values: &[DataVal]) -> Result<(), AllocError>
-    ensures { OnOk result (out.new.items ≡ out.old.items ++ data_text (seen_data_kind kind.now)
-        (seen_data_vals values.now)) }
+    ensures { OnOk result (out.new.items ≡ out.old.items ++ data_text (data_kind_view kind.now)
+        (data_vals_view values.now)) }
 {
     match kind {
         DataKind::Passive => add_counted(out, "data passive ", total(values)),
@@ -192,7 +192,7 @@ fn add_data(out: &mut Vec<u8>, kind: &DataKind, values: &[DataVal]) -> Result<()
 }
 
 fn add_custom(out: &mut Vec<u8>, custom: &Custom) -> Result<(), AllocError>
-    ensures { OnOk result (out.new.items ≡ out.old.items ++ custom_text (seen_custom custom.now)) }
+    ensures { OnOk result (out.new.items ≡ out.old.items ++ custom_text (custom_view custom.now)) }
 {
     match custom {
         Custom::Raw(raw) => add_counted(out, "custom raw ", total(&raw.data)),
@@ -206,7 +206,7 @@ fn add_custom(out: &mut Vec<u8>, custom: &Custom) -> Result<(), AllocError>
 }
 
 fn add_start(out: &mut Vec<u8>, index: &Index) -> Result<(), AllocError>
-    ensures { OnOk result (out.new.items ≡ out.old.items ++ start_text (seen_index index.now)) }
+    ensures { OnOk result (out.new.items ≡ out.old.items ++ start_text (index_view index.now)) }
 {
     add(out, "start ")?;
     add_index(out, index)?;
@@ -216,7 +216,7 @@ fn add_start(out: &mut Vec<u8>, index: &Index) -> Result<(), AllocError>
 /// Adds the line of a field, and below it the lines of its expressions.
 #[tactic(auto, unfolding(crate::specs::Fields::field_text))]
 pub fn add_field(out: &mut Vec<u8>, field: &ModuleField) -> Result<(), AllocError>
-    ensures { OnOk result (out.new.items ≡ out.old.items ++ field_text (seen_field field.now)) }
+    ensures { OnOk result (out.new.items ≡ out.old.items ++ field_text (field_view field.now)) }
 {
     match field {
         ModuleField::Type(_) => add(out, "type\n"),

@@ -1,6 +1,6 @@
 //! How instructions are listed.
 ghost use Rattle.std.specs.Prelude.{◌≡◌, ◌++◌, OnOk};
-ghost use Rattle.wat_instr.specs.Instruction.{head_in, operand_in, seen_instruction};
+ghost use Rattle.wat_instr.specs.Instruction.{head_in, operand_in, instruction_view};
 ghost use Rattle.wat_show.specs.Instructions.{shown_operand, instr_text};
 
 use crate::listing::add_index;
@@ -33,7 +33,7 @@ fn add_operand(out: &mut Vec<u8>, instr: &Instruction) -> Result<(), AllocError>
 /// Adds the mnemonic, and the operand where it is shown.
 pub fn add_instruction(out: &mut Vec<u8>, instr: &Instruction) -> Result<(), AllocError>
     ensures { OnOk result (out.new.items ≡ out.old.items ++ instr_text
-        (seen_instruction instr.now)) }
+        (instruction_view instr.now)) }
 {
     add(out, instr.mnemonic())?;
     add_operand(out, instr)

@@ -1,10 +1,10 @@
 //! How values are listed.
 ghost use Rattle.std.specs.Prelude.{◌≡◌, ◌++◌, ◌∷◌, [], List, ℕ, OnOk, map, codes};
-ghost use Rattle.wat_tokens.specs.Index.{seen_index};
-ghost use Rattle.wat_types.specs.Heap.{seen_heap, abstract_};
-ghost use Rattle.wat_types.specs.Reference.{seen_ref};
-ghost use Rattle.wat_types.specs.Value.{seen_val};
-ghost use Rattle.wat_types.specs.Function.{seen_function, seen_params};
+ghost use Rattle.wat_tokens.specs.Index.{index_view};
+ghost use Rattle.wat_types.specs.Heap.{heap_view, abstract_};
+ghost use Rattle.wat_types.specs.Reference.{ref_view};
+ghost use Rattle.wat_types.specs.Value.{val_view};
+ghost use Rattle.wat_types.specs.Function.{function_view, params_view};
 ghost use Rattle.wat_show.specs.Listing.{index_text, abstract_text, within, heap_text, ref_text};
 ghost use Rattle.wat_show.specs.Listing.{val_text, types_text, param_types, function_text};
 
@@ -14,7 +14,7 @@ use wat_tokens::{Id, Index, NameAnnotation};
 use wat_types::{AbstractHeapType, FunctionType, HeapType, RefType, ValType};
 
 pub fn add_index(out: &mut Vec<u8>, index: &Index) -> Result<(), AllocError>
-    ensures { OnOk result (out.new.items ≡ out.old.items ++ index_text (seen_index index.now)) }
+    ensures { OnOk result (out.new.items ≡ out.old.items ++ index_text (index_view index.now)) }
 {
     match index {
         Index::Num(number, _) => add_number(out, *number as usize),
@@ -47,7 +47,7 @@ fn abstract_word(ty: AbstractHeapType) -> &'static str
 }
 
 fn add_heap(out: &mut Vec<u8>, heap: &HeapType) -> Result<(), AllocError>
-    ensures { OnOk result (out.new.items ≡ out.old.items ++ heap_text (seen_heap heap.now)) }
+    ensures { OnOk result (out.new.items ≡ out.old.items ++ heap_text (heap_view heap.now)) }
 {
     match heap {
         HeapType::Concrete(index) => add_index(out, index),
@@ -72,7 +72,7 @@ fn add_abstract(out: &mut Vec<u8>, shared: bool, ty: AbstractHeapType) -> Result
 }
 
 fn add_ref(out: &mut Vec<u8>, reference: &RefType) -> Result<(), AllocError>
-    ensures { OnOk result (out.new.items ≡ out.old.items ++ ref_text (seen_ref reference.now)) }
+    ensures { OnOk result (out.new.items ≡ out.old.items ++ ref_text (ref_view reference.now)) }
 {
     add(
         out,
@@ -89,7 +89,7 @@ fn add_ref(out: &mut Vec<u8>, reference: &RefType) -> Result<(), AllocError>
 /// Adds a space and a type.
 fn add_val(out: &mut Vec<u8>, ty: &ValType) -> Result<(), AllocError>
     ensures { OnOk result (out.new.items ≡ out.old.items ++ (codes " " ++ val_text
-        (seen_val ty.now))) }
+        (val_view ty.now))) }
 {
     add(out, " ")?;
     match ty {
@@ -103,7 +103,7 @@ fn add_val(out: &mut Vec<u8>, ty: &ValType) -> Result<(), AllocError>
 }
 
 fn add_results(out: &mut Vec<u8>, results: &[ValType]) -> Result<(), AllocError>
-    ensures { OnOk result (out.new.items ≡ out.old.items ++ types_text (map seen_val results.now)) }
+    ensures { OnOk result (out.new.items ≡ out.old.items ++ types_text (map val_view results.now)) }
 {
     for ty in results {
         add_val(out, ty)?;
@@ -116,7 +116,7 @@ fn add_params(
     params: &[(Option<Id>, Option<NameAnnotation>, ValType)],
 ) -> Result<(), AllocError>
     ensures { OnOk result (out.new.items ≡ out.old.items ++ types_text (param_types
-        (seen_params params.now))) }
+        (params_view params.now))) }
 {
     for param in params {
         add_val(out, &param.2)?;
@@ -127,7 +127,7 @@ fn add_params(
 /// Adds the two lines of a function type.
 pub fn add_function(out: &mut Vec<u8>, function: &FunctionType) -> Result<(), AllocError>
     ensures { OnOk result (out.new.items ≡ out.old.items ++ function_text
-        (seen_function function.now)) }
+        (function_view function.now)) }
 {
     add(out, "params")?;
     add_params(out, &function.params)?;

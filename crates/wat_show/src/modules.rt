@@ -1,7 +1,7 @@
 //! How modules are listed.
 
 ghost use Rattle.std.specs.Prelude.{◌≡◌, ◌++◌, OnOk};
-ghost use Rattle.wat_core.specs.Module.{seen_module};
+ghost use Rattle.wat_core.specs.Module.{module_view};
 ghost use Rattle.wat_show.specs.Modules.{kind_listing, module_text};
 
 use crate::entries::{Entry, add_entries};
@@ -30,7 +30,7 @@ fn add_kind<F: Entry, P: Piece>(
 #[tactic(auto, using(crate::proofs::Lists::kind_listed))]
 pub fn add_module(out: &mut Vec<u8>, module: &Module) -> Result<(), AllocError>
     ensures { OnOk result (out.new.items ≡ out.old.items ++ module_text
-        (seen_module «module».now)) }
+        (module_view «module».now)) }
 {
     add_kind(out, &module.kind)
 }

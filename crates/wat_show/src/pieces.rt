@@ -1,7 +1,7 @@
 //! How many bytes pieces have together.
 
 ghost use Rattle.std.specs.Prelude.{◌≡◌, ℕ, List, length, map};
-ghost use Rattle.wat_fields.specs.DataVal.{bytes_in, seen_data_val};
+ghost use Rattle.wat_fields.specs.DataVal.{bytes_in, data_val_view};
 ghost use Rattle.wat_show.specs.Fields.{byte_count};
 
 use wat_fields::DataVal;
@@ -25,7 +25,7 @@ impl Piece for &[u8] {
 }
 
 impl<'a> Piece for DataVal<'a> {
-    ghost bytes = { λ value. bytes_in (seen_data_val value) };
+    ghost bytes = { λ value. bytes_in (data_val_view value) };
 
     fn count(&self) -> usize {
         self.len()

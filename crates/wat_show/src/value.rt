@@ -1,8 +1,8 @@
 //! What is shown of a text that is to be a value.
 
 ghost use Rattle.std.specs.Prelude.{◌≡◌, ◌≢◌, ◌++◌, ℕ, List, OnOk, IfOk, IfErr};
-ghost use Rattle.wat_core.specs.Module.{ModuleTy, seen_module};
-ghost use Rattle.wat_expr.specs.Expression.{Expr, seen_expression};
+ghost use Rattle.wat_core.specs.Module.{ModuleTy, module_view};
+ghost use Rattle.wat_expr.specs.Expression.{Expr, expression_view};
 ghost use Rattle.wat_expr.specs.FoldedProduction.{folded_instruction};
 ghost use Rattle.wat_expr.specs.ExpressionProduction.{expression};
 ghost use Rattle.wat_show.specs.Expressions.{expression_text};
@@ -11,7 +11,7 @@ ghost use Rattle.wat_show.specs.Modules.{module_text};
 ghost use Rattle.wat_show.specs.Shown.{ShowsText};
 ghost use Rattle.wat_show.specs.Whole.{TextSpells, SpelledModule};
 ghost use Rattle.wat_tokens.specs.Error.{Memory};
-ghost use Rattle.wat_types.specs.Function.{seen_function, function_type};
+ghost use Rattle.wat_types.specs.Function.{function_view, function_type};
 ghost use Rattle.wat_types.specs.Group.{FuncTy};
 
 use crate::expressions::add_expression;
@@ -29,30 +29,30 @@ use wat_types::FunctionType;
 /// A type whose values are read from a text and listed.
 pub trait Listed<'a>: Sized {
     /// What contracts see of a value.
-    ghost Seen: { Type 0 };
+    ghost View: { Type 0 };
 
-    ghost seen: { Self → Seen };
+    ghost view: { Self → View };
 
     /// The text spells the value.
-    ghost spelled: { List ℕ → Seen → Type 0 };
+    ghost spelled: { List ℕ → View → Type 0 };
 
     /// What is listed of the value.
-    ghost listing: { Seen → List ℕ };
+    ghost listing: { View → List ℕ };
 
     /// Reads the value that the text spells. It is refused with the first fault that is met.
     fn read(alloc: Global, text: &'a str, arena: &'a Bump) -> Result<Self, Error>
-        ensures found { IfOk result (λ v. spelled text.now (seen v)) }
-        ensures none { IfErr result (λ e. e.fault ≢ Memory → (v : Seen) → spelled text.now v → ⊥) };
+        ensures found { IfOk result (λ v. spelled text.now (view v)) }
+        ensures none { IfErr result (λ e. e.fault ≢ Memory → (v : View) → spelled text.now v → ⊥) };
 
     /// Adds the listing of the value.
     fn list(&self, out: &mut Vec<u8>) -> Result<(), AllocError>
-        ensures { OnOk result (out.new.items ≡ out.old.items ++ listing (seen self.now)) };
+        ensures { OnOk result (out.new.items ≡ out.old.items ++ listing (view self.now)) };
 }
 
 impl<'a> Listed<'a> for FunctionType<'a> {
-    ghost Seen = { FuncTy };
+    ghost View = { FuncTy };
 
-    ghost seen = { seen_function };
+    ghost view = { function_view };
 
     ghost spelled = { TextSpells function_type };
 
@@ -68,9 +68,9 @@ impl<'a> Listed<'a> for FunctionType<'a> {
 }
 
 impl<'a> Listed<'a> for Expression<'a> {
-    ghost Seen = { Expr };
+    ghost View = { Expr };
 
-    ghost seen = { seen_expression };
+    ghost view = { expression_view };
 
     ghost spelled = { TextSpells expression };
 
@@ -86,9 +86,9 @@ impl<'a> Listed<'a> for Expression<'a> {
 }
 
 impl<'a> Listed<'a> for FoldedInstruction<'a> {
-    ghost Seen = { Expr };
+    ghost View = { Expr };
 
-    ghost seen = { λ folded. seen_expression folded.0 };
+    ghost view = { λ folded. expression_view folded.0 };
 
     ghost spelled = { TextSpells folded_instruction };
 
@@ -104,9 +104,9 @@ impl<'a> Listed<'a> for FoldedInstruction<'a> {
 }
 
 impl<'a> Listed<'a> for Module<'a> {
-    ghost Seen = { ModuleTy };
+    ghost View = { ModuleTy };
 
-    ghost seen = { seen_module };
+    ghost view = { module_view };
 
     ghost spelled = { SpelledModule };
 

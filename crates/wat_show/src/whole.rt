@@ -1,7 +1,7 @@
 //! Reading a value that is a whole text.
 
 ghost use Rattle.std.specs.Prelude.{◌≡◌, ◌≢◌, [], ◌∷◌, IfOk, IfErr};
-ghost use Rattle.wat_core.specs.Module.{ModuleTy, seen_module};
+ghost use Rattle.wat_core.specs.Module.{ModuleTy, module_view};
 ghost use Rattle.wat_show.specs.Whole.{TextSpells, SpelledModule};
 ghost use Rattle.wat_tokens.specs.Error.{Memory};
 ghost use Rattle.wat_tokens.specs.Token.{RParen};
@@ -19,7 +19,7 @@ pub fn read_whole<'a, T: Parse<'a> + Drop>(
     arena: &'a Bump,
 ) -> Result<T, Error>
     ensures found { IfOk result (λ v. TextSpells T.grammar text.now (T.view.of v)) }
-    ensures none { IfErr result (λ e. e.fault ≢ Memory → (v : T.Seen)
+    ensures none { IfErr result (λ e. e.fault ≢ Memory → (v : T.View)
         → TextSpells T.grammar text.now v → ⊥) }
 {
     one_cut();
@@ -47,7 +47,7 @@ fn closed<'a, T: Drop>(parser: &mut Parser<'a>, value: T) -> Result<T, Error>
 /// Reads the module that the whole text spells, between its parentheses. A token that is left over
 /// is Unexpected.
 pub fn read_module<'a>(alloc: Global, text: &'a str, arena: &'a Bump) -> Result<Module<'a>, Error>
-    ensures found { IfOk result (λ m. SpelledModule text.now (seen_module m)) }
+    ensures found { IfOk result (λ m. SpelledModule text.now (module_view m)) }
     ensures none { IfErr result (λ e. e.fault ≢ Memory → (m : ModuleTy) → SpelledModule text.now m
         → ⊥) }
 {

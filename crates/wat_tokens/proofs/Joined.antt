@@ -23,6 +23,6 @@ module _ {A : Type 0} where
 
   pub joined_not_bare : (follows : List Tok → Bool) (g : Production (List A)) → 1 ≤ g.least → (before : List A) (t : List Tok) (total : Read (List A)) → follows t ≡ true
       → NotBare no_items (add_read join before (g.reads t)) → joined_behind before (many_reads follows g t) ≡ total → NotBare no_items total
-  joined_not_bare follows g eats before t total k h e = rw (← e) (by_read (add_read join before (g.reads t))
-      (λ y m. rw (adding_goes_on join follows g eats before t y.0 y.1 k m) (rest_filled y.0 (many_reads follows g y.1) (rw m at h)))
-      (λ m. rw (adding_fails join follows g eats before t k m) tt))
+  joined_not_bare follows g consumes before t total k h e = rw (← e) (by_read (add_read join before (g.reads t))
+      (λ y m. rw (adding_goes_on join follows g consumes before t y.0 y.1 k m) (rest_filled y.0 (many_reads follows g y.1) (rw m at h)))
+      (λ m. rw (adding_fails join follows g consumes before t k m) tt))

@@ -1,6 +1,5 @@
 pub mod CountSteps
 pub mod Exact
 pub mod Joined
-pub mod Loops
 pub mod Steps
 pub mod Texts

@@ -1,4 +1,4 @@
--- Words of a table: what stands in front, and what is read of it.
+-- Words of a table: what is in front, and what is read of it.
 use Rattle.std.specs.Prelude.{Bool, false, List, [], ◌∷◌, Option, is_some}
 use Rattle.wat_lexer.specs.Token.{Tok}
 

@@ -1,12 +1,12 @@
 -- What a call promises that makes a value once more.
 use Rattle.std.specs.Prelude.{◌≡◌, Result, IfOk, IfErr, false}
 use Rattle.wat_tokens.specs.Error.{Error, Memory}
-use Rattle.wat_tokens.specs.Views.{View}
+use Rattle.wat_tokens.specs.Views.{ViewOf}
 
 -- same: every part is the same, the places too
 -- seen: contracts see the same value
 -- memory: it may be refused memory where the value isn't bare, and for nothing else
-pub record Copies {X A : Type 0} (alike : X → X → Type 0) (view : View X A) (r : Result X Error)
+pub record Copies {X A : Type 0} (alike : X → X → Type 0) (view : ViewOf X A) (r : Result X Error)
     (x : X) : Type 0 where
   pub same : IfOk r (λ y. alike x y)
   pub seen : IfOk r (λ y. view.of y ≡ view.of x)

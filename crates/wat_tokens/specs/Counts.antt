@@ -16,8 +16,8 @@ pub record CountsBy (a : State) (b : State) : Type 0 where
   pub taken : b.taken ≡ a.taken + length front
   pub more : Grows a b
   pub peak : b.peak ≤ max a.peak (nest front)
-  pub names : b.known ≡ a.known
-  pub stands : b.rest ≡ behind a.known (length front) a.rest
+  pub known : b.known ≡ a.known
+  pub position : b.rest ≡ behind a.known (length front) a.rest
 
 unfoldable pub Counts : State → State → Type 0
 Counts a b = CountsBy a b
@@ -48,5 +48,5 @@ abbrev pub Stays : State → State → Type 0
 Stays a b = (b.turns ≡ a.turns) × (b.peak ≡ a.peak) × (b.held ≡ a.held)
 
 -- which names are on, and whether spans of instructions are kept, stands as before
-abbrev pub Kept : State → State → Type 0
-Kept a b = (b.known ≡ a.known) × (b.tracks ≡ a.tracks)
+abbrev pub SameSettings : State → State → Type 0
+SameSettings a b = (b.known ≡ a.known) × (b.tracks ≡ a.tracks)

@@ -1,7 +1,7 @@
 -- Literals of floating-point numbers, which aren't read.
 use Rattle.wat_tokens.specs.Production.{Production}
 use Rattle.wat_tokens.specs.NoneSpells.{none_spells, none_reads}
-use Rattle.wat_tokens.specs.Laws.Floats.{none_sound, none_complete, none_takes, none_level}
+use Rattle.wat_tokens.specs.Laws.Floats.{none_sound, none_complete, none_takes, none_balanced}
 
 -- no tokens spell a value
 abbrev pub none : {A : Type 0} → Production A
@@ -12,5 +12,5 @@ none = record {
   sound = none_sound;
   complete = none_complete;
   takes = none_takes;
-  level = none_level;
+  balanced = none_balanced;
 }

@@ -3,8 +3,8 @@ use Rattle.wat_tokens.specs.Production.{Production}
 use Rattle.wat_tokens.specs.FollowedSpells.{followed_spells, followed_reads, blank_spells}
 use Rattle.wat_tokens.specs.FollowedSpells.{blank_reads}
 use Rattle.wat_tokens.specs.Laws.Followed.{followed_sound, followed_complete, followed_takes}
-use Rattle.wat_tokens.specs.Laws.Followed.{followed_level, blank_sound, blank_complete, blank_takes}
-use Rattle.wat_tokens.specs.Laws.Followed.{blank_level}
+use Rattle.wat_tokens.specs.Laws.Followed.{followed_balanced, blank_sound, blank_complete}
+use Rattle.wat_tokens.specs.Laws.Followed.{blank_takes, blank_balanced}
 
 -- ---- what is in front, and then what it is followed by
 
@@ -17,7 +17,7 @@ followed g h = record {
   sound = followed_sound g h;
   complete = followed_complete g h;
   takes = followed_takes g h;
-  level = followed_level g h;
+  balanced = followed_balanced g h;
 }
 
 -- ---- no tokens
@@ -31,5 +31,5 @@ blank a = record {
   sound = blank_sound a;
   complete = blank_complete a;
   takes = blank_takes a;
-  level = blank_level a;
+  balanced = blank_balanced a;
 }

@@ -5,9 +5,9 @@ use Rattle.wat_tokens.specs.Production.{Production}
 use Rattle.wat_tokens.specs.Parts.{one, seq, made, word}
 use Rattle.wat_tokens.specs.GroupSpells.{paren_spells, paren_reads, end_spells, end_reads}
 use Rattle.wat_tokens.specs.GroupSpells.{turn_spells, turn_reads}
-use Rattle.wat_tokens.specs.Laws.Groups.{paren_sound, paren_complete, paren_takes, paren_level}
-use Rattle.wat_tokens.specs.Laws.Groups.{end_sound, end_complete, end_takes, end_level, turn_sound}
-use Rattle.wat_tokens.specs.Laws.Groups.{turn_complete, turn_takes, turn_level}
+use Rattle.wat_tokens.specs.Laws.Groups.{paren_sound, paren_complete, paren_takes, paren_balanced}
+use Rattle.wat_tokens.specs.Laws.Groups.{end_sound, end_complete, end_takes, end_balanced}
+use Rattle.wat_tokens.specs.Laws.Groups.{turn_sound, turn_complete, turn_takes, turn_balanced}
 
 -- ---- ( .. )
 
@@ -20,7 +20,7 @@ paren g = record {
   sound = paren_sound g;
   complete = paren_complete g;
   takes = paren_takes g;
-  level = paren_level g;
+  balanced = paren_balanced g;
 }
 
 -- ( word g )
@@ -42,7 +42,7 @@ at_end g = record {
   sound = end_sound g;
   complete = end_complete g;
   takes = end_takes g;
-  level = end_level g;
+  balanced = end_balanced g;
 }
 
 -- ---- ) (
@@ -56,5 +56,5 @@ turn = record {
   sound = turn_sound;
   complete = turn_complete;
   takes = turn_takes;
-  level = turn_level;
+  balanced = turn_balanced;
 }

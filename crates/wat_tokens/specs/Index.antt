@@ -35,9 +35,9 @@ pub data Idx : Type 0 where
   number : ℕ → Idx
   name : List ℕ → Idx
 
-abbrev pub seen_index : Index → Idx
-seen_index (code.Num n span) = number n
-seen_index (code.Id i) = name (name_of i)
+abbrev pub index_view : Index → Idx
+index_view (code.Num n span) = number n
+index_view (code.Id i) = name (name_of i)
 
 -- the index that the token is
 abbrev pub index_of : Tok → Option Idx

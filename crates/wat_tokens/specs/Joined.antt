@@ -13,7 +13,7 @@ all_of gs = flat_map (λ g. g) gs
 -- groups as long as one has to follow, as the list of all their parts
 abbrev pub joined : {A : Type 0} → (follows : List Tok → Bool) (g : Production (List A))
     → 1 ≤ g.least → Production (List A)
-joined follows g eats = made (λ gs. all_of gs) (many follows g eats)
+joined follows g consumes = made (λ gs. all_of gs) (many follows g consumes)
 
 -- the parts of one more group, put behind those that are there
 abbrev pub join : {A : Type 0} → List A → List A → Option (List A)

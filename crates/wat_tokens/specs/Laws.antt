@@ -9,6 +9,7 @@ pub mod Followed
 pub mod Groups
 pub mod Index
 pub mod Joined
+pub mod Loops
 pub mod Many
 pub mod Numbers
 pub mod Once

@@ -2,22 +2,22 @@
 use Rattle.std.specs.Prelude.{◌≡◌, ◌≤◌, ◌+◌, ◌∷◌, [], ℕ, Bool, List, length, drop, Option, Some}
 use Rattle.std.specs.Prelude.{None}
 use Rattle.wat_lexer.specs.Token.{Tok, Entry}
-use Rattle.wat_lexer.specs.Sight.{as_shown, hidden}
-use Rattle.wat_lexer.specs.View.{view, toks, Shown}
+use Rattle.wat_lexer.specs.Sight.{visible_tokens, hidden_count}
+use Rattle.wat_lexer.specs.View.{view, toks, VisibleFrom}
 use Rattle.wat_lexer.specs.declared.token.Token.{Token}
 use Rattle.wat_tokens.specs.PartSpells.{one_reads}
 use Rattle.wat_tokens.specs.declared.cursor.Cursor.{Cursor}
 
 -- the tokens that a lookup sees
 abbrev pub in_front : Cursor → List Tok
-in_front c = as_shown c.known (toks (drop c.at c.tokens.now))
+in_front c = visible_tokens c.known (toks (drop c.at c.tokens.now))
 
 -- the first of the tokens from a place on that is visible stands at `front`, which is their end
 -- where none is
 pub record IsFront (known : Bool) (at front : ℕ) (ls : List Entry) : Type 0 where
-  pub behind : front ≡ at + hidden known (toks (drop at ls))
+  pub behind : front ≡ at + hidden_count known (toks (drop at ls))
   pub within : front ≤ length ls
-  pub shows : Shown known (drop front ls) (as_shown known (toks (drop at ls)))
+  pub shows : VisibleFrom known (drop front ls) (visible_tokens known (toks (drop at ls)))
 
 -- the token in front, where there is one
 abbrev pub FirstIs : Option Token → List Tok → Type 0
@@ -34,7 +34,7 @@ abbrev pub GivesRest : (Tok → Option (Unit {0})) → List Tok → Option Curso
 GivesRest is t (Some c) = one_reads is t ≡ Some (tt, in_front c)
 GivesRest is t None = one_reads is t ≡ None
 
--- the same, with what stands in the token, seen by content
+-- the same, with what is in the token, seen by content
 abbrev pub GivesContent : {X A : Type 0} → (X → A) → (Tok → Option A) → List Tok
     → Option (X × Cursor) → Type 0
 GivesContent content is t (Some x) = one_reads is t ≡ Some (content x.0, in_front x.1)

@@ -13,8 +13,8 @@ closes (RParen ∷ r) = closes r + 1
 closes (_ ∷ r) = closes r
 
 -- as many `(` as `)`
-abbrev pub AreLevel : List Tok → Type 0
-AreLevel c = opens c ≡ closes c
+abbrev pub AreBalanced : List Tok → Type 0
+AreBalanced c = opens c ≡ closes c
 
 -- the test holds of neither parenthesis
 abbrev pub NoParens : {A : Type 0} → (Tok → Option A) → Type 0

@@ -7,11 +7,11 @@ use Rattle.wat_tokens.specs.Parens.{NoParens}
 use Rattle.wat_tokens.specs.Production.{Production}
 use Rattle.wat_tokens.specs.PartSpells.{one_spells, one_reads, seq_spells, seq_reads, where_spells}
 use Rattle.wat_tokens.specs.PartSpells.{where_reads, of_spells, of_reads, opt_spells, opt_reads}
-use Rattle.wat_tokens.specs.Laws.Parts.{one_sound, one_complete, one_takes, one_level, seq_sound}
-use Rattle.wat_tokens.specs.Laws.Parts.{seq_complete, seq_takes, seq_level, where_sound}
-use Rattle.wat_tokens.specs.Laws.Parts.{where_complete, where_takes, where_level, of_sound}
-use Rattle.wat_tokens.specs.Laws.Parts.{of_complete, of_takes, of_level, opt_sound, opt_complete}
-use Rattle.wat_tokens.specs.Laws.Parts.{opt_takes, opt_level}
+use Rattle.wat_tokens.specs.Laws.Parts.{one_sound, one_complete, one_takes, one_balanced, seq_sound}
+use Rattle.wat_tokens.specs.Laws.Parts.{seq_complete, seq_takes, seq_balanced, where_sound}
+use Rattle.wat_tokens.specs.Laws.Parts.{where_complete, where_takes, where_balanced, of_sound}
+use Rattle.wat_tokens.specs.Laws.Parts.{of_complete, of_takes, of_balanced, opt_sound, opt_complete}
+use Rattle.wat_tokens.specs.Laws.Parts.{opt_takes, opt_balanced}
 
 -- ---- one token, which gives a value
 
@@ -24,7 +24,7 @@ one value_of flat = record {
   sound = one_sound value_of;
   complete = one_complete value_of;
   takes = one_takes value_of;
-  level = one_level value_of flat;
+  balanced = one_balanced value_of flat;
 }
 
 -- ---- one part, and then another
@@ -37,7 +37,7 @@ seq g h = record {
   sound = seq_sound g h;
   complete = seq_complete g h;
   takes = seq_takes g h;
-  level = seq_level g h;
+  balanced = seq_balanced g h;
 }
 
 -- ---- the one where a test of the tokens in front holds, else the other
@@ -51,7 +51,7 @@ where_else test g h = record {
   sound = where_sound test g h;
   complete = where_complete test g h;
   takes = where_takes test g h;
-  level = where_level test g h;
+  balanced = where_balanced test g h;
 }
 
 -- ---- a value made of the parts, where the parts meet a condition
@@ -64,7 +64,7 @@ made_where ok f g = record {
   sound = of_sound ok f g;
   complete = of_complete ok f g;
   takes = of_takes ok f g;
-  level = of_level ok f g;
+  balanced = of_balanced ok f g;
 }
 
 -- ---- an optional part: there where the tokens in front begin it
@@ -77,7 +77,7 @@ opt begins g = record {
   sound = opt_sound begins g;
   complete = opt_complete begins g;
   takes = opt_takes begins g;
-  level = opt_level begins g;
+  balanced = opt_balanced begins g;
 }
 
 -- ---- shorter names

@@ -1,7 +1,7 @@
 -- Productions: what tokens spell a value, and how it is read.
 use Rattle.std.specs.Prelude.{◌≡◌, ℕ, ◌≤◌, List, ◌++◌, length, Option, Some, None}
 use Rattle.wat_lexer.specs.Token.{Tok}
-use Rattle.wat_tokens.specs.Parens.{AreLevel}
+use Rattle.wat_tokens.specs.Parens.{AreBalanced}
 
 -- a value and the tokens after it
 abbrev pub Read : Type 0 → Type 0
@@ -18,9 +18,9 @@ abbrev pub Front : {A : Type 0} → (A → List Tok → List Tok → Type 0) →
 Front spells t x = (c : List Tok) × (t ≡ c ++ x.1) × spells x.0 c x.1
 
 -- spells v c r: in front of the rest r the tokens c spell v.
--- reads t: the value that stands in front of t, and what is left.
+-- reads t: the value that is in front of t, and what is left.
 -- The facts say that the reader and the relation are one, that a value takes at least `least`
--- tokens, and that its parentheses are level.
+-- tokens, and that its parentheses are balanced.
 pub record Production (A : Type 0) : Type 1 where
   pub spells : A → List Tok → List Tok → Type 0
   pub reads : List Tok → Read A
@@ -28,7 +28,7 @@ pub record Production (A : Type 0) : Type 1 where
   pub sound : (t : List Tok) (x : A × List Tok) → reads t ≡ Some x → Front spells t x
   pub complete : (v : A) (c r : List Tok) → spells v c r → reads (c ++ r) ≡ Some (v, r)
   pub takes : (v : A) (c r : List Tok) → spells v c r → least ≤ length c
-  pub level : (v : A) (c r : List Tok) → spells v c r → AreLevel c
+  pub balanced : (v : A) (c r : List Tok) → spells v c r → AreBalanced c
 
 abbrev pub some_of : {A : Type 0} → A × List Tok → Read A
 some_of x = Some x

@@ -1,35 +1,35 @@
 -- What a call promises that reads by a production.
 use Rattle.std.specs.Prelude.{◌≡◌, ◌+◌, drop, Result, Option, IfOk, IfErr}
-use Rattle.wat_lexer.specs.Sight.{hidden}
+use Rattle.wat_lexer.specs.Sight.{hidden_count}
 use Rattle.wat_lexer.specs.Token.{Tok}
 use Rattle.wat_tokens.specs.Cost.{Cost, tokens_alone, Costs}
-use Rattle.wat_tokens.specs.Counts.{Counted, Kept}
+use Rattle.wat_tokens.specs.Counts.{Counted, SameSettings}
 use Rattle.wat_tokens.specs.Error.{Error, Unexpected}
 use Rattle.wat_tokens.specs.Parses.{Gives}
 use Rattle.wat_tokens.specs.PartSpells.{one_reads}
 use Rattle.wat_tokens.specs.Production.{Production, Read}
 use Rattle.wat_tokens.specs.State.{State}
-use Rattle.wat_tokens.specs.Views.{View, plain}
+use Rattle.wat_tokens.specs.Views.{ViewOf, plain}
 
 -- From a to b a call answered r, where `read` stood in front.
--- exact: what it answers is what stands in front, and it is refused where nothing does, or where
+-- exact: what it answers is what is in front, and it is refused where nothing does, or where
 -- memory ran out
 -- counts: what was taken, and no more turns than tokens
 -- cost: what wasn't counted
 -- names: which names are on, and whether spans are kept, stays
-pub record Call {X A : Type 0} (price : Cost) (view : View X A) (read : Read A) (r : Result X Error)
+pub record Call {X A : Type 0} (price : Cost) (view : ViewOf X A) (read : Read A) (r : Result X Error)
     (a b : State) : Type 0 where
   pub exact : Gives view r read b.left
   pub counts : Counted r a b
   pub cost : Costs price a b
-  pub names : Kept a b
+  pub settings : SameSettings a b
 
 -- it answers the value that the tokens in front spell, as it is seen, and counts tokens alone
-abbrev pub Reads : {X A : Type 0} → View X A → Production A → Result X Error → State → State → Type 0
+abbrev pub Reads : {X A : Type 0} → ViewOf X A → Production A → Result X Error → State → State → Type 0
 Reads view g r a b = Call tokens_alone view (g.reads a.left) r a b
 
 -- the same of a call that may count more
-abbrev pub ReadsAt : {X A : Type 0} → Cost → View X A → Production A → Result X Error → State
+abbrev pub ReadsAt : {X A : Type 0} → Cost → ViewOf X A → Production A → Result X Error → State
     → State → Type 0
 ReadsAt price view g r a b = Call price view (g.reads a.left) r a b
 
@@ -44,6 +44,6 @@ Takes f value_of r a b = Call tokens_alone (plain f) (one_reads value_of a.left)
 abbrev pub Unmoved : {X : Type 0} → Result X Error → State → State → Type 0
 Unmoved r a b = IfErr r (λ e. (e.fault ≡ Unexpected) × (b ≡ a))
 
--- the parser stands directly behind the token, and not behind the groups that are passed over next
+-- the parser is directly behind the token, and not behind the groups that are passed over next
 abbrev pub BehindOne : {X : Type 0} → Result X Error → State → State → Type 0
-BehindOne r a b = IfOk r (λ _. b.rest ≡ drop (hidden a.known a.rest + 1) a.rest)
+BehindOne r a b = IfOk r (λ _. b.rest ≡ drop (hidden_count a.known a.rest + 1) a.rest)

@@ -14,5 +14,5 @@ restated g Spells to from = record {
   sound = λ t x e. (let y = g.sound t x e in (y.0, y.1, to x.0 y.0 x.1 y.2));
   complete = λ v c r s. g.complete v c r (from v c r s);
   takes = λ v c r s. g.takes v c r (from v c r s);
-  level = λ v c r s. g.level v c r (from v c r s);
+  balanced = λ v c r s. g.balanced v c r (from v c r s);
 }

@@ -1,13 +1,13 @@
 -- A parser as contracts see it.
 use Rattle.std.specs.Prelude.{◌≡◌, List, ℕ, zero, suc, ◌+◌, drop, Bool, true, false}
 use Rattle.wat_lexer.specs.Cut.{IsCut}
-use Rattle.wat_lexer.specs.Sight.{as_shown, hidden}
+use Rattle.wat_lexer.specs.Sight.{visible_tokens, hidden_count}
 use Rattle.wat_lexer.specs.Token.{Tok, Placed, tokens_of}
 
 -- rest: all tokens from the place on; left: those of them that are visible; known: whether the five
 -- standard names are on; tracks: whether spans of instructions are kept; the rest are counts: of
 -- tokens that were taken, turns of loops, comparisons of a word with a table's, and the greatest
--- heights of a stack's levels and of the heads that it holds
+-- heights of a stack's open groups and of the heads that it holds
 pub record State : Type 0 where
   pub rest : List Tok
   pub left : List Tok
@@ -23,7 +23,7 @@ pub record State : Type 0 where
 abbrev pub begun : List Tok → State
 begun t = record {
   rest = t;
-  left = as_shown false t;
+  left = visible_tokens false t;
   known = false;
   tracks = false;
   taken = 0;
@@ -40,8 +40,8 @@ IsFresh text p = (ts : List Placed) × IsCut text ts × (p ≡ begun (tokens_of 
 -- directly behind the first n of the tokens that are visible
 unfoldable pub behind : Bool → ℕ → List Tok → List Tok
 behind known zero t = t
-behind known (suc n) t = behind known n (drop (hidden known t + 1) t)
+behind known (suc n) t = behind known n (drop (hidden_count known t + 1) t)
 
 -- the parser with the five names on
-abbrev pub lit : State → State
-lit s = record s { known = true; left = as_shown true s.rest }
+abbrev pub annotated : State → State
+annotated s = record s { known = true; left = visible_tokens true s.rest }

@@ -1,4 +1,4 @@
--- What one token is, and what stands in front.
+-- What one token is, and what is in front.
 use Rattle.std.specs.Prelude.{ℕ, Bool, true, false, not, if◌then◌else◌, List, [], ◌∷◌, Option, Some}
 use Rattle.std.specs.Prelude.{None}
 use Rattle.std.specs.Str.{bytes_eq}
@@ -61,7 +61,7 @@ abbrev pub word_in : {A : Type 0} → List (List ℕ × A) → Tok → Option A
 word_in table (Keyword w) = look_up table w
 word_in table _ = None
 
--- ---- what stands in front
+-- ---- what is in front
 
 -- the word
 abbrev pub begins_word : List ℕ → List Tok → Bool

@@ -4,25 +4,25 @@ use Rattle.std.specs.Prelude.{Bool, true, false, List, [], ◌∷◌, Option, So
 -- of: what is seen of a value, without places and without references
 -- may_own: whether a value can hold a vector or a box
 -- bare: the value that is seen holds no box, and no vector that isn't empty
-pub record View (X A : Type 0) : Type 0 where
+pub record ViewOf (X A : Type 0) : Type 0 where
   pub of : X → A
   pub may_own : Bool
   pub bare : A → Bool
 
 -- of values that own nothing
-abbrev pub plain : {X A : Type 0} → (X → A) → View X A
+abbrev pub plain : {X A : Type 0} → (X → A) → ViewOf X A
 plain f = record { of = f; may_own = false; bare = λ _. true }
 
 -- of values that own memory unless they are bare
-abbrev pub owning : {X A : Type 0} → (X → A) → (A → Bool) → View X A
+abbrev pub owning : {X A : Type 0} → (X → A) → (A → Bool) → ViewOf X A
 owning f is_bare = record { of = f; may_own = true; bare = is_bare }
 
 -- of values that own memory only where values of another type do
-abbrev pub holding : {X A Y B : Type 0} → View X A → (Y → B) → (B → Bool) → View Y B
+abbrev pub holding : {X A Y B : Type 0} → ViewOf X A → (Y → B) → (B → Bool) → ViewOf Y B
 holding v f is_bare = record { of = f; may_own = v.may_own; bare = is_bare }
 
 -- of two values
-abbrev pub paired : {X A Y B : Type 0} → View X A → View Y B → View (X × Y) (A × B)
+abbrev pub paired : {X A Y B : Type 0} → ViewOf X A → ViewOf Y B → ViewOf (X × Y) (A × B)
 paired v w = record {
   of = λ p. (v.of p.0, w.of p.1);
   may_own = v.may_own || w.may_own;
@@ -35,13 +35,13 @@ no_items (v ∷ vs) = false
 
 -- ---- optional values
 
-abbrev pub seen_option : {X A : Type 0} → (X → A) → Option X → Option A
-seen_option view (Some x) = Some (view x)
-seen_option view None = None
+abbrev pub option_view : {X A : Type 0} → (X → A) → Option X → Option A
+option_view view (Some x) = Some (view x)
+option_view view None = None
 
 abbrev pub bare_option : {A : Type 0} → (A → Bool) → Option A → Bool
 bare_option bare (Some v) = bare v
 bare_option bare None = true
 
-abbrev pub optional : {X A : Type 0} → View X A → View (Option X) (Option A)
-optional v = holding v (seen_option v.of) (bare_option v.bare)
+abbrev pub optional : {X A : Type 0} → ViewOf X A → ViewOf (Option X) (Option A)
+optional v = holding v (option_view v.of) (bare_option v.bare)

@@ -35,7 +35,7 @@ fn may_be_literal(cursor: Cursor<'_>) -> bool {
     !other && cursor.any().is_some()
 }
 
-/// Why no literal is read: FloatLiteral where one may stand in front, else Unexpected, each at the
+/// Why no literal is read: FloatLiteral where one may be in front, else Unexpected, each at the
 /// token in front.
 fn refused(parser: &Parser<'_>) -> Error
     ensures { result.fault ≢ Memory }
@@ -49,7 +49,7 @@ fn refused(parser: &Parser<'_>) -> Error
 
 /// No tokens are read as a number.
 impl<'a> Parse<'a> for F32 {
-    ghost Seen = { ℕ };
+    ghost View = { ℕ };
 
     ghost view = { plain (λ x. x.bits) };
 
@@ -62,7 +62,7 @@ impl<'a> Parse<'a> for F32 {
 
 /// No tokens are read as a number.
 impl<'a> Parse<'a> for F64 {
-    ghost Seen = { ℕ };
+    ghost View = { ℕ };
 
     ghost view = { plain (λ x. x.bits) };
 

@@ -6,7 +6,7 @@ ghost use Rattle.std.specs.Cmp.Lexicographic.{bytes_decides, nat_list_eq_equiv};
 ghost use Rattle.std.specs.Hash as fed;
 ghost use Rattle.std.specs.Str.{bytes_eq};
 ghost use Rattle.std.proofs.Common.{ap};
-ghost use Rattle.wat_tokens.specs.Index.{name_of, span_of, identifier, Idx, seen_index, index};
+ghost use Rattle.wat_tokens.specs.Index.{name_of, span_of, identifier, Idx, index_view, index};
 ghost use Rattle.wat_tokens.specs.Index.{begins_index, same_index, index_writes};
 ghost use Rattle.wat_tokens.specs.Laws.Index.{same_index_decides};
 ghost use Rattle.wat_tokens.specs.Lookup.{in_front};
@@ -90,14 +90,14 @@ pub enum Index<'a> {
 }
 
 impl PartialEq for Index<'_> {
-    ghost eq = { λ a b. same_index (seen_index a) (seen_index b) };
+    ghost eq = { λ a b. same_index (index_view a) (index_view b) };
 
-    ghost laws = { partial_equiv_from_equiv (on_equiv seen_index
+    ghost laws = { partial_equiv_from_equiv (on_equiv index_view
         (decided same_index same_index_decides)) };
 
     fn eq(&self, other: &Self) -> bool
-        ensures value { result ≡ same_index (seen_index self.now) (seen_index other.now) }
-        ensures alike { IsTrue result ↔ (seen_index self.now ≡ seen_index other.now) }
+        ensures value { result ≡ same_index (index_view self.now) (index_view other.now) }
+        ensures alike { IsTrue result ↔ (index_view self.now ≡ index_view other.now) }
     {
         match (self, other) {
             (Index::Num(a, _), Index::Num(b, _)) => a == b,
@@ -108,14 +108,14 @@ impl PartialEq for Index<'_> {
 }
 
 impl Eq for Index<'_> {
-    ghost laws = { on_equiv seen_index (decided same_index same_index_decides) };
+    ghost laws = { on_equiv index_view (decided same_index same_index_decides) };
 }
 
 impl Hash for Index<'_> {
-    ghost hash_input = { λ i. index_writes (seen_index i) };
+    ghost hash_input = { λ i. index_writes (index_view i) };
 
-    ghost respects_eq = { λ a b e. ap index_writes ((same_index_decides (seen_index a)
-        (seen_index b)).0 e) };
+    ghost respects_eq = { λ a b e. ap index_writes ((same_index_decides (index_view a)
+        (index_view b)).0 e) };
 
     fn hash<H: Hasher>(&self, state: &mut H) {
         match self {
@@ -132,7 +132,7 @@ impl Hash for Index<'_> {
 }
 
 impl<'a> Parse<'a> for Id<'a> {
-    ghost Seen = { List ℕ };
+    ghost View = { List ℕ };
 
     ghost view = { plain name_of };
 
@@ -162,9 +162,9 @@ impl<'p> Peek for Id<'p> {
 /// A number is read without a sign in 32 bits: it is refused with Range, at the number, where it is
 /// too large or a `-` is written.
 impl<'a> Parse<'a> for Index<'a> {
-    ghost Seen = { Idx };
+    ghost View = { Idx };
 
-    ghost view = { plain seen_index };
+    ghost view = { plain index_view };
 
     ghost grammar = { index };
 

@@ -16,7 +16,7 @@ use wat_lexer::number::Integer;
 
 /// An integer of any value, as it is written (Text Format, "Integers").
 impl<'a> Parse<'a> for Integer<'a> {
-    ghost Seen = { List ℕ };
+    ghost View = { List ℕ };
 
     ghost view = { plain text_of };
 
@@ -28,8 +28,8 @@ impl<'a> Parse<'a> for Integer<'a> {
 }
 
 /// Takes an integer and answers the unsigned number of so many bits that it reads as. It refuses
-/// with Unexpected where none stands in front, and with Range, at the integer, where its value is
-/// too large or a `-` is written.
+/// with Unexpected where none is in front, and with Range, at the integer, where its value is too
+/// large or a `-` is written.
 fn unsigned(parser: &mut Parser<'_>, bits: u32) -> Result<u64, Error>
     requires { IsTrue (is_width bits) }
     ensures reads { Reads (plain (λ n. n)) (unsigned bits) result parser.old parser.new }
@@ -44,7 +44,7 @@ fn unsigned(parser: &mut Parser<'_>, bits: u32) -> Result<u64, Error>
 
 /// An unsigned number of 8 bits (Text Format, "Integers").
 impl<'a> Parse<'a> for u8 {
-    ghost Seen = { ℕ };
+    ghost View = { ℕ };
 
     ghost view = { plain (λ n. n) };
 
@@ -69,7 +69,7 @@ impl Peek for u8 {
 
 /// An unsigned number of 16 bits (Text Format, "Integers").
 impl<'a> Parse<'a> for u16 {
-    ghost Seen = { ℕ };
+    ghost View = { ℕ };
 
     ghost view = { plain (λ n. n) };
 
@@ -94,7 +94,7 @@ impl Peek for u16 {
 
 /// An unsigned number of 32 bits (Text Format, "Integers").
 impl<'a> Parse<'a> for u32 {
-    ghost Seen = { ℕ };
+    ghost View = { ℕ };
 
     ghost view = { plain (λ n. n) };
 
@@ -119,7 +119,7 @@ impl Peek for u32 {
 
 /// An unsigned number of 64 bits (Text Format, "Integers").
 impl<'a> Parse<'a> for u64 {
-    ghost Seen = { ℕ };
+    ghost View = { ℕ };
 
     ghost view = { plain (λ n. n) };
 
@@ -143,7 +143,7 @@ impl Peek for u64 {
 }
 
 /// Takes an integer and answers the signed number of so many bits that it reads as. It refuses with
-/// Unexpected where none stands in front, and with Range, at the integer, where its value is out of
+/// Unexpected where none is in front, and with Range, at the integer, where its value is out of
 /// range.
 fn signed(parser: &mut Parser<'_>, bits: u32) -> Result<i64, Error>
     requires { IsTrue (is_width bits) }
@@ -159,7 +159,7 @@ fn signed(parser: &mut Parser<'_>, bits: u32) -> Result<i64, Error>
 
 /// A signed number of 8 bits (Text Format, "Integers").
 impl<'a> Parse<'a> for i8 {
-    ghost Seen = { ℤ };
+    ghost View = { ℤ };
 
     ghost view = { plain (λ n. n) };
 
@@ -184,7 +184,7 @@ impl Peek for i8 {
 
 /// A signed number of 16 bits (Text Format, "Integers").
 impl<'a> Parse<'a> for i16 {
-    ghost Seen = { ℤ };
+    ghost View = { ℤ };
 
     ghost view = { plain (λ n. n) };
 
@@ -209,7 +209,7 @@ impl Peek for i16 {
 
 /// A signed number of 32 bits (Text Format, "Integers").
 impl<'a> Parse<'a> for i32 {
-    ghost Seen = { ℤ };
+    ghost View = { ℤ };
 
     ghost view = { plain (λ n. n) };
 
@@ -234,7 +234,7 @@ impl Peek for i32 {
 
 /// A signed number of 64 bits (Text Format, "Integers").
 impl<'a> Parse<'a> for i64 {
-    ghost Seen = { ℤ };
+    ghost View = { ℤ };
 
     ghost view = { plain (λ n. n) };
 

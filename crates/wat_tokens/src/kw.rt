@@ -13,7 +13,7 @@ use crate::traits::{Parse, Peek};
 use wat_lexer::fault::Error;
 use wat_lexer::span::Span;
 
-/// Whether the keyword stands in front.
+/// Whether the keyword is in front.
 fn stands(cursor: Cursor<'_>, word: &str) -> bool
     ensures { result ≡ begins_word word.now (in_front cursor.entry) }
 {
@@ -36,7 +36,7 @@ impl Default for func {
 }
 
 impl<'a> Parse<'a> for func {
-    ghost Seen = { Unit {0} };
+    ghost View = { Unit {0} };
 
     ghost view = { plain (λ _. tt) };
 
@@ -72,7 +72,7 @@ impl Default for table {
 }
 
 impl<'a> Parse<'a> for table {
-    ghost Seen = { Unit {0} };
+    ghost View = { Unit {0} };
 
     ghost view = { plain (λ _. tt) };
 
@@ -108,7 +108,7 @@ impl Default for memory {
 }
 
 impl<'a> Parse<'a> for memory {
-    ghost Seen = { Unit {0} };
+    ghost View = { Unit {0} };
 
     ghost view = { plain (λ _. tt) };
 
@@ -144,7 +144,7 @@ impl Default for global {
 }
 
 impl<'a> Parse<'a> for global {
-    ghost Seen = { Unit {0} };
+    ghost View = { Unit {0} };
 
     ghost view = { plain (λ _. tt) };
 
@@ -180,7 +180,7 @@ impl Default for tag {
 }
 
 impl<'a> Parse<'a> for tag {
-    ghost Seen = { Unit {0} };
+    ghost View = { Unit {0} };
 
     ghost view = { plain (λ _. tt) };
 

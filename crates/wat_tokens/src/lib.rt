@@ -7,11 +7,11 @@
 
 pub mod cursor;
 pub mod floats;
-pub mod hand;
 pub mod index;
 pub mod integers;
 pub mod kw;
 pub mod name_annotation;
+pub mod ownership;
 pub mod parser;
 pub mod repeat;
 pub mod strings;

@@ -19,7 +19,7 @@ pub struct NameAnnotation<'a> {
 }
 
 impl<'a> Parse<'a> for NameAnnotation<'a> {
-    ghost Seen = { List ℕ };
+    ghost View = { List ℕ };
 
     ghost view = { plain (λ a. a.name.now) };
 

@@ -5,10 +5,10 @@ ghost use Rattle.std.specs.Prelude.{None, IfErr, MatchBool};
 ghost use Rattle.wat_lexer.specs.Cut.{IsCut, FirstFault};
 ghost use Rattle.wat_lexer.specs.Integer.{text_of};
 ghost use Rattle.wat_lexer.specs.Place.{offset_of};
-ghost use Rattle.wat_lexer.specs.Sight.{as_shown, hidden};
+ghost use Rattle.wat_lexer.specs.Sight.{visible_tokens, hidden_count};
 ghost use Rattle.wat_lexer.specs.Token.{Placed, LParen, RParen};
-ghost use Rattle.wat_lexer.specs.View.{toks, AreLeaps};
-ghost use Rattle.wat_tokens.specs.Counts.{Carries, Counted, Quiet, Kept};
+ghost use Rattle.wat_lexer.specs.View.{toks, AreSkips};
+ghost use Rattle.wat_tokens.specs.Counts.{Carries, Counted, Quiet, SameSettings};
 ghost use Rattle.wat_tokens.specs.Lookup.{in_front, FirstIs};
 ghost use Rattle.wat_tokens.specs.Error.{Error};
 ghost use Rattle.wat_tokens.specs.PartSpells.{one_reads};
@@ -28,19 +28,19 @@ use std::marker::Model;
 use wat_lexer::cut::cut;
 use wat_lexer::fault::{Error, Fault};
 use wat_lexer::number::Integer;
-use wat_lexer::sight::shown;
+use wat_lexer::sight::next_visible;
 use wat_lexer::span::Span;
 use wat_lexer::token::Token;
 use wat_lexer::tokens::Tokens;
 
 /// Takes the tokens of a text from the front.
 ///
-/// It stands directly behind the last token that it took. A group that begins with an annotation
-/// (Text Format, "Annotations") is passed over, whole, unless its annotation is known: none is at
-/// first, and [`with_standard_annotations`](Parser::with_standard_annotations) turns five on.
+/// It is directly behind the last token that it took. A group that begins with an annotation (Text
+/// Format, "Annotations") is passed over, whole, unless its annotation is known: none is at first,
+/// and [`with_standard_annotations`](Parser::with_standard_annotations) turns five on.
 ///
-/// A call that takes one token takes it where it stands in front. Else it refuses with Unexpected,
-/// at the token in front or at the end of the text, and leaves the parser as it was.
+/// A call that takes one token takes it where it is in front. Else it refuses with Unexpected, at
+/// the token in front or at the end of the text, and leaves the parser as it was.
 ///
 /// Names and strings that it gives out live as long as the text and the arena. Contracts see a
 /// parser as a `State`: the tokens that are left, which annotations are known, and what was
@@ -71,13 +71,13 @@ impl<'a> Model for Parser<'a> {
 
     ghost Value = { State };
 
-    ghost use Rattle.wat_lexer.specs.Sight.{as_shown};
-    ghost use Rattle.wat_lexer.specs.View.{toks, AreLeaps};
+    ghost use Rattle.wat_lexer.specs.Sight.{visible_tokens};
+    ghost use Rattle.wat_lexer.specs.View.{toks, AreSkips};
     ghost use Rattle.wat_tokens.specs.Lookup.{IsFront};
 
     ghost view = { λ p. record {
       rest = toks (drop p.at p.tokens);
-      left = as_shown p.known
+      left = visible_tokens p.known
           (toks (drop p.at p.tokens));
       known = p.known;
       tracks = p.tracks;
@@ -88,13 +88,13 @@ impl<'a> Model for Parser<'a> {
       held = p.held;
     } };
 
-    ghost invariant = { λ p. (p.at ≤ length p.tokens) × AreLeaps p.tokens × IsFront p.known p.at
+    ghost invariant = { λ p. (p.at ≤ length p.tokens) × AreSkips p.tokens × IsFront p.known p.at
         p.front p.tokens };
 }
 
 impl<'a> Parser<'a> {
-    /// Cuts a text into tokens (Text Format, "Lexical Format"), and stands in front of the first.
-    /// No annotation is known.
+    /// Cuts a text into tokens (Text Format, "Lexical Format"), and is in front of the first. No
+    /// annotation is known.
     ///
     /// Where the text can't be cut, it is refused with its first fault from the left: LexChar,
     /// LexString or LexComment, and where it has none of these, LexAnnotation. Memory may be
@@ -112,10 +112,10 @@ impl<'a> Parser<'a> {
 
     /// A parser in front of the tokens of a text of `end` bytes. No annotation is known.
     fn over(alloc: Global, tokens: Tokens<'a>, end: usize) -> Parser<'a>
-        requires { AreLeaps tokens }
+        requires { AreSkips tokens }
         ensures { result ≡ begun (toks tokens.entry) }
     {
-        let front = shown(&tokens, 0, false);
+        let front = next_visible(&tokens, 0, false);
         Parser {
             tokens,
             at: 0,
@@ -138,12 +138,12 @@ impl<'a> Parser<'a> {
     pub fn with_standard_annotations(&mut self, on: bool)
         ensures value { self.new ≡ record self.old {
           known = on;
-          left = as_shown on self.old.rest;
+          left = visible_tokens on self.old.rest;
         } }
-        ensures was { self.old.left ≡ as_shown self.old.known self.old.rest }
+        ensures was { self.old.left ≡ visible_tokens self.old.known self.old.rest }
     {
         self.known = on;
-        self.front = shown(&self.tokens, self.at, on);
+        self.front = next_visible(&self.tokens, self.at, on);
     }
 
     /// Whether the five standard annotations are known.
@@ -243,15 +243,15 @@ impl<'a> Parser<'a> {
         self.first().is_none()
     }
 
-    /// Whether nothing is left, or what closes a group stands in front.
-    #[tactic(auto, using(crate::proofs::Steps::paren_steps, wat_lexer::specs::Laws::Shown::shown_some, wat_lexer::specs::Laws::Shown::shown_none))]
+    /// Whether nothing is left, or what closes a group is in front.
+    #[tactic(auto, using(crate::proofs::Steps::paren_steps, wat_lexer::specs::Laws::VisibleFrom::visible_some, wat_lexer::specs::Laws::VisibleFrom::visible_none))]
     pub fn is_empty(&self) -> bool
         ensures { result ≡ ends self.now.left }
     {
         self.front >= self.tokens.len() || self.tokens.closes(self.front)
     }
 
-    /// Whether the keyword stands in front.
+    /// Whether the keyword is in front.
     pub fn next_is(&self, word: &str) -> bool
         ensures { result ≡ begins_word word.now self.now.left }
     {
@@ -261,7 +261,7 @@ impl<'a> Parser<'a> {
         }
     }
 
-    /// Whether a group that begins with the keyword stands in front.
+    /// Whether a group that begins with the keyword is in front.
     pub fn group_is(&self, word: &str) -> bool
         ensures { result ≡ begins_group word.now self.now.left }
     {
@@ -281,8 +281,8 @@ impl<'a> Parser<'a> {
         }
     }
 
-    /// Whether a group that begins with the annotation of the name, given without its `@`, stands
-    /// in front.
+    /// Whether a group that begins with the annotation of the name, given without its `@`, is in
+    /// front.
     pub fn annotation_is(&self, name: &str) -> bool
         ensures { result ≡ begins_annotation name.now self.now.left }
     {
@@ -296,7 +296,7 @@ impl<'a> Parser<'a> {
     }
 
     /// The token in front.
-    #[tactic(auto, using(wat_lexer::specs::Laws::Shown::shown_some, wat_lexer::specs::Laws::Shown::shown_none))]
+    #[tactic(auto, using(wat_lexer::specs::Laws::VisibleFrom::visible_some, wat_lexer::specs::Laws::VisibleFrom::visible_none))]
     fn first(&self) -> Option<Token<'a>>
         ensures { FirstIs result self.now.left }
     {
@@ -307,8 +307,8 @@ impl<'a> Parser<'a> {
         }
     }
 
-    /// Whether a `(` stands in front. No more is read of the token than its kind.
-    #[tactic(auto, using(crate::proofs::Steps::paren_steps, wat_lexer::specs::Laws::Shown::shown_some, wat_lexer::specs::Laws::Shown::shown_none))]
+    /// Whether a `(` is in front. No more is read of the token than its kind.
+    #[tactic(auto, using(crate::proofs::Steps::paren_steps, wat_lexer::specs::Laws::VisibleFrom::visible_some, wat_lexer::specs::Laws::VisibleFrom::visible_none))]
     fn opens(&self) -> bool
         ensures { MatchBool result (self.now.left ≡ LParen ∷ drop 1 self.now.left)
             (one_reads as_lparen self.now.left ≡ None) }
@@ -316,8 +316,8 @@ impl<'a> Parser<'a> {
         self.front < self.tokens.len() && self.tokens.opens(self.front)
     }
 
-    /// Whether a `)` stands in front. No more is read of the token than its kind.
-    #[tactic(auto, using(crate::proofs::Steps::paren_steps, wat_lexer::specs::Laws::Shown::shown_some, wat_lexer::specs::Laws::Shown::shown_none))]
+    /// Whether a `)` is in front. No more is read of the token than its kind.
+    #[tactic(auto, using(crate::proofs::Steps::paren_steps, wat_lexer::specs::Laws::VisibleFrom::visible_some, wat_lexer::specs::Laws::VisibleFrom::visible_none))]
     fn closes(&self) -> bool
         ensures { MatchBool result (self.now.left ≡ RParen ∷ drop 1 self.now.left)
             (one_reads as_rparen self.now.left ≡ None) }
@@ -330,16 +330,16 @@ impl<'a> Parser<'a> {
     fn advance(&mut self)
         requires { self.old.left ≢ [] }
         ensures left { self.new.left ≡ drop 1 self.old.left }
-        ensures stands { self.new.rest ≡ drop (hidden self.old.known self.old.rest + 1)
+        ensures position { self.new.rest ≡ drop (hidden_count self.old.known self.old.rest + 1)
             self.old.rest }
         ensures taken { self.new.taken ≡ self.old.taken + 1 }
         ensures quiet { Quiet self.old self.new }
-        ensures names { Kept self.old self.new }
+        ensures settings { SameSettings self.old self.new }
     {
         prove!(self.front < self.tokens.len());
         self.prev = self.tokens.offset(self.front);
         self.at = self.front + 1;
-        self.front = shown(&self.tokens, self.at, self.known);
+        self.front = next_visible(&self.tokens, self.at, self.known);
         self.taken.tick();
     }
 
@@ -347,12 +347,12 @@ impl<'a> Parser<'a> {
     fn step(&mut self)
         requires { self.old.left ≢ [] }
         ensures left { self.new.left ≡ drop 1 self.old.left }
-        ensures stands { self.new.rest ≡ drop (hidden self.old.known self.old.rest + 1)
+        ensures position { self.new.rest ≡ drop (hidden_count self.old.known self.old.rest + 1)
             self.old.rest }
         ensures counts { Carries self.old self.new }
         ensures taken { self.new.taken ≡ self.old.taken + 1 }
         ensures quiet { Quiet self.old self.new }
-        ensures names { Kept self.old self.new }
+        ensures settings { SameSettings self.old self.new }
     {
         self.advance();
     }
@@ -361,7 +361,7 @@ impl<'a> Parser<'a> {
     pub fn open(&mut self) -> Result<(), Error>
         ensures reads { Takes (λ x. x) as_lparen result self.old self.new }
         ensures refused { Unmoved result self.old self.new }
-        ensures stands { BehindOne result self.old self.new }
+        ensures position { BehindOne result self.old self.new }
     {
         if !self.opens() {
             return Err(self.unexpected());
@@ -374,7 +374,7 @@ impl<'a> Parser<'a> {
     pub fn close(&mut self) -> Result<(), Error>
         ensures reads { Takes (λ x. x) as_rparen result self.old self.new }
         ensures refused { Unmoved result self.old self.new }
-        ensures stands { BehindOne result self.old self.new }
+        ensures position { BehindOne result self.old self.new }
     {
         if !self.closes() {
             return Err(self.unexpected());
@@ -388,7 +388,7 @@ impl<'a> Parser<'a> {
     pub fn keyword(&mut self, word: &str) -> Result<Span, Error>
         ensures reads { Takes (λ _. tt) (word_only word.now) result self.old self.new }
         ensures refused { Unmoved result self.old self.new }
-        ensures stands { BehindOne result self.old self.new }
+        ensures position { BehindOne result self.old self.new }
     {
         match self.first() {
             Some(Token::Keyword(text)) if text == word => {
@@ -400,8 +400,8 @@ impl<'a> Parser<'a> {
         }
     }
 
-    /// Takes the one keyword (Text Format, "Tokens") where it stands in front, and answers whether
-    /// it did.
+    /// Takes the one keyword (Text Format, "Tokens") where it is in front, and answers whether it
+    /// did.
     pub fn flag(&mut self, word: &str) -> bool
         ensures reads { Reads (plain (λ b. b)) (flag word.now) (Ok result) self.old self.new }
     {
@@ -417,7 +417,7 @@ impl<'a> Parser<'a> {
     pub fn take_annotation(&mut self, name: &str) -> Result<Span, Error>
         ensures reads { Takes (λ _. tt) (annotation_only name.now) result self.old self.new }
         ensures refused { Unmoved result self.old self.new }
-        ensures stands { BehindOne result self.old self.new }
+        ensures position { BehindOne result self.old self.new }
     {
         match self.first() {
             Some(Token::Annotation(text)) if text == name => {
@@ -433,7 +433,7 @@ impl<'a> Parser<'a> {
     pub fn take_keyword(&mut self) -> Result<&'a str, Error>
         ensures reads { Takes (λ x. x.now) as_keyword result self.old self.new }
         ensures refused { Unmoved result self.old self.new }
-        ensures stands { BehindOne result self.old self.new }
+        ensures position { BehindOne result self.old self.new }
     {
         match self.first() {
             Some(Token::Keyword(text)) => {
@@ -449,7 +449,7 @@ impl<'a> Parser<'a> {
     pub fn take_id(&mut self) -> Result<&'a str, Error>
         ensures reads { Takes (λ x. x.now) as_id result self.old self.new }
         ensures refused { Unmoved result self.old self.new }
-        ensures stands { BehindOne result self.old self.new }
+        ensures position { BehindOne result self.old self.new }
     {
         match self.first() {
             Some(Token::Id(text)) => {
@@ -464,7 +464,7 @@ impl<'a> Parser<'a> {
     pub fn take_integer(&mut self) -> Result<Integer<'a>, Error>
         ensures reads { Takes text_of as_integer result self.old self.new }
         ensures refused { Unmoved result self.old self.new }
-        ensures stands { BehindOne result self.old self.new }
+        ensures position { BehindOne result self.old self.new }
     {
         match self.first() {
             Some(Token::Integer(integer)) => {
@@ -480,7 +480,7 @@ impl<'a> Parser<'a> {
     pub fn take_string(&mut self) -> Result<&'a [u8], Error>
         ensures reads { Takes (λ x. x.now) as_string result self.old self.new }
         ensures refused { Unmoved result self.old self.new }
-        ensures stands { BehindOne result self.old self.new }
+        ensures position { BehindOne result self.old self.new }
     {
         match self.first() {
             Some(Token::String(bytes)) => {

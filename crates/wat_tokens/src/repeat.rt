@@ -1,4 +1,4 @@
-//! Parts that stand one behind the other.
+//! Parts that are one behind the other.
 
 ghost use Rattle.std.specs.Prelude.{◌≡◌, ◌≤◌, [], map, List, Bool};
 ghost use Rattle.wat_lexer.specs.Token.{Tok};
@@ -9,25 +9,25 @@ ghost use Rattle.wat_tokens.specs.ManySpells.{many_reads};
 ghost use Rattle.wat_tokens.specs.Production.{Production};
 ghost use Rattle.wat_tokens.specs.Reads.{Call, ReadsAt};
 ghost use Rattle.wat_tokens.specs.Tests.{more};
-ghost use Rattle.wat_tokens.specs.Views.{View, owning, no_items};
+ghost use Rattle.wat_tokens.specs.Views.{ViewOf, owning, no_items};
 
 use crate::parser::Parser;
 use crate::traits::{Parse, Peek};
 use wat_lexer::fault::Error;
 
-/// How parts are read that stand one behind the other, each as a `V`, and where they end.
+/// How parts are read that are one behind the other, each as a `V`, and where they end.
 pub trait Part<'a, V> {
     /// What contracts see of a part.
-    ghost Seen: { Type 0 };
+    ghost View: { Type 0 };
 
     /// How a part is seen, and whether it owns memory.
-    ghost view: { View V Seen };
+    ghost view: { ViewOf V View };
 
     /// What is counted beside the tokens that are taken.
     ghost cost: { Cost } = { tokens_alone };
 
     /// Which tokens spell a part, and how it is read.
-    ghost grammar: { Production Seen };
+    ghost grammar: { Production View };
 
     /// Where one more part has to follow.
     ghost follows: { List Tok → Bool };
@@ -36,7 +36,7 @@ pub trait Part<'a, V> {
     fn follows(parser: &Parser<'a>) -> bool
         ensures { result ≡ follows parser.now.left };
 
-    /// Takes the part that stands in front, or refuses as [`Parse::parse`] does.
+    /// Takes the part that is in front, or refuses as [`Parse::parse`] does.
     fn take(parser: &mut Parser<'a>) -> Result<V, Error>
         ensures reads { ReadsAt cost view grammar result parser.old parser.new };
 }
@@ -60,16 +60,16 @@ pub fn parts<'a, V: Drop, P: Part<'a, V>>(
 /// How groups are read that hold any number of parts each, each part as a `V`, and where they end.
 pub trait Group<'a, V> {
     /// What contracts see of a part.
-    ghost Seen: { Type 0 };
+    ghost View: { Type 0 };
 
     /// How a part is seen, and whether it owns memory.
-    ghost view: { View V Seen };
+    ghost view: { ViewOf V View };
 
     /// What is counted beside the tokens that are taken.
     ghost cost: { Cost } = { tokens_alone };
 
     /// Which tokens spell a group, as the list of its parts, and how it is read.
-    ghost grammar: { Production (List Seen) };
+    ghost grammar: { Production (List View) };
 
     /// Where one more group has to follow.
     ghost follows: { List Tok → Bool };
@@ -78,8 +78,8 @@ pub trait Group<'a, V> {
     fn follows(parser: &Parser<'a>) -> bool
         ensures { result ≡ follows parser.now.left };
 
-    /// Takes the group that stands in front, each part put behind those that are there, or refuses
-    /// as [`Parse::parse`] does.
+    /// Takes the group that is in front, each part put behind those that are there, or refuses as
+    /// [`Parse::parse`] does.
     fn take(parser: &mut Parser<'a>, out: &mut Vec<V>) -> Result<(), Error>
         ensures reads { Call cost (owning (λ _. map view.of out.new.items) no_items)
             (after_front (map view.of out.old.items) (grammar.reads parser.old.left)) result
@@ -106,7 +106,7 @@ pub fn groups<'a, V: Drop, G: Group<'a, V>>(
 struct ToEnd;
 
 impl<'a, T: Parse<'a>> Part<'a, T> for ToEnd {
-    ghost Seen = { T.Seen };
+    ghost View = { T.View };
 
     ghost view = { T.view };
 
@@ -129,7 +129,7 @@ impl<'a, T: Parse<'a>> Part<'a, T> for ToEnd {
 struct WhileBegun;
 
 impl<'a, T: Parse<'a> + Peek> Part<'a, T> for WhileBegun {
-    ghost Seen = { T.Seen };
+    ghost View = { T.View };
 
     ghost view = { T.view };
 

@@ -13,7 +13,7 @@ use wat_lexer::fault::{Error, Fault};
 
 /// A string, as its bytes (Text Format, "Strings").
 impl<'a> Parse<'a> for &'a [u8] {
-    ghost Seen = { List ℕ };
+    ghost View = { List ℕ };
 
     ghost view = { plain (λ s. s.now) };
 
@@ -42,7 +42,7 @@ impl<'p> Peek for &'p [u8] {
 /// A string that is UTF-8 (Text Format, "Names"). Where the string in front isn't, it is refused
 /// with Utf8, at the string.
 impl<'a> Parse<'a> for &'a str {
-    ghost Seen = { List ℕ };
+    ghost View = { List ℕ };
 
     ghost view = { plain (λ s. s.now) };
 

@@ -4,7 +4,7 @@ ghost use Rattle.std.specs.Prelude.{◌≡◌, ◌≤◌, ◌+◌, max, length, 
 ghost use Rattle.std.specs.Prelude.{◌++◌, ◌≢◌, true};
 ghost use Rattle.wat_lexer.specs.Token.{Tok};
 ghost use Rattle.wat_tokens.specs.Cost.{Cost, tokens_alone, Costs};
-ghost use Rattle.wat_tokens.specs.Counts.{Counted, Turned, Grows, Kept};
+ghost use Rattle.wat_tokens.specs.Counts.{Counted, Turned, Grows, SameSettings};
 ghost use Rattle.wat_tokens.specs.Error.{Memory};
 ghost use Rattle.wat_tokens.specs.Lookup.{in_front};
 ghost use Rattle.wat_tokens.specs.Parens.{nest};
@@ -13,7 +13,7 @@ ghost use Rattle.wat_tokens.specs.Production.{Production, Front};
 ghost use Rattle.wat_tokens.specs.Reads.{ReadsAt};
 ghost use Rattle.wat_tokens.specs.State.{behind};
 ghost use Rattle.wat_tokens.specs.Tests.{second};
-ghost use Rattle.wat_tokens.specs.Views.{View};
+ghost use Rattle.wat_tokens.specs.Views.{ViewOf};
 
 use crate::cursor::Cursor;
 use crate::parser::Parser;
@@ -22,18 +22,18 @@ use wat_lexer::fault::Error;
 /// A type whose values tokens spell.
 pub trait Parse<'a>: Sized {
     /// What contracts see of a value: no spans, no references.
-    ghost Seen: { Type 0 };
+    ghost View: { Type 0 };
 
     /// How a value is seen, and whether it owns memory.
-    ghost view: { View Self Seen };
+    ghost view: { ViewOf Self View };
 
     /// What a parse may count beside the tokens that it takes.
     ghost cost: { Cost } = { tokens_alone };
 
     /// Which tokens spell a value, and how it is read.
-    ghost grammar: { Production Seen };
+    ghost grammar: { Production View };
 
-    /// Takes the tokens of a value that stands in front.
+    /// Takes the tokens of a value that is in front.
     ///
     /// Where none does, it is refused with the first fault that is met, and the parser then has
     /// some end of its tokens left. Memory may be answered where the value isn't bare.
@@ -41,7 +41,7 @@ pub trait Parse<'a>: Sized {
         ensures reads { ReadsAt cost view grammar result parser.old parser.new };
 }
 
-/// A type whose values begin with tokens that tell them from what else may stand there.
+/// A type whose values begin with tokens that tell them from what else may be there.
 pub trait Peek {
     /// Whether the tokens begin a value.
     ghost begins: { List Tok → Bool };
@@ -66,7 +66,7 @@ pub trait Peek {
 }
 
 impl<'a> Parser<'a> {
-    /// Takes the value that stands in front.
+    /// Takes the value that is in front.
     ///
     /// Where none does, it is refused with the first fault that is met, and the parser then has
     /// some end of its tokens left.
@@ -75,10 +75,10 @@ impl<'a> Parser<'a> {
         ensures sound { IfOk result (λ v. Front T.grammar.spells self.old.left
             (T.view.of v, self.new.left)) }
         // Where tokens in front spell a value, it is that one, or memory ran out.
-        ensures accepts { (v : T.Seen) (c r : List Tok) → self.old.left ≡ c ++ r
+        ensures accepts { (v : T.View) (c r : List Tok) → self.old.left ≡ c ++ r
             → T.grammar.spells v c r → Accepts T.view result v self.new.left r }
         // A fault other than Memory means that no tokens in front spell a value.
-        ensures refused { IfErr result (λ e. e.fault ≢ Memory → (v : T.Seen) (c r : List Tok)
+        ensures refused { IfErr result (λ e. e.fault ≢ Memory → (v : T.View) (c r : List Tok)
             → self.old.left ≡ c ++ r → T.grammar.spells v c r → ⊥) }
         // Memory comes only of a type that can hold a vector or a box.
         ensures memory { IfErr result (λ e. e.fault ≡ Memory → T.view.may_own ≡ true) }
@@ -97,13 +97,13 @@ impl<'a> Parser<'a> {
         ensures end { (c : List Tok) × (self.old.left ≡ c ++ self.new.left) }
         // No count fell.
         ensures grows { Grows self.old self.new }
-        // The parser stands directly behind the last token that was taken.
-        ensures stands { (c : List Tok) → self.old.left ≡ c ++ self.new.left
+        // The parser is directly behind the last token that was taken.
+        ensures position { (c : List Tok) → self.old.left ≡ c ++ self.new.left
             → self.new.rest ≡ behind self.old.known (length c) self.old.rest }
         ensures exact { Gives T.view result (T.grammar.reads self.old.left) self.new.left }
         ensures counts { Counted result self.old self.new }
         ensures cost { Costs T.cost self.old self.new }
-        ensures names { Kept self.old self.new }
+        ensures settings { SameSettings self.old self.new }
     {
         T::parse(self)
     }
@@ -123,8 +123,8 @@ impl<'a> Parser<'a> {
     }
 }
 
-/// No two fronts of one token list spell values, unless they are one front and one value.
+/// No two prefixes of one token list spell values, unless they are one prefix and one value.
 pub fn one_reading<'a, T: Parse<'a>>()
-    ensures { (v w : T.Seen) (c d r s : List Tok) → c ++ r ≡ d ++ s → T.grammar.spells v c r
+    ensures { (v w : T.View) (c d r s : List Tok) → c ++ r ≡ d ++ s → T.grammar.spells v c r
         → T.grammar.spells w d s → (v ≡ w) × (r ≡ s) × (c ≡ d) }
 {}

@@ -14,7 +14,7 @@ use crate::traits::Parse;
 use wat_lexer::fault::Error;
 
 /// A value between `(` and `)`.
-pub fn in_group<'a, T: Parse<'a> + Drop>(parser: &mut Parser<'a>) -> Result<T, Error>
+pub fn in_parens<'a, T: Parse<'a> + Drop>(parser: &mut Parser<'a>) -> Result<T, Error>
     ensures reads { ReadsAt T.cost T.view (paren T.grammar) result parser.old parser.new }
 {
     parser.open()?;

@@ -11,7 +11,7 @@ use crate::parser::Parser;
 use wat_lexer::fault::{Error, Fault};
 
 /// A type whose values are named by one keyword each (Text Format, "Tokens").
-pub trait Named: Copy {
+pub trait NamedByKeyword: Copy {
     /// The keywords, each with the value that it names.
     ghost words: { List (List ℕ × Self) };
 
@@ -23,7 +23,7 @@ pub trait Named: Copy {
 /// Takes the keyword in front and answers the value that it names. A keyword that names none, and
 /// what is no keyword, is refused with Unexpected, at the token in front.
 #[tactic(auto, using(crate::specs::Laws::Begin::reads_table, crate::specs::Laws::Begin::reads_no_table))]
-pub fn take_named<'a, T: Named>(parser: &mut Parser<'a>) -> Result<T, Error>
+pub fn take_named<'a, T: NamedByKeyword>(parser: &mut Parser<'a>) -> Result<T, Error>
     ensures reads { Takes (λ v. v) (word_in T.words) result parser.old parser.new }
 {
     let span = parser.cur_span();
@@ -33,9 +33,9 @@ pub fn take_named<'a, T: Named>(parser: &mut Parser<'a>) -> Result<T, Error>
     }
 }
 
-/// Whether a keyword that names a value stands at the place.
+/// Whether a keyword that names a value is at the place.
 #[tactic(auto, using(crate::specs::Laws::Begin::begins_table, crate::specs::Laws::Begin::begins_no_table))]
-pub fn begins_named<T: Named>(cursor: Cursor<'_>) -> bool
+pub fn begins_named<T: NamedByKeyword>(cursor: Cursor<'_>) -> bool
     ensures { result ≡ begins_one_of (word_in T.words) (in_front cursor.entry) }
 {
     match cursor.keyword() {

@@ -10,7 +10,7 @@ use wat_lexer::fault::Error;
 
 /// A value where one begins in front, and else None, with no tokens.
 impl<'a, T: Parse<'a> + Peek> Parse<'a> for Option<T> {
-    ghost Seen = { Option T.Seen };
+    ghost View = { Option T.View };
 
     ghost view = { optional T.view };
 
@@ -29,7 +29,7 @@ impl<'a, T: Parse<'a> + Peek> Parse<'a> for Option<T> {
 
 /// What the value alone is spelled as.
 impl<'a, T: Parse<'a> + Drop> Parse<'a> for Box<T> {
-    ghost Seen = { T.Seen };
+    ghost View = { T.View };
 
     ghost view = { owning (λ b. T.view.of b.value) (λ _. false) };
 

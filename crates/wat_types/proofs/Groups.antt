@@ -12,7 +12,7 @@ use Rattle.wat_tokens.specs.PartSpells.{with_rest}
 use Rattle.wat_tokens.specs.Views.{no_items}
 use Rattle.wat_types.specs.Value.{ValTy}
 use Rattle.wat_types.specs.Group.{ParamTy, Group, param, result, FuncTy, function_of, func_group, group_follows}
-use Rattle.wat_types.specs.Laws.Group.{func_group_eats}
+use Rattle.wat_types.specs.Laws.Group.{func_group_consumes}
 use Rattle.wat_types.specs.Order.{add}
 use Rattle.wat_types.specs.Function.{bare_function}
 use Rattle.wat_types.specs.FunctionSpells.{func_groups}
@@ -44,5 +44,5 @@ pub groups_not_bare : (labels : Bool) (f : FuncTy) (t : List Tok) (total : Read 
     → add_rest add f ((func_groups labels).reads t) ≡ total → NotBare bare_function total
 unfolding func_groups
 groups_not_bare labels f t total k h e = rw (← e) (by_read (add_read add f ((func_group labels).reads t))
-    (λ y m. rw (adding_goes_on add group_follows (func_group labels) (func_group_eats labels) f t y.0 y.1 k m) (rest_filled y.0 ((func_groups labels).reads y.1) (rw m at h)))
-    (λ m. rw (adding_fails add group_follows (func_group labels) (func_group_eats labels) f t k m) tt))
+    (λ y m. rw (adding_goes_on add group_follows (func_group labels) (func_group_consumes labels) f t y.0 y.1 k m) (rest_filled y.0 ((func_groups labels).reads y.1) (rw m at h)))
+    (λ m. rw (adding_fails add group_follows (func_group labels) (func_group_consumes labels) f t k m) tt))

@@ -7,12 +7,12 @@ use Rattle.wat_tokens.specs.Production.{Production}
 use Rattle.wat_tokens.specs.Parts.{seq, made, where_else, opt, flag, after_word}
 use Rattle.wat_tokens.specs.Many.{many}
 use Rattle.wat_tokens.specs.Groups.{paren, turn}
-use Rattle.wat_tokens.specs.Index.{Idx, seen_index, index, begins_index}
-use Rattle.wat_tokens.specs.Views.{no_items, seen_option}
-use Rattle.wat_types.specs.Label.{Label, seen_label, label}
+use Rattle.wat_tokens.specs.Index.{Idx, index_view, index, begins_index}
+use Rattle.wat_tokens.specs.Views.{no_items, option_view}
+use Rattle.wat_types.specs.Label.{Label, label_view, label}
 use Rattle.wat_types.specs.Group.{FuncTy}
-use Rattle.wat_types.specs.Function.{seen_function, bare_function, function_type}
-use Rattle.wat_types.specs.Struct.{seen_array, MemberTy, seen_struct}
+use Rattle.wat_types.specs.Function.{function_view, bare_function, function_type}
+use Rattle.wat_types.specs.Struct.{array_view, MemberTy, struct_view}
 use Rattle.wat_types.specs.declared.define.InnerTypeKind.{InnerTypeKind}
 use Rattle.wat_types.specs.declared.define.InnerTypeKind.TheVariants as code
 use Rattle.wat_types.specs.declared.define.TypeDef.{TypeDef}
@@ -29,11 +29,11 @@ pub data InnerKindTy : Type 0 where
   array : FieldTy → InnerKindTy
   cont : Idx → InnerKindTy
 
-abbrev pub seen_inner_kind : InnerTypeKind → InnerKindTy
-seen_inner_kind (code.Func f) = func (seen_function f)
-seen_inner_kind (code.Struct s) = struct_ (seen_struct s)
-seen_inner_kind (code.Array a) = array (seen_array a)
-seen_inner_kind (code.Cont c) = cont (seen_index c.0)
+abbrev pub inner_kind_view : InnerTypeKind → InnerKindTy
+inner_kind_view (code.Func f) = func (function_view f)
+inner_kind_view (code.Struct s) = struct_ (struct_view s)
+inner_kind_view (code.Array a) = array (array_view a)
+inner_kind_view (code.Cont c) = cont (index_view c.0)
 
 -- no parameter, no result and no field
 abbrev pub bare_inner_kind : InnerKindTy → Bool
@@ -62,16 +62,16 @@ pub record DefTy : Type 0 where
   pub describes : Option Idx
   pub final_type : Option Bool
 
-abbrev pub seen_def : TypeDef → DefTy
-seen_def d =
+abbrev pub def_view : TypeDef → DefTy
+def_view d =
     record {
-      kind = seen_inner_kind d.kind;
+      kind = inner_kind_view d.kind;
       shared = d.shared;
-      parents = map seen_index d.parents.items;
+      parents = map index_view d.parents.items;
       descriptor =
-          seen_option seen_index d.descriptor;
+          option_view index_view d.descriptor;
       describes =
-          seen_option seen_index d.describes;
+          option_view index_view d.describes;
       final_type = d.final_type;
     }
 
@@ -126,8 +126,8 @@ pub record TypeTy : Type 0 where
   pub label : Label
   pub def : DefTy
 
-abbrev pub seen_type : «Type» → TypeTy
-seen_type t = record { label = seen_label t.id t.name; def = seen_def t.def }
+abbrev pub type_view : «Type» → TypeTy
+type_view t = record { label = label_view t.id t.name; def = def_view t.def }
 
 abbrev pub bare_type : TypeTy → Bool
 bare_type t = bare_def t.def
@@ -140,8 +140,8 @@ type_ = made (λ v. record { label = v.0; def = v.1 })
 abbrev pub begins_type : List Tok → Bool
 begins_type t = begins_word (codes "type") t
 
-abbrev pub seen_types : List «Type» → List TypeTy
-seen_types ts = map seen_type ts
+abbrev pub types_view : List «Type» → List TypeTy
+types_view ts = map type_view ts
 
 abbrev pub grouped_type : Production TypeTy
 grouped_type = paren type_

@@ -5,8 +5,8 @@ use Rattle.wat_tokens.specs.Restated.{restated}
 use Rattle.wat_tokens.specs.Views.{no_items}
 use Rattle.wat_tokens.specs.declared.index.Id.{Id}
 use Rattle.wat_tokens.specs.declared.name_annotation.NameAnnotation.{NameAnnotation}
-use Rattle.wat_types.specs.Value.{seen_val}
-use Rattle.wat_types.specs.Label.{seen_label}
+use Rattle.wat_types.specs.Value.{val_view}
+use Rattle.wat_types.specs.Label.{label_view}
 use Rattle.wat_types.specs.Group.{ParamTy, FuncTy}
 use Rattle.wat_types.specs.declared.function.FunctionType.{FunctionType}
 use Rattle.wat_types.specs.declared.function.FunctionTypeNoNames.{FunctionTypeNoNames}
@@ -16,18 +16,18 @@ use Rattle.wat_types.specs.Laws.FunctionSpells.{function_to, function_from}
 
 -- ---- what contracts see
 
-abbrev pub seen_param : Option Id × Option NameAnnotation × ValType → ParamTy
-seen_param p = record { label = seen_label p.0 p.1; ty = seen_val p.2 }
+abbrev pub param_view : Option Id × Option NameAnnotation × ValType → ParamTy
+param_view p = record { label = label_view p.0 p.1; ty = val_view p.2 }
 
-abbrev pub seen_params : List (Option Id × Option NameAnnotation × ValType) → List ParamTy
-seen_params ps = map seen_param ps
+abbrev pub params_view : List (Option Id × Option NameAnnotation × ValType) → List ParamTy
+params_view ps = map param_view ps
 
-abbrev pub seen_function : FunctionType → FuncTy
-seen_function f =
-    record { params = seen_params f.params.items; results = map seen_val f.results.items }
+abbrev pub function_view : FunctionType → FuncTy
+function_view f =
+    record { params = params_view f.params.items; results = map val_view f.results.items }
 
-abbrev pub seen_unnamed : FunctionTypeNoNames → FuncTy
-seen_unnamed f = seen_function f.0
+abbrev pub unnamed_view : FunctionTypeNoNames → FuncTy
+unnamed_view f = function_view f.0
 
 -- no parameter and no result
 abbrev pub bare_function : FuncTy → Bool

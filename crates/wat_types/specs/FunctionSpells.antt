@@ -7,13 +7,13 @@ use Rattle.wat_tokens.specs.Many.{many}
 use Rattle.wat_types.specs.Group.{Group, func_group, group_follows, params_in, results_in, FuncTy}
 use Rattle.wat_types.specs.Group.{merged, InOrder, unlabelled}
 use Rattle.wat_types.specs.Order.{in_order}
-use Rattle.wat_types.specs.Laws.Group.{func_group_eats}
+use Rattle.wat_types.specs.Laws.Group.{func_group_consumes}
 
 -- ---- the grammar
 
 -- groups, to where the second token is neither `param` nor `result`
 unfoldable pub func_groups : Bool → Production (List Group)
-func_groups labels = many group_follows (func_group labels) (func_group_eats labels)
+func_groups labels = many group_follows (func_group labels) (func_group_consumes labels)
 
 -- groups: no result group with a type stands before a param group; params and results are the
 -- concatenations in order

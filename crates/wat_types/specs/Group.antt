@@ -9,7 +9,7 @@ use Rattle.wat_tokens.specs.Many.{many}
 use Rattle.wat_tokens.specs.Groups.{group}
 use Rattle.wat_types.specs.Value.{ValTy, val_type}
 use Rattle.wat_types.specs.Label.{Label, no_label, labelled, label, begins_label}
-use Rattle.wat_types.specs.Laws.Value.{val_type_eats}
+use Rattle.wat_types.specs.Laws.Value.{val_type_consumes}
 
 -- a parameter, and what names it
 pub record ParamTy : Type 0 where
@@ -27,7 +27,7 @@ plain_param_only = made plain_param val_type
 
 -- ValType*
 unfoldable pub plain_params : Production (List ParamTy)
-plain_params = many more plain_param_only val_type_eats
+plain_params = many more plain_param_only val_type_consumes
 
 -- where labels may stand and one begins, id? name? ValType; else ValType*
 unfoldable pub params : Bool → Production (List ParamTy)
@@ -37,7 +37,7 @@ params labels =
 
 -- ValType*
 unfoldable pub val_types : Production (List ValTy)
-val_types = many more val_type val_type_eats
+val_types = many more val_type val_type_consumes
 
 pub data Group : Type 0 where
   param : List ParamTy → Group

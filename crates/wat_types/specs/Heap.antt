@@ -6,7 +6,7 @@ use Rattle.wat_tokens.specs.Production.{Production}
 use Rattle.wat_tokens.specs.Parts.{one, made, where_else}
 use Rattle.wat_tokens.specs.Groups.{group}
 use Rattle.wat_tokens.specs.Begin.{begins_one_of}
-use Rattle.wat_tokens.specs.Index.{Idx, seen_index, index, begins_index}
+use Rattle.wat_tokens.specs.Index.{Idx, index_view, index, begins_index}
 use Rattle.wat_types.specs.declared.heap.AbstractHeapType.{AbstractHeapType}
 use Rattle.wat_types.specs.declared.heap.AbstractHeapType.TheVariants as word
 use Rattle.wat_types.specs.declared.heap.HeapType.{HeapType}
@@ -39,10 +39,10 @@ pub data HeapTy : Type 0 where
   exact : Idx → HeapTy
   abstract_ : Bool → AbstractHeapType → HeapTy
 
-abbrev pub seen_heap : HeapType → HeapTy
-seen_heap (code.Abstract shared t) = abstract_ shared t
-seen_heap (code.Concrete i) = concrete (seen_index i)
-seen_heap (code.Exact i) = exact (seen_index i)
+abbrev pub heap_view : HeapType → HeapTy
+heap_view (code.Abstract shared t) = abstract_ shared t
+heap_view (code.Concrete i) = concrete (index_view i)
+heap_view (code.Exact i) = exact (index_view i)
 
 -- idx | ( exact idx ) | ( shared abstract ) | abstract
 unfoldable pub heap_type : Production HeapTy

@@ -6,7 +6,7 @@ use Rattle.wat_tokens.specs.Production.{Production}
 use Rattle.wat_tokens.specs.Parts.{seq, made, opt}
 use Rattle.wat_tokens.specs.Index.{name_of, identifier}
 use Rattle.wat_tokens.specs.NameAnnotation.{name_annotation, begins_name}
-use Rattle.wat_tokens.specs.Views.{seen_option}
+use Rattle.wat_tokens.specs.Views.{option_view}
 use Rattle.wat_tokens.specs.declared.index.Id.{Id}
 use Rattle.wat_tokens.specs.declared.name_annotation.NameAnnotation.{NameAnnotation}
 
@@ -20,8 +20,8 @@ label_of i n = record { id = i; name = n }
 abbrev pub no_label : Label
 no_label = label_of None None
 
-abbrev pub seen_label : Option Id → Option NameAnnotation → Label
-seen_label i n = label_of (seen_option name_of i) (seen_option (λ a. a.name.now) n)
+abbrev pub label_view : Option Id → Option NameAnnotation → Label
+label_view i n = label_of (option_view name_of i) (option_view (λ a. a.name.now) n)
 
 -- an id or a name is there
 abbrev pub labelled : Label → Bool

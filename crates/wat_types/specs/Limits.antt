@@ -6,7 +6,7 @@ use Rattle.wat_tokens.specs.Parts.{word, seq, made, where_else, opt, flag}
 use Rattle.wat_tokens.specs.Groups.{group}
 use Rattle.wat_tokens.specs.Integers.{unsigned}
 use Rattle.wat_tokens.specs.Restated.{restated}
-use Rattle.wat_types.specs.Reference.{RefTy, seen_ref, ref_type}
+use Rattle.wat_types.specs.Reference.{RefTy, ref_view, ref_type}
 use Rattle.wat_types.specs.declared.limits.Limits.{Limits}
 use Rattle.wat_types.specs.declared.limits.MemoryType.{MemoryType}
 use Rattle.wat_types.specs.declared.limits.TableType.{TableType}
@@ -49,8 +49,8 @@ pub record TableTy : Type 0 where
   pub elem : RefTy
   pub shared : Bool
 
-abbrev pub seen_table_type : TableType → TableTy
-seen_table_type t = record { limits = t.limits; elem = seen_ref t.elem; shared = t.shared }
+abbrev pub table_type_view : TableType → TableTy
+table_type_view t = record { limits = t.limits; elem = ref_view t.elem; shared = t.shared }
 
 abbrev pub table_type_of : Bool × (Limits × RefTy) → TableTy
 table_type_of v = record { shared = v.0; limits = v.1.0; elem = v.1.1 }

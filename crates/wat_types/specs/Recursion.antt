@@ -5,17 +5,17 @@ use Rattle.wat_tokens.specs.Production.{Production}
 use Rattle.wat_tokens.specs.Parts.{after_word}
 use Rattle.wat_tokens.specs.Many.{many}
 use Rattle.wat_types.specs.declared.define.Rec.{Rec}
-use Rattle.wat_types.specs.Define.{TypeTy, begins_type, grouped_type, seen_types}
-use Rattle.wat_types.specs.Laws.Define.{grouped_type_eats}
+use Rattle.wat_types.specs.Define.{TypeTy, begins_type, grouped_type, types_view}
+use Rattle.wat_types.specs.Laws.Define.{grouped_type_consumes}
 
 -- ---- types and recursion groups
 
 -- ( Type )*, to where the second token isn't `type`
 unfoldable pub types : Production (List TypeTy)
-types = many (second begins_type) grouped_type grouped_type_eats
+types = many (second begins_type) grouped_type grouped_type_consumes
 
-abbrev pub seen_rec : Rec → List TypeTy
-seen_rec r = seen_types r.types.items
+abbrev pub rec_view : Rec → List TypeTy
+rec_view r = types_view r.types.items
 
 -- `rec ( Type )*`
 unfoldable pub rec : Production (List TypeTy)

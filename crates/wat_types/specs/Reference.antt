@@ -7,7 +7,7 @@ use Rattle.wat_tokens.specs.Production.{Production}
 use Rattle.wat_tokens.specs.Parts.{one, seq, made, where_else, flag}
 use Rattle.wat_tokens.specs.Groups.{group}
 use Rattle.wat_tokens.specs.Begin.{begins_one_of}
-use Rattle.wat_types.specs.Heap.{HeapTy, abstract_, seen_heap, heap_type}
+use Rattle.wat_types.specs.Heap.{HeapTy, abstract_, heap_view, heap_type}
 use Rattle.wat_types.specs.declared.heap.AbstractHeapType.{AbstractHeapType}
 use Rattle.wat_types.specs.declared.heap.AbstractHeapType.TheVariants as word
 use Rattle.wat_types.specs.declared.heap.HeapType.{HeapType}
@@ -19,8 +19,8 @@ pub record RefTy : Type 0 where
   pub nullable : Bool
   pub heap : HeapTy
 
-abbrev pub seen_ref : RefType → RefTy
-seen_ref t = record { nullable = t.nullable; heap = seen_heap t.heap }
+abbrev pub ref_view : RefType → RefTy
+ref_view t = record { nullable = t.nullable; heap = heap_view t.heap }
 
 -- the heap type that a shorthand names
 abbrev pub shorthand_words : List (List ℕ × AbstractHeapType)

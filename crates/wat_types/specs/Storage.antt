@@ -5,7 +5,7 @@ use Rattle.wat_tokens.specs.Tests.{begins_word, second}
 use Rattle.wat_tokens.specs.Production.{Production}
 use Rattle.wat_tokens.specs.Parts.{word, seq, made, where_else, flag}
 use Rattle.wat_tokens.specs.Groups.{paren}
-use Rattle.wat_types.specs.Value.{ValTy, seen_val, val_type}
+use Rattle.wat_types.specs.Value.{ValTy, val_view, val_type}
 use Rattle.wat_types.specs.declared.storage.StorageType.{StorageType}
 use Rattle.wat_types.specs.declared.storage.StorageType.TheVariants as code
 use Rattle.wat_types.specs.declared.storage.GlobalType.{GlobalType}
@@ -18,10 +18,10 @@ pub data StorageTy : Type 0 where
   i16 : StorageTy
   val : ValTy → StorageTy
 
-abbrev pub seen_storage : StorageType → StorageTy
-seen_storage code.I8 = i8
-seen_storage code.I16 = i16
-seen_storage (code.Val t) = val (seen_val t)
+abbrev pub storage_view : StorageType → StorageTy
+storage_view code.I8 = i8
+storage_view code.I16 = i16
+storage_view (code.Val t) = val (val_view t)
 
 -- i8 | i16 | ValType
 unfoldable pub storage_type : Production StorageTy
@@ -38,8 +38,8 @@ pub record GlobalTy : Type 0 where
   pub mutable : Bool
   pub shared : Bool
 
-abbrev pub seen_global_type : GlobalType → GlobalTy
-seen_global_type t = record { ty = seen_val t.ty; mutable = t.mutable; shared = t.shared }
+abbrev pub global_type_view : GlobalType → GlobalTy
+global_type_view t = record { ty = val_view t.ty; mutable = t.mutable; shared = t.shared }
 
 -- the second token is `shared` or `mut`, whatever the first is
 abbrev pub long_global : List Tok → Bool

@@ -5,18 +5,18 @@ use Rattle.wat_tokens.specs.Production.{Production}
 use Rattle.wat_tokens.specs.Parts.{seq, made, where_else}
 use Rattle.wat_tokens.specs.Many.{many}
 use Rattle.wat_tokens.specs.Groups.{group}
-use Rattle.wat_types.specs.Label.{Label, no_label, seen_label, label, begins_label}
-use Rattle.wat_types.specs.Storage.{seen_storage}
+use Rattle.wat_types.specs.Label.{Label, no_label, label_view, label, begins_label}
+use Rattle.wat_types.specs.Storage.{storage_view}
 use Rattle.wat_types.specs.declared.structure.ArrayType.{ArrayType}
 use Rattle.wat_types.specs.declared.structure.StructField.{StructField}
 use Rattle.wat_types.specs.declared.structure.StructType.{StructType}
 use Rattle.wat_types.specs.FieldType.{FieldTy, field_of, field_type}
-use Rattle.wat_types.specs.Laws.FieldType.{field_type_eats}
+use Rattle.wat_types.specs.Laws.FieldType.{field_type_consumes}
 
 -- ---- what an array holds, and a field
 
-abbrev pub seen_array : ArrayType → FieldTy
-seen_array a = field_of a.mutable (seen_storage a.ty)
+abbrev pub array_view : ArrayType → FieldTy
+array_view a = field_of a.mutable (storage_view a.ty)
 
 -- ---- the fields of a structure
 
@@ -28,14 +28,14 @@ pub record MemberTy : Type 0 where
 abbrev pub member_of : Label → FieldTy → MemberTy
 member_of l f = record { label = l; field = f }
 
-abbrev pub seen_member : StructField → MemberTy
-seen_member f = member_of (seen_label f.id f.name) (field_of f.mutable (seen_storage f.ty))
+abbrev pub member_view : StructField → MemberTy
+member_view f = member_of (label_view f.id f.name) (field_of f.mutable (storage_view f.ty))
 
-abbrev pub seen_members : List StructField → List MemberTy
-seen_members fs = map seen_member fs
+abbrev pub members_view : List StructField → List MemberTy
+members_view fs = map member_view fs
 
-abbrev pub seen_struct : StructType → List MemberTy
-seen_struct s = seen_members s.fields.items
+abbrev pub struct_view : StructType → List MemberTy
+struct_view s = members_view s.fields.items
 
 abbrev pub labelled_member : Label × FieldTy → List MemberTy
 labelled_member v = member_of v.0 v.1 ∷ []
@@ -45,7 +45,7 @@ plain_member = made (member_of no_label) field_type
 
 -- StructField*
 unfoldable pub plain_members : Production (List MemberTy)
-plain_members = many more plain_member field_type_eats
+plain_members = many more plain_member field_type_consumes
 
 -- where a label begins, id? name? StructField; else StructField*
 unfoldable pub members : Production (List MemberTy)

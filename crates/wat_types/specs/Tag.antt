@@ -1,14 +1,14 @@
 -- Types of tags.
 use Rattle.wat_tokens.specs.Production.{Production}
-use Rattle.wat_types.specs.Function.{seen_function, function_type}
+use Rattle.wat_types.specs.Function.{function_view, function_type}
 use Rattle.wat_types.specs.Group.{FuncTy, begins_func}
-use Rattle.wat_types.specs.Use.{UseTy, seen_use, type_use, SameFunction, SameUse}
+use Rattle.wat_types.specs.Use.{UseTy, use_view, type_use, SameFunction, SameUse}
 use Rattle.wat_types.specs.declared.tag.TagType.{TagType}
 use Rattle.wat_types.specs.declared.tag.TagType.TheVariants as code
 
 -- the use of a function type that it is
-abbrev pub seen_tag_type : TagType → UseTy FuncTy
-seen_tag_type (code.Exception u) = seen_use seen_function u
+abbrev pub tag_type_view : TagType → UseTy FuncTy
+tag_type_view (code.Exception u) = use_view function_view u
 
 -- a type use of a FunctionType
 abbrev pub tag_type : Production (UseTy FuncTy)

@@ -5,8 +5,8 @@ use Rattle.wat_tokens.specs.Tests.{begins_word, second}
 use Rattle.wat_tokens.specs.Production.{Production}
 use Rattle.wat_tokens.specs.Parts.{seq, made, opt}
 use Rattle.wat_tokens.specs.Groups.{group}
-use Rattle.wat_tokens.specs.Index.{Idx, seen_index, index}
-use Rattle.wat_tokens.specs.Views.{seen_option, bare_option}
+use Rattle.wat_tokens.specs.Index.{Idx, index_view, index}
+use Rattle.wat_tokens.specs.Views.{option_view, bare_option}
 use Rattle.wat_types.specs.declared.function.FunctionType.{FunctionType}
 use Rattle.wat_types.specs.declared.function.FunctionTypeNoNames.{FunctionTypeNoNames}
 use Rattle.wat_types.specs.declared.type_use.TypeUse.{TypeUse}
@@ -20,8 +20,8 @@ abbrev pub use_of : {A : Type 0} → Option Idx → Option A → UseTy A
 use_of i t = record { index = i; inline = t }
 
 -- its inline type seen by view
-abbrev pub seen_use : {T A : Type 0} → (T → A) → TypeUse T → UseTy A
-seen_use view u = use_of (seen_option seen_index u.index) (seen_option view u.inline)
+abbrev pub use_view : {T A : Type 0} → (T → A) → TypeUse T → UseTy A
+use_view view u = use_of (option_view index_view u.index) (option_view view u.inline)
 
 -- there is no inline type, or a bare one
 abbrev pub bare_use : {A : Type 0} → (A → Bool) → UseTy A → Bool

@@ -5,7 +5,7 @@ use Rattle.wat_tokens.specs.Tests.{word_in, look_up}
 use Rattle.wat_tokens.specs.Production.{Production}
 use Rattle.wat_tokens.specs.Parts.{one, made, where_else}
 use Rattle.wat_tokens.specs.Begin.{begins_one_of}
-use Rattle.wat_types.specs.Reference.{RefTy, seen_ref, ref_type, begins_shorthand, begins_long_ref}
+use Rattle.wat_types.specs.Reference.{RefTy, ref_view, ref_type, begins_shorthand, begins_long_ref}
 use Rattle.wat_types.specs.declared.value.ValType.{ValType}
 use Rattle.wat_types.specs.declared.value.ValType.TheVariants as code
 
@@ -18,13 +18,13 @@ pub data ValTy : Type 0 where
   v128 : ValTy
   ref : RefTy → ValTy
 
-abbrev pub seen_val : ValType → ValTy
-seen_val code.I32 = i32
-seen_val code.I64 = i64
-seen_val code.F32 = f32
-seen_val code.F64 = f64
-seen_val code.V128 = v128
-seen_val (code.Ref r) = ref (seen_ref r)
+abbrev pub val_view : ValType → ValTy
+val_view code.I32 = i32
+val_view code.I64 = i64
+val_view code.F32 = f32
+val_view code.F64 = f64
+val_view code.V128 = v128
+val_view (code.Ref r) = ref (ref_view r)
 
 -- the types of numbers and vectors
 abbrev pub plain_words : List (List ℕ × ValTy)
@@ -40,7 +40,7 @@ val_type =
 
 -- the type that the word names, where it is one of the five
 abbrev pub IsPlain : List ℕ → Option ValType → Type 0
-IsPlain w (Some t) = look_up plain_words w ≡ Some (seen_val t)
+IsPlain w (Some t) = look_up plain_words w ≡ Some (val_view t)
 IsPlain w None = look_up plain_words w ≡ None
 
 -- one of the five words

@@ -1,21 +1,21 @@
 //! Definitions of types, and recursion groups.
 
 ghost use Rattle.std.specs.Prelude.{◌≡◌, List};
-ghost use Rattle.wat_tokens.specs.Index.{Idx, seen_index, index};
+ghost use Rattle.wat_tokens.specs.Index.{Idx, index_view, index};
 ghost use Rattle.wat_tokens.specs.Lookup.{in_front};
 ghost use Rattle.wat_tokens.specs.Many.{after_front};
 ghost use Rattle.wat_tokens.specs.Reads.{Reads};
 ghost use Rattle.wat_tokens.specs.Tests.{second};
-ghost use Rattle.wat_tokens.specs.Views.{plain, owning, no_items, seen_option};
-ghost use Rattle.wat_types.specs.Define.{InnerKindTy, seen_inner_kind, bare_inner_kind, kind};
+ghost use Rattle.wat_tokens.specs.Views.{plain, owning, no_items, option_view};
+ghost use Rattle.wat_types.specs.Define.{InnerKindTy, inner_kind_view, bare_inner_kind, kind};
 ghost use Rattle.wat_types.specs.Define.{linked, DefTy};
-ghost use Rattle.wat_types.specs.Define.{seen_def, bare_def, type_def};
-ghost use Rattle.wat_types.specs.Define.{TypeTy, seen_type, bare_type, type_, begins_type};
-ghost use Rattle.wat_types.specs.Define.{grouped_type, seen_types};
-ghost use Rattle.wat_types.specs.Recursion.{types, seen_rec, rec};
+ghost use Rattle.wat_types.specs.Define.{def_view, bare_def, type_def};
+ghost use Rattle.wat_types.specs.Define.{TypeTy, type_view, bare_type, type_, begins_type};
+ghost use Rattle.wat_types.specs.Define.{grouped_type, types_view};
+ghost use Rattle.wat_types.specs.Recursion.{types, rec_view, rec};
 
 use crate::function::FunctionType;
-use crate::hand::{behind, in_parens, take_label};
+use crate::groups::{behind, in_parens, take_label};
 use crate::structure::{ArrayType, StructType};
 use wat_tokens::repeat::{Part, parts, while_begun};
 use wat_tokens::{Cursor, Id, Index, NameAnnotation, Parse, Parser, Peek, Result, Span};
@@ -81,9 +81,9 @@ pub struct Rec<'a> {
 
 /// An index.
 impl<'a> Parse<'a> for ContType<'a> {
-    ghost Seen = { Idx };
+    ghost View = { Idx };
 
-    ghost view = { plain (λ c. seen_index c.0) };
+    ghost view = { plain (λ c. index_view c.0) };
 
     ghost grammar = { index };
 
@@ -94,9 +94,9 @@ impl<'a> Parse<'a> for ContType<'a> {
 
 /// `func` FunctionType, `struct` StructType, `array` ArrayType, or `cont` ContType.
 impl<'a> Parse<'a> for InnerTypeKind<'a> {
-    ghost Seen = { InnerKindTy };
+    ghost View = { InnerKindTy };
 
-    ghost view = { owning seen_inner_kind bare_inner_kind };
+    ghost view = { owning inner_kind_view bare_inner_kind };
 
     ghost grammar = { kind };
 
@@ -118,7 +118,7 @@ impl<'a> Parse<'a> for InnerTypeKind<'a> {
 /// The index behind the word, where it stands, and then `) (`.
 #[tactic(auto, unfolding(crate::specs::Define::linked))]
 fn read_link<'a>(parser: &mut Parser<'a>, word: &str) -> Result<Option<Index<'a>>>
-    ensures reads { Reads (plain (seen_option seen_index)) (linked word.now) result parser.old
+    ensures reads { Reads (plain (option_view index_view)) (linked word.now) result parser.old
         parser.new }
 {
     if !parser.next_is(word) {
@@ -136,11 +136,11 @@ fn read_link<'a>(parser: &mut Parser<'a>, word: &str) -> Result<Option<Index<'a>
 struct Described<'a>(TypeDef<'a>);
 
 impl<'a> Parse<'a> for Described<'a> {
-    ghost use Rattle.wat_types.specs.Define.{DefTy, seen_def, bare_def, described};
+    ghost use Rattle.wat_types.specs.Define.{DefTy, def_view, bare_def, described};
 
-    ghost Seen = { DefTy };
+    ghost View = { DefTy };
 
-    ghost view = { owning (λ d. seen_def d.0) bare_def };
+    ghost view = { owning (λ d. def_view d.0) bare_def };
 
     ghost grammar = { described };
 
@@ -165,11 +165,11 @@ impl<'a> Parse<'a> for Described<'a> {
 struct MaybeShared<'a>(TypeDef<'a>);
 
 impl<'a> Parse<'a> for MaybeShared<'a> {
-    ghost use Rattle.wat_types.specs.Define.{DefTy, seen_def, bare_def, maybe_shared};
+    ghost use Rattle.wat_types.specs.Define.{DefTy, def_view, bare_def, maybe_shared};
 
-    ghost Seen = { DefTy };
+    ghost View = { DefTy };
 
-    ghost view = { owning (λ d. seen_def d.0) bare_def };
+    ghost view = { owning (λ d. def_view d.0) bare_def };
 
     ghost grammar = { maybe_shared };
 
@@ -188,9 +188,9 @@ impl<'a> Parse<'a> for MaybeShared<'a> {
 /// `sub final? idx* (` S `)` or S; S is `shared (` K `)` or K; K is (`describes` idx `) (`)?, then
 /// (`descriptor` idx `) (`)?, then an InnerTypeKind.
 impl<'a> Parse<'a> for TypeDef<'a> {
-    ghost Seen = { DefTy };
+    ghost View = { DefTy };
 
-    ghost view = { owning seen_def bare_def };
+    ghost view = { owning def_view bare_def };
 
     ghost grammar = { type_def };
 
@@ -212,9 +212,9 @@ impl<'a> Parse<'a> for TypeDef<'a> {
 
 /// `type id? name? (` TypeDef `)`.
 impl<'a> Parse<'a> for Type<'a> {
-    ghost Seen = { TypeTy };
+    ghost View = { TypeTy };
 
-    ghost view = { owning seen_type bare_type };
+    ghost view = { owning type_view bare_type };
 
     ghost grammar = { type_ };
 
@@ -254,9 +254,9 @@ impl<'p> Peek for Type<'p> {
 struct GroupedType;
 
 impl<'a> Part<'a, Type<'a>> for GroupedType {
-    ghost Seen = { TypeTy };
+    ghost View = { TypeTy };
 
-    ghost view = { owning seen_type bare_type };
+    ghost view = { owning type_view bare_type };
 
     ghost grammar = { grouped_type };
 
@@ -273,13 +273,13 @@ impl<'a> Part<'a, Type<'a>> for GroupedType {
 
 /// `rec`, then `( Type )` as long as the second token is `type`, whatever the first is.
 impl<'a> Parse<'a> for Rec<'a> {
-    ghost Seen = { List TypeTy };
+    ghost View = { List TypeTy };
 
-    ghost view = { owning seen_rec no_items };
+    ghost view = { owning rec_view no_items };
 
     ghost grammar = { rec };
 
-    #[tactic(auto, using(crate::specs::Laws::Define::grouped_type_eats), unfolding(crate::specs::Recursion::rec, crate::specs::Recursion::types))]
+    #[tactic(auto, using(crate::specs::Laws::Define::grouped_type_consumes), unfolding(crate::specs::Recursion::rec, crate::specs::Recursion::types))]
     fn parse(parser: &mut Parser<'a>) -> Result<Self> {
         let span = parser.keyword("rec")?;
         let mut types = Vec::new(parser.alloc());

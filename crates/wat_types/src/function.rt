@@ -11,7 +11,7 @@ ghost use Rattle.wat_tokens.specs.Parts.{made};
 ghost use Rattle.wat_tokens.specs.Reads.{Call, Reads};
 ghost use Rattle.wat_tokens.specs.Tests.{more};
 ghost use Rattle.wat_tokens.specs.Views.{plain, owning, no_items};
-ghost use Rattle.wat_types.specs.Function.{seen_param, seen_params, seen_function, seen_unnamed};
+ghost use Rattle.wat_types.specs.Function.{param_view, params_view, function_view, unnamed_view};
 ghost use Rattle.wat_types.specs.Function.{bare_function, function_groups, function_type};
 ghost use Rattle.wat_types.specs.FunctionNoNames.{function_type_no_names};
 ghost use Rattle.wat_types.specs.Group.{FuncTy, ParamTy, params, plain_param_only, func_group};
@@ -19,7 +19,7 @@ ghost use Rattle.wat_types.specs.Group.{group_follows, begins_func, val_types};
 ghost use Rattle.wat_types.specs.Group.{param as in_param, result as in_result};
 ghost use Rattle.wat_types.specs.Order.{add};
 
-use crate::hand::take_label;
+use crate::groups::take_label;
 use crate::value::ValType;
 use std::alloc::Global;
 use wat_tokens::repeat::{Part, parts, rest_of_group};
@@ -42,9 +42,9 @@ pub struct FunctionTypeNoNames<'a>(pub FunctionType<'a>);
 struct PlainParam;
 
 impl<'a> Part<'a, (Option<Id<'a>>, Option<NameAnnotation<'a>>, ValType<'a>)> for PlainParam {
-    ghost Seen = { ParamTy };
+    ghost View = { ParamTy };
 
-    ghost view = { plain seen_param };
+    ghost view = { plain param_view };
 
     ghost grammar = { plain_param_only };
 
@@ -63,14 +63,14 @@ impl<'a> Part<'a, (Option<Id<'a>>, Option<NameAnnotation<'a>>, ValType<'a>)> for
 
 /// The parameters of a group, each put behind those that are there; `labels` says whether one may
 /// have a label.
-#[tactic(auto, using(crate::specs::Laws::Value::val_type_eats), unfolding(crate::specs::Group::params, crate::specs::Group::plain_params))]
+#[tactic(auto, using(crate::specs::Laws::Value::val_type_consumes), unfolding(crate::specs::Group::params, crate::specs::Group::plain_params))]
 fn read_params<'a>(
     parser: &mut Parser<'a>,
     labels: bool,
     out: &mut Vec<(Option<Id<'a>>, Option<NameAnnotation<'a>>, ValType<'a>)>,
 ) -> Result<()>
-    ensures reads { Call tokens_alone (owning (λ _. seen_params out.new.items) no_items)
-        (after_front (seen_params out.old.items) ((params labels).reads parser.old.left)) result
+    ensures reads { Call tokens_alone (owning (λ _. params_view out.new.items) no_items)
+        (after_front (params_view out.old.items) ((params labels).reads parser.old.left)) result
         parser.old parser.new }
 {
     if labels && (parser.peek::<Id>() || parser.peek::<NameAnnotation>()) {
@@ -88,8 +88,8 @@ fn read_param_group<'a>(
     labels: bool,
     out: &mut FunctionType<'a>,
 ) -> Result<()>
-    ensures reads { Call tokens_alone (owning (λ _. seen_function out.new) bare_function)
-        (add_read add (seen_function out.old) ((made in_param (group (codes "param")
+    ensures reads { Call tokens_alone (owning (λ _. function_view out.new) bare_function)
+        (add_read add (function_view out.old) ((made in_param (group (codes "param")
         (params labels))).reads parser.old.left)) result parser.old parser.new }
 {
     parser.open()?;
@@ -103,10 +103,10 @@ fn read_param_group<'a>(
 }
 
 /// A result group, put behind what is there.
-#[tactic(auto, using(crate::specs::Laws::Value::val_type_eats), unfolding(crate::specs::Group::val_types))]
+#[tactic(auto, using(crate::specs::Laws::Value::val_type_consumes), unfolding(crate::specs::Group::val_types))]
 fn read_result_group<'a>(parser: &mut Parser<'a>, out: &mut FunctionType<'a>) -> Result<()>
-    ensures reads { Call tokens_alone (owning (λ _. seen_function out.new) bare_function)
-        (add_read add (seen_function out.old) ((made in_result
+    ensures reads { Call tokens_alone (owning (λ _. function_view out.new) bare_function)
+        (add_read add (function_view out.old) ((made in_result
         (group (codes "result") val_types)).reads parser.old.left)) result parser.old parser.new }
 {
     parser.open()?;
@@ -119,8 +119,8 @@ fn read_result_group<'a>(parser: &mut Parser<'a>, out: &mut FunctionType<'a>) ->
 /// One group, put behind what is there.
 #[tactic(auto, unfolding(crate::specs::Group::func_group))]
 fn read_group<'a>(parser: &mut Parser<'a>, labels: bool, out: &mut FunctionType<'a>) -> Result<()>
-    ensures reads { Call tokens_alone (owning (λ _. seen_function out.new) bare_function)
-        (add_read add (seen_function out.old) ((func_group labels).reads parser.old.left)) result
+    ensures reads { Call tokens_alone (owning (λ _. function_view out.new) bare_function)
+        (add_read add (function_view out.old) ((func_group labels).reads parser.old.left)) result
         parser.old parser.new }
 {
     if parser.group_is("param") {
@@ -145,7 +145,7 @@ fn group_next(parser: &Parser<'_>) -> bool
 
 /// Groups, as long as one has to follow.
 fn read_groups<'a>(parser: &mut Parser<'a>, labels: bool) -> Result<FunctionType<'a>>
-    ensures reads { Reads (owning seen_function bare_function) (function_groups labels) result
+    ensures reads { Reads (owning function_view bare_function) (function_groups labels) result
         parser.old parser.new }
 {
     let mut found = FunctionType::empty(parser.alloc());
@@ -173,7 +173,7 @@ impl<'a> FunctionType<'a> {
     /// result.
     pub fn clone(&self) -> Result<FunctionType<'a>>
         ensures copies { Copies (λ x y. (y.params.items ≡ x.params.items) ×
-            (y.results.items ≡ x.results.items)) (owning seen_function bare_function) result
+            (y.results.items ≡ x.results.items)) (owning function_view bare_function) result
             self.now }
     {
         let mut copy = FunctionType::empty(*self.params.allocator());
@@ -188,9 +188,9 @@ impl<'a> FunctionType<'a> {
 /// group follows a result group with a type, it is refused with ParamAfterResult, at the word
 /// `param`.
 impl<'a> Parse<'a> for FunctionType<'a> {
-    ghost Seen = { FuncTy };
+    ghost View = { FuncTy };
 
-    ghost view = { owning seen_function bare_function };
+    ghost view = { owning function_view bare_function };
 
     ghost grammar = { function_type };
 
@@ -233,7 +233,7 @@ impl<'a> FunctionTypeNoNames<'a> {
     /// result.
     pub fn clone(&self) -> Result<FunctionTypeNoNames<'a>>
         ensures copies { Copies (λ x y. (y.0.params.items ≡ x.0.params.items) ×
-            (y.0.results.items ≡ x.0.results.items)) (owning seen_unnamed bare_function) result
+            (y.0.results.items ≡ x.0.results.items)) (owning unnamed_view bare_function) result
             self.now }
     {
         Ok(FunctionTypeNoNames(self.0.clone()?))
@@ -242,9 +242,9 @@ impl<'a> FunctionTypeNoNames<'a> {
 
 /// As a [`FunctionType`], but an identifier or a name is refused with Unexpected.
 impl<'a> Parse<'a> for FunctionTypeNoNames<'a> {
-    ghost Seen = { FuncTy };
+    ghost View = { FuncTy };
 
-    ghost view = { owning seen_unnamed bare_function };
+    ghost view = { owning unnamed_view bare_function };
 
     ghost grammar = { function_type_no_names };
 

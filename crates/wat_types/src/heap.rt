@@ -4,10 +4,10 @@ ghost use Rattle.std.specs.Prelude.{◌≡◌};
 ghost use Rattle.wat_tokens.specs.Lookup.{in_front};
 ghost use Rattle.wat_tokens.specs.Views.{plain};
 ghost use Rattle.wat_types.specs.Heap.{abstract_words, abstract_heap_type, begins_abstract};
-ghost use Rattle.wat_types.specs.Heap.{heap_type, HeapTy, seen_heap, begins_heap};
+ghost use Rattle.wat_types.specs.Heap.{heap_type, HeapTy, heap_view, begins_heap};
 
-use crate::hand::{in_group, opens};
-use wat_tokens::words::{Named, begins_named, take_named};
+use crate::groups::{in_word_group, opens};
+use wat_tokens::words::{NamedByKeyword, begins_named, take_named};
 use wat_tokens::{Cursor, Index, Parse, Parser, Peek, Result};
 
 /// An abstract heap type (Text Format, Types, "Heap Types"). Each variant has the name of its word.
@@ -60,7 +60,7 @@ pub enum HeapType<'a> {
 }
 
 /// The type that a word names.
-impl Named for AbstractHeapType {
+impl NamedByKeyword for AbstractHeapType {
     ghost words = { abstract_words };
 
     fn named(word: &str) -> Option<Self> {
@@ -89,7 +89,7 @@ impl<'a> Parse<'a> for AbstractHeapType {
     ghost use Rattle.wat_types.specs.declared.heap.AbstractHeapType.{AbstractHeapType};
     ghost use Rattle.wat_types.specs.Heap.{abstract_heap_type};
 
-    ghost Seen = { AbstractHeapType };
+    ghost View = { AbstractHeapType };
 
     ghost view = { plain (λ t. t) };
 
@@ -116,9 +116,9 @@ impl Peek for AbstractHeapType {
 
 /// `idx`, `( exact idx )`, `( shared abstract )`, or an abstract heap type.
 impl<'a> Parse<'a> for HeapType<'a> {
-    ghost Seen = { HeapTy };
+    ghost View = { HeapTy };
 
-    ghost view = { plain seen_heap };
+    ghost view = { plain heap_view };
 
     ghost grammar = { heap_type };
 
@@ -134,11 +134,11 @@ impl<'a> Parse<'a> for HeapType<'a> {
             });
         }
         if parser.group_is("exact") {
-            return Ok(HeapType::Exact(in_group::<Index>(parser, "exact")?));
+            return Ok(HeapType::Exact(in_word_group::<Index>(parser, "exact")?));
         }
         Ok(HeapType::Abstract {
             shared: true,
-            ty: in_group::<AbstractHeapType>(parser, "shared")?,
+            ty: in_word_group::<AbstractHeapType>(parser, "shared")?,
         })
     }
 }

@@ -5,8 +5,8 @@ ghost use Rattle.wat_types.specs.Limits.{pagesize_or_none};
 ghost use Rattle.wat_types.specs.Rows.{PageSizes, Globals, LongLimits, FinalSub, OpenSub};
 ghost use Rattle.wat_types.specs.Rows.{Structure, Described, Uses};
 
-/// No two fronts of one token list spell a page size, written or left out, unless they are one
-/// front and one size.
+/// No two prefixes of one token list spell a page size, written or left out, unless they are one
+/// prefix and one size.
 #[tactic(auto, using(wat_tokens::specs::Laws::Once::reads_once))]
 pub fn one_page_size()
     ensures { HasOneReading pagesize_or_none }

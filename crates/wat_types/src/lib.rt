@@ -6,7 +6,7 @@
 
 pub mod define;
 pub mod function;
-mod hand;
+mod groups;
 pub mod heap;
 pub mod laws;
 pub mod limits;

@@ -5,7 +5,7 @@ ghost use Rattle.wat_tokens.specs.Reads.{Reads};
 ghost use Rattle.wat_tokens.specs.Views.{plain};
 ghost use Rattle.wat_types.specs.Exponent.{exponent};
 ghost use Rattle.wat_types.specs.Limits.{is_64, page_exponent, pagesize_or_none, TableTy};
-ghost use Rattle.wat_types.specs.Limits.{seen_table_type, table_type};
+ghost use Rattle.wat_types.specs.Limits.{table_type_view, table_type};
 
 use crate::reference::RefType;
 use wat_tokens::{Error, Fault, Parse, Parser, Result};
@@ -44,8 +44,8 @@ pub struct MemoryType {
     pub page_size_log2: Option<u32>,
 }
 
-/// Takes `i64` or `i32`, where it stands in front, and answers whether it is `i64` (Text Format,
-/// Types, "Limits").
+/// Takes `i64` or `i32`, where it is in front, and answers whether it is `i64` (Text Format, Types,
+/// "Limits").
 #[tactic(auto, unfolding(crate::specs::Limits::is_64))]
 pub fn take_is64<'a>(parser: &mut Parser<'a>) -> Result<bool>
     ensures reads { Reads (plain (λ b. b)) is_64 result parser.old parser.new }
@@ -64,7 +64,7 @@ impl<'a> Parse<'a> for Limits {
     ghost use Rattle.wat_types.specs.declared.limits.Limits.{Limits};
     ghost use Rattle.wat_types.specs.Limits.{limits_type};
 
-    ghost Seen = { Limits };
+    ghost View = { Limits };
 
     ghost view = { plain (λ l. l) };
 
@@ -108,9 +108,9 @@ fn take_exponent<'a>(parser: &mut Parser<'a>) -> Result<u32>
     }
 }
 
-/// Takes `( pagesize number )`, where `(` and `pagesize` stand in front, and answers the k for
-/// which the number is 2 to the k (Text Format, Types, "Memory Types", with the size of a page).
-/// Else it takes nothing and answers None.
+/// Takes `( pagesize number )`, where `(` and `pagesize` are in front, and answers the k for which
+/// the number is 2 to the k (Text Format, Types, "Memory Types", with the size of a page). Else it
+/// takes nothing and answers None.
 ///
 /// A number that is no power of two is refused with PageSize, at the number, and one that is too
 /// large for 32 bits or has a `-` with Range.
@@ -130,9 +130,9 @@ pub fn page_size<'a>(parser: &mut Parser<'a>) -> Result<Option<u32>>
 
 /// `shared` or not, limits, and the type of an element.
 impl<'a> Parse<'a> for TableType<'a> {
-    ghost Seen = { TableTy };
+    ghost View = { TableTy };
 
-    ghost view = { plain seen_table_type };
+    ghost view = { plain table_type_view };
 
     ghost grammar = { table_type };
 
@@ -154,7 +154,7 @@ impl<'a> Parse<'a> for MemoryType {
     ghost use Rattle.wat_types.specs.declared.limits.MemoryType.{MemoryType};
     ghost use Rattle.wat_types.specs.Limits.{memory_type};
 
-    ghost Seen = { MemoryType };
+    ghost View = { MemoryType };
 
     ghost view = { plain (λ m. m) };
 

@@ -4,11 +4,11 @@ ghost use Rattle.std.specs.Prelude.{◌≡◌, IfSome};
 ghost use Rattle.wat_tokens.specs.Lookup.{in_front};
 ghost use Rattle.wat_tokens.specs.Tests.{look_up};
 ghost use Rattle.wat_tokens.specs.Views.{plain};
-ghost use Rattle.wat_types.specs.Reference.{RefTy, ref_type, seen_ref, shorthand, shorthand_words};
+ghost use Rattle.wat_types.specs.Reference.{RefTy, ref_type, ref_view, shorthand, shorthand_words};
 ghost use Rattle.wat_types.specs.Reference.{begins_shorthand, begins_long_ref, begins_ref};
 ghost use Rattle.wat_types.specs.Reference.{nullable_ref, shared_ref};
 
-use crate::hand::{in_group, opens};
+use crate::groups::{in_word_group, opens};
 use crate::heap::{AbstractHeapType, HeapType};
 use wat_tokens::{Cursor, Error, Fault, Parse, Parser, Peek, Result};
 
@@ -52,7 +52,7 @@ impl<'a> Parse<'a> for Shorthand {
     ghost use Rattle.wat_types.specs.declared.heap.AbstractHeapType.{AbstractHeapType};
     ghost use Rattle.wat_types.specs.Reference.{shorthand};
 
-    ghost Seen = { AbstractHeapType };
+    ghost View = { AbstractHeapType };
 
     ghost view = { plain (λ s. s.0) };
 
@@ -78,11 +78,11 @@ struct LongRef<'a> {
 impl<'a> Parse<'a> for LongRef<'a> {
     ghost use Rattle.std.specs.Prelude.{Bool, codes};
     ghost use Rattle.wat_tokens.specs.Parts.{seq, flag};
-    ghost use Rattle.wat_types.specs.Heap.{HeapTy, seen_heap, heap_type};
+    ghost use Rattle.wat_types.specs.Heap.{HeapTy, heap_view, heap_type};
 
-    ghost Seen = { Bool × HeapTy };
+    ghost View = { Bool × HeapTy };
 
-    ghost view = { plain (λ r. (r.nullable, seen_heap r.heap)) };
+    ghost view = { plain (λ r. (r.nullable, heap_view r.heap)) };
 
     ghost grammar = { seq (flag (codes "null")) heap_type };
 
@@ -93,7 +93,7 @@ impl<'a> Parse<'a> for LongRef<'a> {
     }
 }
 
-/// Whether a shorthand stands there.
+/// Whether a shorthand is there.
 #[tactic(auto, using(wat_tokens::specs::Laws::Begin::begins_table, wat_tokens::specs::Laws::Begin::begins_no_table), unfolding(crate::specs::Reference::begins_shorthand))]
 pub(crate) fn shorthand_at(cursor: Cursor<'_>) -> bool
     ensures { result ≡ begins_shorthand (in_front cursor.entry) }
@@ -104,7 +104,7 @@ pub(crate) fn shorthand_at(cursor: Cursor<'_>) -> bool
     }
 }
 
-/// Whether a reference type in parentheses stands there.
+/// Whether a reference type in parentheses is there.
 pub(crate) fn long_ref_at(cursor: Cursor<'_>) -> bool
     ensures { result ≡ begins_long_ref (in_front cursor.entry) }
 {
@@ -241,9 +241,9 @@ impl<'a> RefType<'a> {
 
 /// `( ref null? HeapType )`, `( shared shorthand )`, or a shorthand.
 impl<'a> Parse<'a> for RefType<'a> {
-    ghost Seen = { RefTy };
+    ghost View = { RefTy };
 
-    ghost view = { plain seen_ref };
+    ghost view = { plain ref_view };
 
     ghost grammar = { ref_type };
 
@@ -253,10 +253,10 @@ impl<'a> Parse<'a> for RefType<'a> {
             return Ok(RefType::nullable(Shorthand::parse(parser)?.0));
         }
         if parser.group_is("ref") {
-            let LongRef { nullable, heap } = in_group::<LongRef>(parser, "ref")?;
+            let LongRef { nullable, heap } = in_word_group::<LongRef>(parser, "ref")?;
             return Ok(RefType { nullable, heap });
         }
-        let shorthand = in_group::<Shorthand>(parser, "shared")?;
+        let shorthand = in_word_group::<Shorthand>(parser, "shared")?;
         Ok(RefType {
             nullable: true,
             heap: HeapType::Abstract {

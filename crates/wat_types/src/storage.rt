@@ -2,8 +2,8 @@
 
 ghost use Rattle.std.specs.Prelude.{◌≡◌};
 ghost use Rattle.wat_tokens.specs.Views.{plain};
-ghost use Rattle.wat_types.specs.Storage.{StorageTy, seen_storage, storage_type, GlobalTy};
-ghost use Rattle.wat_types.specs.Storage.{seen_global_type, global_type, long_global};
+ghost use Rattle.wat_types.specs.Storage.{StorageTy, storage_view, storage_type, GlobalTy};
+ghost use Rattle.wat_types.specs.Storage.{global_type_view, global_type, long_global};
 
 use crate::value::ValType;
 use wat_tokens::{Parse, Parser, Result};
@@ -34,9 +34,9 @@ pub struct GlobalType<'a> {
 /// `i8`, `i16`, or a value type. Where none of them begins, it is refused with Unexpected, at the
 /// token in front.
 impl<'a> Parse<'a> for StorageType<'a> {
-    ghost Seen = { StorageTy };
+    ghost View = { StorageTy };
 
-    ghost view = { plain seen_storage };
+    ghost view = { plain storage_view };
 
     ghost grammar = { storage_type };
 
@@ -68,9 +68,9 @@ fn long_global_next(parser: &Parser<'_>) -> bool
 /// `(shared funcref)` is a shared global of `funcref`, and `(mut (shared funcref))` a mutable
 /// global of a shared reference.
 impl<'a> Parse<'a> for GlobalType<'a> {
-    ghost Seen = { GlobalTy };
+    ghost View = { GlobalTy };
 
-    ghost view = { plain seen_global_type };
+    ghost view = { plain global_type_view };
 
     ghost grammar = { global_type };
 

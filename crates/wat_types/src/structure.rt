@@ -7,12 +7,12 @@ ghost use Rattle.wat_tokens.specs.Many.{after_front};
 ghost use Rattle.wat_tokens.specs.Reads.{Call};
 ghost use Rattle.wat_tokens.specs.Tests.{more};
 ghost use Rattle.wat_tokens.specs.Views.{plain, owning, no_items};
-ghost use Rattle.wat_types.specs.Struct.{seen_array, MemberTy, seen_member, seen_members};
-ghost use Rattle.wat_types.specs.Struct.{plain_member, members, member_group, seen_struct};
+ghost use Rattle.wat_types.specs.Struct.{array_view, MemberTy, member_view, members_view};
+ghost use Rattle.wat_types.specs.Struct.{plain_member, members, member_group, struct_view};
 ghost use Rattle.wat_types.specs.FieldType.{FieldTy, field_type};
 ghost use Rattle.wat_types.specs.StructType.{struct_type};
 
-use crate::hand::{in_group, take_label};
+use crate::groups::{in_word_group, take_label};
 use crate::storage::StorageType;
 use wat_tokens::repeat::{Group, Part, groups, parts};
 use wat_tokens::{Fault, Id, NameAnnotation, Parse, Parser, Result};
@@ -49,16 +49,16 @@ pub struct StructType<'a> {
 
 /// Where the second token is `mut`: `( mut StorageType )`; else a storage type.
 impl<'a> Parse<'a> for ArrayType<'a> {
-    ghost Seen = { FieldTy };
+    ghost View = { FieldTy };
 
-    ghost view = { plain seen_array };
+    ghost view = { plain array_view };
 
     ghost grammar = { field_type };
 
     #[tactic(auto, unfolding(crate::specs::FieldType::field_type))]
     fn parse(parser: &mut Parser<'a>) -> Result<Self> {
         if parser.second_is("mut") {
-            let ty = in_group::<StorageType>(parser, "mut")?;
+            let ty = in_word_group::<StorageType>(parser, "mut")?;
             return Ok(ArrayType { mutable: true, ty });
         }
         let ty = StorageType::parse(parser)?;
@@ -70,9 +70,9 @@ impl<'a> Parse<'a> for ArrayType<'a> {
 struct PlainField;
 
 impl<'a> Part<'a, StructField<'a>> for PlainField {
-    ghost Seen = { MemberTy };
+    ghost View = { MemberTy };
 
-    ghost view = { plain seen_member };
+    ghost view = { plain member_view };
 
     ghost grammar = { plain_member };
 
@@ -94,10 +94,10 @@ impl<'a> Part<'a, StructField<'a>> for PlainField {
 }
 
 /// The fields of a group, each put behind those that are there.
-#[tactic(auto, using(crate::specs::Laws::FieldType::field_type_eats), unfolding(crate::specs::Struct::members, crate::specs::Struct::plain_members))]
+#[tactic(auto, using(crate::specs::Laws::FieldType::field_type_consumes), unfolding(crate::specs::Struct::members, crate::specs::Struct::plain_members))]
 fn read_fields<'a>(parser: &mut Parser<'a>, out: &mut Vec<StructField<'a>>) -> Result<()>
-    ensures reads { Call tokens_alone (owning (λ _. seen_members out.new.items) no_items)
-        (after_front (seen_members out.old.items) (members.reads parser.old.left)) result parser.old
+    ensures reads { Call tokens_alone (owning (λ _. members_view out.new.items) no_items)
+        (after_front (members_view out.old.items) (members.reads parser.old.left)) result parser.old
         parser.new }
 {
     if parser.peek::<Id>() || parser.peek::<NameAnnotation>() {
@@ -118,9 +118,9 @@ fn read_fields<'a>(parser: &mut Parser<'a>, out: &mut Vec<StructField<'a>>) -> R
 struct FieldGroup;
 
 impl<'a> Group<'a, StructField<'a>> for FieldGroup {
-    ghost Seen = { MemberTy };
+    ghost View = { MemberTy };
 
-    ghost view = { plain seen_member };
+    ghost view = { plain member_view };
 
     ghost grammar = { member_group };
 
@@ -144,7 +144,7 @@ impl<'a> StructType<'a> {
     /// The same structure type once more. Memory may be answered where it has a field.
     pub fn clone(&self) -> Result<StructType<'a>>
         ensures copies { Copies (λ x y. y.fields.items ≡ x.fields.items)
-            (owning seen_struct no_items) result self.now }
+            (owning struct_view no_items) result self.now }
     {
         let mut fields = Vec::new(*self.fields.allocator());
         'fields: for field in &self.fields {
@@ -158,13 +158,13 @@ impl<'a> StructType<'a> {
 /// or a name, and `( field StructField* )`. A StructField is, where the second token is `mut`, `(
 /// mut StorageType )`, else a storage type.
 impl<'a> Parse<'a> for StructType<'a> {
-    ghost Seen = { List MemberTy };
+    ghost View = { List MemberTy };
 
-    ghost view = { owning seen_struct no_items };
+    ghost view = { owning struct_view no_items };
 
     ghost grammar = { struct_type };
 
-    #[tactic(auto, using(wat_tokens::specs::Laws::Joined::joined_reads, crate::specs::Laws::Struct::member_group_eats), unfolding(crate::specs::StructType::struct_type))]
+    #[tactic(auto, using(wat_tokens::specs::Laws::Joined::joined_reads, crate::specs::Laws::Struct::member_group_consumes), unfolding(crate::specs::StructType::struct_type))]
     fn parse(parser: &mut Parser<'a>) -> Result<Self> {
         let mut fields = Vec::new(parser.alloc());
         groups::<_, FieldGroup>(parser, &mut fields)?;

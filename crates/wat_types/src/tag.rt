@@ -5,7 +5,7 @@ ghost use Rattle.wat_tokens.specs.Copies.{Copies};
 ghost use Rattle.wat_tokens.specs.Views.{owning};
 ghost use Rattle.wat_types.specs.Function.{bare_function};
 ghost use Rattle.wat_types.specs.Group.{FuncTy};
-ghost use Rattle.wat_types.specs.Tag.{SameTag, seen_tag_type, tag_type};
+ghost use Rattle.wat_types.specs.Tag.{SameTag, tag_type_view, tag_type};
 ghost use Rattle.wat_types.specs.Use.{UseTy, bare_use};
 
 use crate::function::FunctionType;
@@ -23,7 +23,7 @@ impl<'a> TagType<'a> {
     /// The same type once more. Memory may be answered where its inline type has a parameter or a
     /// result.
     pub fn clone(&self) -> Result<TagType<'a>>
-        ensures copies { Copies SameTag (owning seen_tag_type (bare_use bare_function)) result
+        ensures copies { Copies SameTag (owning tag_type_view (bare_use bare_function)) result
             self.now }
     {
         match self {
@@ -34,9 +34,9 @@ impl<'a> TagType<'a> {
 
 /// As a [`TypeUse`] of a [`FunctionType`].
 impl<'a> Parse<'a> for TagType<'a> {
-    ghost Seen = { UseTy FuncTy };
+    ghost View = { UseTy FuncTy };
 
-    ghost view = { owning seen_tag_type (bare_use bare_function) };
+    ghost view = { owning tag_type_view (bare_use bare_function) };
 
     ghost grammar = { tag_type };
 

@@ -3,12 +3,12 @@
 ghost use Rattle.std.specs.Prelude.{◌≡◌, Some, None};
 ghost use Rattle.wat_tokens.specs.Copies.{Copies};
 ghost use Rattle.wat_tokens.specs.Views.{owning, holding};
-ghost use Rattle.wat_types.specs.Function.{seen_function, seen_unnamed, bare_function};
-ghost use Rattle.wat_types.specs.Use.{UseTy, seen_use, bare_use, type_use, SameFunction};
+ghost use Rattle.wat_types.specs.Function.{function_view, unnamed_view, bare_function};
+ghost use Rattle.wat_types.specs.Use.{UseTy, use_view, bare_use, type_use, SameFunction};
 ghost use Rattle.wat_types.specs.Use.{SameUnnamed, SameUse, with_names};
 
 use crate::function::{FunctionType, FunctionTypeNoNames};
-use crate::hand::in_group;
+use crate::groups::in_word_group;
 use wat_tokens::{Fault, Index, Parse, Parser, Peek, Result};
 
 /// A use of a type (WebAssembly Core Specification, Text Format, "Type Uses"): its index, the type
@@ -37,9 +37,9 @@ impl<'a, T> TypeUse<'a, T> {
 /// `( type idx )`, where the second token is `type`, and then T, where one begins. Where a token
 /// other than `(` stands before `type`, it is refused with Unexpected, at that token.
 impl<'a, T: Parse<'a> + Peek> Parse<'a> for TypeUse<'a, T> {
-    ghost Seen = { UseTy T.Seen };
+    ghost View = { UseTy T.View };
 
-    ghost view = { holding T.view (seen_use T.view.of) (bare_use T.view.bare) };
+    ghost view = { holding T.view (use_view T.view.of) (bare_use T.view.bare) };
 
     ghost cost = { T.cost };
 
@@ -48,7 +48,7 @@ impl<'a, T: Parse<'a> + Peek> Parse<'a> for TypeUse<'a, T> {
     #[tactic(auto, unfolding(crate::specs::Use::type_use))]
     fn parse(parser: &mut Parser<'a>) -> Result<Self> {
         let index = if parser.second_is("type") {
-            Some(in_group::<Index>(parser, "type")?)
+            Some(in_word_group::<Index>(parser, "type")?)
         } else {
             None
         };
@@ -61,7 +61,7 @@ impl<'a> TypeUse<'a, FunctionType<'a>> {
     /// The same use once more. Memory may be answered where its inline type has a parameter or a
     /// result.
     pub fn clone(&self) -> Result<Self>
-        ensures copies { Copies (SameUse SameFunction) (owning (seen_use seen_function)
+        ensures copies { Copies (SameUse SameFunction) (owning (use_view function_view)
             (bare_use bare_function)) result self.now }
     {
         Ok(TypeUse {
@@ -75,7 +75,7 @@ impl<'a> TypeUse<'a, FunctionTypeNoNames<'a>> {
     /// The same use once more. Memory may be answered where its inline type has a parameter or a
     /// result.
     pub fn clone(&self) -> Result<Self>
-        ensures copies { Copies (SameUse SameUnnamed) (owning (seen_use seen_unnamed)
+        ensures copies { Copies (SameUse SameUnnamed) (owning (use_view unnamed_view)
             (bare_use bare_function)) result self.now }
     {
         Ok(TypeUse {

@@ -3,7 +3,7 @@
 ghost use Rattle.std.specs.Prelude.{◌≡◌};
 ghost use Rattle.wat_tokens.specs.Lookup.{in_front};
 ghost use Rattle.wat_tokens.specs.Views.{plain};
-ghost use Rattle.wat_types.specs.Value.{ValTy, seen_val, val_type, IsPlain, begins_plain};
+ghost use Rattle.wat_types.specs.Value.{ValTy, val_view, val_type, IsPlain, begins_plain};
 ghost use Rattle.wat_types.specs.Value.{begins_val};
 
 use crate::reference::{RefType, long_ref_at, shorthand_at};
@@ -43,9 +43,9 @@ fn plain<'a>(word: &str) -> Option<ValType<'a>>
 
 /// `i32`, `i64`, `f32`, `f64`, `v128`, or a reference type.
 impl<'a> Parse<'a> for ValType<'a> {
-    ghost Seen = { ValTy };
+    ghost View = { ValTy };
 
-    ghost view = { plain seen_val };
+    ghost view = { plain val_view };
 
     ghost grammar = { val_type };
 
@@ -65,7 +65,7 @@ impl<'a> Parse<'a> for ValType<'a> {
     }
 }
 
-/// Whether one of the five words stands there.
+/// Whether one of the five words is there.
 #[tactic(auto, using(wat_tokens::specs::Laws::Begin::begins_table, wat_tokens::specs::Laws::Begin::begins_no_table), unfolding(crate::specs::Value::begins_plain))]
 fn plain_at(cursor: Cursor<'_>) -> bool
     ensures { result ≡ begins_plain (in_front cursor.entry) }

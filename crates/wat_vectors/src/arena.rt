@@ -3,7 +3,7 @@
 use bumpalo::Bump;
 use std::alloc::Global as Allocator;
 use std::test::Fail;
-use wat_core::{Module, ModuleKind, Parser, hand};
+use wat_core::{Module, ModuleKind, Parser, ownership};
 
 /// How many fields a text's module has. The arena is given back where nothing of the module is used
 /// any more.
@@ -12,12 +12,12 @@ fn fields_of(alloc: Allocator, text: &str) -> Result<usize, Fail> {
     let mut parser = Parser::new(alloc, text, &arena)?;
     parser.open()?;
     let module = Module::parse(&mut parser)?;
-    hand::let_go(parser);
+    ownership::discard(parser);
     let fields = match &module.kind {
         ModuleKind::Text(fields) => fields.len(),
         ModuleKind::Binary(_) => 0,
     };
-    hand::let_go(module);
+    ownership::discard(module);
     arena.reset()?;
     Ok(fields)
 }

@@ -5,5 +5,5 @@ use Rattle.wat_core.specs.FieldGroup.{field_group}
 
 -- ---- the grammar
 
-pub field_group_eats : 1 ≤ field_group.least
-field_group_eats = omega arith
+pub field_group_consumes : 1 ≤ field_group.least
+field_group_consumes = omega arith

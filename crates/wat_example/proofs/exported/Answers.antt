@@ -1,6 +1,6 @@
 use Rattle.std.proofs.Common.{◌∙◌, ap, ◌++◌, List, ℕ}
 use Rattle.std.proofs.lemmas.Result.{err_from_is_err_and}
-use Rattle.wat_core.specs.Module.{seen_module}
+use Rattle.wat_core.specs.Module.{module_view}
 use Rattle.wat_example.specs.Listing.{module_lines}
 use Rattle.wat_example.proofs.exported.Goals as goal
 
@@ -11,5 +11,5 @@ returns-in_err-module-clause-only c =
 
 pub returns-clause-only : goal.returns-clause-only
 returns-clause-only c =
-    let here = module_lines (seen_module c.in_ok-module.module) in
+    let here = module_lines (module_view c.in_ok-module.module) in
     λ m spells. c.in_ok-add_module.ensures ∙ ap (λ (l : List ℕ). l ++ here) c.new-out.ensures.bytes ∙ ap module_lines (c.in_ok-module.ensures.only m spells)

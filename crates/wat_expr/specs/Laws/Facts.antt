@@ -1,12 +1,12 @@
--- Laws: what of instructions the items rest on, and what can stand behind a list of items.
+-- Laws: what of instructions the items rest on, and what can be behind a list of items.
 use Rattle.std.specs.Prelude.{◌≡◌, ◌+◌, ◌≤◌, ◌<◌, List, [], ◌∷◌, ◌++◌, length, Some, codes}
 use Rattle.std.proofs.Common.{ap, subst, sym, ◌∙◌, arith, length-append, append_assoc}
 use Rattle.wat_tokens.specs.Token.{Tok, LParen, RParen, Keyword, String}
-use Rattle.wat_tokens.specs.Parens.{AreLevel, opens, closes}
+use Rattle.wat_tokens.specs.Parens.{AreBalanced, opens, closes}
 use Rattle.wat_tokens.specs.Laws.Production.{none_is_not, less_left}
 use Rattle.wat_tokens.specs.Laws.Parens.{opens-append, closes-append}
 use Rattle.wat_instr.specs.Instruction.{Instr, instruction}
-use Rattle.wat_instr.specs.Laws.First.{instruction_first, instruction_none, instruction_eats}
+use Rattle.wat_instr.specs.Laws.First.{instruction_first, instruction_none, instruction_consumes}
 use Rattle.wat_instr.specs.Laws.First.{instruction_not_then}
 use Rattle.wat_expr.specs.Items.{reads, keyword, hint_name, Items, Nil, Plain, Folded, Block}
 use Rattle.wat_expr.specs.Items.{IfThen, IfElse, Hinted, lists}
@@ -20,7 +20,7 @@ IsWord _ = ⊥
 first_of_list : (x y : Tok) (a b : List Tok) → x ∷ a ≡ y ∷ b → x ≡ y
 first_of_list x y a b e = cc
 
--- what a front spells is what is read of it
+-- what a prefix spells is what is read of it
 pub read_of : (i : Instr) (ts m : List Tok) → reads i ts m → instruction.reads ts ≡ Some (i, m)
 read_of i ts m (c, e, s) = rw e (instruction.complete i c m s)
 
@@ -38,16 +38,16 @@ reads_nothing i m h = none_is_not (i, m) (sym instruction_none ∙ read_of i [] 
 
 -- an instruction takes a token
 pub reads_shorter : (i : Instr) (ts m : List Tok) → reads i ts m → length m < length ts
-reads_shorter i ts m h = less_left instruction ts i m instruction_eats (read_of i ts m h)
+reads_shorter i ts m h = less_left instruction ts i m instruction_consumes (read_of i ts m h)
 
--- its parentheses are level
-pub reads_level : (i : Instr) (ts m : List Tok) → reads i ts m
+-- its parentheses are balanced
+pub reads_balanced : (i : Instr) (ts m : List Tok) → reads i ts m
     → opens ts + closes m ≡ closes ts + opens m
-reads_level i ts m h =
-    let e : AreLevel h.0 = instruction.level i h.0 m h.2 in
+reads_balanced i ts m h =
+    let e : AreBalanced h.0 = instruction.balanced i h.0 m h.2 in
     omega (arith, e, ap opens h.1, ap closes h.1, opens-append h.0 m, closes-append h.0 m)
 
--- it is read of a front
+-- it is read of a prefix
 pub reads_front : (i : Instr) (ts m : List Tok) → reads i ts m → (c : List Tok) × (ts ≡ c ++ m)
 reads_front i ts m h = (h.0, h.1)
 
@@ -56,19 +56,24 @@ pub reads_not_then : (i : Instr) (ts m : List Tok) → reads i (keyword (codes "
 reads_not_then i ts m h =
     none_is_not (i, m) (sym (instruction_not_then ts) ∙ read_of i (keyword (codes "then") ∷ ts) m h)
 
--- ---- what lists items is a front, with level parentheses
+-- ---- what lists items is a prefix, with balanced parentheses
 
--- from ts to r: r is shorter or the same, is left of ts, and what is between is level
+-- from ts to r: r is shorter or the same, is left of ts, and what is between is balanced
 pub record Between (ts r : List Tok) : Type 0 where
   pub front : List Tok
   pub is : ts ≡ front ++ r
   pub shorter : length r ≤ length ts
-  pub level : opens ts + closes r ≡ closes ts + opens r
+  pub balanced : opens ts + closes r ≡ closes ts + opens r
 
 abbrev pub is_between : (ts c r : List Tok) → ts ≡ c ++ r
     → opens ts + closes r ≡ closes ts + opens r → Between ts r
 is_between ts c r e l =
-    record { front = c; is = e; shorter = omega (arith, ap length e, length-append c r); level = l }
+    record {
+      front = c;
+      is = e;
+      shorter = omega (arith, ap length e, length-append c r);
+      balanced = l;
+    }
 
 append_behind : (a b m r : List Tok) → m ≡ b ++ r → a ++ m ≡ (a ++ b) ++ r
 append_behind a b m r e = rw e (simp append_assoc)
@@ -95,36 +100,37 @@ grouped : (i : Instr) (ts a b d r : List Tok) → ts ≡ LParen ∷ a → reads 
     → Between b (RParen ∷ d) → Between d r → Between ts r
 grouped i ts a b d r e h y x =
     let f = reads_front i a b h in
-    let v = reads_level i a b h in
+    let v = reads_balanced i a b h in
     is_between ts (LParen ∷ (f.0 ++ (y.front ++ (RParen ∷ x.front)))) r
     (e ∙ group_is a f.0 y.front x.front d b r f.1 y.is x.is)
-    (let z = ap opens e in let w = ap closes e in omega (arith, z, w, v, y.level, x.level))
+    (let z = ap opens e in let w = ap closes e in omega (arith, z, w, v, y.balanced, x.balanced))
 
 pub lists_between : (xs : Items) (ts r : List Tok) → lists xs ts r → Between ts r
 lists_between Nil ts r l = is_between ts [] r l (let e : ts ≡ r = l in rw e (omega arith))
 lists_between (Plain i xs) ts r (m, h, l) =
     let f = reads_front i ts m h in
     let k = lists_between xs m r l in
-    let v = reads_level i ts m h in
+    let v = reads_balanced i ts m h in
     is_between ts (f.0 ++ k.front) r (f.1 ∙ append_behind f.0 k.front m r k.is)
-    (omega (arith, v, k.level))
+    (omega (arith, v, k.balanced))
 lists_between (Folded i ys xs) ts r (a, b, d, e, s, h, ly, lx) =
     grouped i ts a b d r e h (lists_between ys b (RParen ∷ d) ly) (lists_between xs d r lx)
 lists_between (Block i ys xs) ts r (a, b, d, e, s, h, ly, lx) =
     grouped i ts a b d r e h (lists_between ys b (RParen ∷ d) ly) (lists_between xs d r lx)
 lists_between (IfThen i ops th xs) ts r (a, b, d, e, q, s, h, g, lo, lt, lx) =
     let f = reads_front i a b h in
-    let v = reads_level i a b h in
+    let v = reads_balanced i a b h in
     let o = lists_between ops b _ lo in
     let t = lists_between th d _ lt in
     let k = lists_between xs e r lx in
     is_between ts (LParen ∷ (f.0 ++ (o.front
     ++ (LParen ∷ keyword (codes "then") ∷ (t.front ++ (RParen ∷ RParen ∷ k.front)))))) r
     (q ∙ then_is a f.0 o.front t.front k.front b d e r f.1 o.is t.is k.is)
-    (let z = ap opens q in let y = ap closes q in omega (arith, z, y, v, o.level, t.level, k.level))
+    (let z = ap opens q in let y = ap closes q in omega
+    (arith, z, y, v, o.balanced, t.balanced, k.balanced))
 lists_between (IfElse i ops th el xs) ts r (a, b, d, e, j, q, s, h, g, lo, lt, le, lx) =
     let f = reads_front i a b h in
-    let v = reads_level i a b h in
+    let v = reads_balanced i a b h in
     let o = lists_between ops b _ lo in
     let t = lists_between th d _ lt in
     let u = lists_between el e _ le in
@@ -134,9 +140,9 @@ lists_between (IfElse i ops th el xs) ts r (a, b, d, e, j, q, s, h, g, lo, lt, l
     ∷ (u.front ++ (RParen ∷ RParen ∷ k.front)))))))) r
     (q ∙ else_is a f.0 o.front t.front u.front k.front b d e j r f.1 o.is t.is u.is k.is)
     (let z = ap opens q in let y = ap closes q in omega
-    (arith, z, y, v, o.level, t.level, u.level, k.level))
+    (arith, z, y, v, o.balanced, t.balanced, u.balanced, k.balanced))
 lists_between (Hinted v xs) ts r (d, e, lt, g, l) =
     let k = lists_between xs d r l in
     is_between ts (LParen ∷ hint_name ∷ String (v ∷ []) ∷ RParen ∷ k.front) r
     (e ∙ ap (λ (u : List Tok). LParen ∷ hint_name ∷ String (v ∷ []) ∷ RParen ∷ u) k.is)
-    (let z = ap opens e in let y = ap closes e in omega (arith, z, y, k.level))
+    (let z = ap opens e in let y = ap closes e in omega (arith, z, y, k.balanced))

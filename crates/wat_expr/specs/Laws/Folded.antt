@@ -2,7 +2,7 @@
 use Rattle.std.specs.Prelude.{◌≡◌, ℕ, zero, suc, ◌<◌, ◌≤◌, List, [], ◌∷◌, ◌++◌, length, Some, refl}
 use Rattle.std.proofs.Common.{ap, subst, ◌∙◌, arith, length-append}
 use Rattle.wat_tokens.specs.Token.{Tok, LParen, RParen}
-use Rattle.wat_tokens.specs.Parens.{AreLevel, opens, closes}
+use Rattle.wat_tokens.specs.Parens.{AreBalanced, opens, closes}
 use Rattle.wat_tokens.specs.Production.{Front, bind, some_of}
 use Rattle.wat_tokens.specs.Laws.Production.{some_is, bind_some, none_is_not}
 use Rattle.wat_tokens.specs.Laws.Parens.{opens-append, closes-append}
@@ -11,7 +11,7 @@ use Rattle.wat_expr.specs.Expression.{Expr}
 use Rattle.wat_expr.specs.Reading.{closed}
 use Rattle.wat_expr.specs.Folded.{Groups, NoGroup, groups, Group, groups_at, is_folded}
 use Rattle.wat_expr.specs.Folded.{folded_value, folded_reads, folded_spells}
-use Rattle.wat_expr.specs.Laws.Facts.{reads_of, reads_front, reads_level, Between, is_between}
+use Rattle.wat_expr.specs.Laws.Facts.{reads_of, reads_front, reads_balanced, Between, is_between}
 use Rattle.wat_expr.specs.Laws.Facts.{group_is, read_of, reads_shorter}
 use Rattle.wat_expr.specs.Laws.Reading.{shut_is}
 
@@ -55,12 +55,12 @@ pub groups_between : (gs : Groups) (ts r : List Tok) → groups gs ts r → Betw
 groups_between NoGroup ts r l = is_between ts [] r l (let e : ts ≡ r = l in rw e (omega arith))
 groups_between (Group i gs hs) ts r (a, b, d, e, h, l, k) =
     let f = reads_front i a b h in
-    let v = reads_level i a b h in
+    let v = reads_balanced i a b h in
     let y = groups_between gs b (RParen ∷ d) l in
     let x = groups_between hs d r k in
     is_between ts (LParen ∷ (f.0 ++ (y.front ++ (RParen ∷ x.front)))) r
     (e ∙ group_is a f.0 y.front x.front d b r f.1 y.is x.is)
-    (let z = ap opens e in let w = ap closes e in omega (arith, z, w, v, y.level, x.level))
+    (let z = ap opens e in let w = ap closes e in omega (arith, z, w, v, y.balanced, x.balanced))
 
 pub groups_at_complete : (gs : Groups) (n : ℕ) (ts r : List Tok) → length ts < n
     → groups gs ts (RParen ∷ r) → groups_at n ts ≡ Some (gs, RParen ∷ r)
@@ -130,7 +130,7 @@ folded_takes v c r (i, gs, (a, b, e, h, l), k) =
     let w = (groups_between gs b (RParen ∷ r) l).shorter in
     omega (arith, z, y, w, length-append c r)
 
-pub folded_level : (v : Expr) (c r : List Tok) → folded_spells v c r → AreLevel c
-folded_level v c r (i, gs, l, k) =
-    let b = (folded_between i gs (c ++ r) r l).level in
+pub folded_balanced : (v : Expr) (c r : List Tok) → folded_spells v c r → AreBalanced c
+folded_balanced v c r (i, gs, l, k) =
+    let b = (folded_between i gs (c ++ r) r l).balanced in
     omega (arith, b, opens-append c r, closes-append c r)

@@ -6,7 +6,7 @@ use Rattle.std.proofs.lemmas.Bool.{lt-ltb, ltb-true}
 use Rattle.std.specs.Str.{bytes_eq}
 use Rattle.std.specs.Cmp.Lexicographic.{bytes_decides}
 use Rattle.wat_tokens.specs.Token.{Tok, LParen, RParen, Keyword, Annotation, String}
-use Rattle.wat_tokens.specs.Parens.{AreLevel}
+use Rattle.wat_tokens.specs.Parens.{AreBalanced}
 use Rattle.wat_tokens.specs.Production.{Read, Front, bind, some_of, none_of}
 use Rattle.wat_tokens.specs.Tests.{ends}
 use Rattle.wat_tokens.specs.Laws.Production.{some_is, none_is_not, by_test, bind_some}
@@ -287,7 +287,7 @@ module _ (rec : List Tok → Read Items) where
   begins_group i (Keyword w ∷ t) b h = rw (not_then i w t b h, read_of i (Keyword w ∷ t) b h) refl
   begins_group i (k ∷ t) b h = absurd (word_front i k t b h)
 
--- what stands in a group, and what stands behind the token that ends it, are shorter than all
+-- what is in a group, and what is behind the token that ends it, are shorter than all
 group_shorter : (i : Instr) (ys : Items) (n : ℕ) (ts a b : List Tok) (x : Tok) (d : List Tok)
     → length ts < suc n → ts ≡ LParen ∷ a → reads i a b → lists ys b (x ∷ d)
     → (length b < n) × (length d < n)
@@ -375,7 +375,7 @@ expression_complete v c r (xs, l, k, e) =
 pub expression_takes : (v : Expr) (c r : List Tok) → expression_spells v c r → 0 ≤ length c
 expression_takes v c r s = omega arith
 
-pub expression_level : (v : Expr) (c r : List Tok) → expression_spells v c r → AreLevel c
-expression_level v c r (xs, l, k, e) =
-    let b = (lists_between xs (c ++ r) r l).level in
+pub expression_balanced : (v : Expr) (c r : List Tok) → expression_spells v c r → AreBalanced c
+expression_balanced v c r (xs, l, k, e) =
+    let b = (lists_between xs (c ++ r) r l).balanced in
     omega (arith, b, opens-append c r, closes-append c r)

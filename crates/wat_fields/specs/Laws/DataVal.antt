@@ -5,6 +5,6 @@ use Rattle.wat_fields.specs.DataVal.{data_val}
 
 -- ---- the grammar
 
-pub data_val_eats : 1 ≤ data_val.least
+pub data_val_consumes : 1 ≤ data_val.least
 unfolding data_val
-data_val_eats = omega arith
+data_val_consumes = omega arith

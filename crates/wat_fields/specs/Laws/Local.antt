@@ -5,5 +5,5 @@ use Rattle.wat_fields.specs.Local.{local_group}
 
 -- ---- the grammar
 
-pub local_group_eats : 1 ≤ local_group.least
-local_group_eats = omega arith
+pub local_group_consumes : 1 ≤ local_group.least
+local_group_consumes = omega arith

@@ -7,6 +7,6 @@ use Rattle.wat_fields.specs.VectorBytes.{vector_as_bytes}
 
 -- ---- one number, as its bytes, the lowest first
 
-pub vector_eats : 1 ≤ vector_as_bytes.least
+pub vector_consumes : 1 ≤ vector_as_bytes.least
 unfolding v128_const wide_const float_const two four eight sixteen
-vector_eats = lit≤ tt
+vector_consumes = lit≤ tt

@@ -7,6 +7,6 @@ use Rattle.wat_fields.specs.Item.{written_or_folded, item}
 
 -- ---- expressions
 
-pub item_eats : 1 ≤ item.least
+pub item_consumes : 1 ≤ item.least
 unfolding item written_or_folded expression folded_instruction
-item_eats = lit≤ tt
+item_consumes = lit≤ tt

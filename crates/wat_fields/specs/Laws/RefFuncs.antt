@@ -3,6 +3,6 @@ use Rattle.std.specs.Prelude.{◌≤◌}
 use Rattle.std.proofs.Common.{lit≤}
 use Rattle.wat_fields.specs.RefFunc.{ref_func}
 
-pub ref_func_eats : 1 ≤ ref_func.least
+pub ref_func_consumes : 1 ≤ ref_func.least
 unfolding ref_func
-ref_func_eats = lit≤ tt
+ref_func_consumes = lit≤ tt

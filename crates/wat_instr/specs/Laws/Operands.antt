@@ -7,17 +7,17 @@ use Rattle.wat_operands.specs.Call.{call_indirect}
 use Rattle.wat_operands.specs.Casts.{cast_branch}
 use Rattle.wat_operands.specs.Catches.{begins_catch, try_table}
 use Rattle.wat_operands.specs.CatchClause.{catch_kind, catch_clause}
-use Rattle.wat_operands.specs.Laws.Catches.{catch_clause_eats}
+use Rattle.wat_operands.specs.Laws.Catches.{catch_clause_consumes}
 use Rattle.wat_operands.specs.Handlers.{resume_table, resume, resume_throw}
 use Rattle.wat_operands.specs.Handler.{aim, handler}
-use Rattle.wat_operands.specs.Laws.Handlers.{handler_eats}
+use Rattle.wat_operands.specs.Laws.Handlers.{handler_consumes}
 use Rattle.wat_operands.specs.Select.{select_types}
-use Rattle.wat_operands.specs.Laws.Select.{result_group_eats}
+use Rattle.wat_operands.specs.Laws.Select.{result_group_consumes}
 use Rattle.wat_mnemonics.specs.Mnemonic.{mnemonic}
 use Rattle.wat_mnemonics.specs.Access.{access_align, atomic_access_align, rmw_access_align}
 use Rattle.wat_mnemonics.specs.Access.{lane_access_align}
-use Rattle.wat_mnemonics.specs.declared.head.Head.{Head}
-use Rattle.wat_mnemonics.specs.declared.head.Head.TheVariants as head
+use Rattle.wat_mnemonics.specs.declared.mnemonic.Mnemonic.{Mnemonic}
+use Rattle.wat_mnemonics.specs.declared.mnemonic.Mnemonic.TheVariants as head
 use Rattle.wat_instr.specs.Operand.{operand}
 use Rattle.wat_instr.specs.Instruction.{instruction}
 use Rattle.wat_instr.specs.Laws.Rests.{Rests, Stable, Tested, either_steady}
@@ -59,7 +59,7 @@ module _ {R : Rests} (s : Tested R) where
   select_stands : Stands R 0 select_types
   unfolding select_types val_types
   select_stands =
-      some_many_stands result_group_eats s.second_result (lit≤ tt) (lit≤ tt)
+      some_many_stands result_group_consumes s.second_result (lit≤ tt) (lit≤ tt)
       (group_stands (val_types_stand s))
 
   -- ---- what is caught
@@ -88,7 +88,7 @@ module _ {R : Rests} (s : Tested R) where
   unfolding try_table catch_clause catch_kind
   try_stands =
       made_stands (both_stand block_stands
-      (many_stands catch_clause_eats catch_steady (lit≤ tt) (lit≤ tt) catch_stands))
+      (many_stands catch_clause_consumes catch_steady (lit≤ tt) (lit≤ tt) catch_stands))
 
   -- ---- handlers
 
@@ -105,7 +105,7 @@ module _ {R : Rests} (s : Tested R) where
   resume_table_stands : Stands R 0 resume_table
   unfolding resume_table handler aim
   resume_table_stands =
-      many_stands handler_eats (s.group (codes "on")) (lit≤ tt) (lit≤ tt) handler_stands
+      many_stands handler_consumes (s.group (codes "on")) (lit≤ tt) (lit≤ tt) handler_stands
 
   resume_stands : Stands R 0 resume
   unfolding resume
@@ -119,7 +119,7 @@ module _ {R : Rests} (s : Tested R) where
 
   -- ---- every operand
 
-  pub operand_stands : (h : Head) → Stands R 0 (operand h)
+  pub operand_stands : (h : Mnemonic) → Stands R 0 (operand h)
   unfolding operand
   operand_stands (head.Block op) = made_stands block_stands
   operand_stands (head.Label op) =

@@ -4,7 +4,7 @@ use Rattle.std.specs.Prelude.{[], codes, ◌||◌, refl}
 use Rattle.std.proofs.Common.{ap, sym, ◌∙◌, append_assoc}
 use Rattle.std.proofs.lemmas.Bool.{or_parts, or_from, or_left, or_right}
 use Rattle.wat_tokens.specs.Token.{Tok, RParen}
-use Rattle.wat_tokens.specs.Parens.{AreLevel}
+use Rattle.wat_tokens.specs.Parens.{AreBalanced}
 use Rattle.wat_tokens.specs.Tests.{begins_word, begins_group, begins_annotation, begins_id}
 use Rattle.wat_tokens.specs.Tests.{more, second, word_in}
 use Rattle.wat_tokens.specs.Begin.{begins_one_of}
@@ -14,16 +14,16 @@ use Rattle.wat_types.specs.Value.{plain_words}
 use Rattle.wat_operands.specs.Memory.{begins_with}
 use Rattle.wat_operands.specs.Lanes.{is_alone}
 
--- Alike n t u: a front of n tokens or more stands in both t and u, and what they have behind it
+-- Alike n t u: a prefix of n tokens or more stands in both t and u, and what they have behind it
 -- counts as alike. So do t and u behind level tokens, and behind what closes a group.
 pub record Rests : Type 1 where
   pub Alike : ℕ → List Tok → List Tok → Type 0
   pub fewer : (m n : ℕ) (t u : List Tok) → m ≤ n → Alike n t u → Alike m t u
-  pub behind : (c t u : List Tok) (k n : ℕ) → k ≤ length c → AreLevel c → Alike n t u
+  pub behind : (c t u : List Tok) (k n : ℕ) → k ≤ length c → AreBalanced c → Alike n t u
       → Alike (k + n) (c ++ t) (c ++ u)
   pub shut : (t u : List Tok) (n : ℕ) → Alike n t u → Alike (1 + n) (RParen ∷ t) (RParen ∷ u)
 
--- t and u have a front in common, and E says of it and of what they have behind it what is asked
+-- t and u have a prefix in common, and E says of it and of what they have behind it what is asked
 pub record Fronted (E : List Tok → List Tok → List Tok → Type 0) (t u : List Tok) : Type 0 where
   pub front : List Tok
   pub old : List Tok

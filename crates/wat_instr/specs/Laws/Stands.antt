@@ -26,11 +26,11 @@ pub stands_sooner : {R : Rests} {A : Type 0} {g : Production A} {m n : ℕ} → 
 stands_sooner {R = R} {m = m} {n = n} le p =
     record { moves = λ v c t u a s. p.moves v c t u (R.fewer m n t u le a) s }
 
--- what is spelled is a front too
+-- what is spelled is a prefix too
 behind_part : (R : Rests) {A : Type 0} (g : Production A) (v : A) (c t u : List Tok) (i k n : ℕ)
     → g.spells v c t → k ≤ length c → i ≤ k + n → R.Alike n t u → R.Alike i (c ++ t) (c ++ u)
 behind_part R g v c t u i k n s le some a =
-    R.fewer i (k + n) (c ++ t) (c ++ u) some (R.behind c t u k n le (g.level v c t s) a)
+    R.fewer i (k + n) (c ++ t) (c ++ u) some (R.behind c t u k n le (g.balanced v c t s) a)
 
 -- ---- parts
 
@@ -112,9 +112,9 @@ module _ {R : Rests} {A : Type 0} {begins : List Tok → Bool} {g : Production A
   opt_stands steady some others p =
       begun_stands g.least steady (λ v c t k s. g.takes v c t s) some others p
 
-  pub many_stands : (eats : 1 ≤ g.least) → Stable R i j begins → i ≤ g.least + n → j ≤ n
-      → Stands R n g → Stands R n (many begins g eats)
-  many_stands eats steady some others p = record { moves = moves }
+  pub many_stands : (consumes : 1 ≤ g.least) → Stable R i j begins → i ≤ g.least + n → j ≤ n
+      → Stands R n g → Stands R n (many begins g consumes)
+  many_stands consumes steady some others p = record { moves = moves }
     where
       moves : (v : List A) (c t u : List Tok) → R.Alike n t u → many_spells begins g v c t
           → many_spells begins g v c u
@@ -122,8 +122,8 @@ module _ {R : Rests} {A : Type 0} {begins : List Tok → Bool} {g : Production A
       moves (v ∷ vs) c t u a s =
           let le : g.least ≤ length c =
           rw (s.2) (omega (arith, length-append s.0 s.1, g.takes v s.0 (s.1 ++ t) s.4)) in
-          let b = behind_part R (many begins g eats) (v ∷ vs) c t u i g.least n s le some a in
-          let d = behind_part R (many begins g eats) vs s.1 t u n 0 n s.5
+          let b = behind_part R (many begins g consumes) (v ∷ vs) c t u i g.least n s le some a in
+          let d = behind_part R (many begins g consumes) vs s.1 t u n 0 n s.5
           (omega arith) (omega arith) a in (
             s.0,
             s.1,
@@ -135,12 +135,12 @@ module _ {R : Rests} {A : Type 0} {begins : List Tok → Bool} {g : Production A
 
 -- parts as long as one follows, there where one does
 module _ {R : Rests} {A B : Type 0} {begins : List Tok → Bool} {g : Production A} where
-  pub some_many_stands : {f : List A → B} {i j n : ℕ} (eats : 1 ≤ g.least) → Stable R i j begins
+  pub some_many_stands : {f : List A → B} {i j n : ℕ} (consumes : 1 ≤ g.least) → Stable R i j begins
       → i ≤ g.least + n → j ≤ n → Stands R n g
-      → Stands R n (opt begins (made f (many begins g eats)))
-  some_many_stands {f = f} eats steady some others p =
+      → Stands R n (opt begins (made f (many begins g consumes)))
+  some_many_stands {f = f} consumes steady some others p =
       begun_stands g.least steady takes some others
-      (made_stands (many_stands eats steady some others p))
+      (made_stands (many_stands consumes steady some others p))
     where
       takes_list : (vs : List A) (c t : List Tok) → begins (c ++ t) ≡ true
           → many_spells begins g vs c t → g.least ≤ length c
@@ -149,7 +149,7 @@ module _ {R : Rests} {A B : Type 0} {begins : List Tok → Bool} {g : Production
           rw (s.2) (omega (arith, length-append s.0 s.1, g.takes v s.0 (s.1 ++ t) s.4))
 
       takes : (v : B) (c t : List Tok) → begins (c ++ t) ≡ true
-          → (made f (many begins g eats)).spells v c t → g.least ≤ length c
+          → (made f (many begins g consumes)).spells v c t → g.least ≤ length c
       takes v c t k s = takes_list s.0 c t k s.1
 
 -- ---- groups and words

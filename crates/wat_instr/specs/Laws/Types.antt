@@ -8,11 +8,11 @@ use Rattle.wat_tokens.specs.NameAnnotation.{name_annotation}
 use Rattle.wat_types.specs.Heap.{abstract_heap_type, heap_type}
 use Rattle.wat_types.specs.Reference.{shorthand, ref_type}
 use Rattle.wat_types.specs.Value.{val_type}
-use Rattle.wat_types.specs.Laws.Value.{val_type_eats}
+use Rattle.wat_types.specs.Laws.Value.{val_type_consumes}
 use Rattle.wat_types.specs.Label.{label, begins_label}
 use Rattle.wat_types.specs.Group.{Group, plain_params, params, val_types, func_group, group_follows}
 use Rattle.wat_types.specs.Group.{begins_func}
-use Rattle.wat_types.specs.Laws.Group.{func_group_eats}
+use Rattle.wat_types.specs.Laws.Group.{func_group_consumes}
 use Rattle.wat_types.specs.Function.{function_groups}
 use Rattle.wat_types.specs.FunctionSpells.{func_groups}
 use Rattle.wat_types.specs.Laws.FunctionSpells.{function_to, function_from}
@@ -69,7 +69,7 @@ module _ {R : Rests} (s : Tested R) where
   pub val_types_stand : Stands R 1 val_types
   unfolding val_types val_type ref_type shorthand heap_type abstract_heap_type
   val_types_stand =
-      many_stands val_type_eats s.more (lit≤ tt) (lit≤ tt) (stands_sooner (lit≤ tt) val_stands)
+      many_stands val_type_consumes s.more (lit≤ tt) (lit≤ tt) (stands_sooner (lit≤ tt) val_stands)
 
   label_steady : (labels : Bool) → Stable R 2 0 (λ t. labels && begins_label t)
   label_steady true =
@@ -81,7 +81,8 @@ module _ {R : Rests} (s : Tested R) where
   params_stand labels =
       where_stands (label_steady labels) (lit≤ tt) (lit≤ tt)
       (made_stands (both_stand (label_stands s.id (s.annotation (codes "name")))
-      (stands_sooner (lit≤ tt) val_stands))) (many_stands val_type_eats s.more (lit≤ tt) (lit≤ tt)
+      (stands_sooner (lit≤ tt) val_stands)))
+      (many_stands val_type_consumes s.more (lit≤ tt) (lit≤ tt)
       (made_stands (stands_sooner (lit≤ tt) val_stands)))
 
   func_group_stands : (labels : Bool) → Stands R 0 (func_group labels)
@@ -97,7 +98,8 @@ module _ {R : Rests} (s : Tested R) where
       ref_type shorthand heap_type abstract_heap_type
   groups_stand labels =
       restated_stands (function_to labels) (function_from labels) (made_stands
-      (many_stands (func_group_eats labels) (either_steady s.second_param s.second_result) (lit≤ tt)
+      (many_stands (func_group_consumes labels) (either_steady s.second_param s.second_result)
+      (lit≤ tt)
       (lit≤ tt) (func_group_stands labels)))
 
 -- ---- type uses

@@ -13,11 +13,11 @@ use Rattle.wat_links.specs.Dylink.{begins_import, lone_entry, mem_info_entry, ru
 use Rattle.wat_links.specs.Entries.{EntryTy, of_export, of_import, other, entry, entries_in}
 use Rattle.wat_links.specs.Entries.{IsFilled, IsApart, AreCut}
 use Rattle.wat_links.specs.DylinkEntries.{export_entry, import_entry}
-use Rattle.wat_links.specs.Laws.DylinkEntries.{export_entry_eats, import_entry_eats}
+use Rattle.wat_links.specs.Laws.DylinkEntries.{export_entry_consumes, import_entry_consumes}
 use Rattle.wat_links.specs.Subsections.{subsections}
 use Rattle.wat_links.specs.CutForm.{entries, CutSpells}
 
--- ---- what stands in front
+-- ---- what is in front
 
 group_more : (w : List ℕ) (t : List Tok) → begins_group w t ≡ true → more t ≡ true
 group_more w [] e = absurd cc
@@ -42,19 +42,19 @@ regroup d e r = append_assoc d e r
 -- ---- a run, and the entries in it
 
 module _ {A : Type 0} (f : A → EntryTy) (begins : List Tok → Bool) (g : Production A)
-    (eats : 1 ≤ g.least)
+    (consumes : 1 ≤ g.least)
     (as_entry : (x : A) (d t : List Tok) → begins (d ++ t) ≡ true → g.spells x d t
     → entry.spells (f x) d t)
     (of_entry : (x : A) (d t : List Tok) → entry.spells (f x) d t
     → (begins (d ++ t) ≡ true) × g.spells x d t)
     (goes_on : (t : List Tok) → begins t ≡ true → more t ≡ true) where
   run_is_many : (vs : List A) (d t : List Tok) → begins (d ++ t) ≡ true
-      → (run begins g eats).spells vs d t → many_spells begins g vs d t
+      → (run begins g consumes).spells vs d t → many_spells begins g vs d t
   run_is_many vs d t b s =
       subst (λ (u : List A). many_spells begins g u d t) s.3 (s.1.0, s.1.1, s.1.2, b, s.1.3, s.1.4)
 
   many_is_run : (x : A) (xs : List A) (d t : List Tok) → many_spells begins g (x ∷ xs) d t
-      → (run begins g eats).spells (x ∷ xs) d t
+      → (run begins g consumes).spells (x ∷ xs) d t
   many_is_run x xs d t s = ((x, xs), (s.0, s.1, s.2, s.4, s.5), refl, refl)
 
   run_entries : (xs : List A) (d e r : List Tok) (es : List EntryTy)
@@ -94,18 +94,18 @@ module _ {A : Type 0} (f : A → EntryTy) (begins : List Tok → Bool) (g : Prod
 
   -- a run in front of entries, and behind it nothing of its kind
   run_in_front : (vs : List A) (d e r : List Tok) (es : List EntryTy)
-      → begins (d ++ (e ++ r)) ≡ true → (run begins g eats).spells vs d (e ++ r)
+      → begins (d ++ (e ++ r)) ≡ true → (run begins g consumes).spells vs d (e ++ r)
       → many_spells more entry es e r
       → many_spells more entry (map f vs ++ es) (d ++ e) r × (begins (e ++ r) ≡ false)
   run_in_front vs d e r es b s p =
       let all = run_is_many vs d (e ++ r) b s in
       (run_entries vs d e r es all p, many_ends begins g vs d (e ++ r) all)
 
-  -- all of its kind that stand in front of others are a run
+  -- all of its kind that are in front of others are a run
   front_is_run : (x : A) (xs : List A) (c d e r : List Tok) → c ≡ d ++ e
       → many_spells begins g (x ∷ xs) d (e ++ r)
       → (more (c ++ r) ≡ true) × (begins (d ++ (e ++ r)) ≡ true)
-      × (run begins g eats).spells (x ∷ xs) d (e ++ r)
+      × (run begins g consumes).spells (x ∷ xs) d (e ++ r)
   front_is_run x xs c d e r p s =
       let m : more (c ++ r) ≡ true = rw (p, regroup d e r) (goes_on (d ++ (e ++ r)) s.3) in
       (m, s.3, many_is_run x xs d (e ++ r) s)
@@ -264,13 +264,15 @@ first_cut : (s : SubsectionTy) (ss : List SubsectionTy) (d e r : List Tok)
     → IsFirst ss (d ++ e) r s
 unfolding subsection entry
 first_cut s ss d e r m (inl p) rest es =
-    let q = run_in_front of_export begins_export export_entry export_entry_eats export_as export_is
+    let q = run_in_front of_export begins_export export_entry export_entry_consumes export_as
+    export_is
     (group_more (codes "export-info")) p.1.0 d e r (all_entries ss) p.0 p.1.1 es in
     let filled = subst (λ (u : List (List ℕ × ℕ)). IsFilled (export_info u)) p.1.1.3 tt in
     subst (λ (u : SubsectionTy). IsFirst ss (d ++ e) r u) p.1.3
     (q.0, filled, apart_export p.1.0 ss e r q.1 rest)
 first_cut s ss d e r m (inr (b, inl p)) rest es =
-    let q = run_in_front of_import begins_import import_entry import_entry_eats import_as import_is
+    let q = run_in_front of_import begins_import import_entry import_entry_consumes import_as
+    import_is
     (group_more (codes "import-info")) p.1.0 d e r (all_entries ss) p.0 p.1.1 es in
     let filled = subst (λ (u : List (List ℕ × List ℕ × ℕ)). IsFilled (import_info u)) p.1.1.3 tt in
     subst (λ (u : SubsectionTy). IsFirst ss (d ++ e) r u) p.1.3
@@ -314,18 +316,22 @@ from_cut [] c r s a = s
 from_cut (export_info [] ∷ ss) c r s a = absurd a.0
 from_cut (import_info [] ∷ ss) c r s a = absurd a.0
 from_cut (export_info (x ∷ xs) ∷ ss) c r s a =
-    let p = entries_run of_export begins_export export_entry export_entry_eats export_as export_is
+    let p = entries_run of_export begins_export export_entry export_entry_consumes export_as
+    export_is
     (group_more (codes "export-info")) (x ∷ xs) c r (all_entries ss) s in
     let rest = from_cut ss p.1 r p.4 a.2 in
-    let q = front_is_run of_export begins_export export_entry export_entry_eats export_as export_is
+    let q = front_is_run of_export begins_export export_entry export_entry_consumes export_as
+    export_is
     (group_more (codes "export-info")) x xs c p.0 p.1 r p.2
     (p.3 (stops_export (x ∷ xs) ss p.1 r a.1 rest)) in
     (p.0, p.1, p.2, q.0, inl (q.1, (x ∷ xs, q.2, refl, refl)), rest)
 from_cut (import_info (x ∷ xs) ∷ ss) c r s a =
-    let p = entries_run of_import begins_import import_entry import_entry_eats import_as import_is
+    let p = entries_run of_import begins_import import_entry import_entry_consumes import_as
+    import_is
     (group_more (codes "import-info")) (x ∷ xs) c r (all_entries ss) s in
     let rest = from_cut ss p.1 r p.4 a.2 in
-    let q = front_is_run of_import begins_import import_entry import_entry_eats import_as import_is
+    let q = front_is_run of_import begins_import import_entry import_entry_consumes import_as
+    import_is
     (group_more (codes "import-info")) x xs c p.0 p.1 r p.2
     (p.3 (stops_import (x ∷ xs) ss p.1 r a.1 rest)) in
     let no = import_no_export (p.0 ++ (p.1 ++ r)) q.1 in

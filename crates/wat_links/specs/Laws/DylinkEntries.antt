@@ -6,10 +6,10 @@ use Rattle.wat_links.specs.DylinkEntries.{export_entry, import_entry}
 
 -- ---- entries of exports and of imports
 
-pub export_entry_eats : 1 ≤ export_entry.least
+pub export_entry_consumes : 1 ≤ export_entry.least
 unfolding export_entry symbol_flags flag_list
-export_entry_eats = lit≤ tt
+export_entry_consumes = lit≤ tt
 
-pub import_entry_eats : 1 ≤ import_entry.least
+pub import_entry_consumes : 1 ≤ import_entry.least
 unfolding import_entry symbol_flags flag_list
-import_entry_eats = lit≤ tt
+import_entry_consumes = lit≤ tt

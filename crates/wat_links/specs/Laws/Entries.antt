@@ -6,7 +6,7 @@ use Rattle.wat_links.specs.Dylink.{lone_entry, mem_info_entry, sizes, names_entr
 use Rattle.wat_links.specs.DylinkEntries.{export_entry, import_entry}
 use Rattle.wat_links.specs.Entries.{entry}
 
-pub entry_eats : 1 ≤ entry.least
+pub entry_consumes : 1 ≤ entry.least
 unfolding entry export_entry import_entry symbol_flags flag_list lone_entry mem_info_entry sizes
     names_entry
-entry_eats = lit≤ tt
+entry_consumes = lit≤ tt

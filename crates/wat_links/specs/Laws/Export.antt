@@ -5,6 +5,6 @@ use Rattle.wat_links.specs.InlineName.{inline_name}
 
 -- ---- exports in line
 
-pub inline_name_eats : 1 ≤ inline_name.least
+pub inline_name_consumes : 1 ≤ inline_name.least
 unfolding inline_name
-inline_name_eats = lit≤ tt
+inline_name_consumes = lit≤ tt

@@ -3,6 +3,6 @@ use Rattle.std.specs.Prelude.{◌≤◌}
 use Rattle.std.proofs.Common.{lit≤}
 use Rattle.wat_links.specs.FlagBits.{flag_bits}
 
-pub flag_bits_eats : 1 ≤ flag_bits.least
+pub flag_bits_consumes : 1 ≤ flag_bits.least
 unfolding flag_bits
-flag_bits_eats = lit≤ tt
+flag_bits_consumes = lit≤ tt

@@ -13,7 +13,7 @@ use Rattle.wat_links.specs.Import.{typed, import_choice}
 use Rattle.wat_links.specs.ImportItem.{typed_item, named_item}
 use Rattle.wat_links.specs.ItemForms.{ItemsSpells}
 
--- ---- what stands in front
+-- ---- what is in front
 
 ends_there : (t : List Tok) → item_follows t ≡ false → typed t ≡ true → ends t ≡ true
 ends_there [] f e = refl

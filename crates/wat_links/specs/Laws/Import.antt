@@ -5,10 +5,10 @@ use Rattle.wat_links.specs.ImportItem.{typed_item, named_item}
 
 -- ---- the grammar
 
-pub typed_item_eats : 1 ≤ typed_item.least
+pub typed_item_consumes : 1 ≤ typed_item.least
 unfolding typed_item
-typed_item_eats = omega arith
+typed_item_consumes = omega arith
 
-pub named_item_eats : 1 ≤ named_item.least
+pub named_item_consumes : 1 ≤ named_item.least
 unfolding named_item
-named_item_eats = lit≤ tt
+named_item_consumes = lit≤ tt

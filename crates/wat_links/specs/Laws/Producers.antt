@@ -5,6 +5,6 @@ use Rattle.wat_links.specs.ProducerEntry.{field_word, producer_entry}
 
 -- ---- entries
 
-pub producer_entry_eats : 1 ≤ producer_entry.least
+pub producer_entry_consumes : 1 ≤ producer_entry.least
 unfolding producer_entry field_word
-producer_entry_eats = lit≤ tt
+producer_entry_consumes = lit≤ tt

@@ -7,7 +7,7 @@ use Rattle.wat_links.specs.DylinkEntries.{export_entry, import_entry}
 
 -- ---- subsections
 
-pub subsection_eats : 1 ≤ subsection.least
+pub subsection_consumes : 1 ≤ subsection.least
 unfolding subsection export_entry import_entry symbol_flags flag_list lone_entry mem_info_entry
     sizes names_entry
-subsection_eats = lit≤ tt
+subsection_consumes = lit≤ tt

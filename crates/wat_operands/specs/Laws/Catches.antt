@@ -5,6 +5,6 @@ use Rattle.wat_operands.specs.CatchClause.{catch_kind, catch_clause}
 
 -- ---- the grammar
 
-pub catch_clause_eats : 1 ≤ catch_clause.least
+pub catch_clause_consumes : 1 ≤ catch_clause.least
 unfolding catch_clause catch_kind
-catch_clause_eats = omega arith
+catch_clause_consumes = omega arith

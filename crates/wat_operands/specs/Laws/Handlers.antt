@@ -5,6 +5,6 @@ use Rattle.wat_operands.specs.Handler.{handler}
 
 -- ---- handlers
 
-pub handler_eats : 1 ≤ handler.least
+pub handler_consumes : 1 ≤ handler.least
 unfolding handler
-handler_eats = omega arith
+handler_consumes = omega arith

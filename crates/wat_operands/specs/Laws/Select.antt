@@ -5,5 +5,5 @@ use Rattle.wat_operands.specs.ResultGroup.{result_group}
 
 -- ---- the grammar
 
-pub result_group_eats : 1 ≤ result_group.least
-result_group_eats = omega arith
+pub result_group_consumes : 1 ≤ result_group.least
+result_group_consumes = omega arith

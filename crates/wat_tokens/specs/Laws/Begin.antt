@@ -1,4 +1,4 @@
--- Laws: words of a table: what stands in front, and what is read of it.
+-- Laws: words of a table: what is in front, and what is read of it.
 use Rattle.std.specs.Prelude.{◌≡◌, ℕ, false, List, [], ◌∷◌, Some, None, is_some, refl}
 use Rattle.std.proofs.Common.{ap}
 use Rattle.wat_lexer.specs.Token.{Tok, Keyword}

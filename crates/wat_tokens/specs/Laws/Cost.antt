@@ -1,4 +1,4 @@
--- Laws: what calls count that stand one behind the other.
+-- Laws: what calls count that are one behind the other.
 use Rattle.std.proofs.Common.{◌∙◌}
 use Rattle.wat_tokens.specs.Cost.{Cost, tokens_alone, words_too, turns_too, Costs, dearer}
 use Rattle.wat_tokens.specs.Counts.{Quiet}

@@ -21,9 +21,9 @@ counts_then a b e p q = record {
     omega (arith, p.more.3, q.more.3),
   );
   peak = omega (arith, p.peak, q.peak, nest_front p.front q.front, nest_end p.front q.front);
-  names = q.names ∙ p.names;
-  stands = q.stands ∙ ap (λ (k : Bool). behind k (length q.front) b.rest) p.names
-      ∙ ap (λ (t : List Tok). behind a.known (length q.front) t) p.stands
+  known = q.known ∙ p.known;
+  position = q.position ∙ ap (λ (k : Bool). behind k (length q.front) b.rest) p.known
+      ∙ ap (λ (t : List Tok). behind a.known (length q.front) t) p.position
       ∙ behind_then a.known (length p.front) (length q.front) a.rest
       ∙ ap (λ (n : ℕ). behind a.known n a.rest) (sym (length-append p.front q.front));
 }
@@ -39,8 +39,8 @@ counts_none a =
           (omega arith, omega arith, omega arith, omega arith);
       peak =
           omega arith;
-      names = refl;
-      stands = refl;
+      known = refl;
+      position = refl;
     }
 
 pub carries_of : (a b : State) → Counts a b → Carries a b

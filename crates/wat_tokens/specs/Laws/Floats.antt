@@ -1,7 +1,7 @@
 -- Laws: literals of floating-point numbers, which aren't read.
 use Rattle.std.specs.Prelude.{◌≡◌, List, ◌++◌, ◌≤◌, length, Some}
 use Rattle.wat_lexer.specs.Token.{Tok}
-use Rattle.wat_tokens.specs.Parens.{AreLevel}
+use Rattle.wat_tokens.specs.Parens.{AreBalanced}
 use Rattle.wat_tokens.specs.Production.{Front}
 use Rattle.wat_tokens.specs.Laws.Production.{none_is_not}
 use Rattle.wat_tokens.specs.NoneSpells.{none_spells, none_reads}
@@ -17,5 +17,5 @@ module _ {A : Type 0} where
   pub none_takes : (v : A) (c r : List Tok) → none_spells v c r → 1 ≤ length c
   none_takes v c r s = absurd s
 
-  pub none_level : (v : A) (c r : List Tok) → none_spells v c r → AreLevel c
-  none_level v c r s = absurd s
+  pub none_balanced : (v : A) (c r : List Tok) → none_spells v c r → AreBalanced c
+  none_balanced v c r s = absurd s

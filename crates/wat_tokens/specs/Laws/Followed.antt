@@ -2,12 +2,12 @@
 use Rattle.std.specs.Prelude.{◌≡◌, ◌≤◌, List, [], ◌++◌, length, Some, refl}
 use Rattle.std.proofs.Common.{ap, sym, ◌∙◌, subst, arith, length-append, append_assoc}
 use Rattle.wat_lexer.specs.Token.{Tok}
-use Rattle.wat_tokens.specs.Parens.{AreLevel}
+use Rattle.wat_tokens.specs.Parens.{AreBalanced}
 use Rattle.wat_tokens.specs.Production.{Front, Production}
 use Rattle.wat_tokens.specs.Laws.Production.{bind_some, some_is}
 use Rattle.wat_tokens.specs.FollowedSpells.{followed_spells, followed_reads, blank_spells}
 use Rattle.wat_tokens.specs.FollowedSpells.{blank_reads}
-use Rattle.wat_tokens.specs.Laws.Parens.{level_both}
+use Rattle.wat_tokens.specs.Laws.Parens.{balanced_both}
 
 -- ---- what is in front, and then what it is followed by
 
@@ -34,9 +34,10 @@ module _ {A B : Type 0} (g : Production A) (h : A → Production B) where
   followed_takes v c r s =
       rw (s.3) (omega (arith, length-append s.1 s.2, g.takes s.0 s.1 (s.2 ++ r) s.4))
 
-  pub followed_level : (v : B) (c r : List Tok) → followed_spells g h v c r → AreLevel c
-  followed_level v c r s =
-      rw (s.3) (level_both s.1 s.2 (g.level s.0 s.1 (s.2 ++ r) s.4) ((h s.0).level v s.2 r s.5))
+  pub followed_balanced : (v : B) (c r : List Tok) → followed_spells g h v c r → AreBalanced c
+  followed_balanced v c r s =
+      rw (s.3) (balanced_both s.1 s.2 (g.balanced s.0 s.1 (s.2 ++ r) s.4)
+      ((h s.0).balanced v s.2 r s.5))
 
 -- ---- no tokens
 
@@ -54,5 +55,5 @@ module _ {A : Type 0} (a : A) where
   pub blank_takes : (v : A) (c r : List Tok) → blank_spells a v c r → 0 ≤ length c
   blank_takes v c r s = omega arith
 
-  pub blank_level : (v : A) (c r : List Tok) → blank_spells a v c r → AreLevel c
-  blank_level v c r s = rw (s.0) refl
+  pub blank_balanced : (v : A) (c r : List Tok) → blank_spells a v c r → AreBalanced c
+  blank_balanced v c r s = rw (s.0) refl

@@ -3,12 +3,12 @@ use Rattle.std.specs.Prelude.{◌≡◌, ◌+◌, ◌≤◌, List, [], ◌∷◌
 use Rattle.std.proofs.Common.{ap, subst, sym, ◌∙◌, append_assoc, arith, length-append}
 use Rattle.wat_lexer.specs.Token.{Tok, LParen, RParen}
 use Rattle.wat_tokens.specs.Tests.{as_lparen, ends}
-use Rattle.wat_tokens.specs.Parens.{AreLevel}
+use Rattle.wat_tokens.specs.Parens.{AreBalanced}
 use Rattle.wat_tokens.specs.Production.{Front, Production, some_of, none_of}
 use Rattle.wat_tokens.specs.Laws.Production.{some_is, none_is_not, bind_some, by_test}
 use Rattle.wat_tokens.specs.GroupSpells.{shut, paren_spells, paren_reads, end_spells, if_ends}
 use Rattle.wat_tokens.specs.GroupSpells.{end_reads, turn_spells, turn_reads}
-use Rattle.wat_tokens.specs.Laws.Parens.{level_within}
+use Rattle.wat_tokens.specs.Laws.Parens.{balanced_within}
 use Rattle.wat_tokens.specs.PartSpells.{one_reads}
 
 -- ---- ( .. )
@@ -49,8 +49,8 @@ module _ {A : Type 0} (g : Production A) where
   paren_takes v c r s =
       rw (s.1) (omega (arith, length-append s.0 (RParen ∷ []), g.takes v s.0 (RParen ∷ r) s.2))
 
-  pub paren_level : (v : A) (c r : List Tok) → paren_spells g v c r → AreLevel c
-  paren_level v c r s = rw (s.1) (level_within s.0 (g.level v s.0 (RParen ∷ r) s.2))
+  pub paren_balanced : (v : A) (c r : List Tok) → paren_spells g v c r → AreBalanced c
+  paren_balanced v c r s = rw (s.1) (balanced_within s.0 (g.balanced v s.0 (RParen ∷ r) s.2))
 
 -- ---- a part that reaches to the end of its group
 
@@ -73,8 +73,8 @@ module _ {A : Type 0} (g : Production A) where
   pub end_takes : (v : A) (c r : List Tok) → end_spells g v c r → g.least ≤ length c
   end_takes v c r s = g.takes v c r s.0
 
-  pub end_level : (v : A) (c r : List Tok) → end_spells g v c r → AreLevel c
-  end_level v c r s = g.level v c r s.0
+  pub end_balanced : (v : A) (c r : List Tok) → end_spells g v c r → AreBalanced c
+  end_balanced v c r s = g.balanced v c r s.0
 
 -- ---- ) (
 
@@ -98,5 +98,5 @@ turn_complete v c r s = rw s refl
 pub turn_takes : (v : Unit {0}) (c r : List Tok) → turn_spells v c r → 2 ≤ length c
 turn_takes v c r s = rw s (omega arith)
 
-pub turn_level : (v : Unit {0}) (c r : List Tok) → turn_spells v c r → AreLevel c
-turn_level v c r s = rw s refl
+pub turn_balanced : (v : Unit {0}) (c r : List Tok) → turn_spells v c r → AreBalanced c
+turn_balanced v c r s = rw s refl

@@ -22,6 +22,6 @@ module _ {A : Type 0} where
 
 -- put behind nothing, they are what `joined` reads
 pub joined_reads : {A : Type 0} (follows : List Tok → Bool) (g : Production (List A))
-    (eats : 1 ≤ g.least) (t : List Tok)
-    → joined_behind [] (many_reads follows g t) ≡ (joined follows g eats).reads t
-joined_reads follows g eats t = join_all (many_reads follows g t)
+    (consumes : 1 ≤ g.least) (t : List Tok)
+    → joined_behind [] (many_reads follows g t) ≡ (joined follows g consumes).reads t
+joined_reads follows g consumes t = join_all (many_reads follows g t)

@@ -3,12 +3,12 @@ use Rattle.std.specs.Prelude.{◌≡◌, ℕ, zero, suc, ◌-◌, ◌≤◌, ◌
 use Rattle.std.specs.Prelude.{◌++◌, length, Option, Some, None, refl}
 use Rattle.std.proofs.Common.{ap, subst, sym, ◌∙◌, append_assoc, arith, length-append}
 use Rattle.wat_lexer.specs.Token.{Tok}
-use Rattle.wat_tokens.specs.Parens.{AreLevel}
+use Rattle.wat_tokens.specs.Parens.{AreBalanced}
 use Rattle.wat_tokens.specs.Production.{Read, Front, bind, Production, some_of, none_of, option_of}
 use Rattle.wat_tokens.specs.Laws.Production.{some_is, bind_some, none_is_not, by_test, by_read}
 use Rattle.wat_tokens.specs.Laws.Production.{by_option, less_left}
 use Rattle.wat_tokens.specs.ManySpells.{many_spells, many_at, many_reads}
-use Rattle.wat_tokens.specs.Laws.Parens.{level_both}
+use Rattle.wat_tokens.specs.Laws.Parens.{balanced_both}
 use Rattle.wat_tokens.specs.PartSpells.{with_rest}
 use Rattle.wat_tokens.specs.Adding.{add_read, option_then, add_all, add_rest}
 
@@ -55,37 +55,38 @@ module _ {A : Type 0} (begins : List Tok → Bool) (g : Production A) where
   many_at_complete : 1 ≤ g.least → (v : List A) (n : ℕ) (c r : List Tok) → length c ≤ n
       → many_spells begins g v c r → many_at begins g n (c ++ r) ≡ Some (v, r)
   unfolding many_at
-  many_at_complete eats [] zero c r le s = rw (s.0) (rw (s.1) refl)
-  many_at_complete eats [] (suc n) c r le s = rw (s.0) (rw (s.1) refl)
-  many_at_complete eats (v ∷ vs) zero c r le s =
+  many_at_complete consumes [] zero c r le s = rw (s.0) (rw (s.1) refl)
+  many_at_complete consumes [] (suc n) c r le s = rw (s.0) (rw (s.1) refl)
+  many_at_complete consumes (v ∷ vs) zero c r le s =
       absurd (omega (arith, ap length s.2, length-append s.0 s.1, g.takes v s.0 (s.1 ++ r) s.4))
-  many_at_complete eats (v ∷ vs) (suc n) c r le s =
+  many_at_complete consumes (v ∷ vs) (suc n) c r le s =
       let e : c ++ r ≡ s.0 ++ (s.1 ++ r) = rw (s.2) (append_assoc s.0 s.1 r) in
       let short : length s.1 ≤ n =
       omega (arith, ap length s.2, length-append s.0 s.1, g.takes v s.0 (s.1 ++ r) s.4) in
       let b : begins (s.0 ++ (s.1 ++ r)) ≡ true = rw (← e) (s.3) in
-      rw (e, b, g.complete v s.0 (s.1 ++ r) s.4, many_at_complete eats vs n s.1 r short s.5) refl
+      rw (e, b, g.complete v s.0 (s.1 ++ r) s.4, many_at_complete consumes vs n s.1 r short s.5)
+      refl
 
   -- more room than the tokens need changes nothing
   many_enough : 1 ≤ g.least → (n m : ℕ) (t : List Tok) → length t ≤ n → length t ≤ m
       → many_at begins g n t ≡ many_at begins g m t
-  many_enough eats n m t le le2 =
+  many_enough consumes n m t le le2 =
       by_read (many_at begins g n t)
       (λ x e. (let f = many_at_sound n t x e in
       let short : length f.0 ≤ m = omega (arith, ap length f.1, length-append f.0 x.1) in
       e ∙ sym (ap (λ (u : List Tok). many_at begins g m u) f.1
-      ∙ many_at_complete eats x.0 m f.0 x.1 short f.2)))
+      ∙ many_at_complete consumes x.0 m f.0 x.1 short f.2)))
       (λ e. by_read (many_at begins g m t)
       (λ y e2. (let f = many_at_sound m t y e2 in
       let short : length f.0 ≤ n = omega (arith, ap length f.1, length-append f.0 y.1) in
       ap (λ (u : List Tok). many_at begins g n u) f.1
-      ∙ many_at_complete eats y.0 n f.0 y.1 short f.2 ∙ sym e2))
+      ∙ many_at_complete consumes y.0 n f.0 y.1 short f.2 ∙ sym e2))
       (λ e2. e ∙ sym e2))
 
   many_room : 1 ≤ g.least → (n : ℕ) (t : List Tok) → length t ≤ n
       → many_at begins g n t ≡ many_reads begins g t
   unfolding many_reads
-  many_room eats n t le = many_enough eats n (length t) t le (omega arith)
+  many_room consumes n t le = many_enough consumes n (length t) t le (omega arith)
 
   stops : (n : ℕ) (t : List Tok) → begins t ≡ false → many_at begins g n t ≡ Some ([], t)
   unfolding many_at
@@ -111,20 +112,20 @@ module _ {A : Type 0} (begins : List Tok → Bool) (g : Production A) where
       → g.reads t ≡ Some (v, t') → length t' ≤ n
       → many_at begins g (suc n) t ≡ bind (many_reads begins g t') (λ vs r. Some (v ∷ vs, r))
   unfolding many_at
-  steps eats n t v t' k e le =
+  steps consumes n t v t' k e le =
       rw (k, e) (ap (λ (u : Read (List A)). bind u (λ vs r. Some (v ∷ vs, r)))
-      (many_room eats n t' le))
+      (many_room consumes n t' le))
 
   pub many_step : 1 ≤ g.least → (t : List Tok) (v : A) (t' : List Tok) → begins t ≡ true
       → g.reads t ≡ Some (v, t') → many_reads begins g t
       ≡ bind (many_reads begins g t') (λ vs r. Some (v ∷ vs, r))
   unfolding many_reads
-  many_step eats t v t' k e =
+  many_step consumes t v t' k e =
       let f = g.sound t (v, t') e in
       let less : length t' < length t =
       omega (arith, ap length f.1, length-append f.0 t', g.takes v f.0 t' f.2) in
       let n : length t ≡ suc (length t - 1) = omega arith in
-      rw n (steps eats (length t - 1) t v t' k e (omega arith))
+      rw n (steps consumes (length t - 1) t v t' k e (omega arith))
 
   pub many_sound : (t : List Tok) (x : List A × List Tok) → many_reads begins g t ≡ Some x
       → Front (many_spells begins g) t x
@@ -134,16 +135,17 @@ module _ {A : Type 0} (begins : List Tok → Bool) (g : Production A) where
   pub many_complete : 1 ≤ g.least → (v : List A) (c r : List Tok) → many_spells begins g v c r
       → many_reads begins g (c ++ r) ≡ Some (v, r)
   unfolding many_reads
-  many_complete eats v c r s =
-      many_at_complete eats v (length (c ++ r)) c r (omega (arith, length-append c r)) s
+  many_complete consumes v c r s =
+      many_at_complete consumes v (length (c ++ r)) c r (omega (arith, length-append c r)) s
 
   pub many_takes : (v : List A) (c r : List Tok) → many_spells begins g v c r → 0 ≤ length c
   many_takes v c r s = omega arith
 
-  pub many_level : (v : List A) (c r : List Tok) → many_spells begins g v c r → AreLevel c
-  many_level [] c r s = rw (s.0) refl
-  many_level (v ∷ vs) c r s =
-      rw (s.2) (level_both s.0 s.1 (g.level v s.0 (s.1 ++ r) s.4) (many_level vs s.1 r s.5))
+  pub many_balanced : (v : List A) (c r : List Tok) → many_spells begins g v c r → AreBalanced c
+  many_balanced [] c r s = rw (s.0) refl
+  many_balanced (v ∷ vs) c r s =
+      rw (s.2) (balanced_both s.0 s.1 (g.balanced v s.0 (s.1 ++ r) s.4)
+      (many_balanced vs s.1 r s.5))
 
 -- ---- a loop that adds each part to what it has, where it fits
 
@@ -176,13 +178,13 @@ module _ {A S : Type 0} (add : S → A → Option S) where
       elim o as (λ p. none_of {A = S} ≡ elim p [ Some s2 ↦ (add_rest add) s2 None | None ↦ None ])
       [ Some s2 ↦ refl | None ↦ refl ]
 
-  module _ (begins : List Tok → Bool) (g : Production A) (eats : 1 ≤ g.least) where
+  module _ (begins : List Tok → Bool) (g : Production A) (consumes : 1 ≤ g.least) where
     pub adding_goes_on : (s : S) (t : List Tok) (s2 : S) (t2 : List Tok) → begins t ≡ true
         → add_read add s (g.reads t) ≡ Some (s2, t2)
         → add_rest add s (many_reads begins g t) ≡ add_rest add s2 (many_reads begins g t2)
     adding_goes_on s t s2 t2 k e =
         let p = add_some s (g.reads t) (s2, t2) e in
-        ap (λ (u : Read (List A)). add_rest add s u) (many_step begins g eats t p.0 t2 k p.1)
+        ap (λ (u : Read (List A)). add_rest add s u) (many_step begins g consumes t p.0 t2 k p.1)
         ∙ add_step s p.0 (Some s2) (many_reads begins g t2) p.2
 
     pub adding_ends : (s : S) (t : List Tok) → begins t ≡ false
@@ -194,11 +196,11 @@ module _ {A S : Type 0} (add : S → A → Option S) where
     adding_fails s t k e =
         by_read (g.reads t)
         (λ x h. (let n : add s x.0 ≡ None = with_rest_none (add s x.0) x.1 (rw h at e) in
-        ap (λ (u : Read (List A)). add_rest add s u) (many_step begins g eats t x.0 x.1 k h)
+        ap (λ (u : Read (List A)). add_rest add s u) (many_step begins g consumes t x.0 x.1 k h)
         ∙ add_step s x.0 None (many_reads begins g x.1) n))
         (λ h. ap (λ (u : Read (List A)). add_rest add s u) (many_fails begins g t k h))
 
     pub adding_takes : (s : S) (t : List Tok) (s2 : S) (t2 : List Tok)
         → add_read add s (g.reads t) ≡ Some (s2, t2) → length t2 < length t
     adding_takes s t s2 t2 e =
-        let p = add_some s (g.reads t) (s2, t2) e in less_left g t p.0 t2 eats p.1
+        let p = add_some s (g.reads t) (s2, t2) e in less_left g t p.0 t2 consumes p.1

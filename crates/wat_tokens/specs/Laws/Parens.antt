@@ -2,7 +2,7 @@
 use Rattle.std.specs.Prelude.{◌≡◌, ◌+◌, ◌≤◌, List, [], ◌∷◌, ◌++◌}
 use Rattle.std.proofs.Common.{arith}
 use Rattle.wat_lexer.specs.Token.{Tok, LParen, RParen}
-use Rattle.wat_tokens.specs.Parens.{opens, closes, AreLevel, rise, nest}
+use Rattle.wat_tokens.specs.Parens.{opens, closes, AreBalanced, rise, nest}
 
 pub opens-append : (c d : List Tok) → opens (c ++ d) ≡ opens c + opens d
 opens-append [] d = omega arith
@@ -14,14 +14,14 @@ closes-append [] d = omega arith
 closes-append (RParen ∷ c) d = omega (arith, closes-append c d)
 closes-append (_ ∷ c) d = closes-append c d
 
-pub level_both : (c d : List Tok) → AreLevel c → AreLevel d → AreLevel (c ++ d)
-level_both c d p q = omega (arith, opens-append c d, closes-append c d)
+pub balanced_both : (c d : List Tok) → AreBalanced c → AreBalanced d → AreBalanced (c ++ d)
+balanced_both c d p q = omega (arith, opens-append c d, closes-append c d)
 
 -- a level stretch between parentheses
-pub level_within : (d : List Tok) → AreLevel d → AreLevel (LParen ∷ (d ++ RParen ∷ []))
-level_within d p = omega (arith, opens-append d (RParen ∷ []), closes-append d (RParen ∷ []))
+pub balanced_within : (d : List Tok) → AreBalanced d → AreBalanced (LParen ∷ (d ++ RParen ∷ []))
+balanced_within d p = omega (arith, opens-append d (RParen ∷ []), closes-append d (RParen ∷ []))
 
--- a front rises at most as much as the whole
+-- a prefix rises at most as much as the whole
 pub rise_front : (c d : List Tok) → rise c ≤ rise (c ++ d)
 rise_front [] d = omega arith
 rise_front (LParen ∷ c) d = omega (arith, rise_front c d)

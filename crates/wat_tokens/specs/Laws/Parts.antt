@@ -3,13 +3,13 @@ use Rattle.std.specs.Prelude.{◌≡◌, ◌+◌, ◌≤◌, min, Bool, true, fa
 use Rattle.std.specs.Prelude.{Option, Some, None, refl}
 use Rattle.std.proofs.Common.{ap, subst, sym, ◌∙◌, append_assoc, arith, length-append, inl, inr}
 use Rattle.wat_lexer.specs.Token.{Tok, LParen, RParen}
-use Rattle.wat_tokens.specs.Parens.{AreLevel, NoParens}
+use Rattle.wat_tokens.specs.Parens.{AreBalanced, NoParens}
 use Rattle.wat_tokens.specs.Production.{Front, bind, Production, some_of, none_of}
 use Rattle.wat_tokens.specs.Laws.Production.{some_is, none_is_not, bind_some, by_test}
 use Rattle.wat_tokens.specs.PartSpells.{with_rest, one_spells, one_reads, seq_spells, seq_reads}
 use Rattle.wat_tokens.specs.PartSpells.{where_spells, where_reads, of_spells, kept, of_reads}
 use Rattle.wat_tokens.specs.PartSpells.{opt_spells, opt_reads}
-use Rattle.wat_tokens.specs.Laws.Parens.{level_both}
+use Rattle.wat_tokens.specs.Laws.Parens.{balanced_both}
 
 -- ---- one token, which gives a value
 
@@ -33,14 +33,14 @@ module _ {A : Type 0} (value_of : Tok → Option A) where
   pub one_takes : (v : A) (c r : List Tok) → one_spells value_of v c r → 1 ≤ length c
   one_takes v c r s = rw (s.1) (omega arith)
 
-  one_flat : NoParens value_of → (v : A) (x : Tok) → value_of x ≡ Some v → AreLevel (x ∷ [])
+  one_flat : NoParens value_of → (v : A) (x : Tok) → value_of x ≡ Some v → AreBalanced (x ∷ [])
   one_flat flat v LParen e = absurd (let f : value_of LParen ≡ None = flat.0 in cc)
   one_flat flat v RParen e = absurd (let f : value_of RParen ≡ None = flat.1 in cc)
   one_flat flat v _ e = refl
 
-  pub one_level : NoParens value_of → (v : A) (c r : List Tok) → one_spells value_of v c r
-      → AreLevel c
-  one_level flat v c r s = rw (s.1) (one_flat flat v s.0 s.2)
+  pub one_balanced : NoParens value_of → (v : A) (c r : List Tok) → one_spells value_of v c r
+      → AreBalanced c
+  one_balanced flat v c r s = rw (s.1) (one_flat flat v s.0 s.2)
 
 -- ---- one part, and then another
 
@@ -75,9 +75,10 @@ module _ {A B : Type 0} (g : Production A) (h : Production B) where
             r s.4,
       ))
 
-  pub seq_level : (v : A × B) (c r : List Tok) → seq_spells g h v c r → AreLevel c
-  seq_level v c r s =
-      rw (s.2) (level_both s.0 s.1 (g.level v.0 s.0 (s.1 ++ r) s.3) (h.level v.1 s.1 r s.4))
+  pub seq_balanced : (v : A × B) (c r : List Tok) → seq_spells g h v c r → AreBalanced c
+  seq_balanced v c r s =
+      rw (s.2) (balanced_both s.0 s.1 (g.balanced v.0 s.0 (s.1 ++ r) s.3)
+      (h.balanced v.1 s.1 r s.4))
 
 -- ---- the one where a test of the tokens in front holds, else the other
 
@@ -101,9 +102,9 @@ module _ {A : Type 0} (test : List Tok → Bool) (g h : Production A) where
   where_takes v c r (inl s) = omega (arith, g.takes v c r s.1)
   where_takes v c r (inr s) = omega (arith, h.takes v c r s.1)
 
-  pub where_level : (v : A) (c r : List Tok) → where_spells test g h v c r → AreLevel c
-  where_level v c r (inl s) = g.level v c r s.1
-  where_level v c r (inr s) = h.level v c r s.1
+  pub where_balanced : (v : A) (c r : List Tok) → where_spells test g h v c r → AreBalanced c
+  where_balanced v c r (inl s) = g.balanced v c r s.1
+  where_balanced v c r (inr s) = h.balanced v c r s.1
 
 -- ---- a value made of the parts, where the parts meet a condition
 
@@ -127,8 +128,8 @@ module _ {A B : Type 0} (ok : A → Bool) (f : A → B) (g : Production A) where
   pub of_takes : (v : B) (c r : List Tok) → of_spells ok f g v c r → g.least ≤ length c
   of_takes v c r s = g.takes s.0 c r s.1
 
-  pub of_level : (v : B) (c r : List Tok) → of_spells ok f g v c r → AreLevel c
-  of_level v c r s = g.level s.0 c r s.1
+  pub of_balanced : (v : B) (c r : List Tok) → of_spells ok f g v c r → AreBalanced c
+  of_balanced v c r s = g.balanced s.0 c r s.1
 
 -- ---- an optional part: there where the tokens in front begin it
 
@@ -158,6 +159,6 @@ module _ {A : Type 0} (begins : List Tok → Bool) (g : Production A) where
   pub opt_takes : (v : Option A) (c r : List Tok) → opt_spells begins g v c r → 0 ≤ length c
   opt_takes v c r s = omega arith
 
-  pub opt_level : (v : Option A) (c r : List Tok) → opt_spells begins g v c r → AreLevel c
-  opt_level (Some v) c r s = g.level v c r s.1
-  opt_level None c r s = rw (s.0) refl
+  pub opt_balanced : (v : Option A) (c r : List Tok) → opt_spells begins g v c r → AreBalanced c
+  opt_balanced (Some v) c r s = g.balanced v c r s.1
+  opt_balanced None c r s = rw (s.0) refl

@@ -28,7 +28,7 @@ by_read None f g = g refl
 -- where a value takes a token, less is left
 pub less_left : {A : Type 0} (g : Production A) (t : List Tok) (v : A) (r : List Tok) → 1 ≤ g.least
     → g.reads t ≡ Some (v, r) → length r < length t
-less_left g t v r eats e =
+less_left g t v r consumes e =
     let f = g.sound t (v, r) e in
     omega (arith, ap length f.1, length-append f.0 r, g.takes v f.0 r f.2)
 

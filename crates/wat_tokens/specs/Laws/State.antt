@@ -1,20 +1,21 @@
 -- Laws: a parser as contracts see it.
 use Rattle.std.specs.Prelude.{◌≡◌, List, ℕ, zero, suc, ◌+◌, drop, Bool, true}
 use Rattle.std.proofs.Common.{ap, sym, ◌∙◌, arith}
-use Rattle.wat_lexer.specs.Sight.{as_shown, hidden}
+use Rattle.wat_lexer.specs.Sight.{visible_tokens, hidden_count}
 use Rattle.wat_lexer.specs.Token.{Tok}
-use Rattle.wat_tokens.specs.State.{behind, State, lit}
+use Rattle.wat_tokens.specs.State.{behind, State, annotated}
 
 pub behind_then : (known : Bool) (m n : ℕ) (t : List Tok)
     → behind known n (behind known m t) ≡ behind known (m + n) t
 unfolding behind
 behind_then known zero n t = ap (λ (k : ℕ). behind known k t) {x = n} {y = 0 + n} (omega arith)
 behind_then known (suc m) n t =
-    behind_then known m n (drop (hidden known t + 1) t)
+    behind_then known m n (drop (hidden_count known t + 1) t)
     ∙ ap (λ (k : ℕ). behind known k t) {x = suc (m + n)} {y = suc m + n} (omega arith)
 
-pub lit_is : (s : State) → s.known ≡ true → s.left ≡ as_shown s.known s.rest → lit s ≡ s
-lit_is s k e =
-    let f : as_shown true s.rest ≡ s.left = rw (← k) (sym e) in
+pub annotated_is : (s : State) → s.known ≡ true → s.left ≡ visible_tokens s.known s.rest
+    → annotated s ≡ s
+annotated_is s k e =
+    let f : visible_tokens true s.rest ≡ s.left = rw (← k) (sym e) in
     ap (λ (p : Bool × List Tok). record s { known = p.0; left = p.1 })
-    {x = (true, as_shown true s.rest)} {y = (s.known, s.left)} (cc)
+    {x = (true, visible_tokens true s.rest)} {y = (s.known, s.left)} (cc)

@@ -5,5 +5,5 @@ use Rattle.wat_types.specs.Define.{grouped_type}
 
 -- ---- types and recursion groups
 
-pub grouped_type_eats : 1 ≤ grouped_type.least
-grouped_type_eats = omega arith
+pub grouped_type_consumes : 1 ≤ grouped_type.least
+grouped_type_consumes = omega arith

@@ -12,7 +12,7 @@ use Rattle.wat_types.specs.Struct.{plain_members, members, member_group}
 
 -- ---- the fields of a structure
 
-pub member_group_eats : 1 ≤ member_group.least
+pub member_group_consumes : 1 ≤ member_group.least
 unfolding member_group members label name_annotation plain_members field_type storage_type val_type
     ref_type shorthand heap_type abstract_heap_type
-member_group_eats = lit≤ tt
+member_group_consumes = lit≤ tt

@@ -53,7 +53,7 @@ plain_unlabelled (p ∷ ps) c r s =
     subst (λ (q : ParamTy). (not (labelled q.label) && unlabelled ps) ≡ true) s.4.3
     (plain_unlabelled ps s.1 r s.5)
 
--- ---- what stands in a param group
+-- ---- what is in a param group
 
 params_allow : (ps : List ParamTy) (c r : List Tok) → (params false).spells ps c r
     → (params true).spells ps c r × (unlabelled ps ≡ true)

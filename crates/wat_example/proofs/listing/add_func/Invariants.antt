@@ -1,9 +1,9 @@
 use Rattle.std.proofs.Common.{◌≡◌, ◌++◌, take}
 use Rattle.std.specs.Prelude.{flat_map, map}
 use Rattle.std.specs.String.{string_bytes}
-use Rattle.wat_core.specs.Func.{seen_func_use}
+use Rattle.wat_core.specs.Func.{func_use_view}
 use Rattle.wat_example.specs.Listing.{use_line}
 use Rattle.wat_example.proofs.listing.add_func.Given as goal
 
 abbrev pub invariant-loop-name : goal.invariant-loop-name
-invariant-loop-name l = string_bytes l.out ≡ string_bytes l.fn.out ++ flat_map (use_line (seen_func_use l.func.ty)) (map (λ n. n.now) (take l.name-index l.func.exports.names.items))
+invariant-loop-name l = string_bytes l.out ≡ string_bytes l.fn.out ++ flat_map (use_line (func_use_view l.func.ty)) (map (λ n. n.now) (take l.name-index l.func.exports.names.items))

@@ -1,6 +1,7 @@
 use Rattle.std.proofs.Common.{◌≡◌, length}
-use Rattle.std.specs.Prelude.{map, All, IsTrue, ◌≤◌, ◌+◌}
-use Rattle.wat_tokens.specs.Counts.{Carries, Quiet, Kept}
+use Rattle.std.specs.Prelude.{map, All, ◌≤◌, ◌+◌}
+use Rattle.wat_tokens.specs.Cost.{Costs}
+use Rattle.wat_tokens.specs.Counts.{Carries, SameSettings}
 use Rattle.wat_tokens.specs.Many.{after_front}
 use Rattle.wat_tokens.specs.ManySpells.{many_reads}
 use Rattle.wat_tokens.specs.Tests.{more}
@@ -8,11 +9,11 @@ use Rattle.wat_fields.proofs.spanned.all_spanned.Given as goal
 
 abbrev pub invariant-values : goal.invariant-values
 invariant-values g l = record {
-  exact : after_front (map g.S.Spanned.seen l.found.items) (many_reads more g.S.Spanned.grammar l.parser.left) ≡ many_reads more g.S.Spanned.grammar l.fn.parser.left;
+  exact : after_front (map g.S.Spanned.view.of l.found.items) (many_reads more g.S.Spanned.grammar l.parser.left) ≡ many_reads more g.S.Spanned.grammar l.fn.parser.left;
   counts : Carries l.fn.parser l.parser;
   turned : l.parser.turns + l.fn.parser.taken ≤ l.fn.parser.turns + l.parser.taken;
-  quiet : IsTrue g.S.Spanned.quiet → Quiet l.fn.parser l.parser;
-  names : Kept l.fn.parser l.parser;
+  cost : Costs g.S.Spanned.cost l.fn.parser l.parser;
+  settings : SameSettings l.fn.parser l.parser;
   spans : All (g.S.Spanned.keeps l.fn.parser.tracks) l.found.items;
 }
 

@@ -18,10 +18,10 @@ pub returns-in-Some-clause-none : goal.returns-in-Some-clause-none
 returns-in-Some-clause-none c = λ no_memory ts. no_cut c.args.text.now _ _ ts (returns-in-Some-clause-fault c no_memory)
 
 pub returns-in-None-clause-found : goal.returns-in-None-clause-found
-returns-in-None-clause-found c = rw c.tell_leaps.ensures.same (c.in-Ok.ensures.found, rw c.in-None.is at c.in_ok-offset.ensures.first)
+returns-in-None-clause-found c = rw c.tell_skips.ensures.same (c.in-Ok.ensures.found, rw c.in-None.is at c.in_ok-offset.ensures.first)
 
 pub returns-clause-found : goal.returns-clause-found
 returns-clause-found c = (c.in-Ok.ensures.found, closed_anyway c.in-Ok.parts.0 (sym c.in-Ok.ensures.noted ∙ c.if-noted.false))
 
-pub returns-clause-leaps : goal.returns-clause-leaps
-returns-clause-leaps c = told_anyway c.in-Ok.parts.0 (sym c.in-Ok.ensures.noted ∙ c.if-noted.false)
+pub returns-clause-skips : goal.returns-clause-skips
+returns-clause-skips c = told_anyway c.in-Ok.parts.0 (sym c.in-Ok.ensures.noted ∙ c.if-noted.false)

@@ -6,9 +6,9 @@ use Rattle.wat_lexer.proofs.cut.cut_pieces.Given as goal
 
 abbrev pub invariant-loop-at : goal.invariant-loop-at
 invariant-loop-at l = record {
-  cuts : CutSoFar l.text (placed (entries_of l.text l.aside.items l.tokens.items)) l.behind (drop l.at l.text);
-  noted : has_annotation (lying l.aside.items) ≡ has_annotation (toks (entries_of l.text l.aside.items l.tokens.items));
-  fits : AllCanBeRead l.text l.aside.items l.tokens.items;
+  cuts : CutSoFar l.text (placed (entries_of l.text l.side_table.items l.tokens.items)) l.behind (drop l.at l.text);
+  noted : has_annotation (lying l.side_table.items) ≡ has_annotation (toks (entries_of l.text l.side_table.items l.tokens.items));
+  fits : AllCanBeRead l.text l.side_table.items l.tokens.items;
   apart : AllApart l.tokens.items;
   few : length l.tokens.items ≤ l.at;
   within : l.at ≤ length l.text;

@@ -22,5 +22,5 @@ returns-clause-value c =
     let at = c.args.at in
     let end = c.args.end in
     let run = run_token c.args.behind at end text _ c.requires.order c.requires.within c.requires.ends in
-    let (same, fits, put) = plain_found c.plain_kind-kind.result text c.args.aside.now.items at end _ (slice_range text (at + 1) end) _ (sym c.is_annotation_kind.ensures ∙ c.if-is_annotation_kind.false) c.plain_kind-kind.ensures.fits c.plain_kind-kind.ensures.class in
+    let (same, fits, put) = plain_found c.plain_kind-kind.result text c.args.side_table.now.items at end _ (slice_range text (at + 1) end) _ (sym c.is_annotation_kind.ensures ∙ c.if-is_annotation_kind.false) c.plain_kind-kind.ensures.fits c.plain_kind-kind.ensures.class in
     (run ∙ ap (λ t. TokenTo t (drop end text)) same, fits, put)

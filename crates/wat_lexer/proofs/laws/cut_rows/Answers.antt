@@ -1,4 +1,4 @@
-use Rattle.wat_lexer.proofs.Rows.{comments, strings, quoted_names, spoiled, integers, values, hidden_groups, faults, open_group}
+use Rattle.wat_lexer.proofs.Rows.{comments, strings, quoted_names, spoiled, integers, values, hidden_groups, faults, unclosed_group}
 use Rattle.wat_lexer.proofs.laws.cut_rows.Goals as goal
 
 pub returns-clause-comments : goal.returns-clause-comments
@@ -25,5 +25,5 @@ returns-clause-hidden_groups c = hidden_groups
 pub returns-clause-faults : goal.returns-clause-faults
 returns-clause-faults c = faults
 
-pub returns-clause-open_group : goal.returns-clause-open_group
-returns-clause-open_group c = open_group
+pub returns-clause-unclosed_group : goal.returns-clause-unclosed_group
+returns-clause-unclosed_group c = unclosed_group

@@ -4,7 +4,7 @@ use Rattle.wat_links.proofs.FlagList.{more_left, none_more, flags_begin, flags_g
 use Rattle.wat_links.proofs.flags.read_flags.Goals as goal
 
 pub flags-init : goal.flags-init
-flags-init c = record { exact = flags_begin c.args.parser.now.left; counts = search rules; turned = search rules; cost = search rules; names = search rules }
+flags-init c = record { exact = flags_begin c.args.parser.now.left; counts = search rules; turned = search rules; cost = search rules; settings = search rules }
 
 pub flags-smaller : goal.flags-smaller
 flags-smaller c = flags_less _ c.flags.parser.left c.read_flag.new.parser.left c.in_ok-flags.ensures.reads.exact
@@ -15,7 +15,7 @@ flags-preserved c = record {
   counts = search rules;
   turned = search rules;
   cost = search rules;
-  names = search rules;
+  settings = search rules;
 }
 
 pub returns : goal.returns
@@ -24,7 +24,7 @@ returns c = record {
     exact = sym c.flags.invariant.exact ∙ flags_end c.flags.flags c.flags.parser.left (none_more c.flags.parser.left c.is_empty.result c.is_empty.ensures c.flags-test.false);
     counts = search rules;
     cost = search rules;
-    names = search rules;
+    settings = search rules;
   };
 }
 
@@ -36,6 +36,6 @@ returns-in_err-flags c =
         exact = rw (p.1, p.2) (sym c.flags.invariant.exact ∙ flags_fail c.flags.flags c.flags.parser.left (more_left c.flags.parser.left c.is_empty.result c.is_empty.ensures c.flags-test.true) c.in_err-flags.ensures.reads.exact.0, c.in_err-flags.ensures.reads.exact.1);
         counts = search rules;
         cost = search rules;
-        names = search rules;
+        settings = search rules;
       };
     }

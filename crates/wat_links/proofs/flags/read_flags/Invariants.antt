@@ -1,6 +1,6 @@
 use Rattle.std.proofs.Common.{◌≡◌, length}
 use Rattle.std.specs.Prelude.{◌≤◌, ◌+◌}
-use Rattle.wat_tokens.specs.Counts.{Carries, Quiet, Kept}
+use Rattle.wat_tokens.specs.Counts.{Carries, Quiet, SameSettings}
 use Rattle.wat_links.specs.Flags.{symbol_flags}
 use Rattle.wat_links.proofs.FlagList.{flags_from}
 use Rattle.wat_links.proofs.flags.read_flags.Given as goal
@@ -11,7 +11,7 @@ invariant-flags l = record {
   counts : Carries l.fn.parser l.parser;
   turned : l.parser.turns + l.fn.parser.taken ≤ l.fn.parser.turns + l.parser.taken;
   cost : Quiet l.fn.parser l.parser;
-  names : Kept l.fn.parser l.parser;
+  settings : SameSettings l.fn.parser l.parser;
 }
 
 abbrev pub decreases-flags : goal.decreases-flags

@@ -15,7 +15,7 @@ groups-preserved g c = record {
   counts = search rules;
   turned = search rules;
   cost = search (rules, costs_then, quiet_costs);
-  names = search rules;
+  settings = search rules;
 }
 
 pub returns : goal.returns
@@ -24,7 +24,7 @@ returns g c = record {
     exact = sym c.groups.invariant.exact ∙ adding_ends join g.G.Group.follows g.G.Group.grammar c.requires (map g.G.Group.view.of c.groups.out.items) c.groups.parser.left (sym c.follows.ensures ∙ c.groups-test.false);
     counts = search rules;
     cost = search (rules, costs_then, quiet_costs);
-    names = search rules;
+    settings = search rules;
   };
 }
 
@@ -38,6 +38,6 @@ returns-in_err-take g c =
         exact = rw (p.1, p.2) ((λ not. sym c.groups.invariant.exact ∙ adding_fails join g.G.Group.follows g.G.Group.grammar c.requires before c.groups.parser.left begun (c.in_err-take.ensures.reads.exact.0 not)), (λ m. (joined_not_bare g.G.Group.follows g.G.Group.grammar c.requires before c.groups.parser.left _ begun (c.in_err-take.ensures.reads.exact.1 m) c.groups.invariant.exact)));
         counts = search rules;
         cost = search (rules, costs_then, quiet_costs);
-        names = search rules;
+        settings = search rules;
       };
     }

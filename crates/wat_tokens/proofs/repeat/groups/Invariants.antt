@@ -1,7 +1,7 @@
 use Rattle.std.proofs.Common.{◌≡◌, length}
 use Rattle.std.specs.Prelude.{map, ◌≤◌, ◌+◌}
 use Rattle.wat_tokens.specs.Cost.{Costs}
-use Rattle.wat_tokens.specs.Counts.{Carries, Kept}
+use Rattle.wat_tokens.specs.Counts.{Carries, SameSettings}
 use Rattle.wat_tokens.specs.Joined.{joined_behind}
 use Rattle.wat_tokens.specs.ManySpells.{many_reads}
 use Rattle.wat_tokens.proofs.repeat.groups.Given as goal
@@ -12,7 +12,7 @@ invariant-groups g l = record {
   counts : Carries l.fn.parser l.parser;
   turned : l.parser.turns + l.fn.parser.taken ≤ l.fn.parser.turns + l.parser.taken;
   cost : Costs g.G.Group.cost l.fn.parser l.parser;
-  names : Kept l.fn.parser l.parser;
+  settings : SameSettings l.fn.parser l.parser;
 }
 
 abbrev pub decreases-groups : goal.decreases-groups

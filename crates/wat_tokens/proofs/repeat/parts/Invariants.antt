@@ -12,7 +12,7 @@ invariant-parts g l = record {
   counts : Carries l.fn.parser l.parser;
   turned : l.parser.turns + l.fn.parser.taken ≤ l.fn.parser.turns + l.parser.taken;
   cost : Costs g.P.Part.cost l.fn.parser l.parser;
-  names : (l.parser.known ≡ l.fn.parser.known) × (l.parser.tracks ≡ l.fn.parser.tracks);
+  settings : (l.parser.known ≡ l.fn.parser.known) × (l.parser.tracks ≡ l.fn.parser.tracks);
 }
 
 abbrev pub decreases-parts : goal.decreases-parts

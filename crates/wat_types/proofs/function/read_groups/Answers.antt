@@ -3,9 +3,9 @@ use Rattle.std.proofs.lemmas.Result.{err_from_is_err_and}
 use Rattle.wat_tokens.specs.Adding.{add_rest}
 use Rattle.wat_tokens.specs.Laws.Many.{adding_goes_on, adding_ends, adding_fails, adding_takes}
 use Rattle.wat_types.specs.Group.{FuncTy, empty_function, func_group, group_follows}
-use Rattle.wat_types.specs.Laws.Group.{func_group_eats}
+use Rattle.wat_types.specs.Laws.Group.{func_group_consumes}
 use Rattle.wat_types.specs.Order.{add}
-use Rattle.wat_types.specs.Function.{seen_function}
+use Rattle.wat_types.specs.Function.{function_view}
 use Rattle.wat_types.specs.FunctionSpells.{func_groups}
 use Rattle.wat_types.proofs.FunctionFront.{function_begins_at}
 use Rattle.wat_types.proofs.Groups.{groups_not_bare}
@@ -13,26 +13,26 @@ use Rattle.wat_types.proofs.function.read_groups.Goals as goal
 
 pub groups-init : goal.groups-init
 groups-init c =
-    let e : seen_function c.empty-found.result ≡ empty_function = rw (c.empty-found.ensures.params, c.empty-found.ensures.results) refl in
+    let e : function_view c.empty-found.result ≡ empty_function = rw (c.empty-found.ensures.params, c.empty-found.ensures.results) refl in
     record {
       exact = ap (λ (u : FuncTy). add_rest add u ((func_groups c.args.labels).reads c.args.parser.now.left)) e ∙ function_begins_at c.args.labels c.args.parser.now.left;
       counts = search rules;
       turned = search rules;
       cost = search rules;
-      names = search rules;
+      settings = search rules;
     }
 
 pub groups-smaller : goal.groups-smaller
-groups-smaller c = adding_takes add group_follows (func_group c.args.labels) (func_group_eats c.args.labels) (seen_function c.groups.found) c.groups.parser.left (seen_function c.read_group.new.out) c.read_group.new.parser.left c.in_ok-read_group.ensures.reads.exact
+groups-smaller c = adding_takes add group_follows (func_group c.args.labels) (func_group_consumes c.args.labels) (function_view c.groups.found) c.groups.parser.left (function_view c.read_group.new.out) c.read_group.new.parser.left c.in_ok-read_group.ensures.reads.exact
 
 pub groups-preserved : goal.groups-preserved
 unfolding func_groups
 groups-preserved c = record {
-  exact = sym (adding_goes_on add group_follows (func_group c.args.labels) (func_group_eats c.args.labels) (seen_function c.groups.found) c.groups.parser.left (seen_function c.read_group.new.out) c.read_group.new.parser.left (sym c.group_next.ensures ∙ c.groups-test.true) c.in_ok-read_group.ensures.reads.exact) ∙ c.groups.invariant.exact;
+  exact = sym (adding_goes_on add group_follows (func_group c.args.labels) (func_group_consumes c.args.labels) (function_view c.groups.found) c.groups.parser.left (function_view c.read_group.new.out) c.read_group.new.parser.left (sym c.group_next.ensures ∙ c.groups-test.true) c.in_ok-read_group.ensures.reads.exact) ∙ c.groups.invariant.exact;
   counts = search rules;
   turned = search rules;
   cost = search rules;
-  names = search rules;
+  settings = search rules;
 }
 
 pub returns-in_err-read_group : goal.returns-in_err-read_group
@@ -42,10 +42,10 @@ returns-in_err-read_group c =
     let p = err_from_is_err_and c.from_residual.result c.from_residual.ensures.1 in
     record {
       reads = record {
-        exact = rw (p.1, p.2) ((λ not. sym c.groups.invariant.exact ∙ adding_fails add group_follows (func_group c.args.labels) (func_group_eats c.args.labels) (seen_function c.groups.found) c.groups.parser.left begun (c.in_err-read_group.ensures.reads.exact.0 not)), (λ m. groups_not_bare c.args.labels (seen_function c.groups.found) c.groups.parser.left _ begun (c.in_err-read_group.ensures.reads.exact.1 m) c.groups.invariant.exact));
+        exact = rw (p.1, p.2) ((λ not. sym c.groups.invariant.exact ∙ adding_fails add group_follows (func_group c.args.labels) (func_group_consumes c.args.labels) (function_view c.groups.found) c.groups.parser.left begun (c.in_err-read_group.ensures.reads.exact.0 not)), (λ m. groups_not_bare c.args.labels (function_view c.groups.found) c.groups.parser.left _ begun (c.in_err-read_group.ensures.reads.exact.1 m) c.groups.invariant.exact));
         counts = search rules;
         cost = search rules;
-        names = search rules;
+        settings = search rules;
       };
     }
 
@@ -53,9 +53,9 @@ pub returns : goal.returns
 unfolding func_groups
 returns c = record {
   reads = record {
-    exact = rw (c.shrink_to_fit.ensures.items, c.shrink_to_fit-2.ensures.items) (sym c.groups.invariant.exact ∙ adding_ends add group_follows (func_group c.args.labels) (func_group_eats c.args.labels) (seen_function c.groups.found) c.groups.parser.left (sym c.group_next.ensures ∙ c.groups-test.false));
+    exact = rw (c.shrink_to_fit.ensures.items, c.shrink_to_fit-2.ensures.items) (sym c.groups.invariant.exact ∙ adding_ends add group_follows (func_group c.args.labels) (func_group_consumes c.args.labels) (function_view c.groups.found) c.groups.parser.left (sym c.group_next.ensures ∙ c.groups-test.false));
     counts = search rules;
     cost = search rules;
-    names = search rules;
+    settings = search rules;
   };
 }

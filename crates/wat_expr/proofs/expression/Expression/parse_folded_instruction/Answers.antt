@@ -64,7 +64,7 @@ returns-in_err-turn-clause-counts c =
 
 pub groups-init : goal.groups-init
 groups-init c =
-    going_begins _ _ _ _ _ _ None _ _ _ _ (rw c.new-levels.ensures at c.in_ok-push.ensures) (c.empty-out.ensures ∙ ap no_output c.tracks.ensures) c.height.ensures c.note_height.ensures c.held.ensures c.note_held.ensures.only (begun _ _ _ c.in_ok-open.ensures.reads.exact) c.in_ok-open.ensures.reads.counts.0 c.in_ok-open.ensures.reads.cost c.in_ok-open.ensures.reads.names c.in_ok-instr.ensures.exact c.in_ok-instr.ensures.steady.counts c.in_ok-instr.ensures.steady.stays c.in_ok-instr.ensures.steady.names c.note_held.ensures.counts
+    going_begins _ _ _ _ _ _ None _ _ _ _ (rw c.new-open_groups.ensures at c.in_ok-push.ensures) (c.empty-out.ensures ∙ ap no_output c.tracks.ensures) c.height.ensures c.note_height.ensures c.held.ensures c.note_held.ensures.only (begun _ _ _ c.in_ok-open.ensures.reads.exact) c.in_ok-open.ensures.reads.counts.0 c.in_ok-open.ensures.reads.cost c.in_ok-open.ensures.reads.settings c.in_ok-instr.ensures.exact c.in_ok-instr.ensures.steady.counts c.in_ok-instr.ensures.steady.stays c.in_ok-instr.ensures.steady.settings c.note_held.ensures.counts
 
 pub groups-smaller : goal.groups-smaller
 groups-smaller c =
@@ -72,7 +72,7 @@ groups-smaller c =
 
 pub groups-preserved : goal.groups-preserved
 groups-preserved c =
-    going_on _ _ _ _ _ _ _ _ _ _ _ _ c.tick.ensures.only c.height-in-groups.ensures c.note_height-in-groups.ensures c.held-in-groups.ensures c.note_held-in-groups.ensures.only (is_some _ _ c.is_empty.ensures c.groups-test.true) c.in_ok-turn.ensures.turned c.groups.invariant c.tick.ensures.counts c.in_ok-turn.ensures.steady.counts c.in_ok-turn.ensures.steady.stays c.in_ok-turn.ensures.steady.names c.note_held-in-groups.ensures.counts
+    going_on _ _ _ _ _ _ _ _ _ _ _ _ c.tick.ensures.only c.height-in-groups.ensures c.note_height-in-groups.ensures c.held-in-groups.ensures c.note_held-in-groups.ensures.only (is_some _ _ c.is_empty.ensures c.groups-test.true) c.in_ok-turn.ensures.turned c.groups.invariant c.tick.ensures.counts c.in_ok-turn.ensures.steady.counts c.in_ok-turn.ensures.steady.stays c.in_ok-turn.ensures.steady.settings c.note_held-in-groups.ensures.counts
 
 pub returns-clause-exact : goal.returns-clause-exact
 unfolding folded_instruction

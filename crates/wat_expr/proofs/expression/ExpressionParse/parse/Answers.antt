@@ -5,7 +5,7 @@ use Rattle.wat_expr.proofs.expression.ExpressionParse.parse.Goals as goal
 
 pub turns-preserved : goal.turns-preserved
 turns-preserved c =
-    goes_on _ _ _ _ _ _ _ _ _ _ c.tick.ensures.only c.height.ensures c.held.ensures c.note_height.ensures c.note_held.ensures.only c.turns.invariant c.turn.ensures.steady.counts c.turn.ensures.steady.stays c.turn.ensures.steady.names c.tick.ensures.counts c.turns-test.ensures c.in_ok-turn.ensures.turned c.note_held.ensures.counts
+    goes_on _ _ _ _ _ _ _ _ _ _ c.tick.ensures.only c.height.ensures c.held.ensures c.note_height.ensures c.note_held.ensures.only c.turns.invariant c.turn.ensures.steady.counts c.turn.ensures.steady.stays c.turn.ensures.steady.settings c.tick.ensures.counts c.turns-test.ensures c.in_ok-turn.ensures.turned c.note_held.ensures.counts
 
 pub returns-in_err-turn-clause-reads : goal.returns-in_err-turn-clause-reads
 returns-in_err-turn-clause-reads c =
@@ -14,7 +14,7 @@ returns-in_err-turn-clause-reads c =
       exact = rw (p.1, p.2) (refused _ _ _ _ c.in_err-turn.field-0.0 c.turns.invariant c.tick.ensures.only c.turns-test.ensures c.in_err-turn.ensures.turned);
       counts = rw p.1 (refused_counts _ _ _ _ _ c.tick.ensures.only c.turns.invariant c.turn.ensures.steady.counts c.turn.ensures.steady.stays c.tick.ensures.counts);
       cost = search rules;
-      names = search rules;
+      settings = search rules;
     }
 
 pub returns-in_err-turn-clause-only : goal.returns-in_err-turn-clause-only
@@ -26,7 +26,7 @@ returns-in-Some-clause-reads c =
       exact = ((λ n. reads_nothing_listed _ (left_pending _ _ _ _ c.turns.invariant c.in-Some.is c.turns-test.ensures.1)), (λ m. absurd (cc)));
       counts = search rules;
       cost = search rules;
-      names = search rules;
+      settings = search rules;
     }
 
 pub returns-in-Some-clause-only : goal.returns-in-Some-clause-only
@@ -51,7 +51,7 @@ returns-clause-reads c =
       exact = found _ _ _ (returns-clause-listed c);
       counts = search rules;
       cost = search rules;
-      names = search rules;
+      settings = search rules;
     }
 
 pub returns-clause-only : goal.returns-clause-only

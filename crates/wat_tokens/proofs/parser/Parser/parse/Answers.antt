@@ -1,4 +1,4 @@
-use Rattle.wat_tokens.proofs.CountSteps.{counts_taken, counts_peak, counts_stands, counts_end, counts_grows}
+use Rattle.wat_tokens.proofs.CountSteps.{counts_taken, counts_peak, counts_position, counts_end, counts_grows}
 use Rattle.wat_tokens.specs.Laws.Counts.{counts_within}
 use Rattle.wat_tokens.proofs.Exact.{gives_accepts, gives_refused, gives_memory}
 use Rattle.wat_tokens.proofs.parser.Parser.parse.Goals as goal
@@ -18,8 +18,8 @@ returns-clause-within g c = counts_within c.args.self.now c.parse.new.parser c.p
 pub returns-clause-peak : goal.returns-clause-peak
 returns-clause-peak g c d = counts_peak c.args.self.now c.parse.new.parser d c.parse.ensures.reads.counts.0
 
-pub returns-clause-stands : goal.returns-clause-stands
-returns-clause-stands g c d = counts_stands c.args.self.now c.parse.new.parser d c.parse.ensures.reads.counts.0
+pub returns-clause-position : goal.returns-clause-position
+returns-clause-position g c d = counts_position c.args.self.now c.parse.new.parser d c.parse.ensures.reads.counts.0
 
 pub returns-clause-end : goal.returns-clause-end
 returns-clause-end g c = counts_end c.args.self.now c.parse.new.parser c.parse.ensures.reads.counts.0

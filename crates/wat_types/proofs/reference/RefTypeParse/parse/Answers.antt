@@ -12,4 +12,4 @@ returns-in_err-shorthand c =
     let begun : begins_lparen t ≡ true = search rules in
     let no_ref : begins_group (codes "ref") t ≡ false = search rules in
     let e = shared_ref t begun no_ref in
-    record { reads = record { exact = rw (p.1, p.2) (rw (e, c.in_err-shorthand.ensures.reads.exact.0) refl, c.in_err-shorthand.ensures.reads.exact.1); counts = search rules; cost = search rules; names = search rules } }
+    record { reads = record { exact = rw (p.1, p.2) (rw (e, c.in_err-shorthand.ensures.reads.exact.0) refl, c.in_err-shorthand.ensures.reads.exact.1); counts = search rules; cost = search rules; settings = search rules } }

@@ -1,0 +1,57 @@
+-- What is hidden in front is passed in one step.
+use Rattle.std.proofs.Common.{◌≡◌, ℕ, ◌+◌, ◌-◌, ◌≤◌, Bool, false, List, [], ◌∷◌, length, drop, Some, None, refl, arith, subst, drop-drop, inl, inr}
+use Rattle.std.specs.Prelude.{Option}
+use Rattle.std.proofs.lemmas.Bool.{cases_Bool}
+use Rattle.std.proofs.lemmas.List.{drop-map, length-map}
+use Rattle.wat_lexer.specs.Token.{Entry, Tok}
+use Rattle.wat_lexer.specs.Sight.{begins_hidden_group, shuts, deeper, visible, visible_tokens, hidden_count_at, hidden_count}
+use Rattle.wat_lexer.specs.View.{entry_tok, toks, AreSkips, VisibleFrom}
+
+pub skips_drop : (n : ℕ) (ls : List Entry) → AreSkips ls → AreSkips (drop n ls)
+skips_drop n ls p known i = rw (drop-drop i n ls) (p known (n + i))
+
+pub skips_later : (ls : List Entry) (a b : ℕ) → a ≤ b → AreSkips (drop a ls) → AreSkips (drop b ls)
+skips_later ls a b le p = let n : a + (b - a) ≡ b = omega arith in rw (drop-drop (b - a) a ls, n) at (skips_drop (b - a) (drop a ls) p)
+
+-- behind what is hidden the rest is visible, and nothing more is hidden there
+pub record Passed (known : Bool) (place : Option ℕ) (t : List Tok) : Type 0 where
+  pub rest : visible known place t ≡ visible known None (drop (hidden_count_at known place t) t)
+  pub stands : begins_hidden_group known (drop (hidden_count_at known place t) t) ≡ false
+  pub within : hidden_count_at known place t ≤ length t
+
+pub passed : (known : Bool) (place : Option ℕ) (t : List Tok) → Passed known place t
+unfolding visible hidden_count_at
+passed known None [] = record { rest = refl; stands = refl; within = omega arith }
+passed known (Some depth) [] = record { rest = refl; stands = refl; within = omega arith }
+passed known None (x ∷ r) = elim (cases_Bool (begins_hidden_group known (x ∷ r))) [
+  | inl e ↦ (let p = passed known (Some 0) r in record { rest = rw e p.rest; stands = rw e p.stands; within = rw e (omega (arith, p.within)) })
+  | inr e ↦ record { rest = rw e (rw e); stands = rw e e; within = rw e (omega arith) }
+]
+passed known (Some depth) (x ∷ r) = elim (cases_Bool (shuts x depth)) [
+  | inl e ↦ (let p = passed known None r in record { rest = rw e p.rest; stands = rw e p.stands; within = rw e (omega (arith, p.within)) })
+  | inr e ↦ (let p = passed known (Some (deeper x depth)) r in record { rest = rw e p.rest; stands = rw e p.stands; within = rw e (omega (arith, p.within)) })
+]
+
+-- nothing is hidden in front
+pub hidden_count_none : (known : Bool) (t : List Tok) → begins_hidden_group known t ≡ false → hidden_count known t ≡ 0
+unfolding hidden_count hidden_count_at
+hidden_count_none known [] h = refl
+hidden_count_none known (x ∷ r) h = rw h
+
+pub hidden_count_within : (known : Bool) (ls : List Entry) → hidden_count known (toks ls) ≤ length ls
+unfolding hidden_count
+hidden_count_within known ls = omega (arith, (passed known None (toks ls)).within, length-map ls entry_tok)
+
+-- what is visible begins with the first of the list, where that isn't hidden
+visible_here : (known : Bool) (ls : List Entry) → begins_hidden_group known (toks ls) ≡ false → VisibleFrom known ls (visible_tokens known (toks ls))
+unfolding visible_tokens visible
+visible_here known [] h = refl
+visible_here known (x ∷ ls) h = rw h
+
+-- and it begins with the first behind what is hidden
+pub visible_at : (known : Bool) (ls : List Entry) (n : ℕ) → n ≡ hidden_count known (toks ls) → VisibleFrom known (drop n ls) (visible_tokens known (toks ls))
+unfolding visible_tokens hidden_count
+visible_at known ls n e =
+    let p = passed known None (toks ls) in
+    let same : toks (drop n ls) ≡ drop (hidden_count_at known None (toks ls)) (toks ls) = rw (← drop-map entry_tok n ls, e) in
+    subst (VisibleFrom known (drop n ls)) (rw (same, p.rest)) (visible_here known (drop n ls) (rw same p.stands))

@@ -1,8 +1,0 @@
-use Rattle.wat_lexer.proofs.Closing.{LeapsSoFar}
-use Rattle.wat_lexer.proofs.groups.tell_leaps.Given as goal
-
-abbrev pub invariant-loop-i : goal.invariant-loop-i
-invariant-loop-i l = LeapsSoFar l.fn.tokens l.i l.tokens l.ends.items l.first
-
-abbrev pub decreases-loop-i : goal.decreases-loop-i
-decreases-loop-i l = l.i

@@ -1,0 +1,21 @@
+//! Hands a value on, or lets it go.
+//!
+//! A body that drops a value of a large type is proved slowly, since the drop is written out in it,
+//! variant by variant. Here the type is a parameter, so that the drop is one call.
+
+ghost use Rattle.std.specs.Prelude.{◌≡◌, ◌∷◌, ◌++◌, [], MatchResult};
+
+use wat_lexer::fault::{Error, Fault};
+
+/// Puts a value behind the others. Memory refuses it; then the list is as it was, and the value is
+/// dropped.
+pub fn push_into<T: Drop>(list: &mut Vec<T>, value: T) -> Result<(), Error>
+    ensures { MatchResult result (λ _. list.new.items ≡ list.old.items ++ value ∷ []) (λ e. (e.fault
+        ≡ Fault.Memory) × (list.new.items ≡ list.old.items)) }
+{
+    list.push(value)?;
+    Ok(())
+}
+
+/// Drops a value.
+pub fn discard<T: Drop>(_value: T) {}
