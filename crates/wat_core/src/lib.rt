@@ -4,7 +4,7 @@
 //! [`Module::parse`] takes a module from the tokens of a [`Parser`]. Indices stay as they are
 //! written: nothing is resolved, and nothing is checked for validity. This crate has the names of
 //! the parser, of the types of what is read, and of what reads them, so that a user needs it alone;
-//! what else is public in the crates that it stands on is reached by the crate's own name, as
+//! what else is public in the crates that it uses is reached by the crate's own name, as
 //! `wat_core::wat_mnemonics::find`.
 #![tactic(auto)]
 

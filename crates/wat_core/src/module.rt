@@ -138,7 +138,7 @@ impl<'a> Module<'a> {
         ensures ends { IfOk result (λ _. ends (annotated parser.new).left ≡ true) }
         // No loop over an expression turned more than once beyond the tokens that were taken.
         ensures turned { Turned result parser.old parser.new }
-        // `taken` rises by the number of tokens that were taken, and never by more than stood in
+        // `taken` rises by the number of tokens that were taken, and never by more than were in
         // front.
         ensures taken { (c : List Tok) → (annotated parser.old).left ≡ c
             ++ (annotated parser.new).left → parser.new.taken ≡ parser.old.taken + length c }

@@ -33,7 +33,7 @@ stops_no_group i [] m h s = reads_nothing i m h
 stops_no_group i (Keyword w ∷ ts) m h s = reads_not_then i ts m (rw s at h)
 stops_no_group i (t ∷ ts) m h s = word_front i t ts m h
 
--- no group stands where an instruction does
+-- no group is where an instruction is
 pub no_paren : (i : Instr) (ts a m : List Tok) → reads i ts m → ts ≡ LParen ∷ a → ⊥
 no_paren i ts a m h e = word_front i LParen a m (rw e at h)
 

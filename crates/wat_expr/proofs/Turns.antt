@@ -137,7 +137,7 @@ next o r s p ts f over plain group hint (IfElse j ops th el xs, u, l, fit, only,
     (ops, _, l.9, tt, l.8, (l.2, refl, (th, _, l.10, tt, any_items th, (LParen ∷ keyword (codes "else") ∷ l.3, refl, inr (l.3, refl, (el, _, l.11, tt, any_items el, (RParen ∷ l.4, refl, (l.4, refl, (xs, u, l.12, tt, only.1, z)))))))))
 next o r s p ts f over plain group hint (Hinted v xs, u, l, fit, only, z) = hint v l.0 only.0 (no_hint p (Hinted v xs) (λ b. b) fit) l.2 l.1 (xs, u, l.4, l.3, only.1, z)
 
--- where no item can stand, the list ends
+-- where no item can be, the list ends
 pub ended : (o : TalliedFlat) (r : List Tok) (s : List OpenGroup) (p : Option ℕ) (ts : List Tok) (f : TalliedFlat) → (IsOpen s → Stops ts) → Rest o r s p ts f → (p ≡ None) × after_open_group o r s ts f
 ended o r s p ts f st =
     next o r s p ts f (λ e k. (e, k)) (λ j m a h t z. absurd (stops_no_word j ts m h (st (plain_is_open s a))))
@@ -174,7 +174,7 @@ module _ (o : TalliedFlat) (r : List Tok) (s : List OpenGroup) where
   close_back AfterThen m f c k = (Nil, RParen ∷ m, refl, tt, tt, inl (m, refl, k))
   close_back l m f c k = (Nil, RParen ∷ m, refl, tt, tt, (m, refl, k))
 
-  -- an arm, and the open group around it, in which no item can stand
+  -- an arm, and the open group around it, in which no item can be
   pub arm_forth : (l : OpenGroup) (w : Tok) (m : List Tok) (f : TalliedFlat) → (d : List Tok) × (LParen ∷ w ∷ m ≡ LParen ∷ w ∷ d) × arm (length s) (heads_in (l ∷ s)) (after_open_group o r (l ∷ s)) d f → Rest o r (InArm ∷ l ∷ s) None m f
   arm_forth l w m f (d, e, (xs, u, t, fit, only, (c, e2, k))) = let q : d ≡ m = cc in (xs, u, rw q at t, fit, only, (c, e2, (Nil, c, refl, tt, tt, k)))
 

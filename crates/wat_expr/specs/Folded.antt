@@ -23,7 +23,7 @@ abbrev pub unfolded_groups : Groups → List Instr
 unfolded_groups NoGroup = []
 unfolded_groups (Group i gs hs) = (unfolded_groups gs ++ i ∷ []) ++ unfolded_groups hs
 
--- how many groups, and how deep they stand in each other
+-- how many groups, and how deep they are in each other
 abbrev pub count_groups : Groups → ℕ
 count_groups NoGroup = 0
 count_groups (Group i gs hs) = suc (count_groups gs + count_groups hs)

@@ -171,7 +171,7 @@ count_hints (IfElse i ops th el xs) =
     count_hints ops + count_hints th + count_hints el + count_hints xs
 count_hints (Hinted v xs) = suc (count_hints xs)
 
--- how deep groups stand in groups: 0 for instructions alone and hints
+-- how deep groups are in groups: 0 for instructions alone and hints
 abbrev pub depth : Items → ℕ
 depth Nil = 0
 depth (Plain i xs) = depth xs

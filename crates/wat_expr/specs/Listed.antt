@@ -10,7 +10,7 @@ use Rattle.wat_expr.specs.Folded.{Groups, is_folded, folded_value, count_groups,
 
 -- The tokens from a to b list items, to the end, and the expression is what these unfold to, with
 -- their hints. Over them `turns` rose by at least the number of the items, `peak` is at least how
--- deep they stand, and `held` is the greater of what it was and how many instructions waited at
+-- deep they are, and `held` is the greater of what it was and how many instructions waited at
 -- once.
 pub record IsListed (a b : State) (e : Expression) : Type 0 where
   pub items : Items

@@ -107,7 +107,7 @@ then_arm k h N i p ts f =
 abbrev pub all_done : TalliedFlat → List Tok → After
 all_done o r ts f = (ends ts ≡ true) × (ts ≡ r) × (f ≡ o)
 
--- the open groups in which an item can stand, and those in which a Plain item can
+-- the open groups in which an item can be, and those in which a Plain item can
 abbrev pub IsOpen : List OpenGroup → Type 0
 IsOpen (AfterThen ∷ s) = ⊥
 IsOpen (AfterElse ∷ s) = ⊥

@@ -1,4 +1,4 @@
--- Where the reader stands.
+-- Where the reader is.
 use Rattle.std.specs.Prelude.{◌≡◌, ◌<◌, List, [], ◌∷◌, Option, Some, None, ℕ}
 use Rattle.wat_tokens.specs.Token.{Tok}
 use Rattle.wat_expr.specs.declared.reader.Reader.{Reader}

@@ -161,7 +161,7 @@ impl<'a> Expression<'a> {
         Ok(())
     }
 
-    /// Puts an `end` behind the others; `span` is where the `)` stands that it is added for. Memory
+    /// Puts an `end` behind the others; `span` is where the `)` is that it is added for. Memory
     /// refuses it.
     pub(crate) fn push_end(&mut self, span: Span) -> Result<()>
         ensures { MatchResult result (λ _. flat self.new ≡ push None end_instr (flat self.old))

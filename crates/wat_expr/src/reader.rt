@@ -140,7 +140,7 @@ impl<'a> Reader<'a> {
         self.out.push(hint, instr, span)
     }
 
-    /// A turn at a closing parenthesis, which was taken; `span` is where it stands.
+    /// A turn at a closing parenthesis, which was taken; `span` is where it is.
     fn close(&mut self, span: Span) -> Result<()>
         requires { self.old.open_groups ≡ [] → ⊥ }
         ensures { (m : List Tok) → TurnAnswers result
@@ -182,7 +182,7 @@ impl<'a> Reader<'a> {
         }
     }
 
-    /// A turn at `( then`, which was taken; `span` is where the word stands.
+    /// A turn at `( then`, which was taken; `span` is where the word is.
     fn open_then(&mut self, span: Span) -> Result<()>
         requires { (i : Instr) × (h : Option ℕ) × (s : List Open)
             × (self.old.open_groups ≡ InIf i h ∷ s) }

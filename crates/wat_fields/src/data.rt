@@ -40,7 +40,7 @@ pub enum DataKind<'a> {
     Passive,
     /// It is.
     Active {
-        /// The memory. Where it isn't written, it is memory 0, and stands where the word `data`
+        /// The memory. Where it isn't written, it is memory 0, and is where the word `data`
         /// does.
         memory: Index<'a>,
         /// Where in the memory.
@@ -48,7 +48,7 @@ pub enum DataKind<'a> {
     },
 }
 
-/// The memory that a segment is put into; `span` is where a memory stands that isn't written.
+/// The memory that a segment is put into; `span` is where a memory is that isn't written.
 #[tactic(auto, unfolding(crate::specs::Data::data_memory))]
 fn read_memory<'a>(parser: &mut Parser<'a>, span: Span) -> Result<Index<'a>>
     ensures reads { Reads (plain index_view) data_memory result parser.old parser.new }
@@ -78,7 +78,8 @@ fn passive_next(parser: &Parser<'_>) -> bool
 /// A memory and an offset.
 #[tactic(auto, unfolding(crate::specs::Data::data_active))]
 fn read_active<'a>(parser: &mut Parser<'a>, span: Span) -> Result<DataKind<'a>>
-    ensures reads { ReadsAt turns_too (owning data_kind_view bare_data_kind) data_active result parser.old parser.new }
+    ensures reads { ReadsAt turns_too (owning data_kind_view bare_data_kind) data_active result
+        parser.old parser.new }
     ensures spans { IfOk result (λ k. DataSpansAre (offset_behind
         (data_memory.reads parser.old.left)) parser.old.tracks k) }
 {
@@ -92,7 +93,8 @@ fn read_active<'a>(parser: &mut Parser<'a>, span: Span) -> Result<DataKind<'a>>
 /// Passive, where that is in front, else active.
 #[tactic(auto, unfolding(crate::specs::Data::data_kind))]
 fn read_data_kind<'a>(parser: &mut Parser<'a>, span: Span) -> Result<DataKind<'a>>
-    ensures reads { ReadsAt turns_too (owning data_kind_view bare_data_kind) data_kind result parser.old parser.new }
+    ensures reads { ReadsAt turns_too (owning data_kind_view bare_data_kind) data_kind result
+        parser.old parser.new }
     ensures spans { IfOk result (λ k. DataSpansAre (offset_behind
         (data_memory.reads parser.old.left)) parser.old.tracks k) }
 {
@@ -122,7 +124,8 @@ impl<'a> Parse<'a> for Data<'a> {
 
     #[tactic(auto, unfolding(crate::specs::Data::data_segment, wat_types::specs::Label::label))]
     fn parse(parser: &mut Parser<'a>) -> Result<Self>
-        ensures reads { ReadsAt turns_too (owning data_view bare_data) data_segment result parser.old parser.new }
+        ensures reads { ReadsAt turns_too (owning data_view bare_data) data_segment result
+            parser.old parser.new }
         ensures spans { IfOk result (λ d. DataSpansAre (is_offset_written parser.old.left)
             parser.old.tracks d.kind) }
     {

@@ -4,7 +4,7 @@ ghost use Rattle.std.specs.Prelude.{◌≡◌, IfOk};
 ghost use Rattle.wat_tokens.specs.Cost.{turns_too};
 ghost use Rattle.wat_tokens.specs.Index.{index_view};
 ghost use Rattle.wat_tokens.specs.Reads.{Reads, ReadsAt};
-ghost use Rattle.wat_tokens.specs.Views.{plain, owning};
+ghost use Rattle.wat_tokens.specs.Views.{plain, owning, option_view};
 ghost use Rattle.wat_expr.specs.Expression.{expression_view, bare_expression, SpansAre};
 ghost use Rattle.wat_fields.specs.Payload.{payload_view};
 ghost use Rattle.wat_fields.specs.Elem.{elem_kind_view, bare_segment, elem_offset, in_table};
@@ -44,7 +44,7 @@ pub enum ElemKind<'a> {
     Declared,
     /// Into a table, at first.
     Active {
-        /// Which table, where one is written. A number without the word `table` stands where the
+        /// Which table, where one is written. A number without the word `table` is where the
         /// word `elem` begins.
         table: Option<Index<'a>>,
         /// At which offset.
@@ -58,7 +58,8 @@ type Segment<'a> = (ElemKind<'a>, ElemPayload<'a>);
 /// `( offset Expression )` where the second token is `offset`, else a folded instruction.
 #[tactic(auto, unfolding(crate::specs::Elem::elem_offset))]
 fn read_offset<'a>(parser: &mut Parser<'a>) -> Result<Expression<'a>>
-    ensures reads { ReadsAt turns_too (owning expression_view bare_expression) elem_offset result parser.old parser.new }
+    ensures reads { ReadsAt turns_too (owning expression_view bare_expression) elem_offset result
+        parser.old parser.new }
     ensures spans { IfOk result (λ e. SpansAre parser.old.tracks e) }
 {
     read_written_or_folded(parser, "offset")
@@ -67,7 +68,8 @@ fn read_offset<'a>(parser: &mut Parser<'a>) -> Result<Expression<'a>>
 /// `( table idx )`, an offset and a payload.
 #[tactic(auto, unfolding(crate::specs::Elem::in_table))]
 fn read_in_table<'a>(parser: &mut Parser<'a>) -> Result<Segment<'a>>
-    ensures reads { ReadsAt turns_too (owning (λ s. (elem_kind_view s.0, payload_view s.1)) bare_segment) in_table result parser.old parser.new }
+    ensures reads { ReadsAt turns_too (owning (λ s. (elem_kind_view s.0, payload_view s.1))
+        bare_segment) in_table result parser.old parser.new }
     ensures spans { IfOk result (λ s. ElemSpansAre parser.old.tracks s) }
 {
     parser.open()?;
@@ -80,10 +82,11 @@ fn read_in_table<'a>(parser: &mut Parser<'a>) -> Result<Segment<'a>>
     Ok((ElemKind::Active { table, offset }, payload))
 }
 
-/// The table of a number, where one is in front; `span` is where it is said to stand.
+/// The table of a number, where one is in front; `span` is where it is said to be.
 #[tactic(auto, unfolding(crate::specs::Elem::table_number))]
 fn read_table_number<'a>(parser: &mut Parser<'a>, span: Span) -> Result<Option<Index<'a>>>
-    ensures reads { Reads (plain (λ o. option_view index_view o)) table_number result parser.old parser.new }
+    ensures reads { Reads (plain (λ o. option_view index_view o)) table_number result parser.old
+        parser.new }
 {
     if !parser.peek::<u32>() {
         return Ok(None);
@@ -95,7 +98,8 @@ fn read_table_number<'a>(parser: &mut Parser<'a>, span: Span) -> Result<Option<I
 /// A table's number or nothing, an offset, and a payload, which may be indices alone.
 #[tactic(auto, unfolding(crate::specs::Elem::in_some_table))]
 fn read_in_some_table<'a>(parser: &mut Parser<'a>, span: Span) -> Result<Segment<'a>>
-    ensures reads { ReadsAt turns_too (owning (λ s. (elem_kind_view s.0, payload_view s.1)) bare_segment) in_some_table result parser.old parser.new }
+    ensures reads { ReadsAt turns_too (owning (λ s. (elem_kind_view s.0, payload_view s.1))
+        bare_segment) in_some_table result parser.old parser.new }
     ensures spans { IfOk result (λ s. ElemSpansAre parser.old.tracks s) }
 {
     let table = read_table_number(parser, span)?;
@@ -107,7 +111,8 @@ fn read_in_some_table<'a>(parser: &mut Parser<'a>, span: Span) -> Result<Segment
 /// An active segment.
 #[tactic(auto, unfolding(crate::specs::Elem::active_segment))]
 fn read_active<'a>(parser: &mut Parser<'a>, span: Span) -> Result<Segment<'a>>
-    ensures reads { ReadsAt turns_too (owning (λ s. (elem_kind_view s.0, payload_view s.1)) bare_segment) active_segment result parser.old parser.new }
+    ensures reads { ReadsAt turns_too (owning (λ s. (elem_kind_view s.0, payload_view s.1))
+        bare_segment) active_segment result parser.old parser.new }
     ensures spans { IfOk result (λ s. ElemSpansAre parser.old.tracks s) }
 {
     if parser.group_is("table") {
@@ -119,7 +124,8 @@ fn read_active<'a>(parser: &mut Parser<'a>, span: Span) -> Result<Segment<'a>>
 /// `declare`, and a payload.
 #[tactic(auto, unfolding(crate::specs::Elem::declared_segment))]
 fn read_declared<'a>(parser: &mut Parser<'a>) -> Result<Segment<'a>>
-    ensures reads { ReadsAt turns_too (owning (λ s. (elem_kind_view s.0, payload_view s.1)) bare_segment) declared_segment result parser.old parser.new }
+    ensures reads { ReadsAt turns_too (owning (λ s. (elem_kind_view s.0, payload_view s.1))
+        bare_segment) declared_segment result parser.old parser.new }
     ensures spans { IfOk result (λ s. ElemSpansAre parser.old.tracks s) }
 {
     parser.keyword("declare")?;
@@ -130,7 +136,8 @@ fn read_declared<'a>(parser: &mut Parser<'a>) -> Result<Segment<'a>>
 /// A payload alone.
 #[tactic(auto, unfolding(crate::specs::Elem::passive_segment))]
 fn read_passive<'a>(parser: &mut Parser<'a>) -> Result<Segment<'a>>
-    ensures reads { ReadsAt turns_too (owning (λ s. (elem_kind_view s.0, payload_view s.1)) bare_segment) passive_segment result parser.old parser.new }
+    ensures reads { ReadsAt turns_too (owning (λ s. (elem_kind_view s.0, payload_view s.1))
+        bare_segment) passive_segment result parser.old parser.new }
     ensures spans { IfOk result (λ s. ElemSpansAre parser.old.tracks s) }
 {
     let payload = read_payload(parser)?;
@@ -150,7 +157,8 @@ fn active_next(parser: &Parser<'_>) -> bool
 /// A kind, and what the segment holds; `span` is where the word `elem` begins.
 #[tactic(auto, unfolding(crate::specs::Elem::segment))]
 fn read_segment<'a>(parser: &mut Parser<'a>, span: Span) -> Result<Segment<'a>>
-    ensures reads { ReadsAt turns_too (owning (λ s. (elem_kind_view s.0, payload_view s.1)) bare_segment) segment result parser.old parser.new }
+    ensures reads { ReadsAt turns_too (owning (λ s. (elem_kind_view s.0, payload_view s.1))
+        bare_segment) segment result parser.old parser.new }
     ensures spans { IfOk result (λ s. ElemSpansAre parser.old.tracks s) }
 {
     if parser.next_is("declare") {
@@ -184,7 +192,8 @@ impl<'a> Parse<'a> for Elem<'a> {
 
     #[tactic(auto, unfolding(crate::specs::Elem::elem, wat_types::specs::Label::label))]
     fn parse(parser: &mut Parser<'a>) -> Result<Self>
-        ensures reads { ReadsAt turns_too (owning elem_view bare_elem) elem result parser.old parser.new }
+        ensures reads { ReadsAt turns_too (owning elem_view bare_elem) elem result parser.old
+            parser.new }
         ensures spans { IfOk result (λ e. ElemSpansAre parser.old.tracks (e.kind, e.payload)) }
     {
         let span = parser.keyword("elem")?;

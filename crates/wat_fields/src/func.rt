@@ -53,7 +53,8 @@ type Defined<'a> = (TypeUse<'a, FunctionType<'a>>, FuncKind<'a>);
 /// is exact.
 #[tactic(auto, unfolding(crate::specs::Func::exact_use))]
 fn read_exact_use<'a>(parser: &mut Parser<'a>) -> Result<(TypeUse<'a, FunctionType<'a>>, bool)>
-    ensures reads { Reads (owning (λ u. (func_use_view u.0, u.1)) (λ u. bare_func_use u.0)) exact_use result parser.old parser.new }
+    ensures reads { Reads (owning (λ u. (func_use_view u.0, u.1)) (λ u. bare_func_use u.0))
+        exact_use result parser.old parser.new }
 {
     if !parser.second_is("exact") {
         return Ok((TypeUse::parse(parser)?, false));
@@ -68,7 +69,8 @@ fn read_exact_use<'a>(parser: &mut Parser<'a>) -> Result<(TypeUse<'a, FunctionTy
 /// An import in line, and a type use, exact or not.
 #[tactic(auto, unfolding(crate::specs::Func::func_import))]
 fn read_import<'a>(parser: &mut Parser<'a>) -> Result<Defined<'a>>
-    ensures reads { Reads (owning defined_func_view bare_defined_func) func_import result parser.old parser.new }
+    ensures reads { Reads (owning defined_func_view bare_defined_func) func_import result parser.old
+        parser.new }
     ensures spans { IfOk result (λ d. FuncSpansAre parser.old.tracks d.1) }
 {
     let import = InlineImport::parse(parser)?;
@@ -79,7 +81,8 @@ fn read_import<'a>(parser: &mut Parser<'a>) -> Result<Defined<'a>>
 /// A type use, locals and a body.
 #[tactic(auto, unfolding(crate::specs::Func::func_inline))]
 fn read_inline<'a>(parser: &mut Parser<'a>) -> Result<Defined<'a>>
-    ensures reads { ReadsAt turns_too (owning defined_func_view bare_defined_func) func_inline result parser.old parser.new }
+    ensures reads { ReadsAt turns_too (owning defined_func_view bare_defined_func) func_inline
+        result parser.old parser.new }
     ensures spans { IfOk result (λ d. FuncSpansAre parser.old.tracks d.1) }
 {
     let ty = TypeUse::parse(parser)?;
@@ -91,7 +94,8 @@ fn read_inline<'a>(parser: &mut Parser<'a>) -> Result<Defined<'a>>
 /// What is behind the head.
 #[tactic(auto, unfolding(crate::specs::Func::func_defined))]
 fn read_defined<'a>(parser: &mut Parser<'a>) -> Result<Defined<'a>>
-    ensures reads { ReadsAt turns_too (owning defined_func_view bare_defined_func) func_defined result parser.old parser.new }
+    ensures reads { ReadsAt turns_too (owning defined_func_view bare_defined_func) func_defined
+        result parser.old parser.new }
     ensures spans { IfOk result (λ d. FuncSpansAre parser.old.tracks d.1) }
 {
     if parser.peek::<InlineImport>() {
@@ -119,7 +123,8 @@ impl<'a> Parse<'a> for Func<'a> {
 
     #[tactic(auto, unfolding(crate::specs::Func::func))]
     fn parse(parser: &mut Parser<'a>) -> Result<Self>
-        ensures reads { ReadsAt turns_too (owning func_view bare_func) func result parser.old parser.new }
+        ensures reads { ReadsAt turns_too (owning func_view bare_func) func result parser.old
+            parser.new }
         ensures spans { IfOk result (λ f. FuncSpansAre parser.old.tracks f.kind) }
     {
         let span = parser.keyword("func")?;

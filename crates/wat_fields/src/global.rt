@@ -42,7 +42,8 @@ pub enum GlobalKind<'a> {
 /// What is behind the head: the type, and how the global is defined.
 #[tactic(auto, unfolding(crate::specs::Global::global_defined))]
 fn read_defined<'a>(parser: &mut Parser<'a>) -> Result<(GlobalType<'a>, GlobalKind<'a>)>
-    ensures reads { ReadsAt turns_too (owning defined_global_view bare_defined_global) global_defined result parser.old parser.new }
+    ensures reads { ReadsAt turns_too (owning defined_global_view bare_defined_global)
+        global_defined result parser.old parser.new }
     ensures spans { IfOk result (λ d. GlobalSpansAre parser.old.tracks d.1) }
 {
     if parser.peek::<InlineImport>() {
@@ -72,7 +73,8 @@ impl<'a> Parse<'a> for Global<'a> {
 
     #[tactic(auto, unfolding(crate::specs::Global::global))]
     fn parse(parser: &mut Parser<'a>) -> Result<Self>
-        ensures reads { ReadsAt turns_too (owning global_view bare_global) global result parser.old parser.new }
+        ensures reads { ReadsAt turns_too (owning global_view bare_global) global result parser.old
+            parser.new }
         ensures spans { IfOk result (λ g. GlobalSpansAre parser.old.tracks g.kind) }
     {
         let span = parser.keyword("global")?;

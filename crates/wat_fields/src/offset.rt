@@ -22,7 +22,9 @@ use wat_tokens::{Parse, Parser, Result};
 fn read_before_items<'a, T: Parse<'a> + Drop>(
     parser: &mut Parser<'a>,
 ) -> Result<(T, Expression<'a>)>
-    ensures reads { ReadsAt turns_too (owning (λ v. (T.view.of v.0, expression_view v.1)) (λ v. T.view.bare v.0 && bare_expression v.1)) (seq T.grammar expression) result parser.old parser.new }
+    ensures reads { ReadsAt turns_too (owning (λ v. (T.view.of v.0, expression_view v.1))
+        (λ v. T.view.bare v.0 && bare_expression v.1)) (seq T.grammar expression) result parser.old
+        parser.new }
     ensures spans { IfOk result (λ v. SpansAre parser.old.tracks v.1) }
 {
     let value = T::parse(parser)?;
@@ -35,7 +37,8 @@ fn read_before_items<'a, T: Parse<'a> + Drop>(
 /// has no spans.
 #[tactic(auto, using(crate::proofs::Heads::never_bare), unfolding(crate::specs::Offset::head_last))]
 fn read_head_last<'a>(parser: &mut Parser<'a>) -> Result<Expression<'a>>
-    ensures reads { ReadsAt turns_too (owning expression_view bare_expression) head_last result parser.old parser.new }
+    ensures reads { ReadsAt turns_too (owning expression_view bare_expression) head_last result
+        parser.old parser.new }
     ensures spans { IfOk result (λ e. OffsetSpansAre false parser.old.tracks e) }
 {
     let span = parser.cur_span();
@@ -51,7 +54,8 @@ fn read_head_last<'a>(parser: &mut Parser<'a>) -> Result<Expression<'a>>
 /// instruction and items.
 #[tactic(auto, unfolding(crate::specs::Offset::offset_inside))]
 pub(crate) fn read_offset<'a>(parser: &mut Parser<'a>) -> Result<Expression<'a>>
-    ensures reads { ReadsAt turns_too (owning expression_view bare_expression) offset_inside result parser.old parser.new }
+    ensures reads { ReadsAt turns_too (owning expression_view bare_expression) offset_inside result
+        parser.old parser.new }
     ensures spans { IfOk result (λ e. OffsetSpansAre (begins_word (codes "offset") parser.old.left)
         parser.old.tracks e) }
 {

@@ -46,7 +46,8 @@ pub(crate) fn read_written_or_folded<'a>(
     parser: &mut Parser<'a>,
     word: &str,
 ) -> Result<Expression<'a>>
-    ensures reads { ReadsAt turns_too (owning expression_view bare_expression) (written_or_folded word.now) result parser.old parser.new }
+    ensures reads { ReadsAt turns_too (owning expression_view bare_expression)
+        (written_or_folded word.now) result parser.old parser.new }
     ensures spans { IfOk result (λ e. SpansAre parser.old.tracks e) }
 {
     if !parser.second_is(word) {
@@ -82,7 +83,8 @@ impl<'a> Spanned<'a, Expression<'a>> for Item {
 /// Items, to the end.
 #[tactic(auto, using(crate::specs::Laws::Payload::item_consumes), unfolding(crate::specs::Payload::item_list))]
 fn read_items<'a>(parser: &mut Parser<'a>) -> Result<Vec<Expression<'a>>>
-    ensures reads { ReadsAt turns_too (owning (λ v. map expression_view v.items) no_items) item_list result parser.old parser.new }
+    ensures reads { ReadsAt turns_too (owning (λ v. map expression_view v.items) no_items) item_list
+        result parser.old parser.new }
     ensures spans { IfOk result (λ v. All (λ e. SpansAre parser.old.tracks e) v.items) }
 {
     all_spanned::<_, Item>(parser)
@@ -91,7 +93,8 @@ fn read_items<'a>(parser: &mut Parser<'a>) -> Result<Vec<Expression<'a>>>
 /// Indices, to the end.
 #[tactic(auto, unfolding(crate::specs::Payload::index_list))]
 fn read_indices<'a>(parser: &mut Parser<'a>) -> Result<Vec<Index<'a>>>
-    ensures reads { Reads (owning (λ v. map index_view v.items) no_items) index_list result parser.old parser.new }
+    ensures reads { Reads (owning (λ v. map index_view v.items) no_items) index_list result
+        parser.old parser.new }
 {
     all_to_end::<Index>(parser)
 }
@@ -129,7 +132,8 @@ impl<'a> Spanned<'a, Expression<'a>> for RefFunc {
 /// Indices, to the end, each as `ref.func` of it, as a payload of the type.
 #[tactic(auto, using(crate::specs::Laws::RefFuncs::ref_func_consumes), unfolding(crate::specs::RefFuncs::ref_funcs_of, crate::specs::RefFuncs::ref_funcs))]
 fn read_ref_funcs<'a>(parser: &mut Parser<'a>, ty: RefType<'a>) -> Result<ElemPayload<'a>>
-    ensures reads { Reads (owning payload_view bare_payload) (ref_funcs_of (ref_view ty.entry)) result parser.old parser.new }
+    ensures reads { Reads (owning payload_view bare_payload) (ref_funcs_of (ref_view ty.entry))
+        result parser.old parser.new }
     ensures spans { IfOk result (λ p. PayloadSpansAre false p) }
 {
     let exprs = all_spanned::<_, RefFunc>(parser)?;
@@ -139,7 +143,8 @@ fn read_ref_funcs<'a>(parser: &mut Parser<'a>, ty: RefType<'a>) -> Result<ElemPa
 /// Indices, to the end, as they are.
 #[tactic(auto, unfolding(crate::specs::RefFuncs::plain_indices))]
 fn read_plain_indices<'a>(parser: &mut Parser<'a>) -> Result<ElemPayload<'a>>
-    ensures reads { Reads (owning payload_view bare_payload) plain_indices result parser.old parser.new }
+    ensures reads { Reads (owning payload_view bare_payload) plain_indices result parser.old
+        parser.new }
     ensures spans { IfOk result (λ p. PayloadSpansAre false p) }
 {
     read_indices(parser).map(ElemPayload::Indices)
@@ -161,7 +166,8 @@ fn is_funcref(ty: RefType<'_>) -> bool
 /// Indices, to the end, as a payload of the type.
 #[tactic(auto, using(crate::proofs::RefFuncs::indices_are, crate::proofs::RefFuncs::ref_funcs_are))]
 fn read_indices_of<'a>(parser: &mut Parser<'a>, ty: RefType<'a>) -> Result<ElemPayload<'a>>
-    ensures reads { Reads (owning payload_view bare_payload) (indices_of (ref_view ty.entry)) result parser.old parser.new }
+    ensures reads { Reads (owning payload_view bare_payload) (indices_of (ref_view ty.entry)) result
+        parser.old parser.new }
     ensures spans { IfOk result (λ p. PayloadSpansAre false p) }
 {
     if is_funcref(ty) {
@@ -174,7 +180,8 @@ fn read_indices_of<'a>(parser: &mut Parser<'a>, ty: RefType<'a>) -> Result<ElemP
 /// where the type is `funcref`, and else as an expression of the one instruction `ref.func`.
 #[tactic(auto, unfolding(crate::specs::Payload::listed, crate::specs::RefFuncs::indices_of))]
 pub(crate) fn read_listed<'a>(parser: &mut Parser<'a>, ty: RefType<'a>) -> Result<ElemPayload<'a>>
-    ensures reads { ReadsAt turns_too (owning payload_view bare_payload) (made (of_type (ref_view ty.entry)) listed) result parser.old parser.new }
+    ensures reads { ReadsAt turns_too (owning payload_view bare_payload)
+        (made (of_type (ref_view ty.entry)) listed) result parser.old parser.new }
     ensures spans { IfOk result (λ p. PayloadSpansAre (begins_lparen parser.old.left
         && parser.old.tracks) p) }
 {
@@ -188,7 +195,8 @@ pub(crate) fn read_listed<'a>(parser: &mut Parser<'a>, ty: RefType<'a>) -> Resul
 /// A type, and items to the end.
 #[tactic(auto, unfolding(crate::specs::Payload::typed_elems))]
 fn read_typed_items<'a>(parser: &mut Parser<'a>) -> Result<ElemPayload<'a>>
-    ensures reads { ReadsAt turns_too (owning payload_view bare_payload) typed_elems result parser.old parser.new }
+    ensures reads { ReadsAt turns_too (owning payload_view bare_payload) typed_elems result
+        parser.old parser.new }
     ensures spans { IfOk result (λ p. PayloadSpansAre parser.old.tracks p) }
 {
     let ty = RefType::parse(parser)?;
@@ -199,7 +207,8 @@ fn read_typed_items<'a>(parser: &mut Parser<'a>) -> Result<ElemPayload<'a>>
 /// `func` and indices, or a type and items.
 #[tactic(auto, unfolding(crate::specs::Payload::payload))]
 pub(crate) fn read_payload<'a>(parser: &mut Parser<'a>) -> Result<ElemPayload<'a>>
-    ensures reads { ReadsAt turns_too (owning payload_view bare_payload) payload result parser.old parser.new }
+    ensures reads { ReadsAt turns_too (owning payload_view bare_payload) payload result parser.old
+        parser.new }
     ensures spans { IfOk result (λ p. PayloadSpansAre parser.old.tracks p) }
 {
     if parser.next_is("func") {
@@ -212,7 +221,8 @@ pub(crate) fn read_payload<'a>(parser: &mut Parser<'a>) -> Result<ElemPayload<'a
 /// `func` and indices, a type and items, or indices alone.
 #[tactic(auto, unfolding(crate::specs::Payload::payload_or_indices))]
 pub(crate) fn read_payload_or_indices<'a>(parser: &mut Parser<'a>) -> Result<ElemPayload<'a>>
-    ensures reads { ReadsAt turns_too (owning payload_view bare_payload) payload_or_indices result parser.old parser.new }
+    ensures reads { ReadsAt turns_too (owning payload_view bare_payload) payload_or_indices result
+        parser.old parser.new }
     ensures spans { IfOk result (λ p. PayloadSpansAre parser.old.tracks p) }
 {
     if parser.next_is("func") {

@@ -66,7 +66,8 @@ pub enum TableKind<'a> {
 /// What it holds, behind the type of its elements.
 #[tactic(auto, unfolding(crate::specs::Table::inline_table))]
 fn read_inline<'a>(parser: &mut Parser<'a>) -> Result<TableKind<'a>>
-    ensures reads { ReadsAt turns_too (owning table_kind_view bare_table_kind) inline_table result parser.old parser.new }
+    ensures reads { ReadsAt turns_too (owning table_kind_view bare_table_kind) inline_table result
+        parser.old parser.new }
     ensures spans { IfOk result (λ k. TableSpansAre (items_behind
         (inline_front.reads parser.old.left)) parser.old.tracks k) }
 {
@@ -88,7 +89,8 @@ fn read_inline<'a>(parser: &mut Parser<'a>) -> Result<TableKind<'a>>
 /// A type, and then an expression, where something is left.
 #[tactic(auto, unfolding(crate::specs::Table::normal_table))]
 fn read_normal<'a>(parser: &mut Parser<'a>) -> Result<TableKind<'a>>
-    ensures reads { ReadsAt turns_too (owning table_kind_view bare_table_kind) normal_table result parser.old parser.new }
+    ensures reads { ReadsAt turns_too (owning table_kind_view bare_table_kind) normal_table result
+        parser.old parser.new }
     ensures spans { IfOk result (λ k. TableSpansAre (items_behind
         (inline_front.reads parser.old.left)) parser.old.tracks k) }
 {
@@ -143,7 +145,8 @@ fn normal_next(parser: &Parser<'_>) -> bool
 /// How it is defined.
 #[tactic(auto, unfolding(crate::specs::Table::table_kind))]
 fn read_table_kind<'a>(parser: &mut Parser<'a>) -> Result<TableKind<'a>>
-    ensures reads { ReadsAt turns_too (owning table_kind_view bare_table_kind) table_kind result parser.old parser.new }
+    ensures reads { ReadsAt turns_too (owning table_kind_view bare_table_kind) table_kind result
+        parser.old parser.new }
     ensures spans { IfOk result (λ k. TableSpansAre (items_behind
         (inline_front.reads parser.old.left)) parser.old.tracks k) }
 {
@@ -177,7 +180,8 @@ impl<'a> Parse<'a> for Table<'a> {
 
     #[tactic(auto, unfolding(crate::specs::Table::table))]
     fn parse(parser: &mut Parser<'a>) -> Result<Self>
-        ensures reads { ReadsAt turns_too (owning table_view bare_table) table result parser.old parser.new }
+        ensures reads { ReadsAt turns_too (owning table_view bare_table) table result parser.old
+            parser.new }
         ensures spans { IfOk result (λ t. TableSpansAre (has_items parser.old.left)
             parser.old.tracks t.kind) }
     {

@@ -46,7 +46,7 @@ use Rattle.wat_instr.specs.Operand.{operand}
 use Rattle.wat_instr.specs.Instruction.{Instr, instruction}
 use Rattle.wat_instr.proofs.Words.{may_follow}
 
--- none of the three words stands in front
+-- none of the three words is in front
 record Fresh (c : List Tok) : Type 0 where
   pub not_type : begins_word (codes "type") c ≡ false
   pub not_param : begins_word (codes "param") c ≡ false
@@ -87,7 +87,7 @@ other_word f w (Keyword k) v e n h =
     (λ t. t)
 other_word f w _ v e n h = refl
 
--- a token, and whatever stands behind it
+-- a token, and whatever is behind it
 in_front : {A : Type 0} {v : A} {c d : List Tok} (f : Tok → Option A) → NoTypeWord f → (e : List Tok) → c ≡ d ++ e → (x : Tok) × (d ≡ x ∷ []) × (f x ≡ Some v) → Fresh c
 in_front {v = v} f n e is s =
     rw (is, s.1) (fresh (other_word f (codes "type") s.0 v e n.0 s.2) (other_word f (codes "param") s.0 v e n.1 s.2) (other_word f (codes "result") s.0 v e n.2 s.2))

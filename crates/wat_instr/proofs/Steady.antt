@@ -78,7 +78,7 @@ no_annotation n _ s shut f = refl
 second_steady : (test : List Tok → Bool) → Sees 1 test → FailsFirst test → FailsFirst (second test) → Stable following 2 0 (second test)
 second_steady test sees first behind = steady_2_0 (second test) (second_sees test sees) (λ x s shut f. first s f) behind
 
--- ---- an integer that stands alone
+-- ---- an integer that is alone
 
 goes_on_fails : FailsFirst goes_on
 goes_on_fails s f = rw (f.no_integer, f.no_offset, f.no_align) refl

@@ -12,7 +12,7 @@ NoTypeSecond s =
     × (second (begins_word (codes "param")) s ≡ false)
     × (second (begins_word (codes "result")) s ≡ false)
 
--- a mnemonic stands in front
+-- a mnemonic is in front
 abbrev pub BeginsMnemonic : List Tok → Type 0
 BeginsMnemonic s = (x : Mnemonic) × (t : List Tok) × (s ≡ Keyword (mnemonic_word x) ∷ t)
 

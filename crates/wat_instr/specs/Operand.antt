@@ -41,7 +41,7 @@ pub data Operand : Type 0 where
   nothing : Operand
   -- of a block
   block : BlockTy → Operand
-  -- the label that may stand at `else` and `end`
+  -- the label that may be at `else` and `end`
   label : Option (List ℕ) → Operand
   -- an index, also of a table or a memory
   one_index : Idx → Operand

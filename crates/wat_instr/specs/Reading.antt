@@ -8,7 +8,7 @@ use Rattle.wat_mnemonics.specs.declared.mnemonic.Mnemonic.{Mnemonic}
 use Rattle.wat_instr.specs.Instruction.{Instruction, instruction_view, bare_instruction}
 use Rattle.wat_instr.specs.Instruction.{behind_word}
 
--- it answers the instruction whose word was taken, with the operand that stands in front
+-- it answers the instruction whose word was taken, with the operand that is in front
 unfoldable pub ReadsOperand : Mnemonic → Result Instruction Error → State → State → Type 0
 ReadsOperand h r a b =
     Reads (owning instruction_view bare_instruction) (behind_word h) r a b

@@ -1,4 +1,5 @@
 //! The operands of instructions that share their kind of operand.
+#![tactic(auto, unfolding(crate::specs::Reading::ReadsOperand, crate::specs::Operand::operand))]
 
 ghost use Rattle.wat_instr.specs.Reading.{ReadsOperand};
 ghost use Rattle.wat_mnemonics.specs.declared.mnemonic.Mnemonic.TheVariants as head;
@@ -16,7 +17,6 @@ use wat_operands::{
 use wat_tokens::{Id, Index, Parse, Parser, Result};
 
 /// `block`, `loop`, `if` or `try`, and the type of the block.
-#[tactic(auto, unfolding(crate::specs::Reading::ReadsOperand, crate::specs::Operand::operand))]
 pub(crate) fn read_block<'a>(op: BlockOp, parser: &mut Parser<'a>) -> Result<Instruction<'a>>
     ensures { ReadsOperand (head.Block op) result parser.old parser.new }
 {
@@ -27,7 +27,6 @@ pub(crate) fn read_block<'a>(op: BlockOp, parser: &mut Parser<'a>) -> Result<Ins
 }
 
 /// `else` or `end`, and the label that may follow.
-#[tactic(auto, unfolding(crate::specs::Reading::ReadsOperand, crate::specs::Operand::operand))]
 pub(crate) fn read_label<'a>(op: LabelOp, parser: &mut Parser<'a>) -> Result<Instruction<'a>>
     ensures { ReadsOperand (head.Label op) result parser.old parser.new }
 {
@@ -38,7 +37,6 @@ pub(crate) fn read_label<'a>(op: LabelOp, parser: &mut Parser<'a>) -> Result<Ins
 }
 
 /// An instruction with an index.
-#[tactic(auto, unfolding(crate::specs::Reading::ReadsOperand, crate::specs::Operand::operand))]
 pub(crate) fn read_indexed<'a>(op: IndexedOp, parser: &mut Parser<'a>) -> Result<Instruction<'a>>
     ensures { ReadsOperand (head.Indexed op) result parser.old parser.new }
 {
@@ -49,7 +47,6 @@ pub(crate) fn read_indexed<'a>(op: IndexedOp, parser: &mut Parser<'a>) -> Result
 }
 
 /// An indirect call.
-#[tactic(auto, unfolding(crate::specs::Reading::ReadsOperand, crate::specs::Operand::operand))]
 pub(crate) fn read_call_indirect<'a>(
     op: CallIndirectOp,
     parser: &mut Parser<'a>,
@@ -63,7 +60,6 @@ pub(crate) fn read_call_indirect<'a>(
 }
 
 /// An instruction with a table.
-#[tactic(auto, unfolding(crate::specs::Reading::ReadsOperand, crate::specs::Operand::operand))]
 pub(crate) fn read_table<'a>(op: TableOp, parser: &mut Parser<'a>) -> Result<Instruction<'a>>
     ensures { ReadsOperand (head.Table op) result parser.old parser.new }
 {
@@ -74,7 +70,6 @@ pub(crate) fn read_table<'a>(op: TableOp, parser: &mut Parser<'a>) -> Result<Ins
 }
 
 /// A load, a store or a wait.
-#[tactic(auto, unfolding(crate::specs::Reading::ReadsOperand, crate::specs::Operand::operand))]
 pub(crate) fn read_access<'a>(op: AccessOp, parser: &mut Parser<'a>) -> Result<Instruction<'a>>
     ensures { ReadsOperand (head.Access op) result parser.old parser.new }
 {
@@ -85,7 +80,6 @@ pub(crate) fn read_access<'a>(op: AccessOp, parser: &mut Parser<'a>) -> Result<I
 }
 
 /// An instruction with a memory.
-#[tactic(auto, unfolding(crate::specs::Reading::ReadsOperand, crate::specs::Operand::operand))]
 pub(crate) fn read_memory<'a>(op: MemoryOp, parser: &mut Parser<'a>) -> Result<Instruction<'a>>
     ensures { ReadsOperand (head.Memory op) result parser.old parser.new }
 {
@@ -96,7 +90,6 @@ pub(crate) fn read_memory<'a>(op: MemoryOp, parser: &mut Parser<'a>) -> Result<I
 }
 
 /// A field of a structure.
-#[tactic(auto, unfolding(crate::specs::Reading::ReadsOperand, crate::specs::Operand::operand))]
 pub(crate) fn read_struct<'a>(op: StructOp, parser: &mut Parser<'a>) -> Result<Instruction<'a>>
     ensures { ReadsOperand (head.Struct op) result parser.old parser.new }
 {
@@ -107,7 +100,6 @@ pub(crate) fn read_struct<'a>(op: StructOp, parser: &mut Parser<'a>) -> Result<I
 }
 
 /// An array, and the segment that it is filled from.
-#[tactic(auto, unfolding(crate::specs::Reading::ReadsOperand, crate::specs::Operand::operand))]
 pub(crate) fn read_array_init<'a>(
     op: ArrayInitOp,
     parser: &mut Parser<'a>,
@@ -121,7 +113,6 @@ pub(crate) fn read_array_init<'a>(
 }
 
 /// An atomic load or store.
-#[tactic(auto, unfolding(crate::specs::Reading::ReadsOperand, crate::specs::Operand::operand))]
 pub(crate) fn read_atomic_access<'a>(
     op: AtomicAccessOp,
     parser: &mut Parser<'a>,
@@ -135,7 +126,6 @@ pub(crate) fn read_atomic_access<'a>(
 }
 
 /// An atomic read, change and write.
-#[tactic(auto, unfolding(crate::specs::Reading::ReadsOperand, crate::specs::Operand::operand))]
 pub(crate) fn read_rmw_access<'a>(
     op: RmwAccessOp,
     parser: &mut Parser<'a>,
@@ -149,7 +139,6 @@ pub(crate) fn read_rmw_access<'a>(
 }
 
 /// An atomic access to what an index names.
-#[tactic(auto, unfolding(crate::specs::Reading::ReadsOperand, crate::specs::Operand::operand))]
 pub(crate) fn read_ordered_index<'a>(
     op: OrderedIndexOp,
     parser: &mut Parser<'a>,
@@ -163,7 +152,6 @@ pub(crate) fn read_ordered_index<'a>(
 }
 
 /// An atomic access to a table.
-#[tactic(auto, unfolding(crate::specs::Reading::ReadsOperand, crate::specs::Operand::operand))]
 pub(crate) fn read_ordered_table<'a>(
     op: OrderedTableOp,
     parser: &mut Parser<'a>,
@@ -177,7 +165,6 @@ pub(crate) fn read_ordered_table<'a>(
 }
 
 /// An atomic access to a field of a structure.
-#[tactic(auto, unfolding(crate::specs::Reading::ReadsOperand, crate::specs::Operand::operand))]
 pub(crate) fn read_ordered_struct<'a>(
     op: OrderedStructOp,
     parser: &mut Parser<'a>,
@@ -191,7 +178,6 @@ pub(crate) fn read_ordered_struct<'a>(
 }
 
 /// A load or store of one lane.
-#[tactic(auto, unfolding(crate::specs::Reading::ReadsOperand, crate::specs::Operand::operand))]
 pub(crate) fn read_lane_access<'a>(
     op: LaneAccessOp,
     parser: &mut Parser<'a>,
@@ -205,7 +191,6 @@ pub(crate) fn read_lane_access<'a>(
 }
 
 /// A lane that is taken out or replaced.
-#[tactic(auto, unfolding(crate::specs::Reading::ReadsOperand, crate::specs::Operand::operand))]
 pub(crate) fn read_lane<'a>(op: LaneOp, parser: &mut Parser<'a>) -> Result<Instruction<'a>>
     ensures { ReadsOperand (head.Lane op) result parser.old parser.new }
 {
@@ -216,7 +201,6 @@ pub(crate) fn read_lane<'a>(op: LaneOp, parser: &mut Parser<'a>) -> Result<Instr
 }
 
 /// An instruction without an operand, none of vectors.
-#[tactic(auto, unfolding(crate::specs::Reading::ReadsOperand, crate::specs::Operand::operand))]
 pub(crate) fn bare_scalar<'a>(op: ScalarOp, parser: &mut Parser<'a>) -> Result<Instruction<'a>>
     ensures { ReadsOperand (head.Scalar op) result parser.old parser.new }
 {
@@ -224,7 +208,6 @@ pub(crate) fn bare_scalar<'a>(op: ScalarOp, parser: &mut Parser<'a>) -> Result<I
 }
 
 /// An instruction without an operand, of vectors.
-#[tactic(auto, unfolding(crate::specs::Reading::ReadsOperand, crate::specs::Operand::operand))]
 pub(crate) fn bare_vector<'a>(op: VectorOp, parser: &mut Parser<'a>) -> Result<Instruction<'a>>
     ensures { ReadsOperand (head.Vector op) result parser.old parser.new }
 {

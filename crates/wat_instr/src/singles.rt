@@ -1,4 +1,5 @@
 //! The operands of instructions that are alone in their kind.
+#![tactic(auto, unfolding(crate::specs::Reading::ReadsOperand, crate::specs::Operand::operand))]
 
 ghost use Rattle.wat_instr.specs.Reading.{ReadsOperand};
 ghost use Rattle.wat_mnemonics.specs.declared.mnemonic.Mnemonic.TheVariants as head;
@@ -14,7 +15,6 @@ use wat_tokens::{F32, F64, Parse, Parser, Result};
 use wat_types::HeapType;
 
 /// `br_table`.
-#[tactic(auto, unfolding(crate::specs::Reading::ReadsOperand, crate::specs::Operand::operand))]
 pub(crate) fn read_br_table<'a>(parser: &mut Parser<'a>) -> Result<Instruction<'a>>
     ensures { ReadsOperand head.br_table result parser.old parser.new }
 {
@@ -25,7 +25,6 @@ pub(crate) fn read_br_table<'a>(parser: &mut Parser<'a>) -> Result<Instruction<'
 }
 
 /// `select`.
-#[tactic(auto, unfolding(crate::specs::Reading::ReadsOperand, crate::specs::Operand::operand))]
 pub(crate) fn read_select<'a>(parser: &mut Parser<'a>) -> Result<Instruction<'a>>
     ensures { ReadsOperand head.select result parser.old parser.new }
 {
@@ -36,7 +35,6 @@ pub(crate) fn read_select<'a>(parser: &mut Parser<'a>) -> Result<Instruction<'a>
 }
 
 /// `memory.init`.
-#[tactic(auto, unfolding(crate::specs::Reading::ReadsOperand, crate::specs::Operand::operand))]
 pub(crate) fn read_memory_init<'a>(parser: &mut Parser<'a>) -> Result<Instruction<'a>>
     ensures { ReadsOperand head.memory_init result parser.old parser.new }
 {
@@ -47,7 +45,6 @@ pub(crate) fn read_memory_init<'a>(parser: &mut Parser<'a>) -> Result<Instructio
 }
 
 /// `memory.copy`.
-#[tactic(auto, unfolding(crate::specs::Reading::ReadsOperand, crate::specs::Operand::operand))]
 pub(crate) fn read_memory_copy<'a>(parser: &mut Parser<'a>) -> Result<Instruction<'a>>
     ensures { ReadsOperand head.memory_copy result parser.old parser.new }
 {
@@ -58,7 +55,6 @@ pub(crate) fn read_memory_copy<'a>(parser: &mut Parser<'a>) -> Result<Instructio
 }
 
 /// `table.init`.
-#[tactic(auto, unfolding(crate::specs::Reading::ReadsOperand, crate::specs::Operand::operand))]
 pub(crate) fn read_table_init<'a>(parser: &mut Parser<'a>) -> Result<Instruction<'a>>
     ensures { ReadsOperand head.table_init result parser.old parser.new }
 {
@@ -69,7 +65,6 @@ pub(crate) fn read_table_init<'a>(parser: &mut Parser<'a>) -> Result<Instruction
 }
 
 /// `table.copy`.
-#[tactic(auto, unfolding(crate::specs::Reading::ReadsOperand, crate::specs::Operand::operand))]
 pub(crate) fn read_table_copy<'a>(parser: &mut Parser<'a>) -> Result<Instruction<'a>>
     ensures { ReadsOperand head.table_copy result parser.old parser.new }
 {
@@ -80,7 +75,6 @@ pub(crate) fn read_table_copy<'a>(parser: &mut Parser<'a>) -> Result<Instruction
 }
 
 /// `ref.null`.
-#[tactic(auto, unfolding(crate::specs::Reading::ReadsOperand, crate::specs::Operand::operand))]
 pub(crate) fn read_ref_null<'a>(parser: &mut Parser<'a>) -> Result<Instruction<'a>>
     ensures { ReadsOperand head.ref_null result parser.old parser.new }
 {
@@ -91,7 +85,6 @@ pub(crate) fn read_ref_null<'a>(parser: &mut Parser<'a>) -> Result<Instruction<'
 }
 
 /// `array.new_fixed`.
-#[tactic(auto, unfolding(crate::specs::Reading::ReadsOperand, crate::specs::Operand::operand))]
 pub(crate) fn read_array_new_fixed<'a>(parser: &mut Parser<'a>) -> Result<Instruction<'a>>
     ensures { ReadsOperand head.array_new_fixed result parser.old parser.new }
 {
@@ -102,7 +95,6 @@ pub(crate) fn read_array_new_fixed<'a>(parser: &mut Parser<'a>) -> Result<Instru
 }
 
 /// `array.new_data`.
-#[tactic(auto, unfolding(crate::specs::Reading::ReadsOperand, crate::specs::Operand::operand))]
 pub(crate) fn read_array_new_data<'a>(parser: &mut Parser<'a>) -> Result<Instruction<'a>>
     ensures { ReadsOperand head.array_new_data result parser.old parser.new }
 {
@@ -113,7 +105,6 @@ pub(crate) fn read_array_new_data<'a>(parser: &mut Parser<'a>) -> Result<Instruc
 }
 
 /// `array.new_elem`.
-#[tactic(auto, unfolding(crate::specs::Reading::ReadsOperand, crate::specs::Operand::operand))]
 pub(crate) fn read_array_new_elem<'a>(parser: &mut Parser<'a>) -> Result<Instruction<'a>>
     ensures { ReadsOperand head.array_new_elem result parser.old parser.new }
 {
@@ -124,7 +115,6 @@ pub(crate) fn read_array_new_elem<'a>(parser: &mut Parser<'a>) -> Result<Instruc
 }
 
 /// `array.fill`.
-#[tactic(auto, unfolding(crate::specs::Reading::ReadsOperand, crate::specs::Operand::operand))]
 pub(crate) fn read_array_fill<'a>(parser: &mut Parser<'a>) -> Result<Instruction<'a>>
     ensures { ReadsOperand head.array_fill result parser.old parser.new }
 {
@@ -135,7 +125,6 @@ pub(crate) fn read_array_fill<'a>(parser: &mut Parser<'a>) -> Result<Instruction
 }
 
 /// `array.copy`.
-#[tactic(auto, unfolding(crate::specs::Reading::ReadsOperand, crate::specs::Operand::operand))]
 pub(crate) fn read_array_copy<'a>(parser: &mut Parser<'a>) -> Result<Instruction<'a>>
     ensures { ReadsOperand head.array_copy result parser.old parser.new }
 {
@@ -146,7 +135,6 @@ pub(crate) fn read_array_copy<'a>(parser: &mut Parser<'a>) -> Result<Instruction
 }
 
 /// `ref.test`.
-#[tactic(auto, unfolding(crate::specs::Reading::ReadsOperand, crate::specs::Operand::operand))]
 pub(crate) fn read_ref_test<'a>(parser: &mut Parser<'a>) -> Result<Instruction<'a>>
     ensures { ReadsOperand head.ref_test result parser.old parser.new }
 {
@@ -157,7 +145,6 @@ pub(crate) fn read_ref_test<'a>(parser: &mut Parser<'a>) -> Result<Instruction<'
 }
 
 /// `ref.cast`.
-#[tactic(auto, unfolding(crate::specs::Reading::ReadsOperand, crate::specs::Operand::operand))]
 pub(crate) fn read_ref_cast<'a>(parser: &mut Parser<'a>) -> Result<Instruction<'a>>
     ensures { ReadsOperand head.ref_cast result parser.old parser.new }
 {
@@ -168,7 +155,6 @@ pub(crate) fn read_ref_cast<'a>(parser: &mut Parser<'a>) -> Result<Instruction<'
 }
 
 /// `br_on_cast`.
-#[tactic(auto, unfolding(crate::specs::Reading::ReadsOperand, crate::specs::Operand::operand))]
 pub(crate) fn read_br_on_cast<'a>(parser: &mut Parser<'a>) -> Result<Instruction<'a>>
     ensures { ReadsOperand head.br_on_cast result parser.old parser.new }
 {
@@ -179,7 +165,6 @@ pub(crate) fn read_br_on_cast<'a>(parser: &mut Parser<'a>) -> Result<Instruction
 }
 
 /// `br_on_cast_fail`.
-#[tactic(auto, unfolding(crate::specs::Reading::ReadsOperand, crate::specs::Operand::operand))]
 pub(crate) fn read_br_on_cast_fail<'a>(parser: &mut Parser<'a>) -> Result<Instruction<'a>>
     ensures { ReadsOperand head.br_on_cast_fail result parser.old parser.new }
 {
@@ -190,7 +175,6 @@ pub(crate) fn read_br_on_cast_fail<'a>(parser: &mut Parser<'a>) -> Result<Instru
 }
 
 /// `i32.const`.
-#[tactic(auto, unfolding(crate::specs::Reading::ReadsOperand, crate::specs::Operand::operand))]
 pub(crate) fn read_i32_const<'a>(parser: &mut Parser<'a>) -> Result<Instruction<'a>>
     ensures { ReadsOperand head.i32_const result parser.old parser.new }
 {
@@ -201,7 +185,6 @@ pub(crate) fn read_i32_const<'a>(parser: &mut Parser<'a>) -> Result<Instruction<
 }
 
 /// `i64.const`.
-#[tactic(auto, unfolding(crate::specs::Reading::ReadsOperand, crate::specs::Operand::operand))]
 pub(crate) fn read_i64_const<'a>(parser: &mut Parser<'a>) -> Result<Instruction<'a>>
     ensures { ReadsOperand head.i64_const result parser.old parser.new }
 {
@@ -212,7 +195,6 @@ pub(crate) fn read_i64_const<'a>(parser: &mut Parser<'a>) -> Result<Instruction<
 }
 
 /// `f32.const`; no literal is read.
-#[tactic(auto, unfolding(crate::specs::Reading::ReadsOperand, crate::specs::Operand::operand))]
 pub(crate) fn read_f32_const<'a>(parser: &mut Parser<'a>) -> Result<Instruction<'a>>
     ensures { ReadsOperand head.f32_const result parser.old parser.new }
 {
@@ -223,7 +205,6 @@ pub(crate) fn read_f32_const<'a>(parser: &mut Parser<'a>) -> Result<Instruction<
 }
 
 /// `f64.const`; no literal is read.
-#[tactic(auto, unfolding(crate::specs::Reading::ReadsOperand, crate::specs::Operand::operand))]
 pub(crate) fn read_f64_const<'a>(parser: &mut Parser<'a>) -> Result<Instruction<'a>>
     ensures { ReadsOperand head.f64_const result parser.old parser.new }
 {
@@ -234,7 +215,6 @@ pub(crate) fn read_f64_const<'a>(parser: &mut Parser<'a>) -> Result<Instruction<
 }
 
 /// `atomic.fence`.
-#[tactic(auto, unfolding(crate::specs::Reading::ReadsOperand, crate::specs::Operand::operand))]
 pub(crate) fn read_atomic_fence<'a>(parser: &mut Parser<'a>) -> Result<Instruction<'a>>
     ensures { ReadsOperand head.atomic_fence result parser.old parser.new }
 {
@@ -245,7 +225,6 @@ pub(crate) fn read_atomic_fence<'a>(parser: &mut Parser<'a>) -> Result<Instructi
 }
 
 /// `v128.const`.
-#[tactic(auto, unfolding(crate::specs::Reading::ReadsOperand, crate::specs::Operand::operand))]
 pub(crate) fn read_v128_const<'a>(parser: &mut Parser<'a>) -> Result<Instruction<'a>>
     ensures { ReadsOperand head.v128_const result parser.old parser.new }
 {
@@ -256,7 +235,6 @@ pub(crate) fn read_v128_const<'a>(parser: &mut Parser<'a>) -> Result<Instruction
 }
 
 /// `i8x16.shuffle`.
-#[tactic(auto, unfolding(crate::specs::Reading::ReadsOperand, crate::specs::Operand::operand))]
 pub(crate) fn read_i8x16_shuffle<'a>(parser: &mut Parser<'a>) -> Result<Instruction<'a>>
     ensures { ReadsOperand head.i8x16_shuffle result parser.old parser.new }
 {
@@ -267,7 +245,6 @@ pub(crate) fn read_i8x16_shuffle<'a>(parser: &mut Parser<'a>) -> Result<Instruct
 }
 
 /// `try_table`.
-#[tactic(auto, unfolding(crate::specs::Reading::ReadsOperand, crate::specs::Operand::operand))]
 pub(crate) fn read_try_table<'a>(parser: &mut Parser<'a>) -> Result<Instruction<'a>>
     ensures { ReadsOperand head.try_table result parser.old parser.new }
 {
@@ -278,7 +255,6 @@ pub(crate) fn read_try_table<'a>(parser: &mut Parser<'a>) -> Result<Instruction<
 }
 
 /// `cont.bind`.
-#[tactic(auto, unfolding(crate::specs::Reading::ReadsOperand, crate::specs::Operand::operand))]
 pub(crate) fn read_cont_bind<'a>(parser: &mut Parser<'a>) -> Result<Instruction<'a>>
     ensures { ReadsOperand head.cont_bind result parser.old parser.new }
 {
@@ -289,7 +265,6 @@ pub(crate) fn read_cont_bind<'a>(parser: &mut Parser<'a>) -> Result<Instruction<
 }
 
 /// `resume`.
-#[tactic(auto, unfolding(crate::specs::Reading::ReadsOperand, crate::specs::Operand::operand))]
 pub(crate) fn read_resume<'a>(parser: &mut Parser<'a>) -> Result<Instruction<'a>>
     ensures { ReadsOperand head.resume result parser.old parser.new }
 {
@@ -300,7 +275,6 @@ pub(crate) fn read_resume<'a>(parser: &mut Parser<'a>) -> Result<Instruction<'a>
 }
 
 /// `resume_throw`.
-#[tactic(auto, unfolding(crate::specs::Reading::ReadsOperand, crate::specs::Operand::operand))]
 pub(crate) fn read_resume_throw<'a>(parser: &mut Parser<'a>) -> Result<Instruction<'a>>
     ensures { ReadsOperand head.resume_throw result parser.old parser.new }
 {
@@ -311,7 +285,6 @@ pub(crate) fn read_resume_throw<'a>(parser: &mut Parser<'a>) -> Result<Instructi
 }
 
 /// `resume_throw_ref`.
-#[tactic(auto, unfolding(crate::specs::Reading::ReadsOperand, crate::specs::Operand::operand))]
 pub(crate) fn read_resume_throw_ref<'a>(parser: &mut Parser<'a>) -> Result<Instruction<'a>>
     ensures { ReadsOperand head.resume_throw_ref result parser.old parser.new }
 {
@@ -322,7 +295,6 @@ pub(crate) fn read_resume_throw_ref<'a>(parser: &mut Parser<'a>) -> Result<Instr
 }
 
 /// `switch`.
-#[tactic(auto, unfolding(crate::specs::Reading::ReadsOperand, crate::specs::Operand::operand))]
 pub(crate) fn read_switch<'a>(parser: &mut Parser<'a>) -> Result<Instruction<'a>>
     ensures { ReadsOperand head.switch result parser.old parser.new }
 {
@@ -333,7 +305,6 @@ pub(crate) fn read_switch<'a>(parser: &mut Parser<'a>) -> Result<Instruction<'a>
 }
 
 /// `ref.cast_desc_eq`.
-#[tactic(auto, unfolding(crate::specs::Reading::ReadsOperand, crate::specs::Operand::operand))]
 pub(crate) fn read_ref_cast_desc_eq<'a>(parser: &mut Parser<'a>) -> Result<Instruction<'a>>
     ensures { ReadsOperand head.ref_cast_desc_eq result parser.old parser.new }
 {
@@ -344,7 +315,6 @@ pub(crate) fn read_ref_cast_desc_eq<'a>(parser: &mut Parser<'a>) -> Result<Instr
 }
 
 /// `br_on_cast_desc_eq`.
-#[tactic(auto, unfolding(crate::specs::Reading::ReadsOperand, crate::specs::Operand::operand))]
 pub(crate) fn read_br_on_cast_desc_eq<'a>(parser: &mut Parser<'a>) -> Result<Instruction<'a>>
     ensures { ReadsOperand head.br_on_cast_desc_eq result parser.old parser.new }
 {
@@ -355,7 +325,6 @@ pub(crate) fn read_br_on_cast_desc_eq<'a>(parser: &mut Parser<'a>) -> Result<Ins
 }
 
 /// `br_on_cast_desc_eq_fail`.
-#[tactic(auto, unfolding(crate::specs::Reading::ReadsOperand, crate::specs::Operand::operand))]
 pub(crate) fn read_br_on_cast_desc_eq_fail<'a>(parser: &mut Parser<'a>) -> Result<Instruction<'a>>
     ensures { ReadsOperand head.br_on_cast_desc_eq_fail result parser.old parser.new }
 {

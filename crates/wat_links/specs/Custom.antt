@@ -33,7 +33,7 @@ bare_custom (raw r) = bare_raw r
 bare_custom (produced fs) = no_items fs
 bare_custom (linked ss) = no_items ss
 
--- where it stands
+-- where it is
 abbrev pub place_of : Custom → CustomPlace
 place_of (code.Raw r) = r.place
 place_of (code.Producers p) = AfterLast

@@ -62,7 +62,7 @@ id_of (code.ImportInfo es) = 4
 id_of (code.RuntimePath xs) = 5
 id_of (code.TargetArch x) = 6
 
--- ---- entries that stand alone
+-- ---- entries that are alone
 
 abbrev pub no_size : ℕ × ℕ
 no_size = (0, 0)

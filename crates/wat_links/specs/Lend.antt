@@ -28,7 +28,7 @@ sig_at i (Single m n s) = only_first i s
 sig_at i (Group1 m xs) = typed_sig_at i xs.items
 sig_at i (Group2 m s xs) = only_first i s
 
--- the items with w as the signature of x, which stands at i
+-- the items with w as the signature of x, which is at i
 abbrev pub with_item_sig : {N S Z : Type 0} → Vec (ImportGroup1ItemOf N S) Z → ℕ → S
     → Option (ImportGroup1ItemOf N S) → Vec (ImportGroup1ItemOf N S) Z
 with_item_sig v i w None = v

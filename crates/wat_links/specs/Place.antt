@@ -1,4 +1,4 @@
--- Where a custom section stands.
+-- Where a custom section is.
 use Rattle.std.specs.Prelude.{ℕ, List, [], ◌∷◌, codes, refl}
 use Rattle.wat_tokens.specs.Tests.{word_in, begins_word}
 use Rattle.wat_tokens.specs.Production.{Production}

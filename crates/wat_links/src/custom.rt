@@ -23,7 +23,7 @@ pub enum Custom<'a> {
 }
 
 impl<'a> Custom<'a> {
-    /// Where it stands: a `producers` section behind the last section, a `dylink.0` section before
+    /// Where it is: a `producers` section behind the last section, a `dylink.0` section before
     /// the first.
     pub fn place(&self) -> CustomPlace
         ensures { result ≡ place_of self.now }

@@ -3,14 +3,13 @@
 ghost use Rattle.std.specs.Prelude.{◌≡◌};
 ghost use Rattle.wat_tokens.specs.Copies.{Copies};
 ghost use Rattle.wat_tokens.specs.Reads.{Reads};
-ghost use Rattle.wat_tokens.specs.Views.{plain, owning};
-ghost use Rattle.wat_types.specs.Label.{label_view, label};
+ghost use Rattle.wat_tokens.specs.Views.{owning};
 ghost use Rattle.wat_links.specs.Item.{item_kind_view, bare_item_kind, SigTy, sig_view, bare_sig};
 ghost use Rattle.wat_links.specs.Item.{func_kind};
 ghost use Rattle.wat_links.specs.Item.{global_or_tag, item_sig, SameKind, SameSig};
 
 use wat_tokens::{Fault, Id, NameAnnotation, Parse, Parser, Result, Span};
-use wat_types::{FunctionType, GlobalType, MemoryType, TableType, TagType, TypeUse};
+use wat_types::{FunctionType, GlobalType, MemoryType, TableType, TagType, TypeUse, take_label};
 
 /// What an item is, that is imported or exported: its kind and its type (WebAssembly Core
 /// Specification, Text Format, Types, "External Types").
@@ -76,16 +75,6 @@ impl<'a> ItemSig<'a> {
     }
 }
 
-/// An identifier and a name, each there or not.
-#[tactic(auto, unfolding(wat_types::specs::Label::label))]
-fn read_label<'a>(parser: &mut Parser<'a>) -> Result<(Option<Id<'a>>, Option<NameAnnotation<'a>>)>
-    ensures reads { Reads (plain (λ l. label_view l.0 l.1)) label result parser.old parser.new }
-{
-    let id = Option::<Id>::parse(parser)?;
-    let name = Option::<NameAnnotation>::parse(parser)?;
-    Ok((id, name))
-}
-
 /// Where the second token is `exact`, a type use in `( exact .. )`, else a type use.
 #[tactic(auto, unfolding(crate::specs::Item::func_kind))]
 fn read_func_kind<'a>(parser: &mut Parser<'a>) -> Result<ItemKind<'a>>
@@ -109,7 +98,7 @@ fn read_global_or_tag<'a>(parser: &mut Parser<'a>) -> Result<ItemSig<'a>>
 {
     if parser.next_is("global") {
         let span = parser.keyword("global")?;
-        let (id, name) = read_label(parser)?;
+        let (id, name) = take_label(parser)?;
         let kind = ItemKind::Global(GlobalType::parse(parser)?);
         return Ok(ItemSig {
             span,
@@ -119,7 +108,7 @@ fn read_global_or_tag<'a>(parser: &mut Parser<'a>) -> Result<ItemSig<'a>>
         });
     }
     let span = parser.keyword("tag")?;
-    let (id, name) = read_label(parser)?;
+    let (id, name) = take_label(parser)?;
     let kind = ItemKind::Tag(TagType::parse(parser)?);
     Ok(ItemSig {
         span,
@@ -143,7 +132,7 @@ impl<'a> Parse<'a> for ItemSig<'a> {
     fn parse(parser: &mut Parser<'a>) -> Result<Self> {
         if parser.next_is("func") {
             let span = parser.keyword("func")?;
-            let (id, name) = read_label(parser)?;
+            let (id, name) = take_label(parser)?;
             let kind = read_func_kind(parser)?;
             return Ok(ItemSig {
                 span,
@@ -154,7 +143,7 @@ impl<'a> Parse<'a> for ItemSig<'a> {
         }
         if parser.next_is("table") {
             let span = parser.keyword("table")?;
-            let (id, name) = read_label(parser)?;
+            let (id, name) = take_label(parser)?;
             let kind = ItemKind::Table(TableType::parse(parser)?);
             return Ok(ItemSig {
                 span,
@@ -165,7 +154,7 @@ impl<'a> Parse<'a> for ItemSig<'a> {
         }
         if parser.next_is("memory") {
             let span = parser.keyword("memory")?;
-            let (id, name) = read_label(parser)?;
+            let (id, name) = take_label(parser)?;
             let kind = ItemKind::Memory(MemoryType::parse(parser)?);
             return Ok(ItemSig {
                 span,

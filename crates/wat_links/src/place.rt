@@ -1,4 +1,4 @@
-//! Where a custom section stands.
+//! Where a custom section is.
 
 ghost use Rattle.wat_links.specs.Place.{anchor_words, before, after};
 ghost use Rattle.wat_tokens.specs.Reads.{Reads};
@@ -7,7 +7,7 @@ ghost use Rattle.wat_tokens.specs.Views.{plain};
 use wat_tokens::words::{NamedByKeyword, take_named};
 use wat_tokens::{Parse, Parser, Result};
 
-/// Where among the sections of a binary module a custom section stands (WebAssembly Core
+/// Where among the sections of a binary module a custom section is (WebAssembly Core
 /// Specification, Text Format, "Custom Annotation").
 #[derive(Clone, Copy, Debug, PartialEq)]
 pub enum CustomPlace {

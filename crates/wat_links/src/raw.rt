@@ -18,7 +18,7 @@ pub struct RawCustomSection<'a> {
     pub span: Span,
     /// The name of the section.
     pub name: &'a str,
-    /// Where it stands: behind the last section, where that isn't written.
+    /// Where it is: behind the last section, where that isn't written.
     pub place: CustomPlace,
     /// Its bytes, in pieces, each a string.
     pub data: Vec<&'a [u8]>,

@@ -28,7 +28,7 @@ key_at k l =
 abbrev IsBytes : List ℕ → Type 0
 IsBytes t = (i : ℕ) → get_or t i 0 < 256
 
--- what passes for all of a list passes at each place, where it does for what stands past the end
+-- what passes for all of a list passes at each place, where it does for what is past the end
 passes_at : {X : Type 0} (test : X → Bool) (d : X) → test d ≡ true → (xs : List X) → list_all test xs ≡ true → (k : ℕ) → test (get_or xs k d) ≡ true
 passes_at test d p [] e zero = p
 passes_at test d p [] e (suc k) = p

@@ -26,7 +26,7 @@ tail (x ∷ xs) = xs
 abbrev number_of : List ℕ → ℕ
 number_of r = if nat_lt (get_or r 0 0) 128 then get_or r 0 0 else (get_or r 0 0 - 128) + 128 * get_or r 1 0
 
--- where the place of the opcode in front stands
+-- where the place of the opcode in front is
 abbrev code_of : List ℕ → ℕ
 code_of r = if nat_eq (get_or r 0 0) 0xfd then 264 + number_of (tail r) else if nat_eq (get_or r 0 0) 0xfc then 256 + get_or (tail r) 0 0 else get_or r 0 0
 

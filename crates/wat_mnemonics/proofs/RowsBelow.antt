@@ -118,6 +118,6 @@ row_below (h.Lane x) = lane_row_below x
 row_below (h.Vector x) = vector_row_below x
 row_below _ = lit< tt
 
--- the place where the word of an instruction stands
+-- the place where the word of an instruction is
 pub found_at : (x : Mnemonic) → (k : ℕ) × (k < 623) × (get_or words k [] ≡ mnemonic_word x)
 found_at x = (place x, place_below x, entry_at (place x) (place_below x) ∙ ap mnemonic_word (there x))

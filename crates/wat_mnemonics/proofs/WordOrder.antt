@@ -34,7 +34,7 @@ above_greater xs t m h e k l b =
     split : (m k : ℕ) → m ≤ k → (m < k) ⊎ (m ≡ k)
     split m k l = grind arith
 
--- what stands at no place, since each entry is less or greater
+-- what is at no place, since each entry is less or greater
 pub absent : (xs : List (List ℕ)) (t : List ℕ) (low high : ℕ) → high ≤ low → ((k : ℕ) → k < low → cmp (get_or xs k []) t ≡ Less) → ((k : ℕ) → high ≤ k → k < length xs → cmp (get_or xs k []) t ≡ Greater) → (k : ℕ) → k < length xs → get_or xs k [] ≡ t → ⊥
 absent xs t low high h less more k l e =
     elim (split k low) [

@@ -1,4 +1,4 @@
--- Where in the table each instruction stands, by its row.
+-- Where in the table each instruction is, by its row.
 use Rattle.std.proofs.Common.{ℕ, List, [], ◌∷◌, get_or}
 use Rattle.wat_mnemonics.specs.Heads.{mnemonic_row}
 use Rattle.wat_mnemonics.specs.Order.{first}

@@ -7,7 +7,7 @@ ghost use Rattle.wat_mnemonics.specs.Order.{rises};
 ghost use Rattle.wat_mnemonics.specs.declared.mnemonic.Mnemonic.{Mnemonic as AnyMnemonic};
 ghost use Rattle.wat_mnemonics.specs.declared.table.TheConstants.{MNEMONICS};
 
-/// The words of the table stand in strict order of their bytes.
+/// The words of the table are in strict order of their bytes.
 pub fn words_in_order()
     ensures { IsTrue (rises (map mnemonic_word MNEMONICS)) }
 {}

@@ -11,7 +11,7 @@ some_text u = Some u
 same : (b : ℕ) → (b == b) ≡ true
 same b = (unsigned_Decides b b).1 refl
 
--- behind a prefix stands what was put there
+-- behind a prefix is what was put there
 behind_front : (front rest : List ℕ) → past_front front (front ++ rest) ≡ Some rest
 unfolding past_front
 behind_front [] rest = refl

@@ -1,8 +1,5 @@
 //! Orderings of atomic accesses.
 
-ghost use Rattle.std.specs.Prelude.{◌≡◌};
-ghost use Rattle.wat_tokens.specs.Lookup.{in_front};
-ghost use Rattle.wat_tokens.specs.Tests.{begins_word};
 ghost use Rattle.wat_tokens.specs.Views.{plain, holding};
 ghost use Rattle.wat_operands.specs.Ordering.{ordering, begins_ordering, ordered_view, ordered};
 
@@ -49,22 +46,12 @@ impl<'a> Parse<'a> for Ordering {
     }
 }
 
-/// Whether the keyword is there.
-fn stands(cursor: Cursor<'_>, word: &str) -> bool
-    ensures { result ≡ begins_word word.now (in_front cursor.entry) }
-{
-    match cursor.keyword() {
-        Some((text, _)) => text == word,
-        None => false,
-    }
-}
-
 /// One of the two words.
 impl Peek for Ordering {
     ghost begins = { begins_ordering };
 
     fn peek(cursor: Cursor<'_>) -> bool {
-        stands(cursor, "seqcst") || stands(cursor, "acqrel")
+        cursor.keyword_is("seqcst") || cursor.keyword_is("acqrel")
     }
 
     fn display() -> &'static str {

@@ -110,7 +110,7 @@ fn sixteen<'a, T: Parse<'a> + Copy>(parser: &mut Parser<'a>) -> Result<[T; 16]>
     Ok(join_8(first, second))
 }
 
-/// Takes a constant of floating-point lanes: its word stands, and then none can be read.
+/// Takes a constant of floating-point lanes: its word is there, and then none can be read.
 #[tactic(auto, using(crate::proofs::Again::f32s_again, crate::proofs::Again::f64s_again), unfolding(crate::specs::Vector::float_const))]
 fn read_floats<'a>(parser: &mut Parser<'a>) -> Result<V128Const>
     ensures reads { Reads (plain (λ v. v)) float_const result parser.old parser.new }

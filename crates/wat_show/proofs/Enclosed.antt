@@ -35,7 +35,7 @@ seen_behind_at known (Some d) (y ∷ r) x l e = elim (cases_Bool (shuts y d)) [
       rw h (ap (visible known None) (past (hidden_count_at known (Some (deeper y d)) r) y r) ∙ seen_behind_at known (Some (deeper y d)) r x l f))
 ]
 
--- behind the first visible token stands what is visible behind it
+-- behind the first visible token is what is visible behind it
 pub seen_behind : (known : Bool) (t : List Tok) (x : Tok) (l : List Tok) → visible_tokens known t ≡ x ∷ l → visible_tokens known (behind known 1 t) ≡ l
 unfolding visible_tokens hidden_count behind
 seen_behind known t x l e = seen_behind_at known None t x l e

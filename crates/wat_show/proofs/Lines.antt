@@ -1,6 +1,6 @@
 -- Which hint has an index, and the lines of instructions.
 use Rattle.std.proofs.Common.{◌≡◌, ◌≢◌, ℕ, ◌+◌, ◌<◌, ◌≤◌, List, [], ◌∷◌, ◌++◌, length, get_or, set, take, refl, sym, ◌∙◌, ap, arith, append_assoc, append-nil, subst, length-set}
-use Rattle.std.specs.Prelude.{◌==◌, true, false, if◌then◌else◌, Option, Some, None, is_some, map, Result, Ok, Err, OnOk}
+use Rattle.std.specs.Prelude.{◌==◌, Bool, eqb, true, false, if◌then◌else◌, Option, Some, None, is_some, map, Result, Ok, Err, OnOk}
 use Rattle.std.proofs.lemmas.Bool.{eqb-true, eq-eqb}
 use Rattle.std.proofs.lemmas.Grind.{get_or-set_at}
 use Rattle.std.proofs.lemmas.List.{get_or-set_other, map_more, length-map, length-take-le}
@@ -105,6 +105,16 @@ module _ (front : List ℕ) where
       let same : lines front (λ k. get_or marks k None) 0 (map instruction_view e.instrs.items) ≡ lines front (hint_at (map hint_view e.branch_hints.items)) 0 (map instruction_view e.instrs.items) = lines_agree (λ k. get_or marks k None) (hint_at (map hint_view e.branch_hints.items)) 0 (map instruction_view e.instrs.items) (λ j l. are j (omega (arith, length-map e.instrs.items instruction_view))) in
       adds ∙ ap (λ (l : List ℕ). old ++ l) same
   expression_added (Err x) e old new marks count are adds = tt
+
+  -- what is added of one without hints
+  pub plain_added : {X E : Type 0} (r : Result X E) (e : Expression) (old new : List ℕ) → e.branch_hints.items ≡ [] → OnOk r (new ≡ old ++ lines front (hint_at []) 0 (map instruction_view e.instrs.items)) → OnOk r (new ≡ old ++ lines_of front (expression_view e))
+  unfolding lines_of
+  plain_added (Ok x) e old new none adds = rw none adds
+  plain_added (Err x) e old new none adds = tt
+
+pub hints_none : {A : Type 0} (n : ℕ) (empty : Bool) (xs : List A) → n ≡ length xs → empty ≡ eqb n 0 → empty ≡ true → xs ≡ []
+hints_none n empty [] l b f = refl
+hints_none n empty (x ∷ xs) l b f = absurd (let t : n ≡ 0 = eqb-true n 0 (sym b ∙ f) in omega (arith, l, t))
 
 -- what is added of an instruction
 pub instruction_added : {X E : Type 0} (r : Result X E) (i : Instruction) (old mid new : List ℕ) → mid ≡ old ++ mnemonic_word (head_in i) → OnOk r (new ≡ mid ++ shown_operand (head_in i) (operand_in i)) → OnOk r (new ≡ old ++ instr_text (instruction_view i))

@@ -4,10 +4,11 @@ ghost use Rattle.std.proofs.Common.{get_or};
 ghost use Rattle.wat_expr.specs.Expression.{hint_view, expression_view};
 ghost use Rattle.wat_instr.specs.Instruction.{instruction_view};
 ghost use Rattle.wat_show.specs.Expressions.{AreMarks, line, lines, lines_of, hint_text};
+ghost use Rattle.wat_show.specs.Expressions.{hint_at};
 ghost use Rattle.wat_show.specs.Expressions.{expression_text, below};
 
 use crate::instructions::add_instruction;
-use crate::text::{add, add_number};
+use crate::text::{add, add_byte, add_number};
 use std::alloc::{AllocError, Global};
 use wat_expr::{BranchHint, Expression};
 use wat_instr::Instruction;
@@ -69,7 +70,7 @@ fn add_line(
     add(out, front)?;
     add_instruction(out, instr)?;
     add_hint(out, hint)?;
-    add(out, "\n")
+    add_byte(out, b'\n')
 }
 
 /// Adds instructions, one a line behind the prefix, each with what is noted at its index.
@@ -89,12 +90,26 @@ fn add_lines(
     Ok(())
 }
 
+/// Adds instructions without hints, one a line behind the prefix.
+fn add_plain_lines(out: &mut Vec<u8>, front: &str, instrs: &[Instruction]) -> Result<(), AllocError>
+    ensures { OnOk result (out.new.items ≡ out.old.items ++ lines front.now (hint_at []) 0
+        (map instruction_view instrs.now)) }
+{
+    for instr in instrs {
+        add_line(out, front, instr, None)?;
+    }
+    Ok(())
+}
+
 /// Adds the instructions of an expression, one a line behind the prefix, each with the hint that
 /// has its index.
 fn add_lines_of(out: &mut Vec<u8>, front: &str, expression: &Expression) -> Result<(), AllocError>
     ensures { OnOk result (out.new.items ≡ out.old.items ++ lines_of front.now
         (expression_view expression.now)) }
 {
+    if expression.branch_hints.is_empty() {
+        return add_plain_lines(out, front, &expression.instrs);
+    }
     let marks = marks_of(
         *out.allocator(),
         expression.instrs.len(),

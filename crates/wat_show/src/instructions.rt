@@ -4,7 +4,7 @@ ghost use Rattle.wat_instr.specs.Instruction.{head_in, operand_in, instruction_v
 ghost use Rattle.wat_show.specs.Instructions.{shown_operand, instr_text};
 
 use crate::listing::add_index;
-use crate::text::{add, add_signed};
+use crate::text::{add, add_byte, add_signed};
 use std::alloc::AllocError;
 use wat_instr::Instruction;
 
@@ -15,15 +15,15 @@ fn add_operand(out: &mut Vec<u8>, instr: &Instruction) -> Result<(), AllocError>
 {
     match instr {
         Instruction::Indexed(_, index) => {
-            add(out, " ")?;
+            add_byte(out, b' ')?;
             add_index(out, index)
         }
         Instruction::i32_const(number) => {
-            add(out, " ")?;
+            add_byte(out, b' ')?;
             add_signed(out, i64::from(*number))
         }
         Instruction::i64_const(number) => {
-            add(out, " ")?;
+            add_byte(out, b' ')?;
             add_signed(out, *number)
         }
         _ => Ok(()),

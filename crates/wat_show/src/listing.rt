@@ -8,7 +8,7 @@ ghost use Rattle.wat_types.specs.Function.{function_view, params_view};
 ghost use Rattle.wat_show.specs.Listing.{index_text, abstract_text, within, heap_text, ref_text};
 ghost use Rattle.wat_show.specs.Listing.{val_text, types_text, param_types, function_text};
 
-use crate::text::{add, add_number};
+use crate::text::{add, add_byte, add_number};
 use std::alloc::AllocError;
 use wat_tokens::{Id, Index, NameAnnotation};
 use wat_types::{AbstractHeapType, FunctionType, HeapType, RefType, ValType};
@@ -19,7 +19,7 @@ pub fn add_index(out: &mut Vec<u8>, index: &Index) -> Result<(), AllocError>
     match index {
         Index::Num(number, _) => add_number(out, *number as usize),
         Index::Id(id) => {
-            add(out, "$")?;
+            add_byte(out, b'$')?;
             add(out, id.name())
         }
     }
@@ -91,7 +91,7 @@ fn add_val(out: &mut Vec<u8>, ty: &ValType) -> Result<(), AllocError>
     ensures { OnOk result (out.new.items ≡ out.old.items ++ (codes " " ++ val_text
         (val_view ty.now))) }
 {
-    add(out, " ")?;
+    add_byte(out, b' ')?;
     match ty {
         ValType::I32 => add(out, "i32"),
         ValType::I64 => add(out, "i64"),

@@ -28,7 +28,8 @@ impl<'p> Cursor<'p> {
     ghost use Rattle.wat_lexer.specs.View.{toks, VisibleFrom};
     ghost use Rattle.wat_tokens.specs.Lookup.{in_front, NextIs, GivesRest, GivesContent};
     ghost use Rattle.wat_tokens.specs.Tests.{as_any, as_lparen, as_rparen, as_keyword, as_id};
-    ghost use Rattle.wat_tokens.specs.Tests.{as_annotation, as_integer, as_string, begins_group};
+    ghost use Rattle.wat_tokens.specs.Tests.{as_annotation, as_integer, as_string};
+    ghost use Rattle.wat_tokens.specs.Tests.{begins_word, begins_group};
 
     /// The place behind so many of the tokens; `known` says whether the five standard annotations
     /// are.
@@ -170,15 +171,22 @@ impl<'p> Cursor<'p> {
         }
     }
 
+    /// Whether the keyword is there.
+    pub fn keyword_is(self, word: &str) -> bool
+        ensures { result ≡ begins_word word.now (in_front self.entry) }
+    {
+        match self.keyword() {
+            Some((text, _)) => text == word,
+            None => false,
+        }
+    }
+
     /// Whether a group that begins with the keyword is there.
     pub fn group_is(self, word: &str) -> bool
         ensures { result ≡ begins_group word.now (in_front self.entry) }
     {
         match self.lparen() {
-            Some(inside) => match inside.keyword() {
-                Some((text, _)) => text == word,
-                None => false,
-            },
+            Some(inside) => inside.keyword_is(word),
             None => false,
         }
     }

@@ -1,7 +1,6 @@
 //! Keywords whose place is kept. Each type has the name of its word.
 
 ghost use Rattle.std.specs.Prelude.{◌≡◌, codes};
-ghost use Rattle.wat_tokens.specs.Lookup.{in_front};
 ghost use Rattle.wat_tokens.specs.Parts.{word};
 ghost use Rattle.wat_tokens.specs.Place.{offset_of};
 ghost use Rattle.wat_tokens.specs.Tests.{begins_word};
@@ -12,16 +11,6 @@ use crate::parser::Parser;
 use crate::traits::{Parse, Peek};
 use wat_lexer::fault::Error;
 use wat_lexer::span::Span;
-
-/// Whether the keyword is in front.
-fn stands(cursor: Cursor<'_>, word: &str) -> bool
-    ensures { result ≡ begins_word word.now (in_front cursor.entry) }
-{
-    match cursor.keyword() {
-        Some((text, _)) => text == word,
-        None => false,
-    }
-}
 
 /// The keyword `func` (Text Format, "Functions"), and where it stands.
 #[derive(Clone, Copy, Debug)]
@@ -51,7 +40,7 @@ impl Peek for func {
     ghost begins = { λ t. begins_word (codes "func") t };
 
     fn peek(cursor: Cursor<'_>) -> bool {
-        stands(cursor, "func")
+        cursor.keyword_is("func")
     }
 
     fn display() -> &'static str {
@@ -87,7 +76,7 @@ impl Peek for table {
     ghost begins = { λ t. begins_word (codes "table") t };
 
     fn peek(cursor: Cursor<'_>) -> bool {
-        stands(cursor, "table")
+        cursor.keyword_is("table")
     }
 
     fn display() -> &'static str {
@@ -123,7 +112,7 @@ impl Peek for memory {
     ghost begins = { λ t. begins_word (codes "memory") t };
 
     fn peek(cursor: Cursor<'_>) -> bool {
-        stands(cursor, "memory")
+        cursor.keyword_is("memory")
     }
 
     fn display() -> &'static str {
@@ -159,7 +148,7 @@ impl Peek for global {
     ghost begins = { λ t. begins_word (codes "global") t };
 
     fn peek(cursor: Cursor<'_>) -> bool {
-        stands(cursor, "global")
+        cursor.keyword_is("global")
     }
 
     fn display() -> &'static str {
@@ -195,7 +184,7 @@ impl Peek for tag {
     ghost begins = { λ t. begins_word (codes "tag") t };
 
     fn peek(cursor: Cursor<'_>) -> bool {
-        stands(cursor, "tag")
+        cursor.keyword_is("tag")
     }
 
     fn display() -> &'static str {

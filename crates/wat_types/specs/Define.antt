@@ -79,7 +79,7 @@ def_view d =
 abbrev pub bare_def : DefTy → Bool
 bare_def d = no_items d.parents && bare_inner_kind d.kind
 
--- the word, an index, and then `) (`; or nothing, where the word doesn't stand
+-- the word, an index, and then `) (`; or nothing, where the word isn't there
 unfoldable pub linked : List ℕ → Production (Option Idx)
 linked w = opt (begins_word w) (after_word w (made (λ v. v.0) (seq index turn)))
 

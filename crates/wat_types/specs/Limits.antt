@@ -15,7 +15,7 @@ use Rattle.wat_types.specs.Laws.Limits.{exponent_to, exponent_from}
 
 -- ---- limits
 
--- ( i32 | i64 )?, whether `i64` stands
+-- ( i32 | i64 )?, whether `i64` is there
 unfoldable pub is_64 : Production Bool
 is_64 = where_else (begins_word (codes "i64")) (made (λ _. true) (word (codes "i64")))
     (made (λ _. false) (flag (codes "i32")))
@@ -23,7 +23,7 @@ is_64 = where_else (begins_word (codes "i64")) (made (λ _. true) (word (codes "
 abbrev pub limits_of : Bool × (ℕ × Option ℕ) → Limits
 limits_of v = record { is64 = v.0; min = v.1.0; max = v.1.1 }
 
--- ( i32 | i64 )? u64 u64?; the second is there where an integer of any value stands
+-- ( i32 | i64 )? u64 u64?; the second is there where an integer of any value is
 unfoldable pub limits_type : Production Limits
 limits_type = made limits_of (seq is_64 (seq (unsigned 64) (opt begins_integer (unsigned 64))))
 

@@ -15,9 +15,10 @@ ghost use Rattle.wat_types.specs.Define.{grouped_type, types_view};
 ghost use Rattle.wat_types.specs.Recursion.{types, rec_view, rec};
 
 use crate::function::FunctionType;
-use crate::groups::{behind, in_parens, take_label};
+use crate::groups::{behind, take_label};
 use crate::structure::{ArrayType, StructType};
 use wat_tokens::repeat::{Part, parts, while_begun};
+use wat_tokens::whole::in_parens;
 use wat_tokens::{Cursor, Id, Index, NameAnnotation, Parse, Parser, Peek, Result, Span};
 
 /// A continuation type: the function type that it is of, by its index (WebAssembly Core
@@ -115,7 +116,7 @@ impl<'a> Parse<'a> for InnerTypeKind<'a> {
     }
 }
 
-/// The index behind the word, where it stands, and then `) (`.
+/// The index behind the word, where it is, and then `) (`.
 #[tactic(auto, unfolding(crate::specs::Define::linked))]
 fn read_link<'a>(parser: &mut Parser<'a>, word: &str) -> Result<Option<Index<'a>>>
     ensures reads { Reads (plain (option_view index_view)) (linked word.now) result parser.old

@@ -4,7 +4,7 @@
 //! of the values are that live over them. Here the type is a parameter, and several calls are one.
 
 ghost use Rattle.std.specs.Prelude.{◌≡◌};
-ghost use Rattle.wat_tokens.specs.Groups.{paren, group};
+ghost use Rattle.wat_tokens.specs.Groups.{group};
 ghost use Rattle.wat_tokens.specs.Parts.{after_word};
 ghost use Rattle.wat_tokens.specs.Reads.{Reads, ReadsAt};
 ghost use Rattle.wat_tokens.specs.Tests.{begins_lparen};
@@ -29,16 +29,6 @@ pub(crate) fn opens(parser: &Parser<'_>) -> bool
     parser.cursor().lparen().is_some()
 }
 
-/// `( T )`
-pub(crate) fn in_parens<'a, T: Parse<'a> + Drop>(parser: &mut Parser<'a>) -> Result<T>
-    ensures reads { ReadsAt T.cost T.view (paren T.grammar) result parser.old parser.new }
-{
-    parser.open()?;
-    let found = T::parse(parser)?;
-    parser.close()?;
-    Ok(found)
-}
-
 /// `( word T )`
 pub(crate) fn in_word_group<'a, T: Parse<'a> + Drop>(
     parser: &mut Parser<'a>,
@@ -54,9 +44,9 @@ pub(crate) fn in_word_group<'a, T: Parse<'a> + Drop>(
     Ok(found)
 }
 
-/// `id? name?`
+/// An identifier and a name, each there or not: `id? name?`.
 #[tactic(auto, unfolding(crate::specs::Label::label))]
-pub(crate) fn take_label<'a>(
+pub fn take_label<'a>(
     parser: &mut Parser<'a>,
 ) -> Result<(Option<Id<'a>>, Option<NameAnnotation<'a>>)>
     ensures reads { Reads (plain (λ l. label_view l.0 l.1)) label result parser.old parser.new }

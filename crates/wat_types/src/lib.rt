@@ -19,6 +19,7 @@ pub mod value;
 
 pub use define::{ContType, InnerTypeKind, Rec, Type, TypeDef};
 pub use function::{FunctionType, FunctionTypeNoNames};
+pub use groups::take_label;
 pub use heap::{AbstractHeapType, HeapType};
 pub use limits::{Limits, MemoryType, TableType, page_size};
 pub use reference::RefType;

@@ -114,7 +114,7 @@ fn read_fields<'a>(parser: &mut Parser<'a>, out: &mut Vec<StructField<'a>>) -> R
     parts::<_, PlainField>(parser, out)
 }
 
-/// Groups of fields, up to the end of the group they stand in.
+/// Groups of fields, up to the end of the group that they are in.
 struct FieldGroup;
 
 impl<'a> Group<'a, StructField<'a>> for FieldGroup {
@@ -154,9 +154,9 @@ impl<'a> StructType<'a> {
     }
 }
 
-/// Groups, up to the end of the group they stand in: `( field id? name? StructField )` with an id
-/// or a name, and `( field StructField* )`. A StructField is, where the second token is `mut`, `(
-/// mut StorageType )`, else a storage type.
+/// Groups, up to the end of the group that they are in: `( field id? name? StructField )` with an
+/// id or a name, and `( field StructField* )`. A StructField is, where the second token is `mut`,
+/// `( mut StorageType )`, else a storage type.
 impl<'a> Parse<'a> for StructType<'a> {
     ghost View = { List MemberTy };
 

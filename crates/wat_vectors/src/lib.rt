@@ -1,5 +1,5 @@
-//! Tests of the program's four modes, each a table of texts with what is shown of them, and of an
-//! arena that is given back. They are proved.
+//! Tests of the program's four modes, each a table of texts with what is shown of them. Others are
+//! of an arena that is given back, and of a type of a user's own. They are proved.
 #![tactic(auto)]
 
 #[cfg(test)]
@@ -10,6 +10,8 @@ mod expressions;
 mod folded;
 #[cfg(test)]
 mod function_types;
+#[cfg(test)]
+mod invoke;
 #[cfg(test)]
 mod modules;
 #[cfg(test)]

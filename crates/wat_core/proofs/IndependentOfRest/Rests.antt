@@ -196,7 +196,7 @@ quiet_index (_ ∷ r) p = refl
 pub second_index_test : IndependentTest true (second begins_index)
 second_index_test = independent_inside (second begins_index) (second_inside begins_index index_at quiet_index)
 
--- ---- an integer that stands alone
+-- ---- an integer that is alone
 
 goes_on_at : AtEnds goes_on
 goes_on_at e r s p q =

@@ -58,7 +58,7 @@ grouped_read i c r e s k =
       refl,
     )
 
--- where it stands alone in a group, the folded instruction is that instruction
+-- where it is alone in a group, the folded instruction is that instruction
 pub folded_read : (i : Instr) (c r : List Tok)
     → instruction.reads (c ++ RParen ∷ r) ≡ Some (i, RParen ∷ r)
     → folded_instruction.reads (in_parens c ++ r) ≡ Some (alone i, r)

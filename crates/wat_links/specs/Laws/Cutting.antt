@@ -206,7 +206,7 @@ starts_no_import s d t n (inr (b, inl p)) =
     absurd (subst (λ (u : SubsectionTy). NotImport u) (sym p.1.3) n)
 starts_no_import s d t n (inr (b, inr p)) = p.0
 
--- no entry stands where the group ends
+-- no entry is where the group ends
 ends_no_group : (w : List ℕ) (t : List Tok) → more t ≡ false → begins_group w t ≡ false
 ends_no_group w t e =
     by_test (begins_group w t) (λ k. absurd (let m = group_more w t k in cc)) (λ k. k)

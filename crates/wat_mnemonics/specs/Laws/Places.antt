@@ -1,4 +1,4 @@
--- Laws: where in the table each instruction stands, by its row.
+-- Laws: where in the table each instruction is, by its row.
 use Rattle.std.proofs.Common.{◌≡◌, ℕ, ◌<◌, [], length, get_or, refl, sym, ◌∙◌, ap, arith, IsTrue}
 use Rattle.std.proofs.Common.{lit<}
 use Rattle.std.proofs.lemmas.List.{get_or-map}
@@ -230,7 +230,7 @@ vector_below : (x : VectorOp) → place (h.Vector x) < 623
 vector_below x =
     elim x as (λ y. place (h.Vector y) < 623) [ vector.i8x16_swizzle ↦ lit< tt | _ ↦ lit< tt ]
 
--- each instruction stands at its place
+-- each instruction is at its place
 pub there : (x : Mnemonic) → get_or all_mnemonics (place x) first ≡ x
 there (h.Block x) = block_there x
 there (h.Label x) = label_there x

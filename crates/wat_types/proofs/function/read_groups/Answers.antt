@@ -8,7 +8,7 @@ use Rattle.wat_types.specs.Order.{add}
 use Rattle.wat_types.specs.Function.{function_view}
 use Rattle.wat_types.specs.FunctionSpells.{func_groups}
 use Rattle.wat_types.proofs.FunctionFront.{function_begins_at}
-use Rattle.wat_types.proofs.Groups.{groups_not_bare}
+use Rattle.wat_types.proofs.FunctionGroups.{groups_not_bare}
 use Rattle.wat_types.proofs.function.read_groups.Goals as goal
 
 pub groups-init : goal.groups-init
