@@ -74,7 +74,6 @@ pub use Rattle.wat_links.specs.Raw
 pub use Rattle.wat_mnemonics.specs.Access
 pub use Rattle.wat_mnemonics.specs.Heads
 pub use Rattle.wat_mnemonics.specs.Indexed
-pub use Rattle.wat_mnemonics.specs.Keys
 pub use Rattle.wat_mnemonics.specs.Opcodes
 pub use Rattle.wat_mnemonics.specs.Order
 pub use Rattle.wat_mnemonics.specs.Ordered

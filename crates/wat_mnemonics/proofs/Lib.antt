@@ -1,8 +1,7 @@
-mod Halves
 mod Heads
-mod KeyOrder
 mod Prefix
 mod Rows
 mod RowsBelow
+mod ToldPlaces
 mod WordOrder
 mod WordReads

@@ -4,17 +4,15 @@ ghost use Rattle.std.specs.Prelude.{◌≡◌, ◌≢◌, ◌<◌, ◌≤◌, �
 ghost use Rattle.std.specs.Prelude.{slice_index_or};
 ghost use Rattle.wat_tokens.specs.Token.{Tok, Keyword};
 ghost use Rattle.wat_mnemonics.specs.Heads.{mnemonic_word};
-ghost use Rattle.wat_mnemonics.specs.Keys.{key as key_of};
-ghost use Rattle.wat_mnemonics.specs.Order.{cmp, first};
+ghost use Rattle.wat_mnemonics.specs.Order.{first};
 ghost use Rattle.wat_mnemonics.specs.Probes.{ReadsWord, AtMostTen};
 ghost use Rattle.wat_mnemonics.specs.Table.{all_mnemonics};
 ghost use Rattle.wat_mnemonics.specs.declared.mnemonic.Mnemonic.{Mnemonic as AnyMnemonic};
 ghost use Rattle.wat_tokens.specs.Counts.{Carries};
 
-use crate::keys::{KEYS, key_of};
 use crate::mnemonic::Mnemonic;
+use crate::slots::place_of;
 use crate::table::MNEMONICS;
-use std::cmp::Ordering;
 use wat_tokens::{Error, Fault, Parser, Result};
 
 /// An entry of the table.
@@ -25,34 +23,8 @@ fn mnemonic_at(place: usize) -> Mnemonic
     MNEMONICS[place]
 }
 
-/// How the word of an entry and a text compare.
-#[cold]
-fn compared_whole(place: usize, text: &str) -> Ordering
-    requires { place < 623 }
-    ensures { result ≡ cmp (mnemonic_word (slice_index_or all_mnemonics place first)) text.now }
-{
-    mnemonic_at(place).mnemonic().cmp(text)
-}
-
-/// The same, by their keys where these differ.
-fn compared(place: usize, key: u64, text: &str) -> Ordering
-    requires place { place < 623 }
-    requires key { key ≡ key_of text.now }
-    ensures { result ≡ cmp (mnemonic_word (slice_index_or all_mnemonics place first)) text.now }
-{
-    let entry = KEYS[place];
-    if entry == key {
-        return compared_whole(place, text);
-    }
-    if entry < key {
-        Ordering::Less
-    } else {
-        Ordering::Greater
-    }
-}
-
-/// The head of a word, or None where the word is no mnemonic. The parser counts each comparison
-/// with an entry of the table, of which there are 1 to 10; it changes in nothing else.
+/// The mnemonic of a word, or None if the word is none. The parser counts the comparison with an
+/// entry of the table, and changes in nothing else.
 pub fn find(parser: &mut Parser<'_>, text: &str) -> Option<Mnemonic>
     ensures found { IfSome result (λ h. mnemonic_word h ≡ text.now) }
     ensures missing { IfNone result ((h : AnyMnemonic) → mnemonic_word h ≢ text.now) }
@@ -61,22 +33,13 @@ pub fn find(parser: &mut Parser<'_>, text: &str) -> Option<Mnemonic>
     ensures probed { parser.old.probes + 1 ≤ parser.new.probes }
     ensures probes { parser.new.probes ≤ parser.old.probes + 10 }
 {
-    let key = key_of(text);
-    let mut base = 0;
-    let mut size = 624;
-    // (the entries before the base are less, and those from base + size - 1 on are greater)
-    'halves: while size > 1 {
-        let half = size / 2;
-        let place = base + half - 1;
-        size -= half;
-        parser.probe();
-        match compared(place, key, text) {
-            Ordering::Less => base += half,
-            Ordering::Equal => return Some(mnemonic_at(place)),
-            Ordering::Greater => {}
-        }
+    let entry = mnemonic_at(place_of(text));
+    parser.probe();
+    if entry.mnemonic() == text {
+        Some(entry)
+    } else {
+        None
     }
-    None
 }
 
 impl Mnemonic {

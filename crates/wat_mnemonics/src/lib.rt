@@ -1,19 +1,19 @@
 //! The words of the 623 instructions of the WebAssembly text format, without what follows them.
 //!
-//! A [`Mnemonic`](head::Head) is an instruction without its operand. A word finds its head by a
-//! binary search, which counts each comparison; a head has its word, and its opcode where Core
-//! Specification 2.0 gives it one.
+//! A [`Mnemonic`](mnemonic::Mnemonic) is an instruction without its operand. A word is looked up in
+//! one step ([`find`](find::find)). A mnemonic has its word, and its opcode if Core Specification
+//! 2.0 gives it one.
 #![tactic(auto)]
 
 pub mod access;
 pub mod find;
 pub mod indexed;
-pub(crate) mod keys;
 pub mod laws;
 pub mod mnemonic;
 pub mod opcode;
 pub mod ordered;
 pub mod scalar;
+mod slots;
 pub mod table;
 pub mod vector;
 
