@@ -1,5 +1,5 @@
 -- What a call answers that reads an instruction, and what it means where it reads none.
-use Rattle.std.proofs.Common.{◌≡◌, List, ◌∷◌, false, Result, Ok, Err, sym, ◌∙◌}
+use Rattle.std.proofs.Common.{◌≡◌, List, ◌∷◌, Result, Ok, Err, sym, ◌∙◌}
 use Rattle.wat_tokens.specs.Error.{Error}
 use Rattle.wat_tokens.specs.Parses.{Gives}
 use Rattle.wat_tokens.specs.Token.{Tok, LParen, RParen}

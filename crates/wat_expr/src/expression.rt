@@ -145,6 +145,7 @@ impl<'a> Expression<'a> {
 
     /// Puts an instruction behind the others, with the hint that is directly before its item.
     /// Memory refuses it.
+    #[inline(always)]
     pub(crate) fn push(
         &mut self,
         hint: Option<u32>,

@@ -126,6 +126,7 @@ impl<'a> OpenGroups<'a> {
     }
 
     /// Takes the innermost group off.
+    #[inline(always)]
     pub fn pop(&mut self) -> Option<OpenGroup<'a>>
         ensures { MatchOption result ((self.old ≡ []) × (self.new ≡ [])) (λ l. self.old
             ≡ open_group_view l ∷ self.new) }

@@ -40,6 +40,7 @@ fn hint_byte(bytes: &[u8]) -> Option<u32>
 }
 
 /// Whether the hint, where one waits, can stand before the instruction.
+#[inline(always)]
 fn suits(hint: Option<u32>, instr: &Instruction<'_>) -> bool
     ensures { result ≡ suits hint (instruction_view instr.now) }
 {
@@ -51,6 +52,7 @@ fn suits(hint: Option<u32>, instr: &Instruction<'_>) -> bool
 
 /// Takes the instruction that is in front, with its operand; `span` is where its word begins. One
 /// that the waiting hint can't stand before is refused with HintTarget, there.
+#[inline(always)]
 fn take_suited<'a>(
     parser: &mut Parser<'a>,
     hint: Option<u32>,

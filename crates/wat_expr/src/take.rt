@@ -10,6 +10,7 @@ use wat_instr::Instruction;
 use wat_tokens::{Parse, Parser, Result};
 
 /// Takes a `(` where it is in front, and answers whether it did.
+#[inline(always)]
 pub fn take_open(parser: &mut Parser<'_>) -> bool
     ensures exact { TakesIf LParen result parser.old.left parser.new.left }
     ensures steady { Steady parser.old parser.new }
@@ -18,6 +19,7 @@ pub fn take_open(parser: &mut Parser<'_>) -> bool
 }
 
 /// Takes a `)` where it is in front, and answers whether it did.
+#[inline(always)]
 pub fn take_close(parser: &mut Parser<'_>) -> bool
     ensures exact { TakesIf RParen result parser.old.left parser.new.left }
     ensures steady { Steady parser.old parser.new }
@@ -45,6 +47,7 @@ pub fn take_hint_name(parser: &mut Parser<'_>) -> bool
 }
 
 /// Takes the instruction that is in front, with its operand, or refuses as its own `parse` does.
+#[inline(always)]
 pub fn take_instr<'a>(parser: &mut Parser<'a>) -> Result<Instruction<'a>>
     ensures exact { ReadsInstr result parser.old.left parser.new.left }
     ensures steady { Steady parser.old parser.new }

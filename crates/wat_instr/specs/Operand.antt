@@ -26,7 +26,7 @@ use Rattle.wat_operands.specs.Block.{BlockTy, block_type}
 use Rattle.wat_operands.specs.Call.{CallTy, call_indirect}
 use Rattle.wat_operands.specs.Casts.{BranchTy, cast_branch}
 use Rattle.wat_operands.specs.Catches.{TryTy, try_table}
-use Rattle.wat_operands.specs.Handlers.{ResumeTy, bare_resume, resume, ThrowTy, bare_throw}
+use Rattle.wat_operands.specs.Handlers.{ResumeTy, bare_resume, resume, ThrowTy}
 use Rattle.wat_operands.specs.Handlers.{resume_throw}
 use Rattle.wat_operands.specs.Select.{bare_select, select_types}
 use Rattle.wat_mnemonics.specs.Access.{access_align, atomic_access_align, rmw_access_align}
@@ -114,7 +114,7 @@ bare_operand (vector x) = true
 bare_operand (shuffled x) = true
 bare_operand (caught x) = false
 bare_operand (resumed x) = bare_resume x
-bare_operand (thrown x) = bare_throw x
+bare_operand (thrown x) = false
 
 -- what follows the word of the instruction, as 50 cases
 unfoldable pub operand : Mnemonic → Production Operand

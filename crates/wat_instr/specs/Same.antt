@@ -25,8 +25,8 @@ SameInstruction (code.try_table x) (code.try_table y) = SameTry x y
 SameInstruction (code.resume x) (code.resume y) =
     (y.type_index ≡ x.type_index) × (y.table.handlers.items ≡ x.table.handlers.items)
 SameInstruction (code.resume_throw x) (code.resume_throw y) =
-    (y.type_index ≡ x.type_index) × (y.tag_index ≡ x.tag_index)
-    × (y.table.handlers.items ≡ x.table.handlers.items)
+    (y.value.type_index ≡ x.value.type_index) × (y.value.tag_index ≡ x.value.tag_index)
+    × (y.value.table.handlers.items ≡ x.value.table.handlers.items)
 SameInstruction (code.resume_throw_ref x) (code.resume_throw_ref y) =
     (y.type_index ≡ x.type_index) × (y.table.handlers.items ≡ x.table.handlers.items)
 SameInstruction i j = j ≡ i

@@ -274,14 +274,12 @@ fn clone_resume<'a>(x: &Resume<'a>) -> Result<Instruction<'a>>
 }
 
 /// `resume_throw`, once more.
-fn clone_resume_throw<'a>(x: &ResumeThrow<'a>) -> Result<Instruction<'a>>
+fn clone_resume_throw<'a>(x: &Box<ResumeThrow<'a>>) -> Result<Instruction<'a>>
     ensures copies { Copies SameInstruction (owning instruction_view bare_instruction) result
         (code.resume_throw x.now) }
 {
-    match x.clone() {
-        Ok(same) => Ok(Instruction::resume_throw(same)),
-        Err(refused) => Err(refused),
-    }
+    let same = ResumeThrow::clone(x)?;
+    Ok(Instruction::resume_throw(Box::new(*Box::allocator(x), same)?))
 }
 
 /// `resume_throw_ref`, once more.

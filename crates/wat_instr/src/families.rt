@@ -17,6 +17,7 @@ use wat_operands::{
 use wat_tokens::{Id, Index, Parse, Parser, Result};
 
 /// `block`, `loop`, `if` or `try`, and the type of the block.
+#[inline(always)]
 pub(crate) fn read_block<'a>(op: BlockOp, parser: &mut Parser<'a>) -> Result<Instruction<'a>>
     ensures { ReadsOperand (head.Block op) result parser.old parser.new }
 {
@@ -27,6 +28,7 @@ pub(crate) fn read_block<'a>(op: BlockOp, parser: &mut Parser<'a>) -> Result<Ins
 }
 
 /// `else` or `end`, and the label that may follow.
+#[inline(always)]
 pub(crate) fn read_label<'a>(op: LabelOp, parser: &mut Parser<'a>) -> Result<Instruction<'a>>
     ensures { ReadsOperand (head.Label op) result parser.old parser.new }
 {
@@ -37,6 +39,7 @@ pub(crate) fn read_label<'a>(op: LabelOp, parser: &mut Parser<'a>) -> Result<Ins
 }
 
 /// An instruction with an index.
+#[inline(always)]
 pub(crate) fn read_indexed<'a>(op: IndexedOp, parser: &mut Parser<'a>) -> Result<Instruction<'a>>
     ensures { ReadsOperand (head.Indexed op) result parser.old parser.new }
 {
@@ -70,6 +73,7 @@ pub(crate) fn read_table<'a>(op: TableOp, parser: &mut Parser<'a>) -> Result<Ins
 }
 
 /// A load, a store or a wait.
+#[inline(always)]
 pub(crate) fn read_access<'a>(op: AccessOp, parser: &mut Parser<'a>) -> Result<Instruction<'a>>
     ensures { ReadsOperand (head.Access op) result parser.old parser.new }
 {
@@ -201,6 +205,7 @@ pub(crate) fn read_lane<'a>(op: LaneOp, parser: &mut Parser<'a>) -> Result<Instr
 }
 
 /// An instruction without an operand, none of vectors.
+#[inline(always)]
 pub(crate) fn bare_scalar<'a>(op: ScalarOp, parser: &mut Parser<'a>) -> Result<Instruction<'a>>
     ensures { ReadsOperand (head.Scalar op) result parser.old parser.new }
 {
@@ -208,6 +213,7 @@ pub(crate) fn bare_scalar<'a>(op: ScalarOp, parser: &mut Parser<'a>) -> Result<I
 }
 
 /// An instruction without an operand, of vectors.
+#[inline(always)]
 pub(crate) fn bare_vector<'a>(op: VectorOp, parser: &mut Parser<'a>) -> Result<Instruction<'a>>
     ensures { ReadsOperand (head.Vector op) result parser.old parser.new }
 {

@@ -127,7 +127,7 @@ pub enum InstructionOf<
     /// `resume`.
     resume(ResumeOf<Index>),
     /// `resume_throw`.
-    resume_throw(ResumeThrowOf<Index>),
+    resume_throw(Box<ResumeThrowOf<Index>>),
     /// `resume_throw_ref`.
     resume_throw_ref(ResumeThrowRefOf<Index>),
     /// `switch`.
@@ -159,6 +159,8 @@ pub type Instruction<'a> = InstructionOf<
     BrOnCastDescEq<'a>,
     BrOnCastDescEqFail<'a>,
 >;
+
+const _: () = prove!(size_of::<Instruction>() == 80);
 
 impl<
     BlockType,

@@ -18,6 +18,7 @@ use wat_mnemonics::Mnemonic;
 use wat_tokens::{Fault, Parse, Parser, Result};
 
 /// The operand of the instruction whose word was taken.
+#[inline(always)]
 fn read_operand<'a>(head: Mnemonic, parser: &mut Parser<'a>) -> Result<Instruction<'a>>
     ensures { ReadsOperand head result parser.old parser.new }
 {
@@ -87,6 +88,7 @@ impl<'a> Parse<'a> for Instruction<'a> {
 
     ghost grammar = { instruction };
 
+    #[inline(always)]
     #[tactic(auto, unfolding(crate::specs::Reading::ReadsOperand, crate::specs::Instruction::instruction))]
     fn parse(parser: &mut Parser<'a>) -> Result<Self>
         // No turn and no height is counted.

@@ -175,6 +175,7 @@ pub(crate) fn read_br_on_cast_fail<'a>(parser: &mut Parser<'a>) -> Result<Instru
 }
 
 /// `i32.const`.
+#[inline(always)]
 pub(crate) fn read_i32_const<'a>(parser: &mut Parser<'a>) -> Result<Instruction<'a>>
     ensures { ReadsOperand head.i32_const result parser.old parser.new }
 {
@@ -185,6 +186,7 @@ pub(crate) fn read_i32_const<'a>(parser: &mut Parser<'a>) -> Result<Instruction<
 }
 
 /// `i64.const`.
+#[inline(always)]
 pub(crate) fn read_i64_const<'a>(parser: &mut Parser<'a>) -> Result<Instruction<'a>>
     ensures { ReadsOperand head.i64_const result parser.old parser.new }
 {
@@ -278,7 +280,7 @@ pub(crate) fn read_resume<'a>(parser: &mut Parser<'a>) -> Result<Instruction<'a>
 pub(crate) fn read_resume_throw<'a>(parser: &mut Parser<'a>) -> Result<Instruction<'a>>
     ensures { ReadsOperand head.resume_throw result parser.old parser.new }
 {
-    match ResumeThrow::parse(parser) {
+    match Box::<ResumeThrow>::parse(parser) {
         Ok(operand) => Ok(Instruction::resume_throw(operand)),
         Err(refused) => Err(refused),
     }

@@ -1,4 +1,4 @@
-use Rattle.std.proofs.Common.{rules, Ok, None, refl, ap, ◌∙◌}
+use Rattle.std.proofs.Common.{rules, Ok, None, ap, ◌∙◌}
 use Rattle.std.proofs.lemmas.Result.{err_from_is_err_and}
 use Rattle.wat_expr.specs.Flat.{no_output}
 use Rattle.wat_expr.specs.FoldedProduction.{folded_instruction}
