@@ -17,6 +17,7 @@ use Rattle.wat_fields.specs.Item.{written_or_folded}
 use Rattle.wat_fields.specs.declared.elem.ElemKind.{ElemKind}
 use Rattle.wat_fields.specs.declared.elem.ElemKind.TheVariants as code
 use Rattle.wat_fields.specs.declared.elem.Elem.{Elem}
+use Rattle.wat_fields.specs.declared.payload.ElemPayload.{ElemPayload}
 
 -- ---- what contracts see
 
@@ -42,8 +43,11 @@ elem_kind_view code.Passive = passive
 elem_kind_view code.Declared = declared
 elem_kind_view (code.Active t e) = active (option_view index_view t) (expression_view e)
 
+abbrev pub segment_view : ElemKind × ElemPayload → Segment
+segment_view s = (elem_kind_view s.0, payload_view s.1)
+
 abbrev pub elem_view : Elem → ElemTy
-elem_view e = elem_of (label_view e.id e.name) (elem_kind_view e.kind, payload_view e.payload)
+elem_view e = elem_of (label_view e.id e.name) (segment_view (e.kind, e.payload))
 
 -- no instruction in the offset
 abbrev pub bare_elem_kind : ElemKindTy → Bool

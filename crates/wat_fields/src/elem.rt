@@ -6,8 +6,7 @@ ghost use Rattle.wat_tokens.specs.Index.{index_view};
 ghost use Rattle.wat_tokens.specs.Reads.{Reads, ReadsAt};
 ghost use Rattle.wat_tokens.specs.Views.{plain, owning, option_view};
 ghost use Rattle.wat_expr.specs.Expression.{expression_view, bare_expression, SpansAre};
-ghost use Rattle.wat_fields.specs.Payload.{payload_view};
-ghost use Rattle.wat_fields.specs.Elem.{elem_kind_view, bare_segment, elem_offset, in_table};
+ghost use Rattle.wat_fields.specs.Elem.{segment_view, bare_segment, elem_offset, in_table};
 ghost use Rattle.wat_fields.specs.Elem.{table_number, in_some_table, declared_segment};
 ghost use Rattle.wat_fields.specs.Elem.{passive_segment, begins_active, active_segment, segment};
 ghost use Rattle.wat_fields.specs.Elem.{ElemTy, elem_view, bare_elem, elem};
@@ -68,8 +67,8 @@ fn read_offset<'a>(parser: &mut Parser<'a>) -> Result<Expression<'a>>
 /// `( table idx )`, an offset and a payload.
 #[tactic(auto, unfolding(crate::specs::Elem::in_table))]
 fn read_in_table<'a>(parser: &mut Parser<'a>) -> Result<Segment<'a>>
-    ensures reads { ReadsAt turns_too (owning (λ s. (elem_kind_view s.0, payload_view s.1))
-        bare_segment) in_table result parser.old parser.new }
+    ensures reads { ReadsAt turns_too (owning segment_view bare_segment) in_table result parser.old
+        parser.new }
     ensures spans { IfOk result (λ s. ElemSpansAre parser.old.tracks s) }
 {
     parser.open()?;
@@ -98,8 +97,8 @@ fn read_table_number<'a>(parser: &mut Parser<'a>, span: Span) -> Result<Option<I
 /// A table's number or nothing, an offset, and a payload, which may be indices alone.
 #[tactic(auto, unfolding(crate::specs::Elem::in_some_table))]
 fn read_in_some_table<'a>(parser: &mut Parser<'a>, span: Span) -> Result<Segment<'a>>
-    ensures reads { ReadsAt turns_too (owning (λ s. (elem_kind_view s.0, payload_view s.1))
-        bare_segment) in_some_table result parser.old parser.new }
+    ensures reads { ReadsAt turns_too (owning segment_view bare_segment) in_some_table result
+        parser.old parser.new }
     ensures spans { IfOk result (λ s. ElemSpansAre parser.old.tracks s) }
 {
     let table = read_table_number(parser, span)?;
@@ -111,8 +110,8 @@ fn read_in_some_table<'a>(parser: &mut Parser<'a>, span: Span) -> Result<Segment
 /// An active segment.
 #[tactic(auto, unfolding(crate::specs::Elem::active_segment))]
 fn read_active<'a>(parser: &mut Parser<'a>, span: Span) -> Result<Segment<'a>>
-    ensures reads { ReadsAt turns_too (owning (λ s. (elem_kind_view s.0, payload_view s.1))
-        bare_segment) active_segment result parser.old parser.new }
+    ensures reads { ReadsAt turns_too (owning segment_view bare_segment) active_segment result
+        parser.old parser.new }
     ensures spans { IfOk result (λ s. ElemSpansAre parser.old.tracks s) }
 {
     if parser.group_is("table") {
@@ -124,8 +123,8 @@ fn read_active<'a>(parser: &mut Parser<'a>, span: Span) -> Result<Segment<'a>>
 /// `declare`, and a payload.
 #[tactic(auto, unfolding(crate::specs::Elem::declared_segment))]
 fn read_declared<'a>(parser: &mut Parser<'a>) -> Result<Segment<'a>>
-    ensures reads { ReadsAt turns_too (owning (λ s. (elem_kind_view s.0, payload_view s.1))
-        bare_segment) declared_segment result parser.old parser.new }
+    ensures reads { ReadsAt turns_too (owning segment_view bare_segment) declared_segment result
+        parser.old parser.new }
     ensures spans { IfOk result (λ s. ElemSpansAre parser.old.tracks s) }
 {
     parser.keyword("declare")?;
@@ -136,8 +135,8 @@ fn read_declared<'a>(parser: &mut Parser<'a>) -> Result<Segment<'a>>
 /// A payload alone.
 #[tactic(auto, unfolding(crate::specs::Elem::passive_segment))]
 fn read_passive<'a>(parser: &mut Parser<'a>) -> Result<Segment<'a>>
-    ensures reads { ReadsAt turns_too (owning (λ s. (elem_kind_view s.0, payload_view s.1))
-        bare_segment) passive_segment result parser.old parser.new }
+    ensures reads { ReadsAt turns_too (owning segment_view bare_segment) passive_segment result
+        parser.old parser.new }
     ensures spans { IfOk result (λ s. ElemSpansAre parser.old.tracks s) }
 {
     let payload = read_payload(parser)?;
@@ -157,8 +156,8 @@ fn active_next(parser: &Parser<'_>) -> bool
 /// A kind, and what the segment holds; `span` is where the word `elem` begins.
 #[tactic(auto, unfolding(crate::specs::Elem::segment))]
 fn read_segment<'a>(parser: &mut Parser<'a>, span: Span) -> Result<Segment<'a>>
-    ensures reads { ReadsAt turns_too (owning (λ s. (elem_kind_view s.0, payload_view s.1))
-        bare_segment) segment result parser.old parser.new }
+    ensures reads { ReadsAt turns_too (owning segment_view bare_segment) segment result parser.old
+        parser.new }
     ensures spans { IfOk result (λ s. ElemSpansAre parser.old.tracks s) }
 {
     if parser.next_is("declare") {
