@@ -1,0 +1,37 @@
+-- The token at an offset, as a message calls it.
+use Rattle.std.specs.Prelude.{ℕ, ◌+◌, ◌==◌, ◌||◌, Bool, List, ◌++◌, length, codes, min, nat_le}
+use Rattle.std.specs.Prelude.{nat_lt, drop, slice_index, slice_range, if◌then◌else◌}
+use Rattle.std.specs.List.{prefix_len}
+use Rattle.wat_lexer.specs.Bytes.{between, is_idchar}
+
+-- a lower-case letter is there
+abbrev pub is_word_at : List ℕ → ℕ → Bool
+is_word_at text at = between 97 122 (slice_index text at)
+
+-- where the idchars end that stand from the offset on
+unfoldable pub word_end : List ℕ → ℕ → ℕ
+word_end text at = at + prefix_len is_idchar (drop at text)
+
+-- the idchars that stand from the offset on
+abbrev pub word_at : List ℕ → ℕ → List ℕ
+word_at text at = slice_range text at (word_end text at)
+
+-- The idchars from the offset up to their end, between backquotes: the first 64 of them. Behind
+-- these is `..` where more follow, or a quote.
+abbrev pub quoted_word : List ℕ → ℕ → ℕ → List ℕ
+quoted_word text at end =
+    codes "`" ++ (slice_range text at (min end (at + 64))
+    ++ (if nat_lt (min end (at + 64)) end || (slice_index text end == 34) then codes "..`"
+    else codes "`"))
+
+abbrev pub word_text : List ℕ → ℕ → List ℕ
+word_text text at = quoted_word text at (word_end text at)
+
+-- the token at the offset, or the text's end
+abbrev pub found_text : List ℕ → ℕ → List ℕ
+found_text text at =
+    if nat_le (length text) at then codes "the end of the text"
+    else if slice_index text at == 34 then codes "a string"
+    else if slice_index text at == 40 then codes "`(`"
+    else if slice_index text at == 41 then codes "`)`"
+    else word_text text at

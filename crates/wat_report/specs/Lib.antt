@@ -1,0 +1,11 @@
+pub use Rattle.wat_tokens.specs.Error
+pub use Rattle.wat_tokens.specs.Place
+pub mod Edits
+pub mod Found
+pub mod HintLine
+pub mod Hints
+pub mod Nearest
+pub mod Places
+pub mod Report
+pub mod Rules
+pub mod Shown

@@ -1,0 +1,51 @@
+-- The line that a report shows, and the caret below it.
+use Rattle.std.specs.Prelude.{ℕ, ◌+◌, ◌-◌, ◌==◌, Bool, List, [], ◌++◌, map, min, codes, nat_lt}
+use Rattle.std.specs.Prelude.{slice_range, if◌then◌else◌}
+use Rattle.std.specs.Str.{chars}
+use Rattle.wat_report.specs.Places.{char_start, line_start, line_stop}
+
+-- what stands below a character: a tab below a tab, else a space
+abbrev pub padding : ℕ → ℕ
+padding c = if c == 9 then 9 else 32
+
+-- Of a line, 100 bytes are shown before the place, or all if they are no more. If 100 bytes before
+-- the place is inside a character, all of that character is shown.
+abbrev pub first_shown : List ℕ → ℕ → ℕ → ℕ
+first_shown text start mark =
+    if nat_lt 100 (mark - start) then char_start text (mark - 100) else start
+
+-- From the place on 100 bytes are shown, less those of a character that isn't whole in them, or all
+-- if they are no more.
+abbrev pub last_shown : List ℕ → ℕ → ℕ → ℕ
+last_shown text mark stop = if nat_lt 100 (stop - mark) then char_start text (mark + 100) else stop
+
+-- what is shown of the line, with `..` on each side where more of it stands there
+abbrev pub source_line : List ℕ → Bool → Bool → List ℕ
+source_line shown cut_before cut_behind =
+    (if cut_before then codes ".." else [])
+    ++ (shown ++ (if cut_behind then codes "..\n" else codes "\n"))
+
+-- a caret behind a space or a tab for each character that is shown before the place
+abbrev pub caret_line : List ℕ → Bool → List ℕ
+caret_line before cut_before =
+    (if cut_before then codes "  " else []) ++ (map padding (chars before) ++ codes "^\n")
+
+-- the bytes from first to last of the line from start to stop, and the caret
+abbrev pub cut_line : List ℕ → ℕ → ℕ → ℕ → ℕ → ℕ → List ℕ
+cut_line text start first mark last stop =
+    source_line (slice_range text first last) (nat_lt start first) (nat_lt last stop)
+    ++ caret_line (slice_range text first mark) (nat_lt start first)
+
+-- the line from start to stop, with the caret under the place
+abbrev pub marked_line : List ℕ → ℕ → ℕ → ℕ → List ℕ
+marked_line text start mark stop =
+    cut_line text start (first_shown text start mark) mark (last_shown text mark stop) stop
+
+-- The line that holds the offset, with the caret under it. For the offset of what ends the line,
+-- the caret is directly behind the line.
+abbrev pub line_shown_from : List ℕ → ℕ → ℕ → ℕ → List ℕ
+line_shown_from text start at stop = marked_line text start (min at stop) stop
+
+abbrev pub shown_line : List ℕ → ℕ → List ℕ
+shown_line text at =
+    line_shown_from text (line_start text at) at (line_stop text (line_start text at))

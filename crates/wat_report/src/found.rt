@@ -1,0 +1,72 @@
+//! The token that was found, in a message.
+
+ghost use Rattle.std.specs.Prelude.{◌≡◌, ◌++◌, ◌≤◌, OnOk, length};
+ghost use Rattle.std.specs.Str.{IsCharBoundary};
+ghost use Rattle.wat_report.specs.Found.{found_text, is_word_at, word_at, word_end, word_text};
+
+use crate::write::add;
+use std::alloc::AllocError;
+use wat_lexer::scan::plain_end;
+
+/// How many bytes of a word a message shows.
+const SHOWN: usize = 64;
+
+/// Whether a lower-case letter is at the offset.
+pub(crate) fn is_word_at(text: &str, at: usize) -> bool
+    ensures { result ≡ is_word_at text.now at }
+{
+    let bytes = text.as_bytes();
+    at < bytes.len() && b'a' <= bytes[at] && bytes[at] <= b'z'
+}
+
+/// Where the idchars end that stand from the offset on.
+#[tactic(auto, using(crate::proofs::Words::plain_word))]
+pub(crate) fn word_end(bytes: &[u8], at: usize) -> usize
+    requires { at ≤ length bytes.now }
+    ensures value { result ≡ word_end bytes.now at }
+    ensures order { at ≤ result }
+    ensures within { result ≤ length bytes.now }
+{
+    plain_end(bytes, at)
+}
+
+/// The idchars that stand from the offset on.
+#[tactic(auto, using(crate::proofs::Words::word_boundary))]
+pub(crate) fn word_at(text: &str, at: usize) -> &str
+    requires within { at ≤ length text.now }
+    requires boundary { IsCharBoundary text.now at }
+    ensures { result.now ≡ word_at text.now at }
+{
+    let end = word_end(text.as_bytes(), at);
+    &text[at..end]
+}
+
+/// Adds the word at the offset between backquotes, with `..` behind what is shown of it where more
+/// of it stands there.
+fn add_word(out: &mut Vec<u8>, bytes: &[u8], at: usize) -> Result<(), AllocError>
+    requires { at ≤ length bytes.now }
+    ensures { OnOk result (out.new.items ≡ out.old.items ++ word_text bytes.now at) }
+{
+    let end = word_end(bytes, at);
+    let stop = end.min(at + SHOWN);
+    let goes_on = stop < end || end < bytes.len() && bytes[end] == b'"';
+    add(out, "`")?;
+    out.extend_from_slice(&bytes[at..stop])?;
+    add(out, if goes_on { "..`" } else { "`" })
+}
+
+/// Adds what the token at the offset is called in a message.
+pub(crate) fn add_found(out: &mut Vec<u8>, text: &str, at: usize) -> Result<(), AllocError>
+    ensures { OnOk result (out.new.items ≡ out.old.items ++ found_text text.now at) }
+{
+    let bytes = text.as_bytes();
+    if at >= bytes.len() {
+        return add(out, "the end of the text");
+    }
+    match bytes[at] {
+        b'"' => add(out, "a string"),
+        b'(' => add(out, "`(`"),
+        b')' => add(out, "`)`"),
+        _ => add_word(out, bytes, at),
+    }
+}

@@ -1,0 +1,22 @@
+//! What a person reads of a fault: its line and column, the line itself, and what is wrong.
+//!
+//! [`add_report`] adds the whole report of an error in a text. [`line_column`] and [`line_at`] answer
+//! the place and the line of an offset, and [`nearest_mnemonics`] the instructions whose words are
+//! nearest to a word. Offsets are in bytes from the start of the text. No call asks for anything: an
+//! offset may be inside a character, or behind the text's end.
+#![tactic(auto)]
+
+mod found;
+mod hint;
+mod hint_line;
+pub mod laws;
+pub mod nearest;
+pub mod place;
+pub mod report;
+mod rules;
+mod shown;
+mod write;
+
+pub use nearest::nearest_mnemonics;
+pub use place::{Place, line_at, line_column};
+pub use report::add_report;

@@ -1,0 +1,133 @@
+//! Lines and columns.
+
+ghost use Rattle.std.specs.Prelude.{◌≡◌, ◌≤◌, length};
+ghost use Rattle.std.specs.Str.{IsCharBoundary};
+ghost use Rattle.wat_report.specs.Places.{begins_char, begins_line, count_up_to, char_start};
+ghost use Rattle.wat_report.specs.Places.{line_start, line_of_offset, line_stop};
+ghost use Rattle.wat_report.specs.Places.{place_of_char, place_of_offset};
+
+/// A place in a text as a person counts it.
+#[derive(Clone, Copy, Debug, PartialEq, Eq, Hash)]
+pub struct Place {
+    /// The number of the line, from 1. A line ends at LF, at CR LF, or at a CR alone.
+    pub line: usize,
+    /// The number of the character in its line, from 1. A character is a Unicode scalar value.
+    pub column: usize,
+}
+
+/// Whether a character begins at the offset, or the text ends there.
+fn begins_char(bytes: &[u8], at: usize) -> bool
+    ensures { result ≡ begins_char bytes.now at }
+{
+    at >= bytes.len() || !(128 <= bytes[at] && bytes[at] <= 191)
+}
+
+/// Whether a line begins at the offset.
+fn begins_line(bytes: &[u8], at: usize) -> bool
+    requires { at ≤ length bytes.now }
+    ensures { result ≡ begins_line bytes.now at }
+{
+    if at == 0 {
+        return true;
+    }
+    let before = bytes[at - 1];
+    before == b'\n' || before == b'\r' && !(at < bytes.len() && bytes[at] == b'\n')
+}
+
+/// Where the character begins that holds the offset.
+#[tactic(auto, using(crate::proofs::Counted::last_first, crate::proofs::Counted::last_here, crate::proofs::Counted::last_before))]
+pub(crate) fn char_start(text: &str, offset: usize) -> usize
+    ensures within { result ≤ length text.now }
+    ensures before { result ≤ offset }
+    ensures value { result ≡ char_start text.now offset }
+    ensures boundary { IsCharBoundary text.now result }
+{
+    let bytes = text.as_bytes();
+    let mut at = offset.min(bytes.len());
+    while at > 0 && !begins_char(bytes, at) {
+        at -= 1;
+    }
+    at
+}
+
+/// Where the line begins that holds the offset.
+#[tactic(auto, using(crate::proofs::Counted::last_first, crate::proofs::Counted::last_here, crate::proofs::Counted::last_before))]
+pub(crate) fn line_start(text: &str, at: usize) -> usize
+    requires { at ≤ length text.now }
+    ensures within { result ≤ at }
+    ensures value { result ≡ line_start text.now at }
+    ensures boundary { IsCharBoundary text.now result }
+{
+    let bytes = text.as_bytes();
+    let mut start = at;
+    while start > 0 && !begins_line(bytes, start) {
+        start -= 1;
+    }
+    start
+}
+
+/// How many lines begin up to the offset.
+#[tactic(auto, using(crate::proofs::Counted::count_first, crate::proofs::Counted::count_more))]
+fn line_number(bytes: &[u8], at: usize) -> usize
+    requires { at ≤ length bytes.now }
+    ensures { result ≡ count_up_to (begins_line bytes.now) at }
+{
+    let mut line = 1;
+    let mut passed = 0;
+    while passed < at {
+        passed += 1;
+        if begins_line(bytes, passed) {
+            line += 1;
+        }
+    }
+    line
+}
+
+/// Where the line ends that begins at the offset, without what ends it.
+pub(crate) fn line_stop(text: &str, start: usize) -> usize
+    requires { start ≤ length text.now }
+    ensures within { (start ≤ result) × (result ≤ length text.now) }
+    ensures value { result ≡ line_stop text.now start }
+    ensures boundary { IsCharBoundary text.now result }
+{
+    let bytes = text.as_bytes();
+    let mut stop = start;
+    while stop < bytes.len() && bytes[stop] != b'\n' && bytes[stop] != b'\r' {
+        stop += 1;
+    }
+    stop
+}
+
+/// The line and the column of the character that begins at the offset.
+pub(crate) fn place_of_char(text: &str, at: usize) -> Place
+    requires within { at ≤ length text.now }
+    requires boundary { IsCharBoundary text.now at }
+    ensures { result ≡ place_of_char text.now at }
+{
+    let start = line_start(text, at);
+    let line = line_number(text.as_bytes(), at);
+    let column = text[start..at].chars().count() + 1;
+    Place { line, column }
+}
+
+/// The line and the column of an offset in bytes.
+///
+/// Both count from 1, and the column counts characters. An offset inside a character is that of the
+/// character, and an offset behind the text's end is that of its end. A CR LF ends one line.
+pub fn line_column(text: &str, offset: usize) -> Place
+    ensures { result ≡ place_of_offset text.now offset }
+{
+    place_of_char(text, char_start(text, offset))
+}
+
+/// The line that holds an offset in bytes, without the LF, CR LF or CR that ends it.
+///
+/// The offset of what ends a line is in that line. An offset behind the text's end is in the last
+/// line.
+pub fn line_at(text: &str, offset: usize) -> &str
+    ensures { result.now ≡ line_of_offset text.now offset }
+{
+    let start = line_start(text, char_start(text, offset));
+    let stop = line_stop(text, start);
+    &text[start..stop]
+}
