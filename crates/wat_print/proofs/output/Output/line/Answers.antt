@@ -1,0 +1,10 @@
+use Rattle.std.proofs.Common.{◌*◌}
+use Rattle.wat_print.specs.Laws.Written.{line_broken}
+use Rattle.wat_print.proofs.output.Output.line.Goals as goal
+
+pub returns : goal.returns
+returns c = (
+  2 * c.self.inside.depth,
+  line_broken _ _ _ _ _ _ _ c.self.view_is c.if-not-self.false c.if-self.false
+      c.in_ok-push_str.ensures.bytes c.in_ok-push_blanks.ensures,
+)

@@ -1,0 +1,5 @@
+use Rattle.std.proofs.lemmas.Str.{is_utf8-from_IsUtf8}
+use Rattle.wat_print.proofs.output.Output.text.Goals as goal
+
+pub returns-clause-fit : goal.returns-clause-fit
+returns-clause-fit c = is_utf8-from_IsUtf8 c.args.content.now c.utf8.content

@@ -1,0 +1,20 @@
+-- Laws of the definitions: lemmas that other crates rest on.
+pub mod Bytes
+pub mod Cutting
+pub mod Define
+pub mod Fitting
+pub mod Function
+pub mod Given
+pub mod Label
+pub mod Limits
+pub mod Nesting
+pub mod Numbers
+pub mod Only
+pub mod Parts
+pub mod Printed
+pub mod Quoted
+pub mod Reference
+pub mod Storage
+pub mod Struct
+pub mod Use
+pub mod Written

@@ -1,0 +1,110 @@
+-- Laws: what tokens that a text can give spell can be written, part by part.
+use Rattle.std.specs.Prelude.{◌≡◌, ◌≤◌, ℕ, Bool, true, ◌&&◌, List, [], ◌∷◌, ◌++◌, Option, Some}
+use Rattle.std.specs.Prelude.{None}
+use Rattle.std.proofs.Common.{refl, subst, inl, inr}
+use Rattle.std.proofs.lemmas.Bool.{and_parts}
+use Rattle.wat_lexer.specs.Token.{Tok, LParen, RParen}
+use Rattle.wat_tokens.specs.Groups.{paren, group}
+use Rattle.wat_tokens.specs.Many.{many}
+use Rattle.wat_tokens.specs.ManySpells.{many_spells}
+use Rattle.wat_tokens.specs.Parens.{NoParens}
+use Rattle.wat_tokens.specs.Parts.{one, seq, where_else, made_where, opt, word, after_word}
+use Rattle.wat_tokens.specs.Production.{Production}
+use Rattle.wat_print.specs.Neat.{is_given}
+use Rattle.wat_print.specs.Parts.{each, if_some}
+
+-- each value that tokens of a text spell passes the test
+pub record Only {A : Type 0} (g : Production A) (fit : A → Bool) : Type 0 where
+  pub holds : (v : A) (c r : List Tok) → each is_given c ≡ true → g.spells v c r → fit v ≡ true
+
+given_both : (d e : List Tok) → each is_given (d ++ e) ≡ true
+    → (each is_given d ≡ true) × (each is_given e ≡ true)
+given_both [] e a = (refl, a)
+given_both (t ∷ d) e a =
+    let p = and_parts (is_given t) (each is_given (d ++ e)) a in
+    let q = given_both d e p.1 in
+    (rw (p.0) (q.0), q.1)
+
+given_parts : (c d e : List Tok) → c ≡ d ++ e → each is_given c ≡ true
+    → (each is_given d ≡ true) × (each is_given e ≡ true)
+given_parts c d e s a = given_both d e (subst (λ (l : List Tok). each is_given l ≡ true) s a)
+
+pub only_any : {A : Type 0} (g : Production A) → Only g (λ _. true)
+only_any g = record { holds = λ v c r a s. refl }
+
+pub only_one : {A : Type 0} (value_of : Tok → Option A) (flat : NoParens value_of) (fit : A → Bool)
+    → ((t : Tok) (v : A) → is_given t ≡ true → value_of t ≡ Some v → fit v ≡ true)
+    → Only (one value_of flat) fit
+only_one value_of flat fit h =
+    record {
+      holds = λ v c r a s. (let k = subst (λ (l : List Tok). each is_given l ≡ true) s.1 a in
+          h s.0 v (and_parts (is_given s.0) true k).0 s.2);
+    }
+
+where_holds : {A : Type 0} {g h : Production A} {fit : A → Bool} (test : List Tok → Bool)
+    → Only g fit → Only h fit → (v : A) (c r : List Tok) → each is_given c ≡ true
+    → (where_else test g h).spells v c r → fit v ≡ true
+where_holds test m n v c r a s =
+    elim s [ inl k ↦ m.holds v c r a k.1 | inr k ↦ n.holds v c r a k.1 ]
+
+pub only_where : {A : Type 0} {g h : Production A} {fit : A → Bool} (test : List Tok → Bool)
+    → Only g fit → Only h fit → Only (where_else test g h) fit
+only_where test m n = record { holds = where_holds test m n }
+
+opt_holds : {A : Type 0} {g : Production A} {fit : A → Bool} (begins : List Tok → Bool)
+    → Only g fit → (o : Option A) (c r : List Tok) → each is_given c ≡ true
+    → (opt begins g).spells o c r → if_some fit o ≡ true
+opt_holds begins m (Some v) c r a s = m.holds v c r a s.1
+opt_holds begins m None c r a s = refl
+
+pub only_opt : {A : Type 0} {g : Production A} {fit : A → Bool} (begins : List Tok → Bool)
+    → Only g fit → Only (opt begins g) (if_some fit)
+only_opt begins m = record { holds = opt_holds begins m }
+
+pub only_paren : {A : Type 0} {g : Production A} {fit : A → Bool} → Only g fit
+    → Only (paren g) fit
+only_paren m =
+    record {
+      holds = λ v c r a s. (let p = given_parts c (LParen ∷ s.0) (RParen ∷ []) s.1 a in
+          m.holds v s.0 (RParen ∷ r) p.0 s.2);
+    }
+
+many_holds : {A : Type 0} {g : Production A} {fit : A → Bool} (begins : List Tok → Bool)
+    → Only g fit → (vs : List A) (c r : List Tok) → each is_given c ≡ true
+    → many_spells begins g vs c r → each fit vs ≡ true
+many_holds begins m [] c r a s = refl
+many_holds begins m (v ∷ vs) c r a s =
+    let p = given_parts c s.0 s.1 s.2 a in
+    rw (m.holds v s.0 (s.1 ++ r) p.0 s.4) (many_holds begins m vs s.1 r p.1 s.5)
+
+pub only_many : {A : Type 0} {g : Production A} {fit : A → Bool} (begins : List Tok → Bool)
+    (consumes : 1 ≤ g.least) → Only g fit → Only (many begins g consumes) (each fit)
+only_many begins consumes m = record { holds = many_holds begins m }
+
+pub only_seq : {A B : Type 0} {g : Production A} {h : Production B} {f : A → Bool} {k : B → Bool}
+    → Only g f → Only h k → Only (seq g h) (λ v. f v.0 && k v.1)
+only_seq m n =
+    record {
+      holds = λ v c r a s. (let p = given_parts c s.0 s.1 s.2 a in
+          rw (m.holds v.0 s.0 (s.1 ++ r) p.0 s.3, n.holds v.1 s.1 r p.1 s.4) refl);
+    }
+
+pub only_made : {A B : Type 0} {g : Production A} (ok : A → Bool) (make : A → B) (fit : B → Bool)
+    → Only g (λ v. fit (make v)) → Only (made_where ok make g) fit
+only_made {B = B} ok make fit m =
+    record {
+      holds = λ v c r a s. (subst (λ (w : B). fit w ≡ true) s.3 (m.holds s.0 c r a s.1));
+    }
+
+-- a weaker test
+pub only_weaker : {A : Type 0} {g : Production A} {f : A → Bool} (k : A → Bool)
+    → ((v : A) → f v ≡ true → k v ≡ true) → Only g f → Only g k
+only_weaker k h m = record { holds = λ v c r a s. h v (m.holds v c r a s) }
+
+pub only_after : {A : Type 0} {g : Production A} {fit : A → Bool} (w : List ℕ) → Only g fit
+    → Only (after_word w g) fit
+only_after {fit = fit} w m = only_made (λ _. true) (λ v. v.1) fit (only_seq (only_any (word w)) m)
+
+pub only_group : {A : Type 0} {g : Production A} {fit : A → Bool} (w : List ℕ) → Only g fit
+    → Only (group w g) fit
+only_group w m = only_paren (only_after w m)

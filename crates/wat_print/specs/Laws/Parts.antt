@@ -1,0 +1,159 @@
+-- Laws: parts of productions are spelled by what is written of them.
+use Rattle.std.specs.Prelude.{◌≡◌, ℕ, Bool, true, false, ◌&&◌, List, [], ◌∷◌, ◌++◌, Option, Some}
+use Rattle.std.specs.Prelude.{None, flat_map}
+use Rattle.std.specs.Str.{bytes_eq}
+use Rattle.std.proofs.Common.{refl, subst, sym, append_assoc}
+use Rattle.std.proofs.lemmas.Bool.{and_parts}
+use Rattle.wat_lexer.specs.Token.{Tok, LParen, RParen, Keyword, Annotation}
+use Rattle.wat_tokens.specs.Tests.{begins_word}
+use Rattle.wat_tokens.specs.Production.{Production}
+use Rattle.wat_tokens.specs.Parts.{word, flag}
+use Rattle.wat_tokens.specs.Joined.{all_of}
+use Rattle.wat_tokens.specs.ManySpells.{many_spells}
+use Rattle.wat_tokens.specs.PartSpells.{opt_spells}
+use Rattle.wat_tokens.specs.Groups.{paren, group}
+use Rattle.wat_tokens.specs.Spelled.{in_parens}
+use Rattle.wat_print.specs.Neat.{is_fit, is_keyword, Neat, nothing, token}
+use Rattle.wat_print.specs.Neat as neat
+use Rattle.wat_print.specs.Parts.{grouped, spell_flag, spell_option, if_some, each}
+
+-- in front of any rest the tokens spell the value
+abbrev pub Spells : {A : Type 0} → Production A → A → List Tok → Type 0
+Spells g v c = (r : List Tok) → g.spells v c r
+
+pub paren_here : {A : Type 0} (g : Production A) (v : A) (d r : List Tok)
+    → g.spells v d (RParen ∷ r)
+    → (paren g).spells v (in_parens d) r
+paren_here g v d r s = (d, refl, s)
+
+pub word_here : (w : List ℕ) → bytes_eq w w ≡ true → Spells (word w) tt (Keyword w ∷ [])
+word_here w e r = (Keyword w, refl, rw e refl)
+
+pub group_here : {A : Type 0} (w : List ℕ) (g : Production A) (v : A) (d r : List Tok)
+    → bytes_eq w w ≡ true → g.spells v d (RParen ∷ r) → (group w g).spells v (grouped w d) r
+group_here w g v d r e s = (
+  Keyword w ∷ d,
+  refl,
+  (
+    (tt, v),
+    (Keyword w ∷ [], d, refl, word_here w e (d ++ RParen ∷ r), s),
+    refl,
+    refl,
+  ),
+)
+
+pub flag_here : (w : List ℕ) (b : Bool) (r : List Tok) → bytes_eq w w ≡ true
+    → begins_word w r ≡ false
+    → (flag w).spells b (spell_flag w b) r
+flag_here w true r e f = (Some tt, (e, word_here w e r), refl, refl)
+flag_here w false r e f = (None, (refl, f), refl, refl)
+
+-- parts, each of which is told from what may follow: further parts, or the rest
+module _ {A : Type 0} (begins ends : List Tok → Bool) (g : Production A) (spell : A → List Tok)
+    (ok : A → Bool)
+    (here : (v : A) (r : List Tok) → ok v ≡ true → ends r ≡ true → g.spells v (spell v) r)
+    (front : (v : A) (x : List Tok) → ok v ≡ true → begins (spell v ++ x) ≡ true)
+    (further : (v : A) (x : List Tok) → ok v ≡ true → ends (spell v ++ x) ≡ true)
+  where
+    many_end : (vs : List A) (r : List Tok) → each ok vs ≡ true → ends r ≡ true
+        → ends (flat_map spell vs ++ r) ≡ true
+    many_end [] r o e = e
+    many_end (v ∷ vs) r o e =
+        subst (λ (l : List Tok). ends l ≡ true) (sym (append_assoc (spell v) (flat_map spell vs) r))
+        (further v (flat_map spell vs ++ r) (and_parts (ok v) (each ok vs) o).0)
+
+    pub many_told : (vs : List A) (r : List Tok) → each ok vs ≡ true → ends r ≡ true
+        → begins r ≡ false → many_spells begins g vs (flat_map spell vs) r
+    many_told [] r o e f = (refl, f)
+    many_told (v ∷ vs) r o e f =
+        let p = and_parts (ok v) (each ok vs) o in
+        let x = flat_map spell vs ++ r in (
+          spell v,
+          flat_map spell vs,
+          refl,
+          subst (λ (l : List Tok). begins l ≡ true)
+              (sym (append_assoc (spell v) (flat_map spell vs) r))
+              (front v x p.0),
+          here v x p.0 (many_end vs r p.1 e),
+          many_told vs r p.1 e f,
+        )
+
+-- parts that spell their values in front of anything
+pub many_here : {A : Type 0} (begins : List Tok → Bool) (g : Production A) (spell : A → List Tok)
+    (ok : A → Bool) → ((v : A) → ok v ≡ true → Spells g v (spell v))
+    → ((v : A) (x : List Tok) → ok v ≡ true → begins (spell v ++ x) ≡ true) → (vs : List A)
+    (r : List Tok) → each ok vs ≡ true → begins r ≡ false
+    → many_spells begins g vs (flat_map spell vs) r
+many_here begins g spell ok s b vs r o f =
+    many_told begins (λ _. true) g spell ok (λ v x k e. s v k x) b (λ v x k. refl) vs r o refl f
+
+-- a part that is there, or that what follows doesn't begin
+pub option_here : {A : Type 0} (begins : List Tok → Bool) (g : Production A) (spell : A → List Tok)
+    (o : Option A) (r : List Tok) → ((v : A) → o ≡ Some v → begins (spell v ++ r) ≡ true)
+    → ((v : A) → o ≡ Some v → g.spells v (spell v) r) → (o ≡ None → begins r ≡ false)
+    → opt_spells begins g o (spell_option spell o) r
+option_here begins g spell (Some v) r b s n = (b v refl, s v refl)
+option_here begins g spell None r b s n = (refl, n refl)
+
+-- ---- tokens that can be written
+
+pub neat_both : (a b : List Tok) → Neat a → Neat b → Neat (a ++ b)
+neat_both a b nothing n = n
+neat_both a b (token t r h m) n = token t (r ++ b) h (neat_both r b m n)
+neat_both a b (neat.group c r m k) n =
+    subst (λ (l : List Tok). Neat (LParen ∷ l)) (sym (append_assoc c (RParen ∷ r) b))
+    (neat.group c (r ++ b) m (neat_both r b k n))
+neat_both a b (neat.noted x c r h e m k) n =
+    subst (λ (l : List Tok). Neat (LParen ∷ (Annotation x ∷ l)))
+    (sym (append_assoc c (RParen ∷ r) b)) (neat.noted x c (r ++ b) h e m (neat_both r b k n))
+
+pub neat_one : (t : Tok) → is_fit t ≡ true → Neat (t ∷ [])
+neat_one t h = token t [] h nothing
+
+pub neat_word : (w : List ℕ) (d : List Tok) → is_keyword w ≡ true → Neat d → Neat (Keyword w ∷ d)
+neat_word w d h n = token (Keyword w) d h n
+
+pub neat_group : (w : List ℕ) (d : List Tok) → is_keyword w ≡ true → Neat d → Neat (grouped w d)
+neat_group w d h n = neat.group (Keyword w ∷ d) [] (token (Keyword w) d h n) nothing
+
+pub neat_paren : (d : List Tok) → Neat d → Neat (in_parens d)
+neat_paren d n = neat.group d [] n nothing
+
+pub neat_each : {A : Type 0} (spell : A → List Tok) (ok : A → Bool)
+    → ((v : A) → ok v ≡ true → Neat (spell v))
+    → (vs : List A) → each ok vs ≡ true → Neat (flat_map spell vs)
+neat_each spell ok n [] o = nothing
+neat_each spell ok n (v ∷ vs) o =
+    let p = and_parts (ok v) (each ok vs) o in
+    neat_both (spell v) (flat_map spell vs) (n v p.0) (neat_each spell ok n vs p.1)
+
+pub neat_option : {A : Type 0} (spell : A → List Tok) (fit : A → Bool) (o : Option A)
+    → ((v : A) → fit v ≡ true → Neat (spell v)) → if_some fit o ≡ true
+    → Neat (spell_option spell o)
+neat_option spell fit (Some v) n f = n v f
+neat_option spell fit None n f = nothing
+
+pub neat_flag : (w : List ℕ) (b : Bool) → is_keyword w ≡ true → Neat (spell_flag w b)
+neat_flag w true h = neat_one (Keyword w) h
+neat_flag w false h = nothing
+
+-- ---- lists
+
+pub each_both : {A : Type 0} (test : A → Bool) (vs ws : List A) → each test vs ≡ true
+    → each test ws ≡ true → each test (vs ++ ws) ≡ true
+each_both test [] ws f g = g
+each_both test (v ∷ vs) ws f g =
+    let p = and_parts (test v) (each test vs) f in
+    rw (p.0) (each_both test vs ws p.1 g)
+
+-- the test passes of each part of each group
+pub each_all : {A : Type 0} (test : A → Bool) (gs : List (List A))
+    → each (λ g. each test g) gs ≡ true
+    → each test (all_of gs) ≡ true
+each_all test [] h = refl
+each_all test (g ∷ gs) h =
+    let p = and_parts (each test g) (each (λ g. each test g) gs) h in
+    each_both test g (all_of gs) p.0 (each_all test gs p.1)
+
+pub and_also : (b : Bool) → b ≡ true → b && true ≡ true
+and_also b h = rw h refl

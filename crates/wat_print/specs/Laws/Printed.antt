@@ -1,0 +1,45 @@
+-- Laws: what printing promises, of what was written.
+use Rattle.std.specs.Prelude.{◌≡◌, ℕ, Bool, true, false, List, []}
+use Rattle.std.proofs.Common.{ap, subst, sym, ◌∙◌}
+use Rattle.wat_lexer.specs.Sight.{visible_tokens}
+use Rattle.wat_lexer.specs.Token.{Tok}
+use Rattle.wat_tokens.specs.Production.{Production}
+use Rattle.wat_print.specs.Layout.{Puts}
+use Rattle.wat_print.specs.Neat.{is_given, Neat}
+use Rattle.wat_print.specs.Parts.{each}
+use Rattle.wat_print.specs.Printed.{may_break, ReadsBack, NoneSpells}
+use Rattle.wat_print.specs.Text.{Page, put, printed_text, blank_page}
+use Rattle.wat_print.specs.declared.output.Layout.{Layout}
+use Rattle.wat_print.specs.declared.output.Layout.TheVariants.{Line}
+use Rattle.wat_print.specs.Laws.Given.{text_given, part_given}
+use Rattle.wat_print.specs.Laws.Nesting.{neat_cut, neat_visible}
+use Rattle.wat_print.specs.Laws.Written.{put_puts}
+
+-- the text of what was written on a new page
+pub on_one_line : (layout : Layout) (ts : List Tok) (p q : Page) (x : List ℕ) → layout ≡ Line
+    → p ≡ blank_page (may_break layout) → Puts ts p q → x ≡ q.bytes → x ≡ printed_text ts
+on_one_line layout ts p q x l e w b =
+    let start : p ≡ blank_page false = e ∙ ap (λ (k : Layout). blank_page (may_break k)) l in
+    let whole : p.lines ≡ false = ap (λ (k : Page). k.lines) start in
+    b ∙ ap (λ (k : Page). k.bytes) (put_puts ts p q whole w)
+    ∙ ap (λ (k : Page). (put k ts).bytes) start
+
+module _ {A : Type 0} (g : Production A) (v : A) where
+  pub reads_back : (ts : List Tok) (lines : Bool) (p q : Page) (x : List ℕ) → Neat ts
+      → g.spells v ts [] → p ≡ blank_page lines → Puts ts p q → x ≡ q.bytes → ReadsBack g v x
+  reads_back ts lines p q x n s e w b =
+      let c = neat_cut ts lines q n (subst (λ (k : Page). Puts ts k q) e w) in
+      let seen : visible_tokens true _ ≡ ts =
+      ap (λ (l : List Tok). visible_tokens true l) c.2 ∙ neat_visible ts n in
+      subst (λ (y : List ℕ). ReadsBack g v y) (sym b)
+      (c.0, c.1, subst (λ (l : List Tok). g.spells v l []) (sym seen) s)
+
+  -- where what a text spells can be written, and the value can't be, no text spells it
+  pub unspelled : (fit : Bool) → fit ≡ false
+      → ((c r : List Tok) → each is_given c ≡ true → g.spells v c r → fit ≡ true)
+      → NoneSpells g v
+  unspelled fit e only x ps known b c r u k s h =
+      let a = text_given x ps known u k in
+      let f = only c r (part_given b c r (subst (λ (l : List Tok). each is_given l ≡ true) s a)) h
+      in
+      absurd cc

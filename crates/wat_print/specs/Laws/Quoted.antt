@@ -1,0 +1,94 @@
+-- Laws: what is written of a string or a name is one.
+use Rattle.std.specs.Prelude.{◌≡◌, ℕ, ◌+◌, ◌*◌, ◌/◌, ◌%◌, ◌<◌, Bool, true, false, ◌&&◌}
+use Rattle.std.specs.Prelude.{if◌then◌else◌, nat_lt, List, [], ◌∷◌, ◌++◌, length, ◌⊎◌}
+use Rattle.std.specs.Char.{digit_char, digit_value}
+use Rattle.std.specs.Str.{IsUtf8}
+use Rattle.std.proofs.Common.{refl, ap, subst, arith, inl, inr}
+use Rattle.std.proofs.lemmas.Bool.{and_parts}
+use Rattle.std.proofs.lemmas.Bool.Decides.{nat_tests}
+use Rattle.std.proofs.lemmas.Str.{digit_value-digit_char, IsUtf8-from_is_utf8}
+use Rattle.wat_lexer.specs.Bytes.{is_idchar}
+use Rattle.wat_lexer.specs.Cut.{is_raw, is_hex, Element, raw_byte, hex_byte, Str, close, more, Run}
+use Rattle.wat_lexer.specs.Cut.{none, idchar, string, Idchars, IsString, Name}
+use Rattle.wat_print.specs.Text.{escape, quoted, all_are, name_text}
+use Rattle.wat_print.specs.Neat.{is_byte, is_name}
+use Rattle.wat_print.specs.Laws.Bytes.{utf8_bytes}
+
+pub if_cases : {A : Type 0} (P : A → Type 0) (b : Bool) (x y : A) → (b ≡ true → P x)
+    → (b ≡ false → P y) → P (if b then x else y)
+if_cases P true x y f g = f refl
+if_cases P false x y f g = g refl
+
+hex_is : (d : ℕ) → d < 16 → is_hex (digit_char d) ≡ true
+hex_is d lt = let e = digit_value-digit_char d (omega arith) in rw e (grind (arith, nat_tests))
+
+byte_is : (b : ℕ) → b < 256 → digit_value (digit_char (b / 16)) * 16 + digit_value
+    (digit_char (b % 16)) ≡ b
+byte_is b lt =
+    let h : b / 16 < 16 = omega arith in
+    let l : b % 16 < 16 = omega arith in
+    let e = digit_value-digit_char (b / 16) (omega arith) in
+    let f = digit_value-digit_char (b % 16) (omega arith) in
+    rw (e, f) (omega arith)
+
+escape_is : (b : ℕ) → is_byte b ≡ true → Element (escape b) (b ∷ [])
+escape_is b small =
+    let lt : b < 256 = grind (arith, nat_tests) in
+    if_cases (λ (x : List ℕ). Element x (b ∷ [])) (is_raw b && nat_lt b 128) (b ∷ [])
+    (92 ∷ digit_char (b / 16) ∷ digit_char (b % 16) ∷ [])
+    (λ e. (raw_byte b (and_parts (is_raw b) (nat_lt b 128) e).0))
+    (λ e. (subst (λ (v : ℕ). Element (92 ∷ digit_char (b / 16) ∷ digit_char (b % 16) ∷ []) (v ∷ []))
+    (byte_is b lt)
+    (hex_byte (digit_char (b / 16)) (digit_char (b % 16)) (hex_is (b / 16) (omega arith))
+    (hex_is (b % 16) (omega arith)))))
+
+pub quoted_is : (s : List ℕ) → all_are is_byte s ≡ true → Str (quoted s) s
+quoted_is [] h = close
+quoted_is (b ∷ s) h =
+    let p = and_parts (is_byte b) (all_are is_byte s) h in
+    more (escape b) (b ∷ []) (quoted s) s (escape_is b p.0) (quoted_is s p.1)
+
+pub idchars_are : (x : List ℕ) → all_are is_idchar x ≡ true → Idchars x
+idchars_are [] h = tt
+idchars_are (b ∷ r) h = let p = and_parts (is_idchar b) (all_are is_idchar r) h in
+    (p.0, idchars_are r p.1)
+
+pub idchars_run : (x : List ℕ) → Idchars x → Run x
+idchars_run [] h = none
+idchars_run (b ∷ r) h = idchar b r h.0 (idchars_run r h.1)
+
+append-none : (x : List ℕ) → x ++ [] ≡ x
+append-none [] = refl
+append-none (b ∷ r) = ap (λ (l : List ℕ). b ∷ l) (append-none r)
+
+pub string_run : (y c : List ℕ) → Str y c → Run (34 ∷ y)
+string_run y c s = subst (λ (l : List ℕ). Run (34 ∷ l)) (append-none y) (string y c [] s none)
+
+-- ---- names
+
+pub name_utf8 : (n : List ℕ) → is_name n ≡ true → IsUtf8 n
+name_utf8 [] h = absurd cc
+name_utf8 (b ∷ r) h = IsUtf8-from_is_utf8 (b ∷ r) h
+
+pub name_bytes : (n : List ℕ) → is_name n ≡ true → all_are is_byte n ≡ true
+name_bytes n h = utf8_bytes n (name_utf8 n h)
+
+pub name_some : (n : List ℕ) → is_name n ≡ true → 0 < length n
+name_some [] h = absurd cc
+name_some (b ∷ r) h = omega arith
+
+abbrev pub Body : List ℕ → List ℕ → Type 0
+Body y n = Run y × (((y ≡ n) × Idchars n) ⊎ (IsString y n × IsUtf8 n))
+
+name_body : (n : List ℕ) → is_name n ≡ true → Body (name_text n) n
+name_body n h =
+    if_cases (λ (y : List ℕ). Body y n) (all_are is_idchar n) n (34 ∷ quoted n)
+    (λ e. (let i = idchars_are n e in (idchars_run n i, inl (refl, i))))
+    (λ e. (let q = quoted_is n (name_bytes n h) in
+    (string_run (quoted n) n q, inr ((quoted n, refl, q), name_utf8 n h))))
+
+pub name_is : (mark : ℕ) (n : List ℕ) → is_idchar mark ≡ true → is_name n ≡ true
+    → Run (mark ∷ name_text n) × Name mark (mark ∷ name_text n) n
+name_is mark n m h =
+    let b = name_body n h in
+    (idchar mark (name_text n) m b.0, (name_text n, refl, name_some n h, b.1))

@@ -1,0 +1,283 @@
+-- Laws: storage types, types of fields and global types are read again.
+use Rattle.std.specs.Prelude.{◌≡◌, ℕ, Bool, true, false, List, ◌∷◌, ◌++◌, codes}
+use Rattle.std.specs.Str.{bytes_eq}
+use Rattle.std.proofs.Common.{refl, inl, inr}
+use Rattle.wat_lexer.specs.Token.{Tok, RParen, Keyword}
+use Rattle.wat_tokens.specs.Parts.{word, flag, seq}
+use Rattle.wat_tokens.specs.Tests.{begins_word, second}
+use Rattle.wat_types.specs.FieldType.{FieldTy, field_of, field_type}
+use Rattle.wat_tokens.specs.Spelled.{in_parens}
+use Rattle.wat_types.specs.Heap.{HeapTy, concrete, exact, abstract_}
+use Rattle.wat_types.specs.Storage.{StorageTy, i8, i16, val, storage_type, GlobalTy, long_global}
+use Rattle.wat_types.specs.Storage.{global_type_of, plain_global, global_type}
+use Rattle.wat_types.specs.Value.{ValTy, i32, i64, f32, f64, v128, ref, val_type}
+use Rattle.wat_types.specs.declared.heap.AbstractHeapType.{AbstractHeapType}
+use Rattle.wat_types.specs.declared.heap.AbstractHeapType.TheVariants as words
+use Rattle.wat_print.specs.Neat.{Neat}
+use Rattle.wat_print.specs.Parts.{spell_flag}
+use Rattle.wat_print.specs.Reference.{short_word, spell_reference, spell_val, fit_val}
+use Rattle.wat_print.specs.Storage.{spell_storage, fit_storage, spell_field_of, spell_field}
+use Rattle.wat_print.specs.Storage.{fit_field, spell_global_of, spell_global, fit_global}
+use Rattle.wat_print.specs.Laws.Only.{Only, only_any, only_where, only_paren, only_seq, only_made}
+use Rattle.wat_print.specs.Laws.Only.{only_group}
+use Rattle.wat_print.specs.Laws.Parts.{Spells, paren_here, word_here, group_here, flag_here}
+use Rattle.wat_print.specs.Laws.Parts.{neat_one, neat_group, neat_paren, neat_both, neat_flag}
+use Rattle.wat_print.specs.Laws.Reference.{of_refs, val_here, val_neat, val_only}
+
+-- ---- words that no value type begins with
+
+pub record NoType (w : List ℕ) : Type 0 where
+  pub no_i32 : bytes_eq (codes "i32") w ≡ false
+  pub no_i64 : bytes_eq (codes "i64") w ≡ false
+  pub no_f32 : bytes_eq (codes "f32") w ≡ false
+  pub no_f64 : bytes_eq (codes "f64") w ≡ false
+  pub no_v128 : bytes_eq (codes "v128") w ≡ false
+  pub no_short : (t : AbstractHeapType) → bytes_eq (short_word t) w ≡ false
+
+val_no_word : (w : List ℕ) (t : ValTy) (x : List Tok) → NoType w
+    → begins_word w (spell_val t ++ x) ≡ false
+val_no_word w i32 x n = n.no_i32
+val_no_word w i64 x n = n.no_i64
+val_no_word w f32 x n = n.no_f32
+val_no_word w f64 x n = n.no_f64
+val_no_word w v128 x n = n.no_v128
+val_no_word w (ref t) x n =
+    of_refs (begins_word w) false (λ k y. n.no_short k) (λ b h y. refl) t.nullable t.heap x
+
+no_mut : (t : AbstractHeapType) → bytes_eq (short_word t) (codes "mut") ≡ false
+no_mut words.Func = refl
+no_mut _ = refl
+
+no_shared : (t : AbstractHeapType) → bytes_eq (short_word t) (codes "shared") ≡ false
+no_shared words.Func = refl
+no_shared _ = refl
+
+no_i8 : (t : AbstractHeapType) → bytes_eq (short_word t) (codes "i8") ≡ false
+no_i8 words.Func = refl
+no_i8 _ = refl
+
+no_i16 : (t : AbstractHeapType) → bytes_eq (short_word t) (codes "i16") ≡ false
+no_i16 words.Func = refl
+no_i16 _ = refl
+
+pub val_no_mut : (t : ValTy) (x : List Tok) → begins_word (codes "mut") (spell_val t ++ x) ≡ false
+val_no_mut t x =
+    val_no_word (codes "mut") t x (record {
+      no_i32 = refl;
+      no_i64 = refl;
+      no_f32 = refl;
+      no_f64 = refl;
+      no_v128 = refl;
+      no_short = no_mut;
+    })
+
+val_no_shared : (t : ValTy) (x : List Tok)
+    → begins_word (codes "shared") (spell_val t ++ x) ≡ false
+val_no_shared t x =
+    val_no_word (codes "shared") t x (record {
+      no_i32 = refl;
+      no_i64 = refl;
+      no_f32 = refl;
+      no_f64 = refl;
+      no_v128 = refl;
+      no_short = no_shared;
+    })
+
+val_no_i8 : (t : ValTy) (x : List Tok) → begins_word (codes "i8") (spell_val t ++ x) ≡ false
+val_no_i8 t x =
+    val_no_word (codes "i8") t x (record {
+      no_i32 = refl;
+      no_i64 = refl;
+      no_f32 = refl;
+      no_f64 = refl;
+      no_v128 = refl;
+      no_short = no_i8;
+    })
+
+val_no_i16 : (t : ValTy) (x : List Tok) → begins_word (codes "i16") (spell_val t ++ x) ≡ false
+val_no_i16 t x =
+    val_no_word (codes "i16") t x (record {
+      no_i32 = refl;
+      no_i64 = refl;
+      no_f32 = refl;
+      no_f64 = refl;
+      no_v128 = refl;
+      no_short = no_i16;
+    })
+
+-- ---- storage types
+
+pub storage_here : (t : StorageTy) → fit_storage t ≡ true → Spells storage_type t (spell_storage t)
+unfolding storage_type
+storage_here i8 f r = inl (refl, (tt, word_here (codes "i8") refl r, refl, refl))
+storage_here i16 f r = inr (refl, inl (refl, (tt, word_here (codes "i16") refl r, refl, refl)))
+storage_here (val t) f r =
+    inr (val_no_i8 t r, inr (val_no_i16 t r, (t, val_here t f r, refl, refl)))
+
+pub storage_neat : (t : StorageTy) → fit_storage t ≡ true → Neat (spell_storage t)
+storage_neat i8 f = neat_one (Keyword (codes "i8")) refl
+storage_neat i16 f = neat_one (Keyword (codes "i16")) refl
+storage_neat (val t) f = val_neat t f
+
+pub storage_only : Only storage_type fit_storage
+unfolding storage_type
+storage_only =
+    only_where (begins_word (codes "i8"))
+    (only_made (λ _. true) (λ _. i8) fit_storage (only_any (word (codes "i8"))))
+    (only_where (begins_word (codes "i16"))
+    (only_made (λ _. true) (λ _. i16) fit_storage (only_any (word (codes "i16"))))
+    (only_made (λ _. true) val fit_storage val_only))
+
+-- a word stands alone; behind `(` stands `ref`
+second_refs : (w : List ℕ) (b : Bool) (t : HeapTy) (r : List Tok) → begins_word w r ≡ false
+    → bytes_eq (codes "ref") w ≡ false
+    → second (begins_word w) (spell_reference b t ++ r) ≡ false
+second_refs w true (abstract_ false t) r h k = h
+second_refs w true (abstract_ true t) r h k = k
+second_refs w true (concrete i) r h k = k
+second_refs w true (exact i) r h k = k
+second_refs w false t r h k = k
+
+val_second : (w : List ℕ) (t : ValTy) (r : List Tok) → begins_word w r ≡ false
+    → bytes_eq (codes "ref") w ≡ false → second (begins_word w) (spell_val t ++ r) ≡ false
+val_second w (ref t) r h k =
+    second_refs w t.nullable t.heap r h k
+val_second w _ r h k = h
+
+-- ---- types of fields
+
+-- a second token, where the first is a word
+storage_second : (w : List ℕ) (t : StorageTy) (r : List Tok) → begins_word w r ≡ false
+    → bytes_eq (codes "ref") w ≡ false → second (begins_word w) (spell_storage t ++ r) ≡ false
+storage_second w i8 r h k = h
+storage_second w i16 r h k = h
+storage_second w (val t) r h k = val_second w t r h k
+
+field_parts : (b : Bool) (t : StorageTy) (r : List Tok) → fit_storage t ≡ true
+    → begins_word (codes "mut") r ≡ false
+    → field_type.spells (field_of b t) (spell_field_of b t) r
+unfolding field_type
+field_parts true t r h e =
+    inl (
+      refl,
+      (
+        t,
+        group_here (codes "mut") storage_type t (spell_storage t) r refl
+            (storage_here t h (RParen ∷ r)),
+        refl,
+        refl,
+      ),
+    )
+field_parts false t r h e =
+    inr (storage_second (codes "mut") t r e refl, (t, storage_here t h r, refl, refl))
+
+-- where no `mut` follows
+pub field_here : (f : FieldTy) (r : List Tok) → fit_field f ≡ true
+    → begins_word (codes "mut") r ≡ false → field_type.spells f (spell_field f) r
+field_here f r h e = field_parts f.mutable f.ty r h e
+
+field_of_neat : (b : Bool) (t : StorageTy) → fit_storage t ≡ true → Neat (spell_field_of b t)
+field_of_neat true t h = neat_group (codes "mut") (spell_storage t) refl (storage_neat t h)
+field_of_neat false t h = storage_neat t h
+
+pub field_neat : (f : FieldTy) → fit_field f ≡ true → Neat (spell_field f)
+field_neat f h = field_of_neat f.mutable f.ty h
+
+pub field_only : Only field_type fit_field
+unfolding field_type
+field_only =
+    only_where (second (begins_word (codes "mut")))
+    (only_made (λ _. true) (field_of true) fit_field (only_group (codes "mut") storage_only))
+    (only_made (λ _. true) (field_of false) fit_field storage_only)
+
+-- ---- global types
+
+-- what may follow a global type without taking part in it
+abbrev pub EndsGlobal : List Tok → Type 0
+EndsGlobal r =
+    (begins_word (codes "shared") r ≡ false) × (begins_word (codes "mut") r ≡ false)
+
+mut_front : (b : Bool) (t : ValTy) (x : List Tok)
+    → begins_word (codes "shared") ((spell_flag (codes "mut") b ++ spell_val t) ++ x) ≡ false
+mut_front true t x = refl
+mut_front false t x = val_no_shared t x
+
+long_here : (shared mutable : Bool) (t : ValTy) (r : List Tok) → fit_val t ≡ true
+    → long_global (in_parens (spell_flag (codes "shared") shared
+    ++ (spell_flag (codes "mut") mutable ++ spell_val t)) ++ r) ≡ true
+    → global_type.spells (record { ty = t; mutable = mutable; shared = shared })
+    (in_parens (spell_flag (codes "shared") shared
+    ++ (spell_flag (codes "mut") mutable ++ spell_val t))) r
+unfolding global_type
+long_here shared mutable t r f l =
+    let s = spell_flag (codes "shared") shared in
+    let m = spell_flag (codes "mut") mutable in
+    let v = spell_val t in
+    let g = seq (flag (codes "shared")) (seq (flag (codes "mut")) val_type) in
+    inl (
+      l,
+      (
+        (shared, (mutable, t)),
+        paren_here g (shared, (mutable, t)) (s ++ (m ++ v)) r (
+          s,
+          m ++ v,
+          refl,
+          flag_here (codes "shared") shared ((m ++ v) ++ RParen ∷ r) refl
+              (mut_front mutable t (RParen ∷ r)),
+          (
+            m,
+            v,
+            refl,
+            flag_here (codes "mut") mutable (v ++ RParen ∷ r) refl (val_no_mut t (RParen ∷ r)),
+            val_here t f (RParen ∷ r),
+          ),
+        ),
+        refl,
+        refl,
+      ),
+    )
+
+global_parts : (shared mutable : Bool) (t : ValTy) (r : List Tok) → fit_val t ≡ true
+    → EndsGlobal r
+    → global_type.spells (record { ty = t; mutable = mutable; shared = shared })
+    (spell_global_of shared mutable t) r
+unfolding global_type
+global_parts false false t r f e =
+    inr (
+      rw (val_second (codes "shared") t r e.0 refl, val_second (codes "mut") t r e.1 refl) refl,
+      (t, val_here t f r, refl, refl),
+    )
+global_parts true m t r f e = long_here true m t r f refl
+global_parts false true t r f e = long_here false true t r f refl
+
+pub global_here : (g : GlobalTy) (r : List Tok) → fit_global g ≡ true → EndsGlobal r
+    → global_type.spells g (spell_global g) r
+global_here g r f e = global_parts g.shared g.mutable g.ty r f e
+
+long_neat : (shared mutable : Bool) (t : ValTy) → fit_val t ≡ true
+    → Neat (in_parens (spell_flag (codes "shared") shared
+    ++ (spell_flag (codes "mut") mutable ++ spell_val t)))
+long_neat shared mutable t f =
+    let s = spell_flag (codes "shared") shared in
+    let m = spell_flag (codes "mut") mutable in
+    neat_paren (s ++ (m ++ spell_val t))
+    (neat_both s (m ++ spell_val t) (neat_flag (codes "shared") shared refl)
+    (neat_both m (spell_val t) (neat_flag (codes "mut") mutable refl) (val_neat t f)))
+
+global_of_neat : (shared mutable : Bool) (t : ValTy) → fit_val t ≡ true
+    → Neat (spell_global_of shared mutable t)
+global_of_neat false false t f = val_neat t f
+global_of_neat true m t f = long_neat true m t f
+global_of_neat false true t f = long_neat false true t f
+
+pub global_neat : (g : GlobalTy) → fit_global g ≡ true → Neat (spell_global g)
+global_neat g f = global_of_neat g.shared g.mutable g.ty f
+
+pub global_only : Only global_type fit_global
+unfolding global_type
+global_only =
+    only_where long_global
+    (only_made (λ _. true) global_type_of fit_global
+    (only_paren (only_seq (only_any (flag (codes "shared")))
+    (only_seq (only_any (flag (codes "mut"))) val_only))))
+    (only_made (λ _. true) plain_global fit_global val_only)

@@ -1,0 +1,164 @@
+-- Laws: structure types are read again.
+use Rattle.std.specs.Prelude.{◌≡◌, Bool, true, false, not, ◌&&◌, List, ◌∷◌, ◌++◌, codes, flat_map}
+use Rattle.std.proofs.Common.{refl}
+use Rattle.std.proofs.lemmas.Bool.{and_parts}
+use Rattle.wat_lexer.specs.Token.{Tok, RParen, Keyword}
+use Rattle.wat_tokens.specs.Joined.{all_of}
+use Rattle.wat_tokens.specs.NameAnnotation.{begins_name}
+use Rattle.wat_tokens.specs.Tests.{begins_word, begins_id, more}
+use Rattle.wat_types.specs.FieldType.{FieldTy, field_type}
+use Rattle.wat_types.specs.Label.{begins_label}
+use Rattle.wat_types.specs.Laws.FieldType.{field_type_consumes}
+use Rattle.wat_types.specs.Laws.Struct.{member_group_consumes}
+use Rattle.wat_types.specs.Storage.{StorageTy, i8, i16, val}
+use Rattle.wat_types.specs.Value.{ValTy}
+use Rattle.wat_types.specs.Struct.{MemberTy, member_of, labelled_member, plain_members, members}
+use Rattle.wat_types.specs.Struct.{member_group}
+use Rattle.wat_types.specs.StructType.{struct_type}
+use Rattle.wat_types.specs.Label.{no_label}
+use Rattle.wat_print.specs.Label.{fit_label, in_groups, spell_label}
+use Rattle.wat_print.specs.Neat.{Neat}
+use Rattle.wat_print.specs.Parts.{grouped, each}
+use Rattle.wat_print.specs.Reference.{spell_val}
+use Rattle.wat_print.specs.Storage.{spell_storage, spell_field_of, spell_field, fit_field}
+use Rattle.wat_print.specs.Struct.{member_label, spell_member, fit_member, spell_struct, fit_struct}
+use Rattle.wat_print.specs.Laws.Label.{label_neat, label_only, fit_parts, parts_here, in_groups_fit}
+use Rattle.wat_print.specs.Laws.Label.{in_groups_all}
+use Rattle.wat_print.specs.Laws.Only.{Only, only_where, only_seq, only_made, only_many, only_group}
+use Rattle.wat_print.specs.Laws.Only.{only_weaker}
+use Rattle.wat_print.specs.Laws.Parts.{and_also, each_all, Spells, group_here, many_here}
+use Rattle.wat_print.specs.Laws.Parts.{neat_group, neat_both, neat_each}
+use Rattle.wat_print.specs.Laws.Reference.{val_more, val_no_id, val_no_name}
+use Rattle.wat_print.specs.Laws.Storage.{field_here, field_neat, field_only, val_no_mut}
+
+-- ---- what the type of a field begins with
+
+-- no `mut` is in front
+abbrev pub no_mut : List Tok → Bool
+no_mut t = not (begins_word (codes "mut") t)
+
+module _ (test : List Tok → Bool) (b : Bool)
+    (v : (t : ValTy) (x : List Tok) → test (spell_val t ++ x) ≡ b)
+    (i : (x : List Tok) → test (Keyword (codes "i8") ∷ x) ≡ b)
+    (j : (x : List Tok) → test (Keyword (codes "i16") ∷ x) ≡ b)
+    (m : (t : StorageTy) (x : List Tok) → test (grouped (codes "mut") (spell_storage t) ++ x) ≡ b)
+  where
+    front_of : (mutable : Bool) (t : StorageTy) (x : List Tok)
+        → test (spell_field_of mutable t ++ x) ≡ b
+    front_of true t x = m t x
+    front_of false i8 x = i x
+    front_of false i16 x = j x
+    front_of false (val t) x = v t x
+
+field_more : (f : FieldTy) (x : List Tok) → more (spell_field f ++ x) ≡ true
+field_more f x =
+    front_of more true val_more (λ y. refl) (λ y. refl) (λ t y. refl) f.mutable f.ty x
+
+field_no_id : (f : FieldTy) (x : List Tok) → begins_id (spell_field f ++ x) ≡ false
+field_no_id f x =
+    front_of begins_id false val_no_id (λ y. refl) (λ y. refl) (λ t y. refl) f.mutable f.ty x
+
+field_no_name : (f : FieldTy) (x : List Tok) → begins_name (spell_field f ++ x) ≡ false
+field_no_name f x =
+    front_of begins_name false val_no_name (λ y. refl) (λ y. refl) (λ t y. refl) f.mutable f.ty x
+
+field_no_mut : (f : FieldTy) (x : List Tok) → no_mut (spell_field f ++ x) ≡ true
+field_no_mut f x =
+    front_of no_mut true (λ t y. (rw (val_no_mut t y) refl)) (λ y. refl) (λ y. refl) (λ t y. refl)
+    f.mutable f.ty x
+
+not_true : (b : Bool) → not b ≡ true → b ≡ false
+not_true false h = refl
+not_true true h = absurd cc
+
+mut_false : (r : List Tok) → no_mut r ≡ true → begins_word (codes "mut") r ≡ false
+mut_false r h = not_true (begins_word (codes "mut") r) h
+
+field_told : (f : FieldTy) (r : List Tok) → fit_field f ≡ true → no_mut r ≡ true
+    → field_type.spells f (spell_field f) r
+field_told f r h e = field_here f r h (mut_false r e)
+
+-- ---- one group
+
+abbrev field_in : MemberTy → FieldTy
+field_in m = m.field
+
+abbrev fit_members : List MemberTy → Bool
+fit_members ms =
+    fit_parts field_type spell_field fit_field no_mut field_told (λ r. refl) field_no_mut field_more
+    field_no_id field_no_name member_of member_label field_in (λ m. refl) ms
+
+members_here : (ms : List MemberTy) (r : List Tok) → fit_members ms ≡ true
+    → members.spells ms (flat_map spell_member ms) (RParen ∷ r)
+unfolding members plain_members
+members_here ms r f =
+    parts_here field_type spell_field fit_field no_mut field_told (λ r. refl) field_no_mut
+    field_more field_no_id field_no_name member_of member_label field_in (λ m. refl) ms r f
+
+abbrev spell_members : List MemberTy → List Tok
+spell_members ms = grouped (codes "field") (flat_map spell_member ms)
+
+group_of_here : (ms : List MemberTy) → fit_members ms ≡ true
+    → Spells member_group ms (spell_members ms)
+unfolding member_group
+group_of_here ms f r =
+    group_here (codes "field") members ms (flat_map spell_member ms) r refl (members_here ms r f)
+
+-- ---- all groups
+
+groups_fit : (ms : List MemberTy) → fit_struct ms ≡ true
+    → each fit_members (in_groups member_label ms) ≡ true
+groups_fit ms f =
+    in_groups_fit field_type spell_field fit_field no_mut field_told
+    (λ r. refl) field_no_mut field_more
+    field_no_id field_no_name member_of member_label field_in (λ m. refl) ms f
+
+-- at the end of the group that they are in
+pub struct_here : (ms : List MemberTy) (r : List Tok) → fit_struct ms ≡ true → more r ≡ false
+    → struct_type.spells ms (spell_struct ms) r
+unfolding struct_type
+struct_here ms r f e = (
+  in_groups member_label ms,
+  many_here more member_group spell_members fit_members group_of_here (λ g x o. refl)
+      (in_groups member_label ms) r (groups_fit ms f) e,
+  refl,
+  in_groups_all member_label ms,
+)
+
+member_neat : (m : MemberTy) → fit_member m ≡ true → Neat (spell_member m)
+member_neat m f =
+    let a = and_parts (fit_label m.label) (fit_field m.field) f in
+    neat_both (spell_label m.label) (spell_field m.field) (label_neat m.label a.0)
+    (field_neat m.field a.1)
+
+members_neat : (ms : List MemberTy) → fit_members ms ≡ true → Neat (spell_members ms)
+members_neat ms f =
+    neat_group (codes "field") (flat_map spell_member ms) refl
+    (neat_each spell_member fit_member member_neat ms (and_parts _ (each fit_member ms) f).1)
+
+pub struct_neat : (ms : List MemberTy) → fit_struct ms ≡ true → Neat (spell_struct ms)
+struct_neat ms f =
+    neat_each spell_members fit_members members_neat (in_groups member_label ms) (groups_fit ms f)
+
+-- ---- what a text spells can be written
+
+members_only : Only members fit_struct
+unfolding members plain_members
+members_only =
+    only_where begins_label
+    (only_made (λ _. true) labelled_member fit_struct
+    (only_weaker (λ v. (fit_label v.0 && fit_field v.1) && true)
+    (λ v h. (and_also (fit_label v.0 && fit_field v.1) h)) (only_seq label_only field_only)))
+    (only_many more field_type_consumes
+    (only_made (λ _. true) (member_of no_label) fit_member field_only))
+
+group_of_only : Only member_group fit_struct
+unfolding member_group
+group_of_only = only_group (codes "field") members_only
+
+pub struct_only : Only struct_type fit_struct
+unfolding struct_type
+struct_only =
+    only_made (λ _. true) (λ gs. all_of gs) fit_struct
+    (only_weaker (λ gs. fit_struct (all_of gs)) (λ gs h. (each_all fit_member gs h))
+    (only_many more member_group_consumes group_of_only))

@@ -1,0 +1,301 @@
+-- Laws: tokens that are written one behind the other.
+use Rattle.std.specs.Prelude.{◌≡◌, ℕ, zero, suc, ◌+◌, ◌*◌, ◌-◌, ◌<◌, Bool, true, not, ◌&&◌, List}
+use Rattle.std.specs.Prelude.{[], ◌∷◌, ◌++◌, length, map, flat_map, take, false, codes, ◌==◌}
+use Rattle.std.specs.Prelude.{if◌then◌else◌}
+use Rattle.std.proofs.Common.{refl, ap, subst, sym, ◌∙◌, append_assoc, append-nil, get_or, arith}
+use Rattle.std.proofs.lemmas.List.{take_more}
+use Rattle.std.proofs.lemmas.Bool.{and_parts, cond_both}
+use Rattle.wat_lexer.specs.Token.{Tok}
+use Rattle.wat_print.specs.Layout.{LayoutPart, one, line, blanks, broken, lay, tokens_in, Puts}
+use Rattle.wat_print.specs.Text.{Page, put_one, put}
+use Rattle.wat_lexer.specs.Token.{LParen, RParen, Keyword}
+use Rattle.wat_tokens.specs.Spelled.{in_parens}
+use Rattle.wat_types.specs.Group.{Group, param, FuncTy, ParamTy}
+use Rattle.wat_types.specs.Label.{Label}
+use Rattle.wat_types.specs.Value.{ValTy}
+use Rattle.wat_print.specs.Function.{param_label, spell_param, spell_group, param_groups}
+use Rattle.wat_print.specs.Function.{result_groups, spell_function}
+use Rattle.wat_print.specs.Label.{none_labelled, by_itself, in_groups}
+use Rattle.wat_print.specs.Parts.{each, Wrote, WroteLines, grouped}
+use Rattle.wat_print.specs.Reference.{spell_val}
+
+-- ---- pages
+
+lay_put : (ts : List Tok) (p : Page) → put p ts ≡ lay p (map one ts)
+lay_put [] p = refl
+lay_put (t ∷ ts) p = lay_put ts (put_one p t)
+
+tokens_one : (ts : List Tok) → tokens_in (map one ts) ≡ ts
+tokens_one [] = refl
+tokens_one (t ∷ ts) = ap (λ (l : List Tok). t ∷ l) (tokens_one ts)
+
+-- on one line
+pub puts_put : (ts : List Tok) (a b : Page) → b ≡ put a ts → Puts ts a b
+puts_put ts a b e =
+    record { pieces = map one ts; tokens = tokens_one ts; page = e ∙ lay_put ts a }
+
+pub unbroken : (n : ℕ) (p : Page) → p.lines ≡ false → broken n p ≡ p
+unbroken n p h =
+    cond_both (p.lines && not p.tight) _ p (λ (q : Page). q ≡ p)
+    (λ e. (let a = (and_parts p.lines (not p.tight) e).0 in absurd cc)) (λ e. refl)
+
+-- where lines stay whole, that is the only way
+line_whole : (ps : List LayoutPart) (p : Page) → p.lines ≡ false → lay p ps ≡ put p (tokens_in ps)
+line_whole [] p h = refl
+line_whole (one t ∷ ps) p h = line_whole ps (put_one p t) h
+line_whole (line n ∷ ps) p h =
+    ap (λ (q : Page). lay q ps) (unbroken n p h) ∙ line_whole ps p h
+
+pub put_puts : (ts : List Tok) (a b : Page) → a.lines ≡ false → Puts ts a b → b ≡ put a ts
+put_puts ts a b h w = w.page ∙ line_whole w.pieces a h ∙ ap (λ (l : List Tok). put a l) w.tokens
+
+-- a line break, or nothing
+pub puts_line : (n : ℕ) (a b : Page) → b ≡ broken n a → Puts [] a b
+puts_line n a b e = record { pieces = line n ∷ []; tokens = refl; page = e }
+
+lay_both : (ps qs : List LayoutPart) (p : Page) → lay p (ps ++ qs) ≡ lay (lay p ps) qs
+lay_both [] qs p = refl
+lay_both (one t ∷ ps) qs p = lay_both ps qs (put_one p t)
+lay_both (line n ∷ ps) qs p = lay_both ps qs (broken n p)
+
+tokens_both : (ps qs : List LayoutPart) → tokens_in (ps ++ qs) ≡ tokens_in ps ++ tokens_in qs
+tokens_both [] qs = refl
+tokens_both (one t ∷ ps) qs = ap (λ (l : List Tok). t ∷ l) (tokens_both ps qs)
+tokens_both (line n ∷ ps) qs = tokens_both ps qs
+
+-- first these, and then those
+pub puts_both : (ts us : List Tok) (a b c : Page) → Puts ts a b → Puts us b c → Puts (ts ++ us) a c
+puts_both ts us a b c v w =
+    record {
+      pieces = v.pieces ++ w.pieces;
+      tokens = tokens_both v.pieces w.pieces
+          ∙ ap (λ (l : List Tok). l ++ tokens_in w.pieces) v.tokens
+          ∙ ap (λ (l : List Tok). ts ++ l) w.tokens;
+      page = w.page ∙ ap (λ (p : Page). lay p w.pieces) v.page
+          ∙ sym (lay_both v.pieces w.pieces a);
+    }
+
+-- ---- tokens on one line
+
+pub put_both : (a b : List Tok) (p : Page) → put p (a ++ b) ≡ put (put p a) b
+put_both [] b p = refl
+put_both (t ∷ a) b p = put_both a b (put_one p t)
+
+module _ {X A : Type 0} (view : X → A) (spell : A → List Tok) (fit : A → Bool) where
+  spell_last : (xs : List X) (x : X) → flat_map spell (map view (xs ++ x ∷ []))
+      ≡ flat_map spell (map view xs) ++ spell (view x)
+  spell_last [] x = append-nil (spell (view x))
+  spell_last (y ∷ xs) x =
+      ap (λ (l : List Tok). spell (view y) ++ l) (spell_last xs x)
+      ∙ sym (append_assoc (spell (view y)) (flat_map spell (map view xs)) (spell (view x)))
+
+  fit_last : (xs : List X) (x : X) → each fit (map view xs) ≡ true → fit (view x) ≡ true
+      → each fit (map view (xs ++ x ∷ [])) ≡ true
+  fit_last [] x e f = rw f refl
+  fit_last (y ∷ xs) x e f =
+      let p = and_parts (fit (view y)) (each fit (map view xs)) e in
+      rw (p.0) (fit_last xs x p.1 f)
+
+  -- one value more
+  pub wrote_more : (xs : List X) (i : ℕ) (d : X) (a b c : Page) → i < length xs
+      → Wrote view spell fit (take i xs) a b → c ≡ put b (spell (view (get_or xs i d)))
+      → fit (view (get_or xs i d)) ≡ true
+      → Wrote view spell fit (take (i + 1) xs) a c
+  wrote_more xs i d a b c lt w e f =
+      let x = get_or xs i d in
+      subst (λ (l : List X). Wrote view spell fit l a c) (sym (take_more xs i d lt)) (record {
+        written = e ∙ ap (λ (q : Page). put q (spell (view x))) w.written
+            ∙ sym (put_both (flat_map spell (map view (take i xs))) (spell (view x)) a)
+            ∙ ap (λ (l : List Tok). put a l) (sym (spell_last (take i xs) x));
+        fits = fit_last (take i xs) x w.fits f;
+      })
+
+  -- one value more, on further lines
+  pub lines_more : (xs : List X) (i : ℕ) (x : X) (a b c : Page) → i < length xs
+      → x ≡ get_or xs i x → WroteLines view spell fit (take i xs) a b → Puts (spell (view x)) b c
+      → fit (view x) ≡ true → WroteLines view spell fit (take (i + 1) xs) a c
+  lines_more xs i x a b c lt s w e f =
+      let ys = take i xs in
+      let same : take (i + 1) xs ≡ ys ++ x ∷ [] =
+      take_more xs i x lt ∙ ap (λ (y : X). ys ++ y ∷ []) (sym s) in
+      subst (λ (l : List X). WroteLines view spell fit l a c) (sym same) (record {
+        written = subst (λ (l : List Tok). Puts l a c) (sym (spell_last ys x))
+            (puts_both (flat_map spell (map view ys)) (spell (view x)) a b c w.written e);
+        fits = fit_last ys x w.fits f;
+      })
+
+-- a word and more in parentheses
+pub put_grouped : (w : List ℕ) (ts : List Tok) (p : Page)
+    → put p (grouped w ts) ≡ put (put (put p (LParen ∷ Keyword w ∷ [])) ts) (RParen ∷ [])
+put_grouped w ts p = put_both ts (RParen ∷ []) (put p (LParen ∷ Keyword w ∷ []))
+
+-- `(`, the word, more, and `)`
+pub enclosed : (w : List ℕ) (ts : List Tok) (a b c d e : Page) → b ≡ put a (LParen ∷ [])
+    → c ≡ put b (Keyword w ∷ []) → d ≡ put c ts → e ≡ put d (RParen ∷ [])
+    → e ≡ put a (grouped w ts)
+enclosed w ts a b c d e f g h i =
+    i ∙ ap (λ (q : Page). put q (RParen ∷ []))
+    (h ∙ ap (λ (q : Page). put q ts) (g ∙ ap (λ (q : Page). put q (Keyword w ∷ [])) f))
+    ∙ sym (put_grouped w ts a)
+
+-- first these, and then those
+pub put_then : (ts us : List Tok) (a b c : Page) → b ≡ put a ts → c ≡ put b us
+    → c ≡ put a (ts ++ us)
+put_then ts us a b c e f = f ∙ ap (λ (q : Page). put q us) e ∙ sym (put_both ts us a)
+
+-- ---- groups
+
+-- parts, each in a group
+alone_groups : {P : Type 0} (w : List ℕ) (spell : P → List Tok) (ps : List P)
+    → flat_map (λ g. grouped w (flat_map spell g)) (map by_itself ps)
+    ≡ flat_map (λ p. grouped w (flat_map spell (by_itself p))) ps
+alone_groups w spell [] = refl
+alone_groups w spell (p ∷ ps) =
+    ap (λ (l : List Tok). grouped w (flat_map spell (by_itself p)) ++ l) (alone_groups w spell ps)
+
+-- what is written of parts in groups
+abbrev pub spell_in_groups : {P : Type 0} → List ℕ → (P → Label) → (P → List Tok) → List P
+    → List Tok
+spell_in_groups w label spell ps = flat_map (λ g. grouped w (flat_map spell g)) (in_groups label ps)
+
+module _ {P : Type 0} (w : List ℕ) (label : P → Label) (spell : P → List Tok) where
+  pub in_own_groups : (p : P) (ps : List P) → none_labelled label (p ∷ ps) ≡ false
+      → spell_in_groups w label spell (p ∷ ps)
+      ≡ flat_map (λ p. grouped w (flat_map spell (by_itself p))) (p ∷ ps)
+  in_own_groups p ps u = rw u (alone_groups w spell (p ∷ ps))
+
+  pub in_one_group : (p : P) (ps : List P) → none_labelled label (p ∷ ps) ≡ true
+      → spell_in_groups w label spell (p ∷ ps) ≡ grouped w (flat_map spell (p ∷ ps))
+  in_one_group p ps u = rw u (append-nil (grouped w (flat_map spell (p ∷ ps))))
+
+  -- the same of values that are view as these
+  module _ {X : Type 0} (view : X → P) where
+    pub put_alone : (xs : List X) (q : Page) → (length xs == 0) ≡ false
+        → none_labelled label (map view xs) ≡ false
+        → put q (flat_map (λ p. grouped w (flat_map spell (by_itself p))) (map view xs))
+        ≡ put q (spell_in_groups w label spell (map view xs))
+    put_alone [] q e u = absurd cc
+    put_alone (x ∷ xs) q e u =
+        ap (λ (l : List Tok). put q l) (sym (in_own_groups (view x) (map view xs) u))
+
+    pub put_whole : (xs : List X) (q : Page) → (length xs == 0) ≡ false
+        → none_labelled label (map view xs) ≡ true
+        → put q (grouped w (flat_map spell (map view xs)))
+        ≡ put q (spell_in_groups w label spell (map view xs))
+    put_whole [] q e u = absurd cc
+    put_whole (x ∷ xs) q e u =
+        ap (λ (l : List Tok). put q l) (sym (in_one_group (view x) (map view xs) u))
+
+-- a function type's groups of parameters
+param_split : (gs : List (List ParamTy)) → flat_map spell_group (map param gs)
+    ≡ flat_map (λ g. grouped (codes "param") (flat_map spell_param g)) gs
+param_split [] = refl
+param_split (g ∷ gs) = ap (λ (l : List Tok). spell_group (param g) ++ l) (param_split gs)
+
+pub params_in_groups : (ps : List ParamTy) → spell_in_groups
+    (codes "param") param_label spell_param ps
+    ≡ flat_map spell_group (param_groups ps)
+params_in_groups ps = sym (param_split (in_groups param_label ps))
+
+spell_both : (gs hs : List Group)
+    → flat_map spell_group (gs ++ hs) ≡ flat_map spell_group gs ++ flat_map spell_group hs
+spell_both [] hs = refl
+spell_both (g ∷ gs) hs =
+    ap (λ (l : List Tok). spell_group g ++ l) (spell_both gs hs)
+    ∙ sym (append_assoc (spell_group g) (flat_map spell_group gs) (flat_map spell_group hs))
+
+-- the groups of parameters, and then those of results
+pub put_function : (f : FuncTy) (a b c : Page)
+    → b ≡ put a (flat_map spell_group (param_groups f.params))
+    → c ≡ put b (flat_map spell_group (result_groups f.results)) → c ≡ put a (spell_function f)
+put_function f a b c e g =
+    let ps = flat_map spell_group (param_groups f.params) in
+    let rs = flat_map spell_group (result_groups f.results) in
+    put_then ps rs a b c e g
+    ∙ ap (λ (l : List Tok). put a l) (sym (spell_both (param_groups f.params)
+    (result_groups f.results)))
+
+-- the group of results, where there is one
+module _ {X : Type 0} (view : X → ValTy) where
+  pub put_results : (xs : List X) (q : Page) → (length xs == 0) ≡ false
+      → put q (grouped (codes "result") (flat_map spell_val (map view xs)))
+      ≡ put q (flat_map spell_group (result_groups (map view xs)))
+  put_results [] q e = absurd cc
+  put_results (x ∷ xs) q e =
+      ap (λ (l : List Tok). put q l)
+      (sym (append-nil (grouped (codes "result") (flat_map spell_val (map view (x ∷ xs))))))
+
+after : (a b : Bool) → b ≡ false → a && b ≡ false
+after true b e = e
+after false b e = refl
+
+-- where one value can't be written, not all can
+module _ {X A : Type 0} (view : X → A) (fit : A → Bool) where
+  pub not_each : (xs : List X) (i : ℕ) (d : X) → i < length xs → fit (view (get_or xs i d)) ≡ false
+      → each fit (map view xs) ≡ false
+  not_each [] i d lt f = absurd (omega arith)
+  not_each (x ∷ xs) zero d lt f = rw f refl
+  not_each (x ∷ xs) (suc i) d lt f =
+      after (fit (view x)) (each fit (map view xs)) (not_each xs i d (omega arith) f)
+
+-- two blanks for each turn of a loop
+blanks_step : (times i : ℕ) → i < times
+    → blanks (2 * (times - i)) ≡ 32 ∷ 32 ∷ blanks (2 * (times - (i + 1)))
+blanks_step times i lt =
+    let e : 2 * (times - i) ≡ suc (suc (2 * (times - (i + 1)))) = omega arith in rw e refl
+
+pub blanks_turn : (x y z : List ℕ) (times i : ℕ) → i < times → y ≡ x ++ (32 ∷ 32 ∷ [])
+    → x ++ blanks (2 * (times - i)) ≡ z → y ++ blanks (2 * (times - (i + 1))) ≡ z
+blanks_turn x y z times i lt e h =
+    let r = blanks (2 * (times - (i + 1))) in
+    ap (λ (l : List ℕ). l ++ r) e ∙ append_assoc x (32 ∷ 32 ∷ []) r
+    ∙ ap (λ (l : List ℕ). x ++ l) (sym (blanks_step times i lt)) ∙ h
+
+-- a line isn't broken behind `(`
+pub tight_stays : (n : ℕ) (p : Page) → p.tight ≡ true → broken n p ≡ p
+tight_stays n p h =
+    cond_both (p.lines && not p.tight) _ p (λ (q : Page). q ≡ p)
+    (λ e. (let a = (and_parts p.lines (not p.tight) e).1 in
+    let b : not true ≡ true = subst (λ (k : Bool). not k ≡ true) h a in absurd cc)) (λ e. refl)
+
+broken_to : (n : ℕ) (p q : Page) → p.lines ≡ true → p.tight ≡ false
+    → q ≡ record { bytes = p.bytes ++ (10 ∷ blanks n); tight = true; lines = p.lines }
+    → q ≡ broken n p
+broken_to n p q l t e =
+    cond_both (p.lines && not p.tight) _ p (λ (k : Page). q ≡ k) (λ f. e)
+    (λ f. (let a : p.lines && not p.tight ≡ true = rw (l, t) refl in absurd cc))
+
+-- a break, and the blanks
+pub line_broken : (n : ℕ) (x y z : List ℕ) (lines tight : Bool) (p : Page)
+    → record { bytes = x; tight = tight; lines = lines } ≡ p → lines ≡ true → tight ≡ false
+    → y ≡ x ++ (10 ∷ []) → z ≡ y ++ blanks n
+    → record { bytes = z; tight = true; lines = lines } ≡ broken n p
+line_broken n x y z lines tight p v l t e f =
+    subst (λ (k : Page). record { bytes = z; tight = true; lines = lines } ≡ broken n k) v
+    (broken_to n (record { bytes = x; tight = tight; lines = lines })
+    (record { bytes = z; tight = true; lines = lines }) l t
+    (ap (λ (b : List ℕ). record { bytes = b; tight = true; lines = lines })
+    (f ∙ ap (λ (b : List ℕ). b ++ blanks n) e ∙ append_assoc x (10 ∷ []) (blanks n))))
+
+-- tokens in parentheses
+pub put_parens : (ts : List Tok) (a b c d : Page) → b ≡ put a (LParen ∷ []) → c ≡ put b ts
+    → d ≡ put c (RParen ∷ []) → d ≡ put a (in_parens ts)
+put_parens ts a b c d e f g =
+    g ∙ ap (λ (q : Page). put q (RParen ∷ [])) (f ∙ ap (λ (q : Page). put q ts) e)
+    ∙ sym (put_both ts (RParen ∷ []) (put a (LParen ∷ [])))
+
+-- a line break, and then tokens
+pub puts_behind : (n : ℕ) (ts : List Tok) (a b c : Page) → b ≡ broken n a → c ≡ put b ts
+    → Puts ts a c
+puts_behind n ts a b c e f = puts_both [] ts a b c (puts_line n a b e) (puts_put ts b c f)
+
+-- where one value can't be, not all can
+pub not_each_item : {X A : Type 0} (view : X → A) (fit : A → Bool) (xs : List X) (i : ℕ) (x : X)
+    → i < length xs → x ≡ get_or xs i x → fit (view x) ≡ false → each fit (map view xs) ≡ false
+not_each_item {X = X} view fit xs i x lt s f =
+    not_each view fit xs i x lt (subst (λ (y : X). fit (view y) ≡ false) s f)
+
+-- what stands where the flag says so
+pub put_where : (b : Bool) (x y : List Tok) (a q : Page) → b ≡ true → q ≡ put a x
+    → q ≡ put a (if b then x else y)
+put_where b x y a q e h = rw e h

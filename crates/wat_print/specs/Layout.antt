@@ -1,0 +1,39 @@
+-- How tokens are laid out on lines.
+use Rattle.std.specs.Prelude.{◌≡◌, ℕ, zero, suc, true, not, ◌&&◌, if◌then◌else◌, List, [], ◌∷◌}
+use Rattle.std.specs.Prelude.{◌++◌}
+use Rattle.wat_lexer.specs.Token.{Tok}
+use Rattle.wat_print.specs.Text.{Page, put_one}
+
+abbrev pub blanks : ℕ → List ℕ
+blanks zero = []
+blanks (suc n) = 32 ∷ blanks n
+
+-- a token, or a line break with so many blanks behind it
+pub data LayoutPart : Type 0 where
+  one : Tok → LayoutPart
+  line : ℕ → LayoutPart
+
+-- a line break and blanks; nothing, where no blank is wanted or lines stay whole
+abbrev pub broken : ℕ → Page → Page
+broken n p =
+    if p.lines && not p.tight then record {
+      bytes = p.bytes ++ (10 ∷ blanks n);
+      tight = true;
+      lines = p.lines;
+    } else p
+
+abbrev pub lay : Page → List LayoutPart → Page
+lay p [] = p
+lay p (one t ∷ ps) = lay (put_one p t) ps
+lay p (line n ∷ ps) = lay (broken n p) ps
+
+abbrev pub tokens_in : List LayoutPart → List Tok
+tokens_in [] = []
+tokens_in (one t ∷ ps) = t ∷ tokens_in ps
+tokens_in (line n ∷ ps) = tokens_in ps
+
+-- From a to b the tokens were written, and lines broken between them where they may be.
+pub record Puts (ts : List Tok) (a b : Page) : Type 0 where
+  pub pieces : List LayoutPart
+  pub tokens : tokens_in pieces ≡ ts
+  pub page : b ≡ lay a pieces

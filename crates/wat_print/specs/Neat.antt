@@ -1,0 +1,44 @@
+-- Tokens that can be written, and tokens that a text can give.
+use Rattle.std.specs.Prelude.{◌≡◌, ℕ, Bool, true, false, ◌&&◌, nat_lt, List, [], ◌∷◌, ◌++◌}
+use Rattle.std.specs.Str.{is_utf8}
+use Rattle.wat_lexer.specs.Bytes.{is_idchar, between}
+use Rattle.wat_lexer.specs.Number.{is_integer}
+use Rattle.wat_lexer.specs.Sight.{is_standard}
+use Rattle.wat_lexer.specs.Token.{Tok, LParen, RParen, Keyword, Id, Annotation, Integer, String}
+use Rattle.wat_print.specs.Text.{all_are}
+
+-- idchars that begin with a letter from a to z
+abbrev pub is_keyword : List ℕ → Bool
+is_keyword [] = false
+is_keyword (b ∷ r) = between 97 122 b && all_are is_idchar (b ∷ r)
+
+abbrev pub is_byte : ℕ → Bool
+is_byte b = nat_lt b 256
+
+-- UTF-8, of one byte at least
+abbrev pub is_name : List ℕ → Bool
+is_name [] = false
+is_name (b ∷ r) = is_utf8 (b ∷ r)
+
+-- a token that can be written, parentheses and annotations aside
+abbrev pub is_fit : Tok → Bool
+is_fit (Keyword k) = is_keyword k
+is_fit (Id n) = is_name n
+is_fit (Integer k) = all_are is_idchar k && is_integer k
+is_fit (String s) = all_are is_byte s
+is_fit _ = false
+
+-- tokens that can be written: parentheses nest, and annotations are behind a `(` and are standard
+pub data Neat : List Tok → Type 0 where
+  nothing : Neat []
+  token : (t : Tok) (r : List Tok) → is_fit t ≡ true → Neat r → Neat (t ∷ r)
+  group : (a r : List Tok) → Neat a → Neat r → Neat (LParen ∷ (a ++ RParen ∷ r))
+  noted : (n : List ℕ) (a r : List Tok) → is_name n ≡ true → is_standard n ≡ true → Neat a → Neat r
+      → Neat (LParen ∷ (Annotation n ∷ (a ++ RParen ∷ r)))
+
+-- a token that a text can give: names are UTF-8 and not empty, a string has bytes
+abbrev pub is_given : Tok → Bool
+is_given (Id n) = is_name n
+is_given (Annotation n) = is_name n
+is_given (String s) = all_are is_byte s
+is_given _ = true

@@ -1,0 +1,44 @@
+-- How parts are written: words, groups, lists, what may be absent.
+use Rattle.std.specs.Prelude.{◌≡◌, ℕ, Bool, true, ◌&&◌, if◌then◌else◌, List, [], ◌∷◌, Option, Some}
+use Rattle.std.specs.Prelude.{None, map, flat_map}
+use Rattle.wat_lexer.specs.Token.{Tok, Keyword}
+use Rattle.wat_tokens.specs.Spelled.{in_parens}
+use Rattle.wat_print.specs.Layout.{Puts}
+use Rattle.wat_print.specs.Text.{Page, put}
+
+-- ( word .. )
+abbrev pub grouped : List ℕ → List Tok → List Tok
+grouped w ts = in_parens (Keyword w ∷ ts)
+
+-- the word, where the flag says so
+abbrev pub spell_flag : List ℕ → Bool → List Tok
+spell_flag w b = if b then Keyword w ∷ [] else []
+
+-- nothing, where there is no value
+abbrev pub spell_option : {A : Type 0} → (A → List Tok) → Option A → List Tok
+spell_option spell (Some v) = spell v
+spell_option spell None = []
+
+-- the test passes of the value, or there is none
+abbrev pub if_some : {A : Type 0} → (A → Bool) → Option A → Bool
+if_some test (Some v) = test v
+if_some test None = true
+
+-- the test passes of each
+abbrev pub each : {A : Type 0} → (A → Bool) → List A → Bool
+each test [] = true
+each test (v ∷ vs) = test v && each test vs
+
+-- From a to b the values were written, one behind the other, and all can be.
+pub record Wrote {X A : Type 0} (view : X → A) (spell : A → List Tok) (fit : A → Bool)
+    (xs : List X) (a b : Page)
+    : Type 0 where
+  pub written : b ≡ put a (flat_map spell (map view xs))
+  pub fits : each fit (map view xs) ≡ true
+
+-- The same, where lines may have been broken.
+pub record WroteLines {X A : Type 0} (view : X → A) (spell : A → List Tok) (fit : A → Bool)
+    (xs : List X) (a b : Page)
+    : Type 0 where
+  pub written : Puts (flat_map spell (map view xs)) a b
+  pub fits : each fit (map view xs) ≡ true

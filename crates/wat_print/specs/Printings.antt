@@ -1,0 +1,250 @@
+-- How the values of each type are printed.
+use Rattle.std.specs.Prelude.{[], true, refl}
+use Rattle.std.specs.Str.{is_utf8}
+use Rattle.wat_tokens.specs.Index.{identifier, index}
+use Rattle.wat_tokens.specs.NameAnnotation.{name_annotation}
+use Rattle.wat_types.specs.Function.{function_type}
+use Rattle.wat_types.specs.FunctionNoNames.{function_type_no_names}
+use Rattle.wat_types.specs.Group.{begins_func}
+use Rattle.wat_types.specs.Heap.{abstract_heap_type, heap_type}
+use Rattle.wat_types.specs.Define.{kind, type_}
+use Rattle.wat_types.specs.FieldType.{field_type}
+use Rattle.wat_types.specs.Limits.{limits_type, memory_type, table_type}
+use Rattle.wat_types.specs.Recursion.{rec}
+use Rattle.wat_types.specs.Reference.{ref_type}
+use Rattle.wat_types.specs.Storage.{storage_type, global_type}
+use Rattle.wat_types.specs.StructType.{struct_type}
+use Rattle.wat_types.specs.Use.{type_use}
+use Rattle.wat_types.specs.Value.{val_type}
+use Rattle.wat_print.specs.Define.{spell_kind, fit_kind, spell_type, fit_type, spell_rec, fit_rec}
+use Rattle.wat_print.specs.Function.{spell_function, fit_function}
+use Rattle.wat_print.specs.Index.{spell_index, fit_index}
+use Rattle.wat_print.specs.Label.{spell_id, spell_name}
+use Rattle.wat_print.specs.Limits.{spell_limits, fit_limits, spell_memory_type, fit_memory_type}
+use Rattle.wat_print.specs.Limits.{spell_table_type, fit_table_type}
+use Rattle.wat_print.specs.Neat.{is_name}
+use Rattle.wat_print.specs.Printed.{Printing}
+use Rattle.wat_print.specs.Reference.{spell_abstract, spell_heap, fit_heap, spell_ref, fit_ref}
+use Rattle.wat_print.specs.Reference.{spell_val, fit_val}
+use Rattle.wat_print.specs.Storage.{spell_storage, fit_storage, spell_field, fit_field}
+use Rattle.wat_print.specs.Storage.{spell_global, fit_global}
+use Rattle.wat_print.specs.Struct.{spell_struct, fit_struct}
+use Rattle.wat_print.specs.Use.{spell_use, fit_use, fit_unnamed, fit_unnamed_use}
+use Rattle.wat_print.specs.Laws.Define.{kind_here, kind_neat, kind_only, type_here, type_neat}
+use Rattle.wat_print.specs.Laws.Define.{type_only, rec_here, rec_neat, rec_only}
+use Rattle.wat_print.specs.Laws.Function.{function_here, function_neat, function_only, unnamed_here}
+use Rattle.wat_print.specs.Laws.Function.{unnamed_neat, unnamed_only}
+use Rattle.wat_print.specs.Laws.Label.{id_here, id_neat, id_only, name_here, name_neat, name_only}
+use Rattle.wat_print.specs.Laws.Limits.{limits_here, limits_neat, limits_only, memory_type_here}
+use Rattle.wat_print.specs.Laws.Limits.{memory_type_neat, memory_type_only, table_type_here}
+use Rattle.wat_print.specs.Laws.Limits.{table_type_neat, table_type_only}
+use Rattle.wat_print.specs.Laws.Reference.{abstract_here, abstract_neat, heap_here, heap_neat}
+use Rattle.wat_print.specs.Laws.Reference.{heap_only, ref_here, ref_neat, ref_only, val_here}
+use Rattle.wat_print.specs.Laws.Reference.{val_neat, val_only, index_here, index_neat, index_only}
+use Rattle.wat_print.specs.Laws.Storage.{storage_here, storage_neat, storage_only, field_here}
+use Rattle.wat_print.specs.Laws.Storage.{field_neat, field_only, global_here, global_neat}
+use Rattle.wat_print.specs.Laws.Storage.{global_only}
+use Rattle.wat_print.specs.Laws.Struct.{struct_here, struct_neat, struct_only}
+use Rattle.wat_print.specs.Laws.Use.{use_here, use_neat, use_only, unnamed_use_here}
+use Rattle.wat_print.specs.Laws.Use.{unnamed_use_neat, unnamed_use_only}
+
+-- ---- names and indices
+
+abbrev pub id_printing : Printing identifier
+id_printing = record {
+  spell = spell_id;
+  fit = is_name;
+  neat = id_neat;
+  spells = λ v h. id_here v h [];
+  only = id_only.holds;
+}
+
+abbrev pub name_printing : Printing name_annotation
+name_printing = record {
+  spell = spell_name;
+  fit = is_utf8;
+  neat = name_neat;
+  spells = λ v h. name_here v h [];
+  only = name_only.holds;
+}
+
+abbrev pub index_printing : Printing index
+index_printing = record {
+  spell = spell_index;
+  fit = fit_index;
+  neat = index_neat;
+  spells = λ v h. index_here v h [];
+  only = index_only.holds;
+}
+
+-- ---- value types
+
+abbrev pub abstract_printing : Printing abstract_heap_type
+abstract_printing = record {
+  spell = spell_abstract;
+  fit = λ _. true;
+  neat = λ v h. abstract_neat v;
+  spells = λ v h. abstract_here v [];
+  only = λ v c r a s. refl;
+}
+
+abbrev pub heap_printing : Printing heap_type
+heap_printing = record {
+  spell = spell_heap;
+  fit = fit_heap;
+  neat = heap_neat;
+  spells = λ v h. heap_here v h [];
+  only = heap_only.holds;
+}
+
+abbrev pub ref_printing : Printing ref_type
+ref_printing = record {
+  spell = spell_ref;
+  fit = fit_ref;
+  neat = ref_neat;
+  spells = λ v h. ref_here v h [];
+  only = ref_only.holds;
+}
+
+abbrev pub val_printing : Printing val_type
+val_printing = record {
+  spell = spell_val;
+  fit = fit_val;
+  neat = val_neat;
+  spells = λ v h. val_here v h [];
+  only = val_only.holds;
+}
+
+-- ---- function types and their uses
+
+abbrev pub function_printing : Printing function_type
+function_printing = record {
+  spell = spell_function;
+  fit = fit_function;
+  neat = function_neat;
+  spells = λ v h. function_here v [] h refl;
+  only = function_only.holds;
+}
+
+abbrev pub unnamed_printing : Printing function_type_no_names
+unnamed_printing = record {
+  spell = spell_function;
+  fit = fit_unnamed;
+  neat = unnamed_neat;
+  spells = λ v h. unnamed_here v [] h refl;
+  only = unnamed_only.holds;
+}
+
+abbrev pub use_printing : Printing (type_use begins_func function_type)
+use_printing = record {
+  spell = spell_use;
+  fit = fit_use;
+  neat = use_neat;
+  spells = λ v h. use_here v [] h (refl, refl, refl);
+  only = use_only.holds;
+}
+
+abbrev pub unnamed_use_printing : Printing (type_use begins_func function_type_no_names)
+unnamed_use_printing = record {
+  spell = spell_use;
+  fit = fit_unnamed_use;
+  neat = unnamed_use_neat;
+  spells = λ v h. unnamed_use_here v [] h (refl, refl, refl);
+  only = unnamed_use_only.holds;
+}
+
+-- ---- limits, memory types and table types
+
+abbrev pub limits_printing : Printing limits_type
+limits_printing = record {
+  spell = spell_limits;
+  fit = fit_limits;
+  neat = limits_neat;
+  spells = λ v h. limits_here v [] h refl;
+  only = limits_only.holds;
+}
+
+abbrev pub memory_type_printing : Printing memory_type
+memory_type_printing = record {
+  spell = spell_memory_type;
+  fit = fit_memory_type;
+  neat = memory_type_neat;
+  spells = λ v h. memory_type_here v [] h (refl, refl, refl);
+  only = memory_type_only.holds;
+}
+
+abbrev pub table_type_printing : Printing table_type
+table_type_printing = record {
+  spell = spell_table_type;
+  fit = fit_table_type;
+  neat = table_type_neat;
+  spells = λ v h. table_type_here v h [];
+  only = table_type_only.holds;
+}
+
+-- ---- storage types, fields and global types
+
+abbrev pub storage_printing : Printing storage_type
+storage_printing = record {
+  spell = spell_storage;
+  fit = fit_storage;
+  neat = storage_neat;
+  spells = λ v h. storage_here v h [];
+  only = storage_only.holds;
+}
+
+abbrev pub field_printing : Printing field_type
+field_printing = record {
+  spell = spell_field;
+  fit = fit_field;
+  neat = field_neat;
+  spells = λ v h. field_here v [] h refl;
+  only = field_only.holds;
+}
+
+abbrev pub global_printing : Printing global_type
+global_printing = record {
+  spell = spell_global;
+  fit = fit_global;
+  neat = global_neat;
+  spells = λ v h. global_here v [] h (refl, refl);
+  only = global_only.holds;
+}
+
+-- ---- structure types, definitions and recursion groups
+
+abbrev pub struct_printing : Printing struct_type
+struct_printing = record {
+  spell = spell_struct;
+  fit = fit_struct;
+  neat = struct_neat;
+  spells = λ v h. struct_here v [] h refl;
+  only = struct_only.holds;
+}
+
+abbrev pub kind_printing : Printing kind
+kind_printing = record {
+  spell = spell_kind;
+  fit = fit_kind;
+  neat = kind_neat;
+  spells = λ v h. kind_here v [] h (refl, refl, refl);
+  only = kind_only.holds;
+}
+
+abbrev pub type_printing : Printing type_
+type_printing = record {
+  spell = spell_type;
+  fit = fit_type;
+  neat = type_neat;
+  spells = λ v h. type_here v [] h refl;
+  only = type_only.holds;
+}
+
+abbrev pub rec_printing : Printing rec
+rec_printing = record {
+  spell = spell_rec;
+  fit = fit_rec;
+  neat = rec_neat;
+  spells = λ v h. rec_here v [] h refl;
+  only = rec_only.holds;
+}

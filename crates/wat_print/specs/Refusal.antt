@@ -1,0 +1,12 @@
+-- The reasons for which a value isn't printed, by their numbers.
+use Rattle.std.specs.Prelude.{ℕ}
+use Rattle.wat_print.specs.declared.fault.Refused.{Refused}
+use Rattle.wat_print.specs.declared.fault.Refused.TheVariants.{Memory, EmptyName, Label, PageSize}
+use Rattle.wat_print.specs.declared.fault.Refused.TheVariants.{Parents}
+
+abbrev pub refused_number : Refused → ℕ
+refused_number Memory = 1
+refused_number EmptyName = 2
+refused_number Label = 3
+refused_number PageSize = 4
+refused_number Parents = 5

@@ -1,0 +1,75 @@
+-- Tokens as text.
+use Rattle.std.specs.Prelude.{ℕ, ◌/◌, ◌%◌, Bool, true, false, ◌&&◌, ◌||◌, if◌then◌else◌, nat_lt}
+use Rattle.std.specs.Prelude.{List, [], ◌∷◌, ◌++◌}
+use Rattle.std.specs.Char.{digit_char}
+use Rattle.wat_lexer.specs.Bytes.{is_idchar}
+use Rattle.wat_lexer.specs.Cut.{is_raw}
+use Rattle.wat_lexer.specs.Token.{Tok, LParen, RParen, Keyword, Id, Annotation, Integer, String}
+use Rattle.wat_lexer.specs.Token.{Reserved, is_open, is_close}
+
+-- ---- one token
+
+-- a byte in a string: itself where that is a character of ASCII which may stand so, else its two
+-- hex
+-- digits
+abbrev pub escape : ℕ → List ℕ
+escape b =
+    if is_raw b && nat_lt b 128 then b ∷ [] else 92 ∷ digit_char (b / 16) ∷ digit_char (b % 16) ∷ []
+
+-- the content of a string, and the closing quote
+abbrev pub quoted : List ℕ → List ℕ
+quoted [] = 34 ∷ []
+quoted (b ∷ s) = escape b ++ quoted s
+
+-- the test passes of each byte
+abbrev pub all_are : (ℕ → Bool) → List ℕ → Bool
+all_are test [] = true
+all_are test (b ∷ r) = test b && all_are test r
+
+-- a name: itself where it is idchars alone, else a string
+abbrev pub name_text : List ℕ → List ℕ
+name_text n = if all_are is_idchar n then n else 34 ∷ quoted n
+
+abbrev pub token_text : Tok → List ℕ
+token_text LParen = 40 ∷ []
+token_text RParen = 41 ∷ []
+token_text (Keyword k) = k
+token_text (Id n) = 36 ∷ name_text n
+token_text (Annotation n) = 64 ∷ name_text n
+token_text (Integer k) = k
+token_text (String s) = 34 ∷ quoted s
+token_text (Reserved k) = k
+
+-- ---- tokens, one behind the other
+
+-- a text so far; whether no blank is wanted behind it: at the start, and behind a `(`; and whether
+-- its lines may be broken
+pub record Page : Type 0 where
+  pub bytes : List ℕ
+  pub tight : Bool
+  pub lines : Bool
+
+abbrev pub blank_page : Bool → Page
+blank_page lines = record { bytes = []; tight = true; lines = lines }
+
+-- what stands before a token: a space, but at the start, behind `(` and before `)`
+abbrev pub gap : Bool → Tok → List ℕ
+gap tight t = if tight || is_close t then [] else 32 ∷ []
+
+-- one token more
+abbrev pub put_one : Page → Tok → Page
+put_one p t =
+    record {
+      bytes = p.bytes ++ (gap p.tight t ++ token_text t);
+      tight = is_open t;
+      lines = p.lines;
+    }
+
+-- tokens more
+abbrev pub put : Page → List Tok → Page
+put p [] = p
+put p (t ∷ ts) = put (put_one p t) ts
+
+-- the tokens' text, on one line
+abbrev pub printed_text : List Tok → List ℕ
+printed_text ts = (put (blank_page false) ts).bytes

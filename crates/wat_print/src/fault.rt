@@ -1,0 +1,51 @@
+//! Why a value isn't printed.
+
+ghost use Rattle.std.specs.Prelude.{◌≡◌};
+ghost use Rattle.wat_print.specs.Refusal.{refused_number};
+
+use std::alloc::AllocError;
+use thiserror::Error;
+
+/// Why a value isn't printed. Each reason has a number, from 1 to 5.
+///
+/// No text spells a value that is refused for another reason than Memory.
+#[derive(Clone, Copy, Debug, PartialEq, Eq, Hash, Error)]
+pub enum Refused {
+    /// A growth was refused memory.
+    #[error("memory ran out")]
+    Memory = 1,
+    /// An identifier has no character (Text Format, "Identifiers").
+    #[error("an identifier is empty")]
+    EmptyName = 2,
+    /// A parameter has an identifier or a name where none may have one (Text Format, "Type Uses").
+    #[error("a parameter has a label where none may stand")]
+    Label = 3,
+    /// A page has 2 to the k bytes, and k is 32 or more, so that the number has more than 32 bits
+    /// (Text Format, Types, "Memory Types", with the size of a page).
+    #[error("a page size has more than 32 bits")]
+    PageSize = 4,
+    /// A definition is declared to be below others, and `sub` isn't written (Text Format, Types,
+    /// "Recursive Types").
+    #[error("a definition without `sub` is below others")]
+    Parents = 5,
+}
+
+impl Refused {
+    /// The number, from 1 to 5.
+    pub fn number(self) -> u8
+        ensures { result ≡ refused_number self }
+    {
+        self as u8
+    }
+}
+
+impl From<AllocError> for Refused {
+    ghost use Rattle.std.specs.Prelude.{◌≡◌};
+    ghost use Rattle.wat_print.specs.declared.fault.Refused.TheVariants.{Memory};
+
+    ghost from_gives = { λ _ e. e ≡ Memory };
+
+    fn from(_e: AllocError) -> Refused {
+        Refused::Memory
+    }
+}

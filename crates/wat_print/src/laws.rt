@@ -1,0 +1,33 @@
+//! Laws of texts.
+
+ghost use Rattle.std.specs.Prelude.{◌≡◌, ℕ, List, true};
+ghost use Rattle.wat_lexer.specs.Cut.{IsCut};
+ghost use Rattle.wat_lexer.specs.Sight.{visible_tokens};
+ghost use Rattle.wat_lexer.specs.Token.{Tok, Placed, tokens_of};
+ghost use Rattle.wat_print.specs.Layout.{Puts};
+ghost use Rattle.wat_print.specs.Neat.{Neat, is_given};
+ghost use Rattle.wat_print.specs.Text.{Page, printed_text, blank_page};
+ghost use Rattle.std.specs.Prelude.{Bool};
+ghost use Rattle.std.specs.Str.{IsUtf8};
+ghost use Rattle.wat_print.specs.Parts.{each};
+
+/// The text of tokens that can be written is cut into these tokens, and with the standard
+/// annotations known all of them are visible.
+pub fn text_is_cut()
+    ensures cut { (ts : List Tok) → Neat ts
+        → (ps : List Placed) × IsCut (printed_text ts) ps × (tokens_of ps ≡ ts) }
+    ensures visible { (ts : List Tok) → Neat ts → visible_tokens true ts ≡ ts }
+{}
+
+/// Tokens that can be written are cut again from each text in which they are laid out on lines.
+pub fn lines_are_cut()
+    ensures { (ts : List Tok) (lines : Bool) (page : Page) → Neat ts
+        → Puts ts (blank_page lines) page
+        → (ps : List Placed) × IsCut page.bytes ps × (tokens_of ps ≡ ts) }
+{}
+
+/// Names in a text are UTF-8 and not empty, and its strings have bytes.
+pub fn text_is_given()
+    ensures { (x : List ℕ) (ps : List Placed) (known : Bool) → IsUtf8 x → IsCut x ps
+        → each is_given (visible_tokens known (tokens_of ps)) ≡ true }
+{}

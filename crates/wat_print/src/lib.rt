@@ -1,0 +1,25 @@
+//! Values as text: tokens, and the types of the WebAssembly text format (WebAssembly Core
+//! Specification, Text Format, "Types").
+//!
+//! [`print`] makes a text of a value whose type has [`Print`]. The text is cut into tokens that
+//! spell this value and no other.
+#![tactic(auto)]
+
+pub mod define;
+pub mod fault;
+pub mod function;
+pub mod label;
+pub mod laws;
+pub mod limits;
+pub mod output;
+pub mod reference;
+pub mod storage;
+pub mod structure;
+pub mod text;
+pub mod traits;
+pub mod type_use;
+
+pub use fault::Refused;
+pub use output::{Layout, Output};
+pub use text::print;
+pub use traits::Print;

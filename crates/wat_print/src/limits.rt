@@ -1,0 +1,148 @@
+//! How limits, memory types and table types are printed.
+
+ghost use Rattle.std.specs.Prelude.{◌≡◌, ◌≢◌, ◌^◌, OnOk, IfErr, true, false, codes};
+ghost use Rattle.wat_types.specs.Limits.{limits_type, memory_type, table_type, TableTy};
+ghost use Rattle.wat_types.specs.Limits.{table_type_view};
+ghost use Rattle.wat_print.specs.Limits.{spell_number, spell_limits, fit_limits, spell_page_size};
+ghost use Rattle.wat_print.specs.Limits.{is_exponent, spell_memory_type, fit_memory_type};
+ghost use Rattle.wat_print.specs.Limits.{spell_table_type, fit_table_type};
+ghost use Rattle.wat_print.specs.Parts.{spell_flag, spell_option, if_some};
+ghost use Rattle.wat_print.specs.Printings.{limits_printing, memory_type_printing};
+ghost use Rattle.wat_print.specs.Printings.{table_type_printing};
+ghost use Rattle.wat_print.specs.Text.{put};
+ghost use Rattle.wat_print.specs.declared.fault.Refused.TheVariants.{Memory};
+
+use crate::fault::Refused;
+use crate::output::Output;
+use crate::reference::write_ref;
+use crate::traits::Print;
+use std::alloc::AllocError;
+use wat_types::{Limits, MemoryType, TableType};
+
+/// Writes the word, where the flag is set.
+pub fn write_flag(out: &mut Output, word: &str, flag: bool) -> Result<(), AllocError>
+    ensures { OnOk result (out.new ≡ put out.old (spell_flag word.now flag)) }
+{
+    if flag {
+        out.word(word)?;
+    }
+    Ok(())
+}
+
+/// Writes limits (Text Format, Types, "Limits"): `i64`, where addresses have 64 bits, and then the
+/// one or two numbers.
+#[tactic(auto, using(crate::specs::Laws::Written::put_both))]
+pub fn write_limits(out: &mut Output, limits: &Limits) -> Result<(), Refused>
+    ensures written { OnOk result (out.new ≡ put out.old (spell_limits limits.now)) }
+    ensures fit { OnOk result (fit_limits limits.now ≡ true) }
+    ensures refused { IfErr result (λ e. e ≡ Memory) }
+{
+    write_flag(out, "i64", limits.is64)?;
+    out.number(limits.min)?;
+    if let Some(max) = limits.max {
+        out.number(max)?;
+    }
+    Ok(())
+}
+
+/// Writes `( pagesize number )`, the number being 2 to the k, where a k is given. A k of 32 or more
+/// is refused with PageSize.
+fn write_page_size(out: &mut Output, exponent: Option<u32>) -> Result<(), Refused>
+    ensures written { OnOk result (out.new ≡ put out.old
+        (spell_option spell_page_size exponent)) }
+    ensures fit { OnOk result (if_some is_exponent exponent ≡ true) }
+    ensures refused { IfErr result (λ e. e ≢ Memory → if_some is_exponent exponent ≡ false) }
+{
+    match exponent {
+        None => Ok(()),
+        Some(k) if k < 32 => {
+            out.open()?;
+            out.word("pagesize")?;
+            out.number(2u64.pow(k))?;
+            out.close()?;
+            Ok(())
+        }
+        Some(_) => Err(Refused::PageSize),
+    }
+}
+
+/// Writes a memory type (Text Format, Types, "Memory Types"). One with pages of 2 to the k bytes is
+/// refused with PageSize where k is 32 or more.
+#[tactic(auto, using(crate::specs::Laws::Written::put_both))]
+pub fn write_memory_type(out: &mut Output, memory: &MemoryType) -> Result<(), Refused>
+    ensures written { OnOk result (out.new ≡ put out.old (spell_memory_type memory.now)) }
+    ensures fit { OnOk result (fit_memory_type memory.now ≡ true) }
+    ensures refused { IfErr result (λ e. e ≢ Memory → fit_memory_type memory.now ≡ false) }
+{
+    write_limits(out, &memory.limits)?;
+    write_flag(out, "shared", memory.shared)?;
+    write_page_size(out, memory.page_size_log2)?;
+    Ok(())
+}
+
+/// Writes a table type (Text Format, Types, "Table Types").
+#[tactic(auto, using(crate::specs::Laws::Written::put_both))]
+pub fn write_table_type(out: &mut Output, table: &TableType) -> Result<(), Refused>
+    ensures written { OnOk result (out.new ≡ put out.old
+        (spell_table_type (table_type_view table.now))) }
+    ensures fit { OnOk result (fit_table_type (table_type_view table.now) ≡ true) }
+    ensures refused { IfErr result (λ e. e ≢ Memory
+        → fit_table_type (table_type_view table.now) ≡ false) }
+{
+    write_flag(out, "shared", table.shared)?;
+    write_limits(out, &table.limits)?;
+    write_ref(out, &table.elem)?;
+    Ok(())
+}
+
+impl Print for Limits {
+    ghost use Rattle.wat_types.specs.declared.limits.Limits.{Limits};
+
+    ghost View = { Limits };
+
+    ghost view = { λ l. l };
+
+    ghost grammar = { limits_type };
+
+    ghost printing = { limits_printing };
+
+    #[tactic(auto, using(crate::specs::Laws::Written::puts_put))]
+    fn write(&self, out: &mut Output) -> Result<(), Refused> {
+        write_limits(out, self)?;
+        Ok(())
+    }
+}
+
+impl Print for MemoryType {
+    ghost use Rattle.wat_types.specs.declared.limits.MemoryType.{MemoryType};
+
+    ghost View = { MemoryType };
+
+    ghost view = { λ m. m };
+
+    ghost grammar = { memory_type };
+
+    ghost printing = { memory_type_printing };
+
+    #[tactic(auto, using(crate::specs::Laws::Written::puts_put))]
+    fn write(&self, out: &mut Output) -> Result<(), Refused> {
+        write_memory_type(out, self)?;
+        Ok(())
+    }
+}
+
+impl Print for TableType<'_> {
+    ghost View = { TableTy };
+
+    ghost view = { table_type_view };
+
+    ghost grammar = { table_type };
+
+    ghost printing = { table_type_printing };
+
+    #[tactic(auto, using(crate::specs::Laws::Written::puts_put))]
+    fn write(&self, out: &mut Output) -> Result<(), Refused> {
+        write_table_type(out, self)?;
+        Ok(())
+    }
+}

@@ -1,0 +1,275 @@
+//! A text that is written token by token.
+
+ghost use Rattle.std.specs.Prelude.{◌≡◌, ◌≢◌, ◌∷◌, ◌++◌, ◌*◌, [], ◌<◌, ℕ, true, false};
+ghost use Rattle.std.specs.Prelude.{if◌then◌else◌, OnOk, IfOk, IfErr, decimal, string_bytes};
+ghost use Rattle.std.specs.Char.{digit_char};
+ghost use Rattle.std.specs.Str.{is_utf8};
+ghost use Rattle.wat_lexer.specs.Bytes.{is_idchar};
+ghost use Rattle.wat_lexer.specs.Token.{LParen, RParen, Keyword, Id, Annotation, Integer};
+ghost use Rattle.wat_lexer.specs.Token.{String as Text};
+ghost use Rattle.wat_print.specs.Layout.{broken, blanks};
+ghost use Rattle.wat_print.specs.Neat.{is_name};
+ghost use Rattle.wat_print.specs.Text.{put, blank_page, escape, quoted, name_text, all_are};
+ghost use Rattle.wat_print.specs.declared.fault.Refused.TheVariants.{Memory};
+ghost use Rattle.wat_print.specs.Printed.{may_break};
+
+use crate::fault::Refused;
+use std::alloc::{AllocError, Global};
+use std::marker::Model;
+
+/// How a text is laid out.
+#[derive(Clone, Copy, Debug, PartialEq, Eq, Hash)]
+pub enum Layout {
+    /// On one line.
+    Line,
+    /// On lines. Where a line is broken, the next begins with two spaces for each group that is
+    /// open there.
+    Indented,
+}
+
+/// A text that is written, so far.
+///
+/// Between two tokens stands one space, or a line break with spaces; neither behind `(` nor before
+/// `)`. Memory that is refused may leave the beginning of a token behind.
+#[derive(Drop)]
+pub struct Output {
+    text: String,
+    /// Whether no blank is wanted before the next token.
+    tight: bool,
+    /// Whether lines may be broken.
+    lines: bool,
+    /// How many groups are open.
+    depth: usize,
+}
+
+impl Model for Output {
+    ghost use Rattle.std.specs.Prelude.{string_bytes};
+    ghost use Rattle.wat_print.specs.Text.{Page};
+
+    ghost Value = { Page };
+
+    ghost view = { λ o. record { bytes = string_bytes o.text; tight = o.tight; lines = o.lines } };
+}
+
+impl Output {
+    /// A text without a token.
+    pub fn new(alloc: Global, layout: Layout) -> Output
+        ensures { result ≡ blank_page (may_break layout) }
+    {
+        Output {
+            text: String::new(alloc),
+            tight: true,
+            lines: match layout {
+                Layout::Line => false,
+                Layout::Indented => true,
+            },
+            depth: 0,
+        }
+    }
+
+    /// The text.
+    pub fn into_text(self) -> String
+        ensures { string_bytes result ≡ self.bytes }
+    {
+        self.text
+    }
+
+    /// Breaks the line, where the layout has lines and a blank may stand; two spaces for each
+    /// group that is open follow the break.
+    pub fn line(&mut self) -> Result<(), AllocError>
+        ensures { OnOk result ((n : ℕ) × (self.new ≡ broken n self.old)) }
+    {
+        if !self.lines || self.tight {
+            return Ok(());
+        }
+        self.text.push_str("\n")?;
+        push_blanks(&mut self.text, self.depth)?;
+        self.tight = true;
+        Ok(())
+    }
+
+    /// A space, where one is wanted before a token other than `)`.
+    fn space(&mut self) -> Result<(), AllocError>
+        ensures { OnOk result (self.new ≡ record self.old {
+          bytes = self.old.bytes ++ (if self.old.tight then [] else 32 ∷ []);
+        }) }
+    {
+        if !self.tight {
+            self.text.push_str(" ")?;
+        }
+        Ok(())
+    }
+
+    /// Writes `(`.
+    pub fn open(&mut self) -> Result<(), AllocError>
+        ensures { OnOk result (self.new ≡ put self.old (LParen ∷ [])) }
+    {
+        self.space()?;
+        self.text.push_str("(")?;
+        self.tight = true;
+        self.depth = self.depth.saturating_add(1);
+        Ok(())
+    }
+
+    /// Writes `)`.
+    pub fn close(&mut self) -> Result<(), AllocError>
+        ensures { OnOk result (self.new ≡ put self.old (RParen ∷ [])) }
+    {
+        self.text.push_str(")")?;
+        self.tight = false;
+        self.depth = self.depth.saturating_sub(1);
+        Ok(())
+    }
+
+    /// Writes a keyword.
+    pub fn word(&mut self, word: &str) -> Result<(), AllocError>
+        ensures { OnOk result (self.new ≡ put self.old (Keyword word.now ∷ [])) }
+    {
+        self.space()?;
+        self.text.push_str(word)?;
+        self.tight = false;
+        Ok(())
+    }
+
+    /// Writes a number in decimal digits.
+    pub fn number(&mut self, number: u64) -> Result<(), AllocError>
+        ensures { OnOk result (self.new ≡ put self.old (Integer (decimal number) ∷ [])) }
+    {
+        self.space()?;
+        let digits = format!(in *self.text.allocator(); "{number}")?;
+        self.text.push_str(digits.as_str())?;
+        self.tight = false;
+        Ok(())
+    }
+
+    /// The bytes in a string, and the closing quote.
+    #[tactic(auto, using(std::proofs::lemmas::List::drop_more))]
+    fn push_quoted(&mut self, bytes: &[u8]) -> Result<(), AllocError>
+        ensures { OnOk result (self.new ≡ record self.old {
+          bytes = self.old.bytes ++ quoted bytes.now;
+        }) }
+    {
+        for b in bytes {
+            self.push_escaped(*b)?;
+        }
+        let closing = "\"";
+        self.text.push_str(closing)
+    }
+
+    /// A byte in a string.
+    fn push_escaped(&mut self, byte: u8) -> Result<(), AllocError>
+        ensures { OnOk result (self.new ≡ record self.old {
+          bytes = self.old.bytes ++ escape byte;
+        }) }
+    {
+        if byte >= 32 && byte < 127 && byte != b'"' && byte != b'\\' {
+            self.text.push(char::from(byte))?;
+            return Ok(());
+        }
+        self.text.push_str("\\")?;
+        self.text.push(hex_digit(byte / 16))?;
+        self.text.push(hex_digit(byte % 16))?;
+        Ok(())
+    }
+
+    /// A name behind its mark.
+    fn push_name(&mut self, name: &str) -> Result<(), AllocError>
+        ensures { OnOk result (self.new ≡ record self.old {
+          bytes = self.old.bytes ++ name_text name.now;
+        }) }
+    {
+        if are_idchars(name.as_bytes()) {
+            return self.text.push_str(name);
+        }
+        self.text.push_str("\"")?;
+        self.push_quoted(name.as_bytes())
+    }
+
+    /// Writes an identifier, given without its `$`. One that is empty is refused.
+    pub fn id(&mut self, name: &str) -> Result<(), Refused>
+        ensures written { OnOk result (self.new ≡ put self.old (Id name.now ∷ [])) }
+        ensures fit { OnOk result (is_name name.now ≡ true) }
+        ensures refused { IfErr result (λ e. e ≢ Memory → is_name name.now ≡ false) }
+    {
+        if name.is_empty() {
+            return Err(Refused::EmptyName);
+        }
+        self.space()?;
+        self.text.push_str("$")?;
+        self.push_name(name)?;
+        self.tight = false;
+        Ok(())
+    }
+
+    /// Writes an annotation, given without its `@`, behind a `(`.
+    pub fn annotation(&mut self, name: &str) -> Result<(), AllocError>
+        ensures { OnOk result (self.new ≡ put self.old (Annotation name.now ∷ [])) }
+    {
+        self.space()?;
+        self.text.push_str("@")?;
+        self.push_name(name)?;
+        self.tight = false;
+        Ok(())
+    }
+
+    /// Writes a string that is UTF-8.
+    pub fn text(&mut self, content: &str) -> Result<(), AllocError>
+        ensures written { OnOk result (self.new ≡ put self.old (Text content.now ∷ [])) }
+        ensures fit { is_utf8 content.now ≡ true }
+    {
+        self.string(content.as_bytes())
+    }
+
+    /// Writes a string.
+    pub fn string(&mut self, content: &[u8]) -> Result<(), AllocError>
+        ensures { OnOk result (self.new ≡ put self.old (Text content.now ∷ [])) }
+    {
+        self.space()?;
+        self.text.push_str("\"")?;
+        self.push_quoted(content)?;
+        self.tight = false;
+        Ok(())
+    }
+}
+
+/// Whether all bytes are idchars.
+#[tactic(auto, using(std::proofs::lemmas::List::drop_more))]
+fn are_idchars(bytes: &[u8]) -> bool
+    ensures { result ≡ all_are is_idchar bytes.now }
+{
+    for b in bytes {
+        if !idchar(*b) {
+            return false;
+        }
+    }
+    true
+}
+
+/// Whether the byte is an idchar.
+fn idchar(b: u8) -> bool
+    ensures { result ≡ is_idchar b }
+{
+    matches!(
+        b,
+        33 | 35..=39 | 42..=43 | 45..=58 | 60..=90 | 92 | 94..=122 | 124 | 126
+    )
+}
+
+/// The hex digit of a number below 16.
+fn hex_digit(n: u8) -> char
+    requires { n < 16 }
+    ensures value { result ≡ digit_char n }
+    ensures ascii { result < 128 }
+{
+    char::from(if n < 10 { b'0' + n } else { b'a' + (n - 10) })
+}
+
+/// Puts two spaces behind the text, so many times.
+fn push_blanks(text: &mut String, times: usize) -> Result<(), AllocError>
+    ensures { OnOk result (string_bytes text.new ≡ string_bytes text.old ++ blanks (2 * times)) }
+{
+    'turns: for _ in 0..times {
+        text.push_str("  ")?;
+    }
+    Ok(())
+}

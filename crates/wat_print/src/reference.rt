@@ -1,0 +1,249 @@
+//! How indices, heap types, reference types and value types are printed.
+
+ghost use Rattle.std.specs.Prelude.{◌≡◌, ◌∷◌, [], ◌++◌, OnOk, true, codes, ◌≢◌, IfErr, false};
+ghost use Rattle.wat_lexer.specs.Token.{Keyword};
+ghost use Rattle.wat_tokens.specs.Index.{Idx, index_view, index};
+ghost use Rattle.wat_types.specs.Heap.{HeapTy, heap_view, abstract_, heap_type, abstract_heap_type};
+ghost use Rattle.wat_types.specs.Reference.{RefTy, ref_view, ref_type};
+ghost use Rattle.wat_types.specs.Value.{ValTy, val_view, val_type};
+ghost use Rattle.wat_print.specs.Index.{spell_index, fit_index};
+ghost use Rattle.wat_print.specs.Printings.{index_printing, abstract_printing, heap_printing};
+ghost use Rattle.wat_print.specs.Printings.{ref_printing, val_printing};
+ghost use Rattle.wat_print.specs.Reference.{abstract_word, short_word, spell_heap, fit_heap};
+ghost use Rattle.wat_print.specs.Reference.{spell_long, spell_ref, fit_ref, spell_val, fit_val};
+ghost use Rattle.wat_print.specs.Text.{put};
+ghost use Rattle.wat_print.specs.declared.fault.Refused.TheVariants.{Memory};
+
+use crate::fault::Refused;
+use crate::output::Output;
+use crate::traits::Print;
+use wat_tokens::Index;
+use wat_types::{AbstractHeapType, HeapType, RefType, ValType};
+
+/// Writes an index.
+pub fn write_index(out: &mut Output, index: &Index) -> Result<(), Refused>
+    ensures written { OnOk result (out.new ≡ put out.old (spell_index (index_view index.now))) }
+    ensures fit { OnOk result (fit_index (index_view index.now) ≡ true) }
+    ensures refused { IfErr result (λ e. e ≢ Memory → fit_index (index_view index.now) ≡ false) }
+{
+    match index {
+        Index::Num(number, _) => {
+            out.number(u64::from(*number))?;
+            Ok(())
+        }
+        Index::Id(id) => out.id(id.name()),
+    }
+}
+
+/// The word for the heap type.
+fn word_of(ty: AbstractHeapType) -> &'static str
+    ensures { result.now ≡ abstract_word ty }
+{
+    match ty {
+        AbstractHeapType::Func => "func",
+        AbstractHeapType::Extern => "extern",
+        AbstractHeapType::Exn => "exn",
+        AbstractHeapType::Cont => "cont",
+        AbstractHeapType::Any => "any",
+        AbstractHeapType::Eq => "eq",
+        AbstractHeapType::Struct => "struct",
+        AbstractHeapType::Array => "array",
+        AbstractHeapType::I31 => "i31",
+        AbstractHeapType::NoFunc => "nofunc",
+        AbstractHeapType::NoExtern => "noextern",
+        AbstractHeapType::NoExn => "noexn",
+        AbstractHeapType::NoCont => "nocont",
+        AbstractHeapType::None => "none",
+    }
+}
+
+/// Writes an abstract heap type.
+fn write_abstract(out: &mut Output, shared: bool, ty: AbstractHeapType) -> Result<(), Refused>
+    ensures written { OnOk result (out.new ≡ put out.old (spell_heap (abstract_ shared ty))) }
+    ensures refused { IfErr result (λ e. e ≡ Memory) }
+{
+    if !shared {
+        out.word(word_of(ty))?;
+        return Ok(());
+    }
+    out.open()?;
+    out.word("shared")?;
+    out.word(word_of(ty))?;
+    out.close()?;
+    Ok(())
+}
+
+/// Writes a heap type.
+#[tactic(auto, using(crate::specs::Laws::Written::put_both))]
+pub fn write_heap(out: &mut Output, heap: &HeapType) -> Result<(), Refused>
+    ensures written { OnOk result (out.new ≡ put out.old (spell_heap (heap_view heap.now))) }
+    ensures fit { OnOk result (fit_heap (heap_view heap.now) ≡ true) }
+    ensures refused { IfErr result (λ e. e ≢ Memory → fit_heap (heap_view heap.now) ≡ false) }
+{
+    match heap {
+        HeapType::Concrete(index) => write_index(out, index),
+        HeapType::Exact(index) => {
+            out.open()?;
+            out.word("exact")?;
+            write_index(out, index)?;
+            out.close()?;
+            Ok(())
+        }
+        HeapType::Abstract { shared, ty } => write_abstract(out, *shared, *ty),
+    }
+}
+
+/// The shorthand for a nullable reference to the heap type.
+fn shorthand_of(ty: AbstractHeapType) -> &'static str
+    ensures { result.now ≡ short_word ty }
+{
+    match ty {
+        AbstractHeapType::Func => "funcref",
+        AbstractHeapType::Extern => "externref",
+        AbstractHeapType::Exn => "exnref",
+        AbstractHeapType::Cont => "contref",
+        AbstractHeapType::Any => "anyref",
+        AbstractHeapType::Eq => "eqref",
+        AbstractHeapType::Struct => "structref",
+        AbstractHeapType::Array => "arrayref",
+        AbstractHeapType::I31 => "i31ref",
+        AbstractHeapType::NoFunc => "nullfuncref",
+        AbstractHeapType::NoExtern => "nullexternref",
+        AbstractHeapType::NoExn => "nullexnref",
+        AbstractHeapType::NoCont => "nullcontref",
+        AbstractHeapType::None => "nullref",
+    }
+}
+
+/// `( ref null? HeapType )`
+#[tactic(auto, using(crate::specs::Laws::Written::put_both))]
+fn write_long(out: &mut Output, reference: &RefType) -> Result<(), Refused>
+    ensures written { OnOk result (out.new ≡ put out.old
+        (spell_long reference.now.nullable (heap_view reference.now.heap))) }
+    ensures fit { OnOk result (fit_ref (ref_view reference.now) ≡ true) }
+    ensures refused { IfErr result (λ e. e ≢ Memory → fit_ref (ref_view reference.now) ≡ false) }
+{
+    out.open()?;
+    out.word("ref")?;
+    if reference.nullable {
+        out.word("null")?;
+    }
+    write_heap(out, &reference.heap)?;
+    out.close()?;
+    Ok(())
+}
+
+/// Writes a reference type: by its shorthand, where it has one and isn't shared.
+pub fn write_ref(out: &mut Output, reference: &RefType) -> Result<(), Refused>
+    ensures written { OnOk result (out.new ≡ put out.old (spell_ref (ref_view reference.now))) }
+    ensures fit { OnOk result (fit_ref (ref_view reference.now) ≡ true) }
+    ensures refused { IfErr result (λ e. e ≢ Memory → fit_ref (ref_view reference.now) ≡ false) }
+{
+    match (reference.nullable, reference.heap) {
+        (true, HeapType::Abstract { shared: false, ty }) => {
+            out.word(shorthand_of(ty))?;
+            Ok(())
+        }
+        _ => write_long(out, reference),
+    }
+}
+
+/// Writes a value type.
+pub fn write_val(out: &mut Output, ty: &ValType) -> Result<(), Refused>
+    ensures written { OnOk result (out.new ≡ put out.old (spell_val (val_view ty.now))) }
+    ensures fit { OnOk result (fit_val (val_view ty.now) ≡ true) }
+    ensures refused { IfErr result (λ e. e ≢ Memory → fit_val (val_view ty.now) ≡ false) }
+{
+    let word = match ty {
+        ValType::I32 => "i32",
+        ValType::I64 => "i64",
+        ValType::F32 => "f32",
+        ValType::F64 => "f64",
+        ValType::V128 => "v128",
+        ValType::Ref(reference) => return write_ref(out, reference),
+    };
+    out.word(word)?;
+    Ok(())
+}
+
+impl Print for Index<'_> {
+    ghost View = { Idx };
+
+    ghost view = { index_view };
+
+    ghost grammar = { index };
+
+    ghost printing = { index_printing };
+
+    #[tactic(auto, using(crate::specs::Laws::Written::puts_put))]
+    fn write(&self, out: &mut Output) -> Result<(), Refused> {
+        write_index(out, self)?;
+        Ok(())
+    }
+}
+
+impl Print for AbstractHeapType {
+    ghost use Rattle.wat_types.specs.declared.heap.AbstractHeapType.{AbstractHeapType};
+
+    ghost View = { AbstractHeapType };
+
+    ghost view = { λ t. t };
+
+    ghost grammar = { abstract_heap_type };
+
+    ghost printing = { abstract_printing };
+
+    #[tactic(auto, using(crate::specs::Laws::Written::puts_put))]
+    fn write(&self, out: &mut Output) -> Result<(), Refused> {
+        write_abstract(out, false, *self)?;
+        Ok(())
+    }
+}
+
+impl Print for HeapType<'_> {
+    ghost View = { HeapTy };
+
+    ghost view = { heap_view };
+
+    ghost grammar = { heap_type };
+
+    ghost printing = { heap_printing };
+
+    #[tactic(auto, using(crate::specs::Laws::Written::puts_put))]
+    fn write(&self, out: &mut Output) -> Result<(), Refused> {
+        write_heap(out, self)?;
+        Ok(())
+    }
+}
+
+impl Print for RefType<'_> {
+    ghost View = { RefTy };
+
+    ghost view = { ref_view };
+
+    ghost grammar = { ref_type };
+
+    ghost printing = { ref_printing };
+
+    #[tactic(auto, using(crate::specs::Laws::Written::puts_put))]
+    fn write(&self, out: &mut Output) -> Result<(), Refused> {
+        write_ref(out, self)?;
+        Ok(())
+    }
+}
+
+impl Print for ValType<'_> {
+    ghost View = { ValTy };
+
+    ghost view = { val_view };
+
+    ghost grammar = { val_type };
+
+    ghost printing = { val_printing };
+
+    #[tactic(auto, using(crate::specs::Laws::Written::puts_put))]
+    fn write(&self, out: &mut Output) -> Result<(), Refused> {
+        write_val(out, self)?;
+        Ok(())
+    }
+}

@@ -1,0 +1,138 @@
+//! How structure types are printed.
+
+ghost use Rattle.std.specs.Prelude.{◌≡◌, ◌≢◌, List, OnOk, IfErr, true, false, map};
+ghost use Rattle.wat_types.specs.Struct.{MemberTy, member_view, members_view, struct_view};
+ghost use Rattle.wat_types.specs.StructType.{struct_type};
+ghost use Rattle.wat_print.specs.Label.{none_labelled};
+ghost use Rattle.wat_print.specs.Parts.{each, Wrote};
+ghost use Rattle.wat_print.specs.Printings.{struct_printing};
+ghost use Rattle.wat_print.specs.Struct.{member_label, spell_member, fit_member};
+ghost use Rattle.wat_print.specs.Struct.{spell_member_alone, spell_struct, fit_struct};
+ghost use Rattle.wat_print.specs.Text.{put};
+ghost use Rattle.wat_print.specs.declared.fault.Refused.TheVariants.{Memory};
+
+use crate::fault::Refused;
+use crate::label::write_label;
+use crate::output::Output;
+use crate::storage::write_field;
+use crate::traits::Print;
+use wat_types::{StructField, StructType};
+
+/// Writes a field, without its group.
+#[tactic(auto, using(crate::specs::Laws::Written::put_both))]
+fn write_member(out: &mut Output, field: &StructField) -> Result<(), Refused>
+    ensures written { OnOk result (out.new ≡ put out.old (spell_member (member_view field.now))) }
+    ensures fit { OnOk result (fit_member (member_view field.now) ≡ true) }
+    ensures refused { IfErr result (λ e. e ≢ Memory
+        → fit_member (member_view field.now) ≡ false) }
+{
+    write_label(out, &field.id, &field.name)?;
+    write_field(out, field.mutable, &field.ty)?;
+    Ok(())
+}
+
+/// Writes fields, one behind the other.
+#[tactic(auto, using(crate::specs::Laws::Written::not_each))]
+fn write_members(out: &mut Output, fields: &[StructField]) -> Result<(), Refused>
+    ensures wrote { OnOk result (Wrote member_view spell_member fit_member fields.now out.old
+        out.new) }
+    ensures refused { IfErr result (λ e. e ≢ Memory
+        → each fit_member (members_view fields.now) ≡ false) }
+{
+    for field in fields {
+        write_member(out, field)?;
+    }
+    Ok(())
+}
+
+/// Writes a field in a group of its own.
+fn write_alone(out: &mut Output, field: &StructField) -> Result<(), Refused>
+    ensures written { OnOk result (out.new ≡ put out.old
+        (spell_member_alone (member_view field.now))) }
+    ensures fit { OnOk result (fit_member (member_view field.now) ≡ true) }
+    ensures refused { IfErr result (λ e. e ≢ Memory
+        → fit_member (member_view field.now) ≡ false) }
+{
+    out.open()?;
+    out.word("field")?;
+    write_member(out, field)?;
+    out.close()?;
+    Ok(())
+}
+
+/// Writes fields, each in a group of its own.
+#[tactic(auto, using(crate::specs::Laws::Written::not_each))]
+fn write_each_alone(out: &mut Output, fields: &[StructField]) -> Result<(), Refused>
+    ensures wrote { OnOk result (Wrote member_view spell_member_alone fit_member fields.now out.old
+        out.new) }
+    ensures refused { IfErr result (λ e. e ≢ Memory
+        → each fit_member (members_view fields.now) ≡ false) }
+{
+    for field in fields {
+        write_alone(out, field)?;
+    }
+    Ok(())
+}
+
+/// Whether no field has an identifier or a name.
+#[tactic(auto, using(std::proofs::lemmas::List::drop_more))]
+fn are_unlabelled(fields: &[StructField]) -> bool
+    ensures { result ≡ none_labelled member_label (members_view fields.now) }
+{
+    for field in fields {
+        if field.id.is_some() || field.name.is_some() {
+            return false;
+        }
+    }
+    true
+}
+
+/// Writes fields in groups: in one where none has a label, else each in its own.
+fn write_fields(out: &mut Output, fields: &[StructField]) -> Result<(), Refused>
+    ensures written { OnOk result (out.new ≡ put out.old
+        (spell_struct (members_view fields.now))) }
+    ensures fit { OnOk result (fit_struct (members_view fields.now) ≡ true) }
+    ensures refused { IfErr result (λ e. e ≢ Memory
+        → fit_struct (members_view fields.now) ≡ false) }
+{
+    if fields.is_empty() {
+        return Ok(());
+    }
+    if !are_unlabelled(fields) {
+        write_each_alone(out, fields)?;
+        return Ok(());
+    }
+    out.open()?;
+    out.word("field")?;
+    write_members(out, fields)?;
+    out.close()?;
+    Ok(())
+}
+
+/// Writes a structure type (Text Format, Types, "Composite Types").
+pub fn write_struct(out: &mut Output, structure: &StructType) -> Result<(), Refused>
+    ensures written { OnOk result (out.new ≡ put out.old
+        (spell_struct (struct_view structure.now))) }
+    ensures fit { OnOk result (fit_struct (struct_view structure.now) ≡ true) }
+    ensures refused { IfErr result (λ e. e ≢ Memory
+        → fit_struct (struct_view structure.now) ≡ false) }
+{
+    write_fields(out, &structure.fields)?;
+    Ok(())
+}
+
+impl Print for StructType<'_> {
+    ghost View = { List MemberTy };
+
+    ghost view = { struct_view };
+
+    ghost grammar = { struct_type };
+
+    ghost printing = { struct_printing };
+
+    #[tactic(auto, using(crate::specs::Laws::Written::puts_put))]
+    fn write(&self, out: &mut Output) -> Result<(), Refused> {
+        write_struct(out, self)?;
+        Ok(())
+    }
+}
