@@ -3,6 +3,7 @@
 
 use crate::ample::Clones;
 use crate::findings::Findings;
+use crate::reading::{HEAPS, SHORTHANDS};
 use bumpalo::Bump;
 use wat_tokens::{Error, Id, Index, Integer, NameAnnotation, kw};
 use wat_types::{
@@ -53,30 +54,6 @@ impl<'a> Clones<TypeUse<'a, FunctionTypeNoNames<'a>>> for Inherent {
         found.clone()
     }
 }
-
-/// The words of heap types.
-const HEAPS: &[&str] = &[
-    "func", "extern", "exn", "cont", "any", "eq", "struct", "array", "i31", "nofunc", "noextern",
-    "noexn", "nocont", "none",
-];
-
-/// The shorthands of reference types.
-const SHORTHANDS: &[&str] = &[
-    "funcref",
-    "externref",
-    "exnref",
-    "contref",
-    "anyref",
-    "eqref",
-    "structref",
-    "arrayref",
-    "i31ref",
-    "nullfuncref",
-    "nullexternref",
-    "nullexnref",
-    "nullcontref",
-    "nullref",
-];
 
 /// Value types, a reference in each of its forms among them.
 const VALUES: &[&str] = &[

@@ -1,7 +1,7 @@
 //! Each choice of each type's row is printed, and what was printed is read again, and printed as the
 //! same text.
 
-use crate::reading::{parser_of, repeated};
+use crate::reading::{HEAPS, SHORTHANDS, parser_of, repeated};
 use bumpalo::Bump;
 use std::alloc::{AllocError, Global};
 use std::test::Fail;
@@ -170,30 +170,6 @@ fn strings_of_all_bytes(rt: HostRuntime) -> Result<(), Fail> {
     assert!(rt; text.ends_with(" \"a\\22\\5c\\7f\""));
     Ok(())
 }
-
-/// The words of heap types.
-const HEAPS: &[&str] = &[
-    "func", "extern", "exn", "cont", "any", "eq", "struct", "array", "i31", "nofunc", "noextern",
-    "noexn", "nocont", "none",
-];
-
-/// The shorthands of reference types.
-const SHORTHANDS: &[&str] = &[
-    "funcref",
-    "externref",
-    "exnref",
-    "contref",
-    "anyref",
-    "eqref",
-    "structref",
-    "arrayref",
-    "i31ref",
-    "nullfuncref",
-    "nullexternref",
-    "nullexnref",
-    "nullcontref",
-    "nullref",
-];
 
 /// Reference types in other forms than they are printed in, and how they are printed.
 const REFERENCES: &[(&str, &str)] = &[

@@ -6,6 +6,30 @@ use std::fmt::Debug;
 use wat_tokens::whole::in_parens;
 use wat_tokens::{Error, Fault, Index, Parse, Parser};
 
+/// The words of heap types.
+pub const HEAPS: &[&str] = &[
+    "func", "extern", "exn", "cont", "any", "eq", "struct", "array", "i31", "nofunc", "noextern",
+    "noexn", "nocont", "none",
+];
+
+/// The shorthands of reference types.
+pub const SHORTHANDS: &[&str] = &[
+    "funcref",
+    "externref",
+    "exnref",
+    "contref",
+    "anyref",
+    "eqref",
+    "structref",
+    "arrayref",
+    "i31ref",
+    "nullfuncref",
+    "nullexternref",
+    "nullexnref",
+    "nullcontref",
+    "nullref",
+];
+
 /// A parser in front of a text; the standard annotations are known.
 pub fn parser_of<'a>(alloc: Global, text: &'a str, arena: &'a Bump) -> Result<Parser<'a>, Error> {
     let mut parser = Parser::new(alloc, text, arena)?;
