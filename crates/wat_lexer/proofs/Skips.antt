@@ -55,3 +55,19 @@ visible_at known ls n e =
     let p = passed known None (toks ls) in
     let same : toks (drop n ls) ≡ drop (hidden_count_at known None (toks ls)) (toks ls) = rw (← drop-map entry_tok n ls, e) in
     subst (VisibleFrom known (drop n ls)) (rw (same, p.rest)) (visible_here known (drop n ls) (rw same p.stands))
+
+-- and the tokens that are visible are those that are visible behind what is hidden
+pub visible_same : (known : Bool) (ls : List Entry) (n : ℕ) → n ≡ hidden_count known (toks ls) → visible_tokens known (toks (drop n ls)) ≡ visible_tokens known (toks ls)
+unfolding visible_tokens hidden_count
+visible_same known ls n e =
+    let p = passed known None (toks ls) in
+    let same : toks (drop n ls) ≡ drop (hidden_count_at known None (toks ls)) (toks ls) = rw (← drop-map entry_tok n ls, e) in
+    rw (same, p.rest)
+
+-- of which none is hidden in front
+pub none_hidden : (known : Bool) (ls : List Entry) (n : ℕ) → n ≡ hidden_count known (toks ls) → hidden_count known (toks (drop n ls)) ≡ 0
+unfolding hidden_count
+none_hidden known ls n e =
+    let p = passed known None (toks ls) in
+    let same : toks (drop n ls) ≡ drop (hidden_count_at known None (toks ls)) (toks ls) = rw (← drop-map entry_tok n ls, e) in
+    hidden_count_none known (toks (drop n ls)) (rw same p.stands)

@@ -17,6 +17,7 @@ use bumpalo::collections::into_bump_slice;
 use std::alloc::AllocError;
 
 /// Part of a text, which begins and ends with ASCII.
+#[inline(always)]
 pub fn part(text: &str, from: usize, end: usize) -> &str
     requires order { from < end }
     requires within { end ≤ length text.now }

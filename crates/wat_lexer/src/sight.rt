@@ -21,6 +21,8 @@ fn is_standard(name: &str) -> bool
 }
 
 /// Whether the two tokens begin a group whose annotation isn't known.
+// Few groups begin with an annotation.
+#[inline(never)]
 fn begins_hidden(first: Token, second: Token, known: bool) -> bool
     ensures { result ≡ begins_hidden_group known (view first.entry ∷ view second.entry ∷ []) }
 {
@@ -35,6 +37,7 @@ fn begins_hidden(first: Token, second: Token, known: bool) -> bool
 
 /// Whether a group whose annotation isn't known is at the place.
 #[tactic(auto, using(crate::proofs::Entries::begins_hidden_steps))]
+#[inline(always)]
 pub fn begins_hidden_group(tokens: &Tokens, at: usize, known: bool) -> bool
     requires { at ≤ length tokens.now }
     ensures value { result ≡ begins_hidden_group known (toks (drop at tokens.now)) }
@@ -64,6 +67,7 @@ fn skip_in_front(tokens: &Tokens, at: usize, known: bool) -> usize
 /// How many tokens stand from a place on before the first that is visible. It takes the same time
 /// however many are hidden.
 #[tactic(auto, using(crate::proofs::Skips::hidden_count_none))]
+#[inline(always)]
 pub fn hidden_count(tokens: &Tokens, at: usize, known: bool) -> usize
     requires within { at ≤ length tokens.now }
     requires skips { AreSkips (drop at tokens.now) }
@@ -72,6 +76,9 @@ pub fn hidden_count(tokens: &Tokens, at: usize, known: bool) -> usize
     ensures small { length tokens.now ≤ 9223372036854775807 }
     ensures first { VisibleFrom known (drop result (drop at tokens.now)) (visible_tokens known (toks
         (drop at tokens.now))) }
+    ensures same { visible_tokens known (toks (drop result (drop at tokens.now))) ≡ visible_tokens
+        known (toks (drop at tokens.now)) }
+    ensures stops { hidden_count known (toks (drop result (drop at tokens.now))) ≡ 0 }
 {
     if begins_hidden_group(tokens, at, known) {
         skip_in_front(tokens, at, known)
@@ -81,6 +88,7 @@ pub fn hidden_count(tokens: &Tokens, at: usize, known: bool) -> usize
 }
 
 /// The place of the first token from a place on that is visible.
+#[inline(always)]
 #[tactic(auto, using(crate::proofs::Skips::skips_drop))]
 pub fn next_visible(tokens: &Tokens, at: usize, known: bool) -> usize
     requires within { at ≤ length tokens.now }
@@ -89,6 +97,9 @@ pub fn next_visible(tokens: &Tokens, at: usize, known: bool) -> usize
     ensures within { result ≤ length tokens.now }
     ensures first { VisibleFrom known (drop result tokens.now) (visible_tokens known (toks
         (drop at tokens.now))) }
+    ensures same { visible_tokens known (toks (drop result tokens.now)) ≡ visible_tokens known
+        (toks (drop at tokens.now)) }
+    ensures stops { hidden_count known (toks (drop result tokens.now)) ≡ 0 }
 {
     at + hidden_count(tokens, at, known)
 }

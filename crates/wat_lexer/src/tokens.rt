@@ -82,6 +82,8 @@ impl<'a> Tokens<'a> {
     }
 
     /// The token.
+    // What asks for it needs one of its kinds, and inlined no other is made.
+    #[inline(always)]
     pub fn token(&self, at: usize) -> Token<'a>
         requires { at < length self.now }
         ensures { view result ≡ (get_or self.now at no_entry).token }
@@ -138,6 +140,7 @@ impl<'a> Tokens<'a> {
 }
 
 /// The rest of a run of idchars behind so many bytes.
+#[inline(always)]
 #[tactic(auto, using(crate::proofs::Plain::plain_ascii))]
 fn word<'a>(text: &'a str, from: usize, front: usize, end: usize) -> &'a str
     requires { Word front text.now from end }
@@ -148,6 +151,7 @@ fn word<'a>(text: &'a str, from: usize, front: usize, end: usize) -> &'a str
 
 /// The token of a kind: a word is read out of the text, from a place on and of so many bytes; what
 /// lies in the side table is at another place there.
+#[inline(always)]
 pub fn read<'a>(
     text: &'a str,
     kind: Kind,

@@ -1,13 +1,14 @@
 -- What is in front, and what is behind it.
-use Rattle.std.proofs.Common.{inl, inr, refl, ◌≡◌, ◌≢◌, ℕ, ◌+◌, ◌<◌, Bool, List, [], ◌∷◌, length, drop, sym, ap, ◌∙◌, arith, drop-drop}
-use Rattle.std.proofs.lemmas.Bool.{cases_lt}
+use Rattle.std.proofs.Common.{inl, inr, refl, ◌≡◌, ◌≢◌, ℕ, ◌+◌, ◌<◌, ◌≤◌, Bool, List, [], ◌∷◌, length, drop, sym, ap, ◌∙◌, arith, drop-drop}
+use Rattle.std.proofs.Math.ListN.{get_or}
+use Rattle.std.proofs.lemmas.Bool.{cases_lt, cases_Bool}
 use Rattle.std.proofs.lemmas.List.{drop-map}
 use Rattle.std.specs.Prelude.{false, None}
 use Rattle.wat_lexer.specs.Token.{Tok, Entry, LParen, RParen, Annotation, is_open, is_close, is_annotation}
 use Rattle.wat_lexer.specs.Laws.Kinds.{open_is, close_is}
 use Rattle.wat_lexer.specs.Laws.VisibleFrom.{visible_some, visible_none}
-use Rattle.wat_lexer.specs.Sight.{visible_tokens}
-use Rattle.wat_lexer.specs.View.{entry_tok, toks, VisibleFrom}
+use Rattle.wat_lexer.specs.Sight.{visible, visible_tokens, hidden_count, hidden_count_at, begins_hidden_group}
+use Rattle.wat_lexer.specs.View.{entry_tok, toks, no_entry, VisibleFrom}
 use Rattle.wat_tokens.specs.Tests.{ends, as_lparen, as_rparen, as_annotation}
 
 -- a token is at the place, where one is visible from there
@@ -25,6 +26,25 @@ steps_to known ls i left s lt = ap (drop 1) (sym (visible_some known ls i left s
 -- the tokens behind the one in front are those behind its place
 pub rest_behind : (ls : List Entry) (i n : ℕ) → toks (drop (i + n + 1) ls) ≡ drop (n + 1) (toks (drop i ls))
 rest_behind ls i n = ap (λ (l : List Entry). toks l) (ap (λ (k : ℕ). drop k ls) {x = i + n + 1} {y = i + (n + 1)} (omega arith) ∙ sym (drop-drop (n + 1) i ls)) ∙ sym (drop-map entry_tok (n + 1) (drop i ls))
+
+-- what is visible begins with the first of the list, where nothing is hidden in front
+shown_here : (known : Bool) (ls : List Entry) → hidden_count known (toks ls) ≡ 0 → VisibleFrom known ls (visible_tokens known (toks ls))
+unfolding visible_tokens visible hidden_count hidden_count_at
+shown_here known [] h = refl
+shown_here known (x ∷ ls) h =
+    elim (cases_Bool (begins_hidden_group known (toks (x ∷ ls)))) [
+      | inl e ↦ absurd (omega (arith, rw e at h))
+      | inr e ↦ rw e
+    ]
+
+-- so a lookup sees the token at its place, where one is there
+pub front_some : (known : Bool) (ls : List Entry) (i : ℕ) → hidden_count known (toks (drop i ls)) ≡ 0 → i < length ls
+    → visible_tokens known (toks (drop i ls)) ≡ (get_or ls i no_entry).token ∷ visible_tokens known (toks (drop (i + 1) ls))
+front_some known ls i h lt = visible_some known ls i (visible_tokens known (toks (drop i ls))) (shown_here known (drop i ls) h) lt
+
+pub front_none : (known : Bool) (ls : List Entry) (i : ℕ) → hidden_count known (toks (drop i ls)) ≡ 0 → length ls ≤ i
+    → visible_tokens known (toks (drop i ls)) ≡ []
+front_none known ls i h le = visible_none known ls i (visible_tokens known (toks (drop i ls))) (shown_here known (drop i ls) h) le
 
 -- WHAT A TOKEN'S KIND TELLS
 

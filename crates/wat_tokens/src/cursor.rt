@@ -1,7 +1,8 @@
 //! Lookups into the tokens in front.
 
 ghost use Rattle.std.specs.Prelude.{◌≡◌, ◌≤◌, length, drop};
-ghost use Rattle.wat_lexer.specs.View.{AreSkips};
+ghost use Rattle.wat_lexer.specs.Sight.{hidden_count, visible_tokens};
+ghost use Rattle.wat_lexer.specs.View.{AreSkips, toks};
 
 use wat_lexer::number::Integer;
 use wat_lexer::sight::next_visible;
@@ -16,96 +17,88 @@ use wat_lexer::tokens::Tokens;
 #[derive(Clone, Copy)]
 pub struct Cursor<'p> {
     tokens: &'p Tokens<'p>,
+    /// The place of the token in front: the first one that is visible, or the end of all.
     at: usize,
     known: bool,
     ghost within: { at ≤ length tokens.now },
     ghost skips: { AreSkips tokens.now },
+    ghost shows: { hidden_count known (toks (drop at tokens.now)) ≡ 0 },
 }
 
 impl<'p> Cursor<'p> {
     ghost use Rattle.wat_lexer.specs.Integer.{text_of};
-    ghost use Rattle.wat_lexer.specs.Sight.{visible_tokens};
-    ghost use Rattle.wat_lexer.specs.View.{toks, VisibleFrom};
     ghost use Rattle.wat_tokens.specs.Lookup.{in_front, NextIs, GivesRest, GivesContent};
     ghost use Rattle.wat_tokens.specs.Tests.{as_any, as_lparen, as_rparen, as_keyword, as_id};
     ghost use Rattle.wat_tokens.specs.Tests.{as_annotation, as_integer, as_string};
     ghost use Rattle.wat_tokens.specs.Tests.{begins_word, begins_group};
 
-    /// The place behind so many of the tokens; `known` says whether the five standard annotations
-    /// are.
+    /// The place behind so many of the tokens, of which the next is visible; `known` says whether
+    /// the five standard annotations are.
+    #[inline(always)]
     pub(crate) fn new(tokens: &'p Tokens<'p>, at: usize, known: bool) -> Cursor<'p>
         requires within { at ≤ length tokens.now }
         requires skips { AreSkips tokens.now }
+        requires shows { hidden_count known (toks (drop at tokens.now)) ≡ 0 }
         ensures { in_front result ≡ visible_tokens known (toks (drop at tokens.entry.now)) }
     {
         Cursor { tokens, at, known }
     }
 
-    /// The place of the token in front: the first one that is visible.
-    fn place(self) -> usize
-        ensures within { result ≤ length self.entry.tokens.now }
-        ensures first { VisibleFrom self.entry.known (drop result self.entry.tokens.now)
-            (in_front self.entry) }
-    {
-        next_visible(self.tokens, self.at, self.known)
-    }
-
     /// The same lookups at another place.
+    #[inline(always)]
     fn moved_to(self, place: usize) -> Cursor<'p>
         requires { place ≤ length self.tokens.now }
         ensures { in_front result ≡ visible_tokens self.entry.known
             (toks (drop place self.entry.tokens.now)) }
     {
-        Cursor::new(self.tokens, place, self.known)
+        let at = next_visible(self.tokens, place, self.known);
+        Cursor::new(self.tokens, at, self.known)
     }
 
     /// The token in front, and the place behind it.
-    #[tactic(auto, using(wat_lexer::specs::Laws::VisibleFrom::visible_some, wat_lexer::specs::Laws::VisibleFrom::visible_none))]
+    #[inline(always)]
+    #[tactic(auto, using(crate::proofs::Steps::front_some, crate::proofs::Steps::front_none))]
     fn next(self) -> Option<(Token<'p>, Cursor<'p>)>
         ensures { NextIs result (in_front self.entry) }
     {
-        let place = self.place();
-        if place < self.tokens.len() {
-            Some((self.tokens.token(place), self.moved_to(place + 1)))
+        if self.at < self.tokens.len() {
+            Some((self.tokens.token(self.at), self.moved_to(self.at + 1)))
         } else {
             None
         }
     }
 
     /// Behind a `(`. No more is read of the token than its kind.
-    #[tactic(auto, using(crate::proofs::Steps::paren_steps, wat_lexer::specs::Laws::VisibleFrom::visible_some, wat_lexer::specs::Laws::VisibleFrom::visible_none))]
+    #[tactic(auto, using(crate::proofs::Steps::paren_steps, crate::proofs::Steps::front_some, crate::proofs::Steps::front_none))]
     pub fn lparen(self) -> Option<Cursor<'p>>
         ensures { GivesRest as_lparen (in_front self.entry) result }
     {
-        let place = self.place();
-        if place < self.tokens.len() && self.tokens.opens(place) {
-            Some(self.moved_to(place + 1))
+        if self.at < self.tokens.len() && self.tokens.opens(self.at) {
+            Some(self.moved_to(self.at + 1))
         } else {
             None
         }
     }
 
     /// Behind a `)`. No more is read of the token than its kind.
-    #[tactic(auto, using(crate::proofs::Steps::paren_steps, wat_lexer::specs::Laws::VisibleFrom::visible_some, wat_lexer::specs::Laws::VisibleFrom::visible_none))]
+    #[tactic(auto, using(crate::proofs::Steps::paren_steps, crate::proofs::Steps::front_some, crate::proofs::Steps::front_none))]
     pub fn rparen(self) -> Option<Cursor<'p>>
         ensures { GivesRest as_rparen (in_front self.entry) result }
     {
-        let place = self.place();
-        if place < self.tokens.len() && self.tokens.closes(place) {
-            Some(self.moved_to(place + 1))
+        if self.at < self.tokens.len() && self.tokens.closes(self.at) {
+            Some(self.moved_to(self.at + 1))
         } else {
             None
         }
     }
 
     /// Behind one token, whatever it is.
-    #[tactic(auto, using(wat_lexer::specs::Laws::VisibleFrom::visible_some, wat_lexer::specs::Laws::VisibleFrom::visible_none))]
+    #[tactic(auto, using(crate::proofs::Steps::front_some, crate::proofs::Steps::front_none))]
     pub fn any(self) -> Option<Cursor<'p>>
         ensures { GivesRest as_any (in_front self.entry) result }
     {
-        let place = self.place();
-        if place < self.tokens.len() {
-            Some(self.moved_to(place + 1))
+        if self.at < self.tokens.len() {
+            Some(self.moved_to(self.at + 1))
         } else {
             None
         }
@@ -135,16 +128,15 @@ impl<'p> Cursor<'p> {
 
     /// Behind an annotation, with the name, without its `@`. Of another token no more is read than
     /// its kind.
-    #[tactic(auto, using(crate::proofs::Steps::annotation_none, wat_lexer::specs::Laws::VisibleFrom::visible_some, wat_lexer::specs::Laws::VisibleFrom::visible_none))]
+    #[tactic(auto, using(crate::proofs::Steps::annotation_none, crate::proofs::Steps::front_some, crate::proofs::Steps::front_none))]
     pub fn annotation(self) -> Option<(&'p str, Cursor<'p>)>
         ensures { GivesContent (λ n. n.now) as_annotation (in_front self.entry) result }
     {
-        let place = self.place();
-        if place >= self.tokens.len() || !self.tokens.annotates(place) {
+        if self.at >= self.tokens.len() || !self.tokens.annotates(self.at) {
             return None;
         }
-        match self.tokens.token(place) {
-            Token::Annotation(content) => Some((content, self.moved_to(place + 1))),
+        match self.tokens.token(self.at) {
+            Token::Annotation(content) => Some((content, self.moved_to(self.at + 1))),
             _ => None,
         }
     }

@@ -169,10 +169,10 @@ impl<'a> Parse<'a> for Index<'a> {
     ghost grammar = { index };
 
     fn parse(parser: &mut Parser<'a>) -> Result<Self, Error> {
-        if parser.peek::<Id>() {
-            return Id::parse(parser).map(Index::Id);
-        }
         let span = parser.cur_span();
+        if let Ok(name) = parser.take_id() {
+            return Ok(Index::Id(Id::new(name, span)));
+        }
         let number = u32::parse(parser)?;
         Ok(Index::Num(number, span))
     }

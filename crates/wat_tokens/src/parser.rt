@@ -53,7 +53,7 @@ pub struct Parser<'a> {
     front: usize,
     /// How many bytes the text has.
     end: usize,
-    /// How many bytes stand before the last token that was taken.
+    /// The place of the last token that was taken; before any, the last place of all.
     prev: usize,
     known: bool,
     tracks: bool,
@@ -66,12 +66,12 @@ pub struct Parser<'a> {
 }
 
 impl<'a> Model for Parser<'a> {
-    ghost use Rattle.std.specs.Prelude.{drop, ◌≤◌, length};
+    ghost use Rattle.std.specs.Prelude.{drop, ◌≡◌, ◌≤◌, length};
     ghost use Rattle.wat_tokens.specs.State.{State};
 
     ghost Value = { State };
 
-    ghost use Rattle.wat_lexer.specs.Sight.{visible_tokens};
+    ghost use Rattle.wat_lexer.specs.Sight.{hidden_count, visible_tokens};
     ghost use Rattle.wat_lexer.specs.View.{toks, AreSkips};
     ghost use Rattle.wat_tokens.specs.Lookup.{IsFront};
 
@@ -89,7 +89,9 @@ impl<'a> Model for Parser<'a> {
     } };
 
     ghost invariant = { λ p. (p.at ≤ length p.tokens) × AreSkips p.tokens × IsFront p.known p.at
-        p.front p.tokens };
+        p.front p.tokens × (visible_tokens p.known (toks (drop p.front p.tokens)) ≡ visible_tokens
+        p.known (toks (drop p.at p.tokens))) × (hidden_count p.known (toks (drop p.front p.tokens))
+        ≡ 0) };
 }
 
 impl<'a> Parser<'a> {
@@ -121,7 +123,7 @@ impl<'a> Parser<'a> {
             at: 0,
             front,
             end,
-            prev: 0,
+            prev: usize::MAX,
             known: false,
             tracks: false,
             taken: Tally::new(),
@@ -211,7 +213,7 @@ impl<'a> Parser<'a> {
     pub fn cursor(&self) -> Cursor<'_>
         ensures { in_front result ≡ self.now.left }
     {
-        Cursor::new(&self.tokens, self.at, self.known)
+        Cursor::new(&self.tokens, self.front, self.known)
     }
 
     /// Where the token in front begins, or the end of the text where none is left. No clause says
@@ -226,7 +228,11 @@ impl<'a> Parser<'a> {
 
     /// Where the last token that was taken begins; 0 before any. No clause says which offset it is.
     pub fn prev_span(&self) -> Span {
-        Span::from_offset(self.prev)
+        if self.prev < self.tokens.len() {
+            Span::from_offset(self.tokens.offset(self.prev))
+        } else {
+            Span::from_offset(0)
+        }
     }
 
     /// The fault Unexpected, at the token in front, or at the end of the text where none is left.
@@ -296,6 +302,7 @@ impl<'a> Parser<'a> {
     }
 
     /// The token in front.
+    #[inline(always)]
     #[tactic(auto, using(wat_lexer::specs::Laws::VisibleFrom::visible_some, wat_lexer::specs::Laws::VisibleFrom::visible_none))]
     fn first(&self) -> Option<Token<'a>>
         ensures { FirstIs result self.now.left }
@@ -337,7 +344,7 @@ impl<'a> Parser<'a> {
         ensures settings { SameSettings self.old self.new }
     {
         prove!(self.front < self.tokens.len());
-        self.prev = self.tokens.offset(self.front);
+        self.prev = self.front;
         self.at = self.front + 1;
         self.front = next_visible(&self.tokens, self.at, self.known);
         self.taken.tick();
