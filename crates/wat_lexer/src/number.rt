@@ -1,7 +1,7 @@
 //! Integers: their text, their sign and their values.
 
 ghost use Rattle.std.specs.Prelude.{◌≡◌, ◌+◌, ◌-◌, ◌*◌, ◌^◌, ◌≤◌, ◌<◌, IsTrue, IfSome, is_some};
-ghost use Rattle.std.specs.Prelude.{length, drop, pos, neg_ℤ};
+ghost use Rattle.std.specs.Prelude.{length, drop, pos, neg_ℤ, MatchOption};
 ghost use Rattle.wat_lexer.specs.Number.{number, begins_hex, magnitude, sign_of, without_sign};
 ghost use Rattle.wat_lexer.specs.Number.{is_integer, is_width, up_to, unsigned_value};
 ghost use Rattle.wat_lexer.specs.Number.{twos_complement, signed_value};
@@ -159,6 +159,19 @@ fn magnitude_up_to(text: &[u8], limit: u64) -> Option<u64>
     }
 }
 
+/// The value of a number's digits and one more behind them, where it is at most the limit.
+fn with_digit(value: u64, base: u8, digit: u8, limit: u64) -> Option<u64>
+    ensures { MatchOption result (limit < value * base + digit) (λ n. (n ≡ value * base + digit)
+        × (n ≤ limit)) }
+{
+    let shifted = value.checked_mul(u64::from(base))?;
+    let found = shifted.checked_add(u64::from(digit))?;
+    if found > limit {
+        return None;
+    }
+    Some(found)
+}
+
 /// The value of digits of the base, with single underscores between them, from there on, where it
 /// is at most the limit.
 #[tactic(auto, using(crate::proofs::Values::value_steps))]
@@ -175,11 +188,7 @@ fn number_up_to(text: &[u8], from: usize, base: u8, limit: u64) -> Option<u64>
     while i < text.len() {
         let digit = digit_value(text[i]);
         if digit < base {
-            let wide = n as u128 * base as u128 + digit as u128;
-            if wide > limit as u128 {
-                return None;
-            }
-            n = wide as u64;
+            n = with_digit(n, base, digit, limit)?;
             behind = true;
         } else {
             if !behind {

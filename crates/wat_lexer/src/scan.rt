@@ -11,7 +11,8 @@ use crate::string::string_end;
 pub fn is_space(b: u8) -> bool
     ensures { result ≡ is_space b }
 {
-    matches!(b, b' ' | b'\t' | b'\n' | b'\r')
+    // (one comparison tells it of the bytes of words)
+    b <= b' ' && matches!(b, b' ' | b'\t' | b'\n' | b'\r')
 }
 
 const T: bool = true;
