@@ -89,6 +89,23 @@ pub enum Index<'a> {
     Id(Id<'a>),
 }
 
+impl Index<'_> {
+    ghost use Rattle.wat_lexer.specs.declared.span.Span as spans;
+    ghost use Rattle.wat_tokens.specs.declared.index.Id as ids;
+    ghost use Rattle.wat_tokens.specs.declared.index.Index.TheVariants as code;
+
+    /// Where it stands.
+    pub fn span(&self) -> Span
+        ensures number { (n : ℕ) (s : spans.Span) → self.now ≡ code.Num n s → result ≡ s }
+        ensures name { (i : ids.Id) → self.now ≡ code.Id i → result ≡ span_of i }
+    {
+        match self {
+            Index::Num(_, span) => *span,
+            Index::Id(id) => id.span(),
+        }
+    }
+}
+
 impl PartialEq for Index<'_> {
     ghost eq = { λ a b. same_index (index_view a) (index_view b) };
 
