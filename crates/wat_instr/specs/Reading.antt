@@ -1,14 +1,43 @@
--- What a call does that reads an operand.
-use Rattle.std.specs.Prelude.{Result}
+-- What a call does that reads an operand, and puts the instruction where it stays.
+use Rattle.std.specs.Prelude.{◌≡◌, ◌++◌, ◌∷◌, [], true, List, Option, Some, None, Result, Ok, Err}
+use Rattle.wat_tokens.specs.Cost.{tokens_alone, Costs}
+use Rattle.wat_tokens.specs.Counts.{Counted, SameSettings}
 use Rattle.wat_tokens.specs.Error.{Error}
-use Rattle.wat_tokens.specs.Reads.{Reads}
+use Rattle.wat_tokens.specs.Parses.{Refuses}
+use Rattle.wat_tokens.specs.Production.{Read, bind}
 use Rattle.wat_tokens.specs.State.{State}
-use Rattle.wat_tokens.specs.Views.{owning}
+use Rattle.wat_tokens.specs.Token.{Tok}
 use Rattle.wat_mnemonics.specs.declared.mnemonic.Mnemonic.{Mnemonic}
-use Rattle.wat_instr.specs.Instruction.{Instruction, instruction_view, bare_instruction}
+use Rattle.wat_instr.specs.Instruction.{Instr, Instruction, instruction_view, bare_instruction}
 use Rattle.wat_instr.specs.Instruction.{behind_word}
 
--- it answers the instruction whose word was taken, with the operand that is in front
-unfoldable pub ReadsOperand : Mnemonic → Result Instruction Error → State → State → Type 0
-ReadsOperand h r a b =
-    Reads (owning instruction_view bare_instruction) (behind_word h) r a b
+-- what is in a slot for one instruction
+abbrev pub in_slot : Option Instruction → List Instr
+in_slot (Some i) = instruction_view i ∷ []
+in_slot None = []
+
+-- what is in front, behind the instructions `before`
+abbrev pub put_behind : List Instr → Read Instr → Read (List Instr)
+put_behind before read = bind read (λ v r. Some (before ++ v ∷ [], r))
+
+-- `before` was in a place, and `after` is: with the instruction that is in front, and `left` is
+-- left; or nothing was put, and a refusal means what that of a parse does
+abbrev pub Puts : {X : Type 0} → List Instr → List Instr → Result X Error → Read Instr → List Tok
+    → Type 0
+Puts before after (Ok x) read left = put_behind before read ≡ Some (after, left)
+Puts before after (Err e) read left =
+    Refuses true bare_instruction e.fault read × (after ≡ before)
+
+-- From a to b a call answered r, where `read` stood in front. It counts tokens alone.
+pub record PutsWhatIsRead {X : Type 0} (before after : List Instr) (read : Read Instr)
+    (r : Result X Error) (a b : State) : Type 0 where
+  pub exact : Puts before after r read b.left
+  pub counts : Counted r a b
+  pub cost : Costs tokens_alone a b
+  pub settings : SameSettings a b
+
+-- it puts the instruction whose word was taken, with the operand that is in front
+unfoldable pub ReadsOperand : {X : Type 0} → Mnemonic → List Instr → List Instr → Result X Error
+    → State → State → Type 0
+ReadsOperand h before after r a b =
+    PutsWhatIsRead before after ((behind_word h).reads a.left) r a b

@@ -1,10 +1,9 @@
 //! The word of an instruction, its opcode, and what it opens.
 
 ghost use Rattle.std.specs.Prelude.{◌≡◌};
-ghost use Rattle.wat_mnemonics.specs.Heads.{mnemonic_word, mnemonic_opcode};
+ghost use Rattle.wat_mnemonics.specs.Heads.{mnemonic_row, mnemonic_word, mnemonic_opcode};
 ghost use Rattle.wat_mnemonics.specs.Opcodes.{bytes, Appends};
 ghost use Rattle.wat_instr.specs.Instruction.{head_in, instruction_view, is_block, is_if, is_br_if};
-ghost use Rattle.wat_instr.specs.Rows.{opens_block, opens_if, branches_if};
 
 use crate::instruction::{Instruction, InstructionOf};
 use std::fmt;
@@ -124,7 +123,6 @@ impl Instruction<'_> {
     }
 
     /// Whether it is `block`, `loop` or `try_table`, which stand before the items of a block.
-    #[tactic(auto, using(crate::proofs::RowFamilies::block_rows))]
     pub fn is_block(&self) -> bool
         ensures { result ≡ is_block (instruction_view self.now).row }
     {
@@ -132,7 +130,6 @@ impl Instruction<'_> {
     }
 
     /// Whether it is `if`.
-    #[tactic(auto, using(crate::proofs::RowFamilies::if_rows))]
     pub fn is_if(&self) -> bool
         ensures { result ≡ is_if (instruction_view self.now).row }
     {
@@ -140,7 +137,6 @@ impl Instruction<'_> {
     }
 
     /// Whether it is `br_if`.
-    #[tactic(auto, using(crate::proofs::RowFamilies::br_if_rows))]
     pub fn is_br_if(&self) -> bool
         ensures { result ≡ is_br_if (instruction_view self.now).row }
     {
@@ -148,9 +144,12 @@ impl Instruction<'_> {
     }
 }
 
-/// Whether it is the head of `block`, `loop` or `try_table`.
-fn opens_block(head: Mnemonic) -> bool
-    ensures { result ≡ opens_block head }
+/// Whether it is the word of `block`, `loop` or `try_table`, which stand before the items of a
+/// block.
+#[inline(always)]
+#[tactic(auto, using(crate::proofs::RowFamilies::block_rows))]
+pub fn opens_block(head: Mnemonic) -> bool
+    ensures { result ≡ is_block (mnemonic_row head) }
 {
     match head {
         Mnemonic::Block(op) => match op {
@@ -164,9 +163,11 @@ fn opens_block(head: Mnemonic) -> bool
     }
 }
 
-/// Whether it is the head of `if`.
-fn opens_if(head: Mnemonic) -> bool
-    ensures { result ≡ opens_if head }
+/// Whether it is the word `if`.
+#[inline(always)]
+#[tactic(auto, using(crate::proofs::RowFamilies::if_rows))]
+pub fn opens_if(head: Mnemonic) -> bool
+    ensures { result ≡ is_if (mnemonic_row head) }
 {
     match head {
         Mnemonic::Block(op) => match op {
@@ -179,9 +180,11 @@ fn opens_if(head: Mnemonic) -> bool
     }
 }
 
-/// Whether it is the head of `br_if`.
-fn branches_if(head: Mnemonic) -> bool
-    ensures { result ≡ branches_if head }
+/// Whether it is the word `br_if`.
+#[inline(always)]
+#[tactic(auto, using(crate::proofs::RowFamilies::br_if_rows))]
+pub fn branches_if(head: Mnemonic) -> bool
+    ensures { result ≡ is_br_if (mnemonic_row head) }
 {
     match head {
         Mnemonic::Indexed(op) => match op {

@@ -13,66 +13,78 @@ ghost use Rattle.wat_instr.specs.Reading.{ReadsOperand};
 
 use crate::families::*;
 use crate::instruction::Instruction;
+use crate::place::Place;
 use crate::singles::*;
 use wat_mnemonics::Mnemonic;
 use wat_tokens::{Fault, Parse, Parser, Result};
 
-/// The operand of the instruction whose word was taken.
-#[inline(always)]
-fn read_operand<'a>(head: Mnemonic, parser: &mut Parser<'a>) -> Result<Instruction<'a>>
-    ensures { ReadsOperand head result parser.old parser.new }
-{
-    match head {
-        Mnemonic::Block(op) => read_block(op, parser),
-        Mnemonic::Label(op) => read_label(op, parser),
-        Mnemonic::Scalar(op) => bare_scalar(op, parser),
-        Mnemonic::Indexed(op) => read_indexed(op, parser),
-        Mnemonic::CallIndirect(op) => read_call_indirect(op, parser),
-        Mnemonic::Table(op) => read_table(op, parser),
-        Mnemonic::Access(op) => read_access(op, parser),
-        Mnemonic::Memory(op) => read_memory(op, parser),
-        Mnemonic::Struct(op) => read_struct(op, parser),
-        Mnemonic::ArrayInit(op) => read_array_init(op, parser),
-        Mnemonic::AtomicAccess(op) => read_atomic_access(op, parser),
-        Mnemonic::RmwAccess(op) => read_rmw_access(op, parser),
-        Mnemonic::OrderedIndex(op) => read_ordered_index(op, parser),
-        Mnemonic::OrderedTable(op) => read_ordered_table(op, parser),
-        Mnemonic::OrderedStruct(op) => read_ordered_struct(op, parser),
-        Mnemonic::LaneAccess(op) => read_lane_access(op, parser),
-        Mnemonic::Lane(op) => read_lane(op, parser),
-        Mnemonic::Vector(op) => bare_vector(op, parser),
-        Mnemonic::br_table => read_br_table(parser),
-        Mnemonic::select => read_select(parser),
-        Mnemonic::memory_init => read_memory_init(parser),
-        Mnemonic::memory_copy => read_memory_copy(parser),
-        Mnemonic::table_init => read_table_init(parser),
-        Mnemonic::table_copy => read_table_copy(parser),
-        Mnemonic::ref_null => read_ref_null(parser),
-        Mnemonic::array_new_fixed => read_array_new_fixed(parser),
-        Mnemonic::array_new_data => read_array_new_data(parser),
-        Mnemonic::array_new_elem => read_array_new_elem(parser),
-        Mnemonic::array_fill => read_array_fill(parser),
-        Mnemonic::array_copy => read_array_copy(parser),
-        Mnemonic::ref_test => read_ref_test(parser),
-        Mnemonic::ref_cast => read_ref_cast(parser),
-        Mnemonic::br_on_cast => read_br_on_cast(parser),
-        Mnemonic::br_on_cast_fail => read_br_on_cast_fail(parser),
-        Mnemonic::i32_const => read_i32_const(parser),
-        Mnemonic::i64_const => read_i64_const(parser),
-        Mnemonic::f32_const => read_f32_const(parser),
-        Mnemonic::f64_const => read_f64_const(parser),
-        Mnemonic::atomic_fence => read_atomic_fence(parser),
-        Mnemonic::v128_const => read_v128_const(parser),
-        Mnemonic::i8x16_shuffle => read_i8x16_shuffle(parser),
-        Mnemonic::try_table => read_try_table(parser),
-        Mnemonic::cont_bind => read_cont_bind(parser),
-        Mnemonic::resume => read_resume(parser),
-        Mnemonic::resume_throw => read_resume_throw(parser),
-        Mnemonic::resume_throw_ref => read_resume_throw_ref(parser),
-        Mnemonic::switch => read_switch(parser),
-        Mnemonic::ref_cast_desc_eq => read_ref_cast_desc_eq(parser),
-        Mnemonic::br_on_cast_desc_eq => read_br_on_cast_desc_eq(parser),
-        Mnemonic::br_on_cast_desc_eq_fail => read_br_on_cast_desc_eq_fail(parser),
+impl<'a> Instruction<'a> {
+    /// Takes the operand of the instruction whose word was taken, and puts the instruction into a
+    /// place that has room for it.
+    ///
+    /// Where no operand is in front, it is refused with the first fault that is met; Memory may be
+    /// answered where the instruction isn't bare. Then nothing was put.
+    #[inline(always)]
+    pub fn read_operand<P: Place<'a>>(
+        head: Mnemonic,
+        parser: &mut Parser<'a>,
+        out: &mut P,
+    ) -> Result<()>
+        requires { P.has_room out.old }
+        ensures { ReadsOperand head (P.seen out.old) (P.seen out.new) result parser.old parser.new }
+    {
+        match head {
+            Mnemonic::Block(op) => read_block(op, parser, out),
+            Mnemonic::Label(op) => read_label(op, parser, out),
+            Mnemonic::Scalar(op) => bare_scalar(op, parser, out),
+            Mnemonic::Indexed(op) => read_indexed(op, parser, out),
+            Mnemonic::CallIndirect(op) => read_call_indirect(op, parser, out),
+            Mnemonic::Table(op) => read_table(op, parser, out),
+            Mnemonic::Access(op) => read_access(op, parser, out),
+            Mnemonic::Memory(op) => read_memory(op, parser, out),
+            Mnemonic::Struct(op) => read_struct(op, parser, out),
+            Mnemonic::ArrayInit(op) => read_array_init(op, parser, out),
+            Mnemonic::AtomicAccess(op) => read_atomic_access(op, parser, out),
+            Mnemonic::RmwAccess(op) => read_rmw_access(op, parser, out),
+            Mnemonic::OrderedIndex(op) => read_ordered_index(op, parser, out),
+            Mnemonic::OrderedTable(op) => read_ordered_table(op, parser, out),
+            Mnemonic::OrderedStruct(op) => read_ordered_struct(op, parser, out),
+            Mnemonic::LaneAccess(op) => read_lane_access(op, parser, out),
+            Mnemonic::Lane(op) => read_lane(op, parser, out),
+            Mnemonic::Vector(op) => bare_vector(op, parser, out),
+            Mnemonic::br_table => read_br_table(parser, out),
+            Mnemonic::select => read_select(parser, out),
+            Mnemonic::memory_init => read_memory_init(parser, out),
+            Mnemonic::memory_copy => read_memory_copy(parser, out),
+            Mnemonic::table_init => read_table_init(parser, out),
+            Mnemonic::table_copy => read_table_copy(parser, out),
+            Mnemonic::ref_null => read_ref_null(parser, out),
+            Mnemonic::array_new_fixed => read_array_new_fixed(parser, out),
+            Mnemonic::array_new_data => read_array_new_data(parser, out),
+            Mnemonic::array_new_elem => read_array_new_elem(parser, out),
+            Mnemonic::array_fill => read_array_fill(parser, out),
+            Mnemonic::array_copy => read_array_copy(parser, out),
+            Mnemonic::ref_test => read_ref_test(parser, out),
+            Mnemonic::ref_cast => read_ref_cast(parser, out),
+            Mnemonic::br_on_cast => read_br_on_cast(parser, out),
+            Mnemonic::br_on_cast_fail => read_br_on_cast_fail(parser, out),
+            Mnemonic::i32_const => read_i32_const(parser, out),
+            Mnemonic::i64_const => read_i64_const(parser, out),
+            Mnemonic::f32_const => read_f32_const(parser, out),
+            Mnemonic::f64_const => read_f64_const(parser, out),
+            Mnemonic::atomic_fence => read_atomic_fence(parser, out),
+            Mnemonic::v128_const => read_v128_const(parser, out),
+            Mnemonic::i8x16_shuffle => read_i8x16_shuffle(parser, out),
+            Mnemonic::try_table => read_try_table(parser, out),
+            Mnemonic::cont_bind => read_cont_bind(parser, out),
+            Mnemonic::resume => read_resume(parser, out),
+            Mnemonic::resume_throw => read_resume_throw(parser, out),
+            Mnemonic::resume_throw_ref => read_resume_throw_ref(parser, out),
+            Mnemonic::switch => read_switch(parser, out),
+            Mnemonic::ref_cast_desc_eq => read_ref_cast_desc_eq(parser, out),
+            Mnemonic::br_on_cast_desc_eq => read_br_on_cast_desc_eq(parser, out),
+            Mnemonic::br_on_cast_desc_eq_fail => read_br_on_cast_desc_eq_fail(parser, out),
+        }
     }
 }
 
@@ -88,7 +100,6 @@ impl<'a> Parse<'a> for Instruction<'a> {
 
     ghost grammar = { instruction };
 
-    #[inline(always)]
     #[tactic(auto, unfolding(crate::specs::Reading::ReadsOperand, crate::specs::Instruction::instruction))]
     fn parse(parser: &mut Parser<'a>) -> Result<Self>
         // No turn and no height is counted.
@@ -102,6 +113,8 @@ impl<'a> Parse<'a> for Instruction<'a> {
             → IfErr result (λ e. e.fault ≡ Fault.Operator) }
     {
         let head = Mnemonic::take(parser)?;
-        read_operand(head, parser)
+        let mut slot = None;
+        Instruction::read_operand(head, parser, &mut slot)?;
+        Ok(slot.unwrap())
     }
 }
