@@ -177,10 +177,17 @@ pub is_none : (b : Bool) (s : List OpenGroup) → MatchBool b (s ≡ []) (s ≡ 
 is_none true s m e = m
 is_none false s m e = absurd cc
 
+-- no hint waits in a folded group
+abbrev pub Unhinted : List OpenGroup → Type 0
+Unhinted [] = Unit {0}
+Unhinted (InFolded i h ∷ s) = (h ≡ None) × Unhinted s
+Unhinted (l ∷ s) = Unhinted s
+
 -- From the parser a on, the groups s are open, f was put out, and the parser is b.
 pub record Going (a : State) (s : List OpenGroup) (f : Flat) (b : State) : Type 0 where
   pub exact : Unwinding a.left (start a.turns a.peak a.held) s b.left (sum_of f b)
   pub hints : f.hints ≡ []
+  pub unhinted : Unhinted s
   pub spans : Spanned a.tracks f
   pub counts : Carries a b
   pub turned : b.turns + a.taken ≤ a.turns + b.taken
@@ -197,14 +204,14 @@ pub record Stepped (s s' : List OpenGroup) (ts us : List Tok) (f f' : Flat) : Ty
   pub same : (t p h : ℕ) → SameToDo s ts (sum f.instrs t p h) s' us (sum f'.instrs (t + 1) (max p (length s')) (max h (heads_in s')))
   pub balanced : length s' + closes ts + opens us ≡ length s + opens ts + closes us
   pub shorter : length us < length ts
-  pub hints : f.hints ≡ [] → f'.hints ≡ []
+  pub hints : Unhinted s → f.hints ≡ [] → (f'.hints ≡ []) × Unhinted s'
   pub spans : (keeps : Bool) → Spanned keeps f → Spanned keeps f'
 
 steps : (s s' : List OpenGroup) (ts us : List Tok) (f f' : Flat) → (s ≡ [] → ⊥) → Opens (group_state s ts f) (group_state s' us f') ⊎ Closes (group_state s ts f) (group_state s' us f') → Stepped s s' ts us f f'
 steps s s' ts us f f' some (inl (i, a, e, h, l, o)) =
-    rw (e, l, o) (record { same = λ t p n. opened_same i None s a us (sum f.instrs t p n) some h; balanced = omega (arith, reads_balanced i a us h); shorter = omega (arith, reads_shorter i a us h); hints = λ e. e; spans = λ k e. e })
+    rw (e, l, o) (record { same = λ t p n. opened_same i None s a us (sum f.instrs t p n) some h; balanced = omega (arith, reads_balanced i a us h); shorter = omega (arith, reads_shorter i a us h); hints = λ w e. (e, (refl, w)); spans = λ k e. e })
 steps s s' ts us f f' some (inr (i, h, l, e, o)) =
-    rw (e, l, o) (record { same = λ t p n. closes_in i h s' us (sum f.instrs t p n); balanced = omega arith; shorter = omega arith; hints = λ e. append-nil f.hints ∙ e; spans = λ k e. spanned k None i f e })
+    rw (e, l, o) (record { same = λ t p n. closes_in i h s' us (sum f.instrs t p n); balanced = omega arith; shorter = omega arith; hints = λ w e. (rw w.0 (append-nil f.hints ∙ e), w.1); spans = λ k e. spanned k h i f e })
 
 pub going_on : (a b t u v w : State) (s s' : List OpenGroup) (f f' : Flat) (k h : ℕ) → t ≡ record b { turns = b.turns + 1 } → k ≡ length s' → v ≡ record u { peak = max u.peak k } → h ≡ heads_in s' → w ≡ record v { held = max v.held h }
     → (s ≡ [] → ⊥) → Opens (group_state s t.left f) (group_state s' u.left f') ⊎ Closes (group_state s t.left f) (group_state s' u.left f') → Going a s f b → Carries b t → Carries t u → Stays t u → SameSettings t u → Carries v w → Going a s' f' w
@@ -215,7 +222,8 @@ going_on a b t u v w s s' f f' k h et ek ev eh ew = rw (et, ew, ev, ek, eh) (λ 
     let same : SameToDo s b.left (sum_of f b) s' u.left (sum f'.instrs u.turns (max u.peak (length s')) (max u.held (heads_in s'))) = rw (su.0, su.1, su.2) (x.same b.turns b.peak b.held) in
     record {
       exact = record { forth = λ i gs r k. same.forth (whole i gs (start a.turns a.peak a.held)) r (g.exact.forth i gs r k); back = λ o r k. g.exact.back o r (same.back o r k) };
-      hints = x.hints g.hints;
+      hints = (x.hints g.unhinted g.hints).0;
+      unhinted = (x.hints g.unhinted g.hints).1;
       spans = x.spans a.tracks g.spans;
       counts = λ y z. cw y (carries_height a u _ (length s') (λ y z. cu y (ct y (g.counts y z))) balanced refl y z);
       turned = omega (arith, g.turned, su.0, more);
@@ -225,14 +233,15 @@ going_on a b t u v w s s' f f' k h et ek ev eh ew = rw (et, ew, ev, ek, eh) (λ 
 
 -- ---- behind the first instruction
 
-pub going_begins : (a o t v w : State) (i : Instr) (p : Option ℕ) (s : List OpenGroup) (f : Flat) (k h : ℕ) → s ≡ InFolded i p ∷ [] → f ≡ no_output a.tracks → k ≡ length s → v ≡ record t { peak = max t.peak k } → h ≡ heads_in s → w ≡ record v { held = max v.held h }
+pub going_begins : (a o t v w : State) (i : Instr) (s : List OpenGroup) (f : Flat) (k h : ℕ) → s ≡ InFolded i None ∷ [] → f ≡ no_output a.tracks → k ≡ length s → v ≡ record t { peak = max t.peak k } → h ≡ heads_in s → w ≡ record v { held = max v.held h }
     → a.left ≡ LParen ∷ o.left → Carries a o → Quiet a o → SameSettings a o → reads i o.left t.left → Carries o t → Stays o t → SameSettings o t → Carries v w → Going a s f w
-going_begins a o t v w i p s f k h es ef ek ev eh ew = rw (ew, ev, ek, eh, es, ef) (λ e co qo ko ri ct st kt cw.
+going_begins a o t v w i s f k h es ef ek ev eh ew = rw (ew, ev, ek, eh, es, ef) (λ e co qo ko ri ct st kt cw.
     let balanced : 1 + closes a.left + opens t.left ≡ opens a.left + closes t.left = omega (arith, reads_balanced i o.left t.left ri, ap opens e, ap closes e) in
     let more : a.taken ≤ t.taken = taken_more a t (λ x z. ct x (co x z)) in
     record {
-      exact = rw (st.0, qo.0, st.1, qo.2, st.2, qo.3) (begins i p a.left o.left t.left (start a.turns a.peak a.held) e ri);
+      exact = rw (st.0, qo.0, st.1, qo.2, st.2, qo.3) (begins i None a.left o.left t.left (start a.turns a.peak a.held) e ri);
       hints = refl;
+      unhinted = (refl, tt);
       spans = refl;
       counts = λ x z. cw x (carries_height a t _ 1 (λ x z. ct x (co x z)) balanced refl x z);
       turned = omega (arith, st.0, qo.0, more);

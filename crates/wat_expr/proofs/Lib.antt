@@ -7,6 +7,7 @@ pub mod Heights
 pub mod Instructions
 pub mod OneReading
 pub mod OpenGroups
+pub mod ReadTurns
 pub mod Rows
 pub mod Turns
 pub mod Whole

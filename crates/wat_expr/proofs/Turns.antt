@@ -225,20 +225,12 @@ turn_group res k s new p after i ts m f g q a h t n l r =
     (λ x j b d g e rj t lj z. let one = same_group i j ts m b d e h rj in rw (one_sort i j k x one.0 q lj, ← one.0, ← one.1) z) (λ v d g e lt y z. absurd (no_hint_word i ts m _ y h)))
     (λ c o r. group_back o r s k p i ts m (with_tallies f c) a h t q) (omega (arith, reads_shorter i ts m h)) (omega (arith, reads_balanced i ts m h))))
 
-pub popped : {A : Type 0} (view : A → OpenGroup) (res : Option A) (old new s : List OpenGroup) (l : OpenGroup) → MatchOption res ((old ≡ []) × (new ≡ [])) (λ l. old ≡ view l ∷ new) → old ≡ l ∷ s → new ≡ s
-popped view None old new s l m e = let f = m.0 in cc
-popped view (Some x) old new s l m e = cc
-
 pub turn_hint : (s : List OpenGroup) (p : Option ℕ) (v : ℕ) (w : List ℕ) (u u2 d : List Tok) (f : Flat) → IsOpen s → p ≡ None → u ≡ String w ∷ u2 → w ≡ v ∷ [] → u2 ≡ RParen ∷ d → v < 2 → Turn (at s p (LParen ∷ hint_name ∷ u) f) (at s (Some v) d f)
 turn_hint s p v w u u2 d f g n e ew e2 lt =
     rw (n, e, ew, e2) (turn_is _ _ suc (omega arith)
     (λ c o r. next o r s None _ (with_tallies f c) (λ e z. absurd (ends_behind o r s g _ _ z)) (λ j m a rj t z. absurd (word_front j LParen _ m rj)) (λ k j a b g2 e rj t q z. absurd (no_hint_word j a b _ (sym e) rj))
     (λ x y g2 e lt q z. let ex : x ≡ v = cc in let ey : y ≡ d = cc in rw (← ex, ← ey) z))
     (λ c o r (xs, x, l, fit, only, z). (Hinted v xs, x, (d, refl, lt, fit, l), tt, (g, only), z)) (omega arith) (omega arith))
-
--- one instruction is in front, and it doesn't suit
-pub unsuited : (p : Option ℕ) (j : Instr) (ts r : List Tok) → reads j ts r → suits p j ≡ false → (i : Instr) (m : List Tok) → reads i ts m → suits p i ≡ true → ⊥
-unsuited p j ts r h other i m k same = let e = ap (λ (x : Instr). suits p x) (reads_one i j ts m r k h).0 in cc
 
 pub sort_block : (i : Instr) → is_block i.row ≡ true → sort i ≡ IsBlock
 sort_block i b = rw b refl

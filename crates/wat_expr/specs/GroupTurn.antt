@@ -27,7 +27,7 @@ abbrev pub Closes : GroupState → GroupState → Type 0
 Closes s t =
     (i : Instr) × (h : Option ℕ) × (s.open_groups ≡ InFolded i h ∷ t.open_groups)
     × (s.left ≡ RParen ∷ t.left)
-    × (t.out ≡ push None i s.out)
+    × (t.out ≡ push h i s.out)
 
 -- neither can be
 pub record IsHalted (s : GroupState) : Type 0 where
@@ -39,3 +39,10 @@ pub record IsHalted (s : GroupState) : Type 0 where
 abbrev pub GroupTurn : {A : Type 0} → Result A Error → GroupState → GroupState → Type 0
 GroupTurn (Ok x) s t = Opens s t ⊎ Closes s t
 GroupTurn (Err e) s t = e.fault ≢ Memory → IsHalted s
+
+-- Behind a `(` the group of an instruction opened. Or, unless memory ran out, none is in front.
+abbrev pub OpensBehind : {A : Type 0} → Result A Error → List OpenGroup → List OpenGroup
+    → List Tok → List Tok → Type 0
+OpensBehind (Ok x) s t ts r = (i : Instr) × reads i ts r × (t ≡ InFolded i None ∷ s)
+OpensBehind (Err e) s t ts r =
+    e.fault ≢ Memory → (i : Instr) (m : List Tok) → reads i ts m → ⊥

@@ -9,6 +9,7 @@ pub use Rattle.wat_tokens.specs.Views
 pub use Rattle.wat_instr.specs.Follows
 pub use Rattle.wat_instr.specs.Instruction
 pub mod Alone
+pub mod Closed
 pub mod Expression
 pub mod ExpressionProduction
 pub mod Facts

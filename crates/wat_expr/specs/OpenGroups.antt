@@ -1,11 +1,10 @@
 -- What is open in an expression, from the innermost outwards.
-use Rattle.std.specs.Prelude.{◌≡◌, ℕ, suc, List, [], ◌∷◌, Option, Some, None}
-use Rattle.wat_instr.specs.Instruction.{Instr, instruction_view}
-use Rattle.wat_expr.specs.declared.open_groups.HeldInstruction.{HeldInstruction}
+use Rattle.std.specs.Prelude.{◌≡◌, ℕ, suc, List, [], ◌∷◌, length, Option, Some, None, Bool, true}
+use Rattle.std.specs.Prelude.{false}
+use Rattle.wat_instr.specs.Instruction.{Instr}
+use Rattle.wat_expr.specs.declared.open_groups.Mark.{Mark}
 use Rattle.wat_expr.specs.declared.open_groups.Kind.{Kind}
 use Rattle.wat_expr.specs.declared.open_groups.Kind.TheVariants as kind
-use Rattle.wat_expr.specs.declared.open_groups.OpenGroup as code_group
-use Rattle.wat_expr.specs.declared.open_groups.OpenGroup.TheVariants as code
 
 -- a folded group and an `if` in front of its `( then` hold their instruction, with its hint
 pub data OpenGroup : Type 0 where
@@ -15,14 +14,6 @@ pub data OpenGroup : Type 0 where
   AfterThen : OpenGroup
   AfterElse : OpenGroup
   InArm : OpenGroup
-
-abbrev pub open_group_view : code_group.OpenGroup → OpenGroup
-open_group_view (code.Folded h) = InFolded (instruction_view h.instr) h.hint
-open_group_view code.Block = InBlock
-open_group_view (code.If h) = InIf (instruction_view h.instr) h.hint
-open_group_view code.AfterThen = AfterThen
-open_group_view code.AfterElse = AfterElse
-open_group_view code.Arm = InArm
 
 -- how many open groups hold an instruction
 abbrev pub heads_in : List OpenGroup → ℕ
@@ -46,18 +37,33 @@ waiting (kind.AfterThen ∷ ks) = waiting ks
 waiting (kind.AfterElse ∷ ks) = waiting ks
 waiting (kind.Arm ∷ ks) = waiting ks
 
--- the open groups of the kinds, which hold the heads in order
-abbrev pub open_groups : List Kind → List HeldInstruction → List OpenGroup
-open_groups [] hs = []
-open_groups (kind.Folded ∷ ks) (h ∷ hs) =
-    InFolded (instruction_view h.instr) h.hint ∷ open_groups ks hs
-open_groups (kind.If ∷ ks) (h ∷ hs) = InIf (instruction_view h.instr) h.hint ∷ open_groups ks hs
-open_groups (kind.Folded ∷ ks) [] = []
-open_groups (kind.If ∷ ks) [] = []
-open_groups (kind.Block ∷ ks) hs = InBlock ∷ open_groups ks hs
-open_groups (kind.AfterThen ∷ ks) hs = AfterThen ∷ open_groups ks hs
-open_groups (kind.AfterElse ∷ ks) hs = AfterElse ∷ open_groups ks hs
-open_groups (kind.Arm ∷ ks) hs = InArm ∷ open_groups ks hs
+-- the open groups of the kinds, which hold the instructions, with their marks, in order
+abbrev pub open_groups : List Kind → List Instr → List Mark → List OpenGroup
+open_groups (kind.Folded ∷ ks) (i ∷ is) (m ∷ ms) = InFolded i m.hint ∷ open_groups ks is ms
+open_groups (kind.If ∷ ks) (i ∷ is) (m ∷ ms) = InIf i m.hint ∷ open_groups ks is ms
+open_groups (kind.Block ∷ ks) is ms = InBlock ∷ open_groups ks is ms
+open_groups (kind.AfterThen ∷ ks) is ms = AfterThen ∷ open_groups ks is ms
+open_groups (kind.AfterElse ∷ ks) is ms = AfterElse ∷ open_groups ks is ms
+open_groups (kind.Arm ∷ ks) is ms = InArm ∷ open_groups ks is ms
+open_groups _ is ms = []
+
+-- as many instructions wait as the kinds say, each with its mark
+abbrev pub EachHolds : List Kind → List Instr → List Mark → Type 0
+EachHolds ks is ms = (waiting ks ≡ length is) × (length ms ≡ length is)
+
+-- the kind of an open group
+abbrev pub kind_of : OpenGroup → Kind
+kind_of (InFolded i h) = kind.Folded
+kind_of InBlock = kind.Block
+kind_of (InIf i h) = kind.If
+kind_of AfterThen = kind.AfterThen
+kind_of AfterElse = kind.AfterElse
+kind_of InArm = kind.Arm
+
+-- the kind of a group that holds its instruction: an `if` or another
+abbrev pub holder : Bool → Kind
+holder true = kind.If
+holder false = kind.Folded
 
 -- the innermost open group is of the kind; None where nothing is open
 abbrev pub TopIs : Option Kind → List OpenGroup → Type 0

@@ -1,28 +1,34 @@
 -- What takes one token, or an instruction.
-use Rattle.std.specs.Prelude.{◌≡◌, ◌≢◌, Bool, true, Option, Result, Ok, Err, List, ◌∷◌, MatchBool}
-use Rattle.std.specs.Prelude.{ℕ}
+use Rattle.std.specs.Prelude.{◌≡◌, ◌≢◌, ◌||◌, Bool, true, Option, Some, None, Result, Ok, Err}
+use Rattle.std.specs.Prelude.{ℕ, List, ◌∷◌, MatchBool}
 use Rattle.wat_tokens.specs.Token.{Tok, String}
 use Rattle.wat_tokens.specs.Error.{Error, Memory}
-use Rattle.wat_instr.specs.Instruction.{Instruction}
-use Rattle.wat_instr.specs.Instruction.{Instr, instruction_view}
-use Rattle.wat_expr.specs.Items.{reads}
-use Rattle.wat_expr.specs.Progress.{suits}
+use Rattle.wat_mnemonics.specs.Heads.{mnemonic_row}
+use Rattle.wat_mnemonics.specs.declared.mnemonic.Mnemonic.{Mnemonic}
+use Rattle.wat_instr.specs.Instruction.{Instr, instruction, behind_word, is_br_if, is_if}
 
 -- from ts to r the token was taken, or it isn't in front and nothing was
 abbrev pub TakesIf : Tok → Bool → List Tok → List Tok → Type 0
 TakesIf t b ts r = MatchBool b (ts ≡ t ∷ r) ((r ≡ ts) × ((u : List Tok) → ts ≡ t ∷ u → ⊥))
 
--- an instruction was read, or, unless memory ran out, none is in front
-abbrev pub ReadsInstr : Result Instruction Error → List Tok → List Tok → Type 0
-ReadsInstr (Ok i) ts r = reads (instruction_view i) ts r
-ReadsInstr (Err e) ts r = e.fault ≢ Memory → (i : Instr) (m : List Tok) → reads i ts m → ⊥
+-- The word of an instruction was taken: what is in front is what is behind its word. Or none is in
+-- front.
+abbrev pub TakesHead : Result Mnemonic Error → List Tok → List Tok → Type 0
+TakesHead (Ok h) ts r = instruction.reads ts ≡ (behind_word h).reads r
+TakesHead (Err e) ts r = instruction.reads ts ≡ None
 
--- an instruction was read that suits the pending hint, or, unless memory ran out, none that does is
--- in front
-abbrev pub ReadsSuited : Option ℕ → Result Instruction Error → List Tok → List Tok → Type 0
-ReadsSuited p (Ok i) ts r = reads (instruction_view i) ts r × (suits p (instruction_view i) ≡ true)
-ReadsSuited p (Err e) ts r =
-    e.fault ≢ Memory → (i : Instr) (m : List Tok) → reads i ts m → suits p i ≡ true → ⊥
+-- Behind the word the instruction was read, and `Then` holds of it. Or, unless memory ran out, no
+-- operand is in front.
+abbrev pub ReadsBehind : {X : Type 0} → Mnemonic → (Instr → Type 0) → Result X Error → List Tok
+    → List Tok → Type 0
+ReadsBehind h Then (Ok x) ts r =
+    (i : Instr) × ((behind_word h).reads ts ≡ Some (i, r)) × Then i
+ReadsBehind h Then (Err e) ts r = e.fault ≢ Memory → (behind_word h).reads ts ≡ None
+
+-- whether the instructions of the word suit the pending hint
+abbrev pub suits_word : Option ℕ → Mnemonic → Bool
+suits_word None h = true
+suits_word (Some v) h = is_br_if (mnemonic_row h) || is_if (mnemonic_row h)
 
 -- a string was taken, seen by its content, or none is in front
 abbrev pub TakesString : {X : Type 0} → (X → List ℕ) → Result X Error → List Tok → List Tok → Type 0

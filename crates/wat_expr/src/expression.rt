@@ -7,18 +7,21 @@ ghost use Rattle.wat_expr.specs.Expression.{value_of, SpansAre, kept_spans, and_
 ghost use Rattle.wat_expr.specs.Flat.{span_count, flat, no_output, one_more, push};
 ghost use Rattle.wat_expr.specs.Items.{Items, lists, mark};
 ghost use Rattle.wat_expr.specs.Listed.{IsListed};
+ghost use Rattle.wat_expr.specs.Taken.{ReadsBehind};
 ghost use Rattle.wat_expr.specs.ExpressionProduction.{expression};
 ghost use Rattle.wat_instr.specs.Instruction.{instruction_view, end_instr};
 ghost use Rattle.wat_tokens.specs.Cost.{turns_too};
 ghost use Rattle.wat_tokens.specs.Parses.{Accepts};
 ghost use Rattle.wat_tokens.specs.Reads.{ReadsAt};
+ghost use Rattle.wat_tokens.specs.Steady.{Steady};
 ghost use Rattle.wat_tokens.specs.Tests.{ends};
 ghost use Rattle.wat_tokens.specs.Token.{Tok};
 ghost use Rattle.wat_tokens.specs.Views.{owning};
 
 use crate::reader::Reader;
+use crate::take::read_behind;
 use std::alloc::Global;
-use wat_instr::{Instruction, LabelOp};
+use wat_instr::{Instruction, LabelOp, Mnemonic};
 use wat_tokens::ownership::push_into;
 use wat_tokens::{Error, Fault, Parse, Parser, Result, Span};
 
@@ -160,6 +163,31 @@ impl<'a> Expression<'a> {
         add_hint(&mut self.branch_hints, hint, index)?;
         add_span(&mut self.instr_spans, span)?;
         Ok(())
+    }
+
+    /// Takes the operand of the instruction whose word was taken, and puts the instruction behind the
+    /// others, with the hint that is directly before its item. Memory may be answered.
+    #[inline(always)]
+    pub(crate) fn read(
+        &mut self,
+        head: Mnemonic,
+        parser: &mut Parser<'a>,
+        hint: Option<u32>,
+        span: Span,
+    ) -> Result<()>
+        ensures exact { ReadsBehind head (λ i. flat self.new ≡ push hint i (flat self.old)) result
+            parser.old.left parser.new.left }
+        ensures steady { Steady parser.old parser.new }
+    {
+        let index = self.instrs.len();
+        match read_behind(head, parser, &mut self.instrs) {
+            Ok(()) => {
+                add_hint(&mut self.branch_hints, hint, index)?;
+                add_span(&mut self.instr_spans, span)?;
+                Ok(())
+            }
+            Err(refused) => Err(refused),
+        }
     }
 
     /// Puts an `end` behind the others; `span` is where the `)` is that it is added for. Memory

@@ -5,7 +5,7 @@ ghost use Rattle.wat_expr.specs.Expression.{Expr, expression_view, bare_expressi
 ghost use Rattle.wat_expr.specs.Flat.{flat};
 ghost use Rattle.wat_expr.specs.Folded.{Groups, folded_value, is_folded};
 ghost use Rattle.wat_expr.specs.FoldedProduction.{folded_instruction};
-ghost use Rattle.wat_expr.specs.GroupTurn.{GroupTurn, group_state};
+ghost use Rattle.wat_expr.specs.GroupTurn.{GroupTurn, OpensBehind, group_state};
 ghost use Rattle.wat_expr.specs.Listed.{IsFolded};
 ghost use Rattle.wat_instr.specs.Instruction.{Instr};
 ghost use Rattle.wat_tokens.specs.Cost.{turns_too};
@@ -16,10 +16,26 @@ ghost use Rattle.wat_tokens.specs.Token.{Tok};
 ghost use Rattle.wat_tokens.specs.Views.{owning};
 
 use crate::expression::Expression;
-use crate::open_groups::{HeldInstruction, OpenGroup, OpenGroups};
-use crate::take::{take_close, take_instr, take_open};
-use wat_tokens::ownership::discard;
+use crate::open_groups::{Kind, Mark, OpenGroups};
+use crate::take::{take_close, take_head, take_open};
 use wat_tokens::{Parse, Parser, Result};
+
+/// A group opens, whose `(` was taken: the instruction in front waits in it.
+#[inline(always)]
+fn open_group<'a>(open_groups: &mut OpenGroups<'a>, parser: &mut Parser<'a>) -> Result<()>
+    ensures exact { OpensBehind result open_groups.old open_groups.new parser.old.left
+        parser.new.left }
+    ensures steady { Steady parser.old parser.new }
+{
+    let span = parser.cur_span();
+    match take_head(parser) {
+        Ok(head) => {
+            let mark = Mark { span, hint: None };
+            open_groups.hold(Kind::Folded, head, parser, mark)
+        }
+        Err(refused) => Err(refused),
+    }
+}
 
 /// One turn: a group opens, or the innermost one closes and its instruction is put behind the
 /// others.
@@ -33,26 +49,15 @@ fn turn<'a>(
     ensures steady { Steady parser.old parser.new }
 {
     if take_open(parser) {
-        let span = parser.cur_span();
-        let instr = match take_instr(parser) {
-            Ok(instr) => instr,
-            Err(refused) => return Err(refused),
-        };
-        return open_groups.push(OpenGroup::Folded(HeldInstruction {
-            instr,
-            span,
-            hint: None,
-        }));
+        return open_group(open_groups, parser);
     }
     if !take_close(parser) {
         return Err(parser.unexpected());
     }
-    match open_groups.pop() {
-        Some(OpenGroup::Folded(head)) => out.push(None, head.instr, head.span),
-        other => {
-            discard(other);
-            Err(parser.unexpected())
-        }
+    match open_groups.pop(out) {
+        Ok(Some(Kind::Folded)) => Ok(()),
+        Ok(_) => Err(parser.unexpected()),
+        Err(refused) => Err(refused),
     }
 }
 
@@ -82,13 +87,7 @@ impl<'a> Expression<'a> {
         let mut open_groups = OpenGroups::new(parser.alloc());
         let mut out = Expression::empty(parser.alloc(), parser.tracks());
         parser.open()?;
-        let span = parser.cur_span();
-        let instr = take_instr(parser)?;
-        open_groups.push(OpenGroup::Folded(HeldInstruction {
-            instr,
-            span,
-            hint: None,
-        }))?;
+        open_group(&mut open_groups, parser)?;
         parser.note_height(open_groups.height());
         parser.note_held(open_groups.held());
         'groups: while !open_groups.is_empty() {

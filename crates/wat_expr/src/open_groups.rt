@@ -1,15 +1,20 @@
 //! What is open in an expression.
 
-ghost use Rattle.std.specs.Prelude.{◌≡◌, ◌∷◌, ◌++◌, [], List, MatchBool, MatchOption, MatchResult};
-ghost use Rattle.std.specs.Prelude.{length};
-ghost use Rattle.wat_expr.specs.OpenGroups.{open_group_view, heads_in, open_groups, waiting, TopIs};
+ghost use Rattle.std.specs.Prelude.{◌≡◌, ◌<◌, ◌∷◌, ◌++◌, [], List, MatchBool, MatchOption};
+ghost use Rattle.std.specs.Prelude.{MatchResult, length};
+ghost use Rattle.wat_expr.specs.Closed.{Pops, Releases};
+ghost use Rattle.wat_expr.specs.Flat.{flat};
+ghost use Rattle.wat_expr.specs.OpenGroups.{heads_in, open_groups, waiting, TopIs};
 ghost use Rattle.wat_expr.specs.Progress.{TakesPlain};
+ghost use Rattle.wat_expr.specs.Taken.{ReadsBehind};
+ghost use Rattle.wat_tokens.specs.Steady.{Steady};
 
+use crate::expression::Expression;
+use crate::take::read_behind;
 use std::alloc::Global;
 use std::marker::Model;
-use wat_instr::Instruction;
-use wat_tokens::ownership::{discard, push_into};
-use wat_tokens::{Fault, Result, Span};
+use wat_instr::{Instruction, Mnemonic};
+use wat_tokens::{Fault, Parser, Result, Span};
 
 /// What kind of group is open.
 #[derive(Clone, Copy, Debug)]
@@ -28,45 +33,73 @@ pub enum Kind {
     Arm,
 }
 
-/// An instruction that waits for the end of its operands.
-#[derive(Debug, Drop)]
-pub struct HeldInstruction<'a> {
-    pub instr: Instruction<'a>,
+impl Kind {
+    /// Whether an instruction waits in the group.
+    #[inline(always)]
+    fn holds(self) -> bool
+        ensures { MatchBool result (waiting (self ∷ []) ≡ 1) (waiting (self ∷ []) ≡ 0) }
+    {
+        match self {
+            Kind::Folded => true,
+            Kind::If => true,
+            Kind::Block => false,
+            Kind::AfterThen => false,
+            Kind::AfterElse => false,
+            Kind::Arm => false,
+        }
+    }
+}
+
+/// What is kept of an instruction that waits for the end of its operands, beside it.
+#[derive(Clone, Copy, Debug)]
+pub struct Mark {
     /// Where its word begins.
     pub span: Span,
     /// The hint that is directly before its item.
     pub hint: Option<u32>,
 }
 
-/// A group that is open, with the instruction that waits in it.
-#[derive(Debug, Drop)]
-pub enum OpenGroup<'a> {
-    Folded(HeldInstruction<'a>),
-    Block,
-    If(HeldInstruction<'a>),
-    AfterThen,
-    AfterElse,
-    Arm,
-}
-
 /// The groups that are open. Contracts see them from the innermost outwards.
 ///
-/// Most of them hold no instruction, so kinds and instructions are kept apart.
+/// Most of them hold no instruction, so kinds and instructions are kept apart; and an instruction
+/// is made where it waits, so it is kept apart from its mark.
 #[derive(Drop)]
 pub struct OpenGroups<'a> {
     kinds: Vec<Kind>,
-    heads: Vec<HeldInstruction<'a>>,
+    heads: Vec<Instruction<'a>>,
+    marks: Vec<Mark>,
 }
 
 impl<'a> Model for OpenGroups<'a> {
-    ghost use Rattle.std.specs.Prelude.{List, reverse, length, ◌≡◌};
-    ghost use Rattle.wat_expr.specs.OpenGroups.{OpenGroup, open_groups, waiting};
+    ghost use Rattle.std.specs.Prelude.{List, map, reverse};
+    ghost use Rattle.wat_instr.specs.Instruction.{instruction_view};
+    ghost use Rattle.wat_expr.specs.OpenGroups.{OpenGroup, open_groups, EachHolds};
 
     ghost Value = { List OpenGroup };
 
-    ghost view = { λ s. open_groups (reverse s.kinds.items) (reverse s.heads.items) };
+    ghost view = { λ s. open_groups (reverse s.kinds.items) (reverse (map instruction_view
+        s.heads.items)) (reverse s.marks.items) };
 
-    ghost invariant = { λ s. waiting (reverse s.kinds.items) ≡ length (reverse s.heads.items) };
+    ghost invariant = { λ s. EachHolds (reverse s.kinds.items) (reverse (map instruction_view
+        s.heads.items)) (reverse s.marks.items) };
+}
+
+/// Puts the last of the instructions that wait behind the others of `out`, with its mark. Memory
+/// may be answered; then it is gone.
+#[inline(always)]
+fn release<'a>(
+    heads: &mut Vec<Instruction<'a>>,
+    marks: &mut Vec<Mark>,
+    out: &mut Expression<'a>,
+) -> Result<()>
+    requires heads { 0 < length heads.old.items }
+    requires marks { 0 < length marks.old.items }
+    ensures { Releases result heads.old.items heads.new.items marks.old.items marks.new.items
+        (flat out.old) (flat out.new) }
+{
+    let mark = marks.pop().unwrap();
+    let head = heads.pop().unwrap();
+    out.push(mark.hint, head, mark.span)
 }
 
 impl<'a> OpenGroups<'a> {
@@ -77,6 +110,7 @@ impl<'a> OpenGroups<'a> {
         OpenGroups {
             kinds: Vec::new(alloc),
             heads: Vec::new(alloc),
+            marks: Vec::new(alloc),
         }
     }
 
@@ -125,62 +159,59 @@ impl<'a> OpenGroups<'a> {
         }
     }
 
-    /// Takes the innermost group off.
+    /// Takes the innermost group off, and answers its kind. The instruction that waited in it is put
+    /// behind the others of `out`; Memory may refuse that.
     #[inline(always)]
-    pub fn pop(&mut self) -> Option<OpenGroup<'a>>
-        ensures { MatchOption result ((self.old ≡ []) × (self.new ≡ [])) (λ l. self.old
-            ≡ open_group_view l ∷ self.new) }
+    pub fn pop(&mut self, out: &mut Expression<'a>) -> Result<Option<Kind>>
+        ensures { Pops result self.old self.new (flat out.old) (flat out.new) }
     {
-        match self.kinds.pop()? {
-            Kind::Folded => Some(OpenGroup::Folded(self.heads.pop()?)),
-            Kind::If => Some(OpenGroup::If(self.heads.pop()?)),
-            Kind::Block => Some(OpenGroup::Block),
-            Kind::AfterThen => Some(OpenGroup::AfterThen),
-            Kind::AfterElse => Some(OpenGroup::AfterElse),
-            Kind::Arm => Some(OpenGroup::Arm),
+        let Some(kind) = self.kinds.pop() else {
+            return Ok(None);
+        };
+        if kind.holds() {
+            match release(&mut self.heads, &mut self.marks, out) {
+                Ok(()) => return Ok(Some(kind)),
+                Err(refused) => return Err(refused),
+            }
         }
+        Ok(Some(kind))
     }
 
     /// Opens a group of a kind that holds no instruction, or refuses with Memory.
-    fn enter(&mut self, kind: Kind) -> Result<()>
+    #[inline(always)]
+    pub fn enter(&mut self, kind: Kind) -> Result<()>
         requires { waiting (kind ∷ []) ≡ 0 }
-        ensures { MatchResult result (λ _. self.new ≡ open_groups (kind ∷ []) [] ++ self.old)
+        ensures { MatchResult result (λ _. self.new ≡ open_groups (kind ∷ []) [] [] ++ self.old)
             (λ e. e.fault ≡ Fault.Memory) }
     {
         self.kinds.push(kind)?;
         Ok(())
     }
 
-    /// Opens a group of a kind that holds an instruction, or refuses with Memory.
+    /// Opens a group of a kind that holds an instruction. Its word was taken; its operand is read,
+    /// and it waits. Memory may be answered.
     #[inline(always)]
-    fn hold(&mut self, kind: Kind, head: HeldInstruction<'a>) -> Result<()>
+    pub fn hold(
+        &mut self,
+        kind: Kind,
+        head: Mnemonic,
+        parser: &mut Parser<'a>,
+        mark: Mark,
+    ) -> Result<()>
         requires { waiting (kind ∷ []) ≡ 1 }
-        ensures { MatchResult result (λ _. self.new ≡ open_groups (kind ∷ [])
-            (head.entry ∷ []) ++ self.old) (λ e. e.fault ≡ Fault.Memory) }
+        ensures exact { ReadsBehind head (λ i. self.new ≡ open_groups (kind ∷ []) (i ∷ [])
+            (mark ∷ []) ++ self.old) result parser.old.left parser.new.left }
+        ensures steady { Steady parser.old parser.new }
     {
-        push_into(&mut self.heads, head)?;
-        match push_into(&mut self.kinds, kind) {
-            Ok(()) => Ok(()),
-            Err(refused) => {
-                discard(self.heads.pop());
-                Err(refused)
+        self.kinds.reserve(1)?;
+        self.marks.reserve(1)?;
+        match read_behind(head, parser, &mut self.heads) {
+            Ok(()) => {
+                self.kinds.push_reserved(kind);
+                self.marks.push_reserved(mark);
+                Ok(())
             }
-        }
-    }
-
-    /// Opens a group; Memory refuses it.
-    #[inline(always)]
-    pub fn push(&mut self, group: OpenGroup<'a>) -> Result<()>
-        ensures { MatchResult result (λ _. self.new ≡ open_group_view group.entry ∷ self.old)
-            (λ e. e.fault ≡ Fault.Memory) }
-    {
-        match group {
-            OpenGroup::Folded(head) => self.hold(Kind::Folded, head),
-            OpenGroup::If(head) => self.hold(Kind::If, head),
-            OpenGroup::Block => self.enter(Kind::Block),
-            OpenGroup::AfterThen => self.enter(Kind::AfterThen),
-            OpenGroup::AfterElse => self.enter(Kind::AfterElse),
-            OpenGroup::Arm => self.enter(Kind::Arm),
+            Err(refused) => Err(refused),
         }
     }
 }

@@ -3,20 +3,21 @@
 ghost use Rattle.std.specs.Prelude.{◌≡◌, ◌∷◌, [], List, ℕ, Option, None, true, codes, MatchBool};
 ghost use Rattle.wat_expr.specs.Flat.{flat, no_output};
 ghost use Rattle.wat_expr.specs.Items.{keyword, hint_name};
-ghost use Rattle.wat_expr.specs.OpenGroups.{OpenGroup as Open, InIf, AfterThen};
-ghost use Rattle.wat_expr.specs.Progress.{IsOpen, TurnAnswers, suits};
-ghost use Rattle.wat_expr.specs.Taken.{ReadsSuited};
+ghost use Rattle.wat_expr.specs.OpenGroups.{OpenGroup as Open, InIf, AfterThen, holder};
+ghost use Rattle.wat_expr.specs.Progress.{IsOpen, TurnAnswers};
+ghost use Rattle.wat_expr.specs.Taken.{suits_word};
 ghost use Rattle.wat_expr.specs.Turned.{stand, IsHintByte};
-ghost use Rattle.wat_instr.specs.Instruction.{Instr, instruction_view};
+ghost use Rattle.wat_instr.specs.Instruction.{Instr, is_if};
+ghost use Rattle.wat_mnemonics.specs.Heads.{mnemonic_row};
 ghost use Rattle.wat_tokens.specs.Steady.{Steady};
 ghost use Rattle.wat_tokens.specs.Tests.{ends};
 ghost use Rattle.wat_tokens.specs.Token.{Tok, LParen, RParen};
 
 use crate::expression::Expression;
-use crate::open_groups::{HeldInstruction, Kind, OpenGroup, OpenGroups};
-use crate::take::{take_close, take_hint_name, take_instr, take_open, take_string, take_word};
+use crate::open_groups::{Kind, Mark, OpenGroups};
+use crate::take::{take_close, take_head, take_hint_name, take_open, take_string, take_word};
 use std::alloc::Global;
-use wat_instr::{Instruction, LabelOp};
+use wat_instr::{Instruction, LabelOp, Mnemonic, branches_if, opens_block, opens_if};
 use wat_tokens::ownership::discard;
 use wat_tokens::{Error, Fault, Parser, Result, Span};
 
@@ -39,37 +40,43 @@ fn hint_byte(bytes: &[u8]) -> Option<u32>
     }
 }
 
-/// Whether the hint, where one waits, can stand before the instruction.
+/// Whether the hint, where one waits, can stand before an instruction of the word.
 #[inline(always)]
-fn suits(hint: Option<u32>, instr: &Instruction<'_>) -> bool
-    ensures { result ≡ suits hint (instruction_view instr.now) }
+fn suits(hint: Option<u32>, head: Mnemonic) -> bool
+    ensures { result ≡ suits_word hint head }
 {
     match hint {
-        Some(_) => instr.is_br_if() || instr.is_if(),
+        Some(_) => branches_if(head) || opens_if(head),
         None => true,
     }
 }
 
-/// Takes the instruction that is in front, with its operand; `span` is where its word begins. One
-/// that the waiting hint can't stand before is refused with HintTarget, there.
-#[inline(always)]
-fn take_suited<'a>(
-    parser: &mut Parser<'a>,
-    hint: Option<u32>,
-    span: Span,
-) -> Result<Instruction<'a>>
-    ensures exact { ReadsSuited hint result parser.old.left parser.new.left }
-    ensures steady { Steady parser.old parser.new }
+/// The refusal of an instruction that the waiting hint can't stand before, behind its word, which
+/// begins at `span`: that of its operand, or HintTarget at the word.
+#[cold]
+fn unsuited<'a>(head: Mnemonic, parser: &mut Parser<'a>, span: Span) -> Error
+    ensures { Steady parser.old parser.new }
 {
-    let instr = match take_instr(parser) {
-        Ok(instr) => instr,
-        Err(refused) => return Err(refused),
-    };
-    if suits(hint, &instr) {
-        return Ok(instr);
+    let mut slot = None;
+    match Instruction::read_operand(head, parser, &mut slot) {
+        Ok(()) => {
+            discard(slot);
+            Error::at(Fault::HintTarget, span)
+        }
+        Err(refused) => refused,
     }
-    discard(instr);
-    Err(Error::at(Fault::HintTarget, span))
+}
+
+/// The kind of a group whose instruction waits in it.
+#[inline(always)]
+fn holder(head: Mnemonic) -> Kind
+    ensures { result ≡ holder (is_if (mnemonic_row head)) }
+{
+    if opens_if(head) {
+        Kind::If
+    } else {
+        Kind::Folded
+    }
 }
 
 /// The refusal where no instruction can stand alone: Operator at the end of the text, and else
@@ -134,12 +141,15 @@ impl<'a> Reader<'a> {
             return Err(misplaced(parser));
         }
         let span = parser.cur_span();
-        let instr = match take_suited(parser, self.pending, span) {
-            Ok(instr) => instr,
+        let head = match take_head(parser) {
+            Ok(head) => head,
             Err(refused) => return Err(refused),
         };
+        if !suits(self.pending, head) {
+            return Err(unsuited(head, parser, span));
+        }
         let hint = self.pending.take();
-        self.out.push(hint, instr, span)
+        self.out.read(head, parser, hint, span)
     }
 
     /// A turn at a closing parenthesis, which was taken; `span` is where it is.
@@ -151,17 +161,15 @@ impl<'a> Reader<'a> {
         if let Some(_) = self.pending {
             return Err(Error::at(Fault::HintPlace, span));
         }
-        match self.open_groups.pop() {
-            Some(OpenGroup::Folded(head)) => self.out.push(head.hint, head.instr, head.span),
-            Some(OpenGroup::Block) => self.out.push_end(span),
-            Some(OpenGroup::AfterThen) => self.out.push_end(span),
-            Some(OpenGroup::AfterElse) => self.out.push_end(span),
-            Some(OpenGroup::Arm) => Ok(()),
-            Some(OpenGroup::If(head)) => {
-                discard(head);
-                Err(Error::at(Fault::IfWithoutThen, span))
-            }
-            None => Err(Error::at(Fault::Unexpected, span)),
+        match self.open_groups.pop(&mut self.out) {
+            Ok(Some(Kind::Folded)) => Ok(()),
+            Ok(Some(Kind::Arm)) => Ok(()),
+            Ok(Some(Kind::Block)) => self.out.push_end(span),
+            Ok(Some(Kind::AfterThen)) => self.out.push_end(span),
+            Ok(Some(Kind::AfterElse)) => self.out.push_end(span),
+            Ok(Some(Kind::If)) => Err(Error::at(Fault::IfWithoutThen, span)),
+            Ok(None) => Err(Error::at(Fault::Unexpected, span)),
+            Err(refused) => Err(refused),
         }
     }
 
@@ -194,16 +202,13 @@ impl<'a> Reader<'a> {
         if let Some(_) = self.pending {
             return Err(Error::at(Fault::HintPlace, span));
         }
-        match self.open_groups.pop() {
-            Some(OpenGroup::If(head)) => {
-                self.out.push(head.hint, head.instr, head.span)?;
-                self.open_groups.push(OpenGroup::AfterThen)?;
-                self.open_groups.push(OpenGroup::Arm)
+        match self.open_groups.pop(&mut self.out) {
+            Ok(Some(Kind::If)) => {
+                self.open_groups.enter(Kind::AfterThen)?;
+                self.open_groups.enter(Kind::Arm)
             }
-            other => {
-                discard(other);
-                Err(Error::at(Fault::Unexpected, span))
-            }
+            Ok(_) => Err(Error::at(Fault::Unexpected, span)),
+            Err(refused) => Err(refused),
         }
     }
 
@@ -223,9 +228,9 @@ impl<'a> Reader<'a> {
         if let Some(_) = self.pending {
             return Err(Error::at(Fault::HintPlace, span));
         }
-        discard(self.open_groups.pop());
-        self.open_groups.push(OpenGroup::AfterElse)?;
-        self.open_groups.push(OpenGroup::Arm)?;
+        self.open_groups.pop(&mut self.out)?;
+        self.open_groups.enter(Kind::AfterElse)?;
+        self.open_groups.enter(Kind::Arm)?;
         self.out
             .push(None, Instruction::Label(LabelOp::else_, None), span)
     }
@@ -243,22 +248,22 @@ impl<'a> Reader<'a> {
             return self.hint(parser);
         }
         let span = parser.cur_span();
-        let instr = match take_suited(parser, self.pending, span) {
-            Ok(instr) => instr,
+        let head = match take_head(parser) {
+            Ok(head) => head,
             Err(refused) => return Err(refused),
         };
+        if !suits(self.pending, head) {
+            return Err(unsuited(head, parser, span));
+        }
         let hint = self.pending.take();
-        if instr.is_block() {
-            self.out.push(hint, instr, span)?;
-            return self.open_groups.push(OpenGroup::Block);
+        if opens_block(head) {
+            return match self.out.read(head, parser, hint, span) {
+                Ok(()) => self.open_groups.enter(Kind::Block),
+                Err(refused) => Err(refused),
+            };
         }
-        let is_if = instr.is_if();
-        let head = HeldInstruction { instr, span, hint };
-        if is_if {
-            self.open_groups.push(OpenGroup::If(head))
-        } else {
-            self.open_groups.push(OpenGroup::Folded(head))
-        }
+        let mark = Mark { span, hint };
+        self.open_groups.hold(holder(head), head, parser, mark)
     }
 
     /// A turn at a hint, whose `(` and annotation were taken.

@@ -1,13 +1,14 @@
 //! What takes one token, or an instruction.
 
-ghost use Rattle.std.specs.Prelude.{◌≡◌, codes};
+ghost use Rattle.std.specs.Prelude.{◌≡◌, ◌++◌, ◌∷◌, [], map, codes, IfErr};
 ghost use Rattle.wat_expr.specs.Items.{hint_name, keyword};
-ghost use Rattle.wat_expr.specs.Taken.{TakesIf, TakesString, ReadsInstr};
+ghost use Rattle.wat_expr.specs.Taken.{TakesIf, TakesString, TakesHead, ReadsBehind};
+ghost use Rattle.wat_instr.specs.Instruction.{instruction_view};
 ghost use Rattle.wat_tokens.specs.Steady.{Steady};
 ghost use Rattle.wat_tokens.specs.Token.{LParen, RParen};
 
-use wat_instr::Instruction;
-use wat_tokens::{Parse, Parser, Result};
+use wat_instr::{Instruction, Mnemonic};
+use wat_tokens::{Parser, Result};
 
 /// Takes a `(` where it is in front, and answers whether it did.
 #[inline(always)]
@@ -46,13 +47,31 @@ pub fn take_hint_name(parser: &mut Parser<'_>) -> bool
     parser.take_annotation("metadata.code.branch_hint").is_ok()
 }
 
-/// Takes the instruction that is in front, with its operand, or refuses as its own `parse` does.
+/// Takes the word of an instruction that is in front, or refuses with Operator at it.
 #[inline(always)]
-pub fn take_instr<'a>(parser: &mut Parser<'a>) -> Result<Instruction<'a>>
-    ensures exact { ReadsInstr result parser.old.left parser.new.left }
+pub fn take_head(parser: &mut Parser<'_>) -> Result<Mnemonic>
+    ensures exact { TakesHead result parser.old.left parser.new.left }
     ensures steady { Steady parser.old parser.new }
 {
-    Instruction::parse(parser)
+    Mnemonic::take(parser)
+}
+
+/// Takes the operand of the instruction whose word was taken, and puts the instruction behind the
+/// others of the list. Where it is refused, they are all that is there. Memory may be answered.
+#[inline(always)]
+pub fn read_behind<'a>(
+    head: Mnemonic,
+    parser: &mut Parser<'a>,
+    out: &mut Vec<Instruction<'a>>,
+) -> Result<()>
+    ensures exact { ReadsBehind head (λ i. map instruction_view out.new.items
+        ≡ map instruction_view out.old.items ++ i ∷ []) result parser.old.left parser.new.left }
+    ensures refused { IfErr result (λ _. map instruction_view out.new.items
+        ≡ map instruction_view out.old.items) }
+    ensures steady { Steady parser.old parser.new }
+{
+    out.reserve(1)?;
+    Instruction::read_operand(head, parser, out)
 }
 
 /// Takes the string that is in front and answers its bytes, or refuses with Unexpected.

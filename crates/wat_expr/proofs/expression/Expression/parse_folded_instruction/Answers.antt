@@ -1,4 +1,4 @@
-use Rattle.std.proofs.Common.{rules, Ok, None, ap, ◌∙◌}
+use Rattle.std.proofs.Common.{rules, Ok, ap, ◌∙◌}
 use Rattle.std.proofs.lemmas.Result.{err_from_is_err_and}
 use Rattle.wat_expr.specs.Flat.{no_output}
 use Rattle.wat_expr.specs.FoldedProduction.{folded_instruction}
@@ -16,35 +16,20 @@ pub returns-in_err-open-clause-only : goal.returns-in_err-open-clause-only
 unfolding folded_instruction
 returns-in_err-open-clause-only c = λ i gs r l. read_accepted c.from_residual.result _ _ (returns-in_err-open-clause-exact c) _ r (read_folded i gs _ r l)
 
-pub returns-in_err-instr-clause-exact : goal.returns-in_err-instr-clause-exact
+pub returns-in_err-open_group-clause-exact : goal.returns-in_err-open_group-clause-exact
 unfolding folded_instruction
-returns-in_err-instr-clause-exact c =
-    let p = err_from_is_err_and c.from_residual-in_err-instr.result c.from_residual-in_err-instr.ensures.1 in
-    rw (p.1, p.2) ((λ not. no_word _ _ (begun _ _ _ c.in_ok-open.ensures.reads.exact) (c.in_err-instr.ensures.exact not)), (λ m. read_not_bare c.args.parser.now.left))
+returns-in_err-open_group-clause-exact c =
+    let p = err_from_is_err_and c.from_residual-in_err-open_group.result c.from_residual-in_err-open_group.ensures.1 in
+    rw (p.1, p.2) ((λ not. no_word _ _ (begun _ _ _ c.in_ok-open.ensures.reads.exact) (c.in_err-open_group.ensures.exact not)), (λ m. read_not_bare c.args.parser.now.left))
 
-pub returns-in_err-instr-clause-only : goal.returns-in_err-instr-clause-only
+pub returns-in_err-open_group-clause-only : goal.returns-in_err-open_group-clause-only
 unfolding folded_instruction
-returns-in_err-instr-clause-only c = λ i gs r l. read_accepted c.from_residual-in_err-instr.result _ _ (returns-in_err-instr-clause-exact c) _ r (read_folded i gs _ r l)
+returns-in_err-open_group-clause-only c = λ i gs r l. read_accepted c.from_residual-in_err-open_group.result _ _ (returns-in_err-open_group-clause-exact c) _ r (read_folded i gs _ r l)
 
-pub returns-in_err-instr-clause-counts : goal.returns-in_err-instr-clause-counts
-returns-in_err-instr-clause-counts c =
-    let p = err_from_is_err_and c.from_residual-in_err-instr.result c.from_residual-in_err-instr.ensures.1 in
-    (search rules, rw p.1 (refused_first c.args.parser.now c.open.new.self c.take_instr.new.parser c.in_ok-open.ensures.reads.counts.0 c.in_ok-open.ensures.reads.cost.0 c.in_err-instr.ensures.steady.counts c.in_err-instr.ensures.steady.stays.0))
-
-pub returns-in_err-push-clause-exact : goal.returns-in_err-push-clause-exact
-unfolding folded_instruction
-returns-in_err-push-clause-exact c =
-    let p = err_from_is_err_and c.from_residual-in_err-push.result c.from_residual-in_err-push.ensures.1 in
-    rw (p.1, p.2) ((λ not. absurd (not c.in_err-push.ensures)), (λ m. read_not_bare c.args.parser.now.left))
-
-pub returns-in_err-push-clause-only : goal.returns-in_err-push-clause-only
-unfolding folded_instruction
-returns-in_err-push-clause-only c = λ i gs r l. read_accepted c.from_residual-in_err-push.result _ _ (returns-in_err-push-clause-exact c) _ r (read_folded i gs _ r l)
-
-pub returns-in_err-push-clause-counts : goal.returns-in_err-push-clause-counts
-returns-in_err-push-clause-counts c =
-    let p = err_from_is_err_and c.from_residual-in_err-push.result c.from_residual-in_err-push.ensures.1 in
-    (search rules, rw p.1 (refused_first c.args.parser.now c.open.new.self c.take_instr.new.parser c.in_ok-open.ensures.reads.counts.0 c.in_ok-open.ensures.reads.cost.0 c.in_ok-instr.ensures.steady.counts c.in_ok-instr.ensures.steady.stays.0))
+pub returns-in_err-open_group-clause-counts : goal.returns-in_err-open_group-clause-counts
+returns-in_err-open_group-clause-counts c =
+    let p = err_from_is_err_and c.from_residual-in_err-open_group.result c.from_residual-in_err-open_group.ensures.1 in
+    (search rules, rw p.1 (refused_first c.args.parser.now c.open.new.self c.open_group.new.parser c.in_ok-open.ensures.reads.counts.0 c.in_ok-open.ensures.reads.cost.0 c.in_err-open_group.ensures.steady.counts c.in_err-open_group.ensures.steady.stays.0))
 
 pub returns-in_err-turn-clause-exact : goal.returns-in_err-turn-clause-exact
 unfolding folded_instruction
@@ -64,7 +49,8 @@ returns-in_err-turn-clause-counts c =
 
 pub groups-init : goal.groups-init
 groups-init c =
-    going_begins _ _ _ _ _ _ None _ _ _ _ (rw c.new-open_groups.ensures at c.in_ok-push.ensures) (c.empty-out.ensures ∙ ap no_output c.tracks.ensures) c.height.ensures c.note_height.ensures c.held.ensures c.note_held.ensures.only (begun _ _ _ c.in_ok-open.ensures.reads.exact) c.in_ok-open.ensures.reads.counts.0 c.in_ok-open.ensures.reads.cost c.in_ok-open.ensures.reads.settings c.in_ok-instr.ensures.exact c.in_ok-instr.ensures.steady.counts c.in_ok-instr.ensures.steady.stays c.in_ok-instr.ensures.steady.settings c.note_held.ensures.counts
+    let x = c.in_ok-open_group.ensures.exact in
+    going_begins _ _ _ _ _ x.0 _ _ _ _ (rw c.new-open_groups.ensures at x.2) (c.empty-out.ensures ∙ ap no_output c.tracks.ensures) c.height.ensures c.note_height.ensures c.held.ensures c.note_held.ensures.only (begun _ _ _ c.in_ok-open.ensures.reads.exact) c.in_ok-open.ensures.reads.counts.0 c.in_ok-open.ensures.reads.cost c.in_ok-open.ensures.reads.settings x.1 c.in_ok-open_group.ensures.steady.counts c.in_ok-open_group.ensures.steady.stays c.in_ok-open_group.ensures.steady.settings c.note_held.ensures.counts
 
 pub groups-smaller : goal.groups-smaller
 groups-smaller c =

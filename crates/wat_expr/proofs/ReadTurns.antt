@@ -1,0 +1,117 @@
+-- Turns at an instruction that is read behind its word, and at the end of a group.
+use Rattle.std.proofs.Common.{◌≡◌, ◌++◌, ℕ, Bool, true, false, List, [], ◌∷◌, Option, Some, None, Result, Ok, Err, MatchResult, refl, subst, ap, sym, ◌∙◌}
+use Rattle.std.specs.Prelude.{codes}
+use Rattle.wat_mnemonics.specs.Heads.{mnemonic_row}
+use Rattle.wat_mnemonics.specs.declared.mnemonic.Mnemonic.{Mnemonic}
+use Rattle.wat_tokens.specs.Error.{Error, Memory}
+use Rattle.wat_tokens.specs.Token.{Tok, LParen, RParen}
+use Rattle.wat_instr.specs.Instruction.{Instr, instruction, behind_word, is_block, is_if, end_instr, else_instr}
+use Rattle.wat_expr.specs.Closed.{Pops, released}
+use Rattle.wat_expr.specs.Flat.{Flat, push}
+use Rattle.wat_expr.specs.Items.{sort, sort_of, IsBlock, reads, keyword}
+use Rattle.wat_expr.specs.OpenGroups.{OpenGroup, InFolded, InBlock, InIf, AfterThen, AfterElse, InArm, open_groups, holder, kind_of}
+use Rattle.wat_expr.specs.declared.open_groups.Kind.{Kind}
+use Rattle.wat_expr.specs.declared.open_groups.Kind.TheVariants as kind
+use Rattle.wat_expr.specs.declared.open_groups.Mark.{Mark}
+use Rattle.wat_expr.specs.Progress.{IsOpen, TakesPlain, LoopState, Turn, TurnAnswers, Stuck}
+use Rattle.wat_expr.specs.Taken.{ReadsBehind, suits_word}
+use Rattle.wat_expr.proofs.Instructions.{read_whole, read_suits, read_row, none_whole}
+use Rattle.wat_expr.proofs.Turns.{at, inside, put, closed, CanClose, turn_plain, turn_group, turn_close, turn_then, turn_else, sort_block, if_close}
+
+-- ---- an instruction
+
+-- where it was read the turn was made, and where it was not, but for memory, nothing could be
+answers : {A : Type 0} {Then : Instr → Type 0} {s t : LoopState} (h : Mnemonic) (u m : List Tok) (res : Result A Error) → ReadsBehind h Then res u m → ((i : Instr) → (behind_word h).reads u ≡ Some (i, m) → Then i → Turn s t) → ((behind_word h).reads u ≡ None → Stuck s) → TurnAnswers res s t
+answers h u m (Ok x) (i, k, q) made stuck = made i k q
+answers h u m (Err e) r made stuck = λ n. stuck (r n)
+
+-- the group that opens is of the kind of the instruction's sort
+inside_holder : (b : Bool) (i : Instr) (m : Mark) (s : List OpenGroup) → open_groups (holder b ∷ []) (i ∷ []) (m ∷ []) ++ s ≡ inside (sort_of false b) i m.hint ∷ s
+inside_holder true i m s = refl
+inside_holder false i m s = refl
+
+put_holder : (b : Bool) (p : Option ℕ) (i : Instr) (f : Flat) → put (sort_of false b) p i f ≡ f
+put_holder true p i f = refl
+put_holder false p i f = refl
+
+module _ {A : Type 0} (res : Result A Error) (h : Mnemonic) (s : List OpenGroup) (p after : Option ℕ) (ts u m : List Tok) (f g : Flat) (taken : instruction.reads ts ≡ (behind_word h).reads u) (suited : suits_word p h ≡ true) (gone : after ≡ None) where
+  -- alone
+  pub plain_read : TakesPlain s → (((i : Instr) (n : List Tok) → reads i ts n → ⊥) → Stuck (at s p ts f)) → ReadsBehind h (λ i. g ≡ push p i f) res u m → TurnAnswers res (at s p ts f) (at s after m g)
+  plain_read a stuck r =
+      answers h u m res r
+      (λ i k q. turn_plain (Ok (tt {0})) s p after i ts m f g a (read_whole h ts u taken i m k) (read_suits h ts u taken p i m k ∙ suited) gone q)
+      (λ none. stuck (none_whole h ts u taken none))
+
+  -- of a block
+  pub block_read : (i : Instr) (new : List OpenGroup) → IsOpen s → is_block (mnemonic_row h) ≡ true → (behind_word h).reads u ≡ Some (i, m) → g ≡ push p i f → MatchResult res (λ _. new ≡ InBlock ∷ s) (λ e. e.fault ≡ Memory) → TurnAnswers res (at s p (LParen ∷ ts) f) (at new after m g)
+  block_read i new a b k q r =
+      turn_group res IsBlock s new p after i ts m f g (sort_block i (ap is_block (read_row h ts u taken i m k) ∙ b)) a (read_whole h ts u taken i m k) (read_suits h ts u taken p i m k ∙ suited) gone q r
+
+  -- of a group that it waits in
+  pub group_read : (new : List OpenGroup) (mark : Mark) → IsOpen s → is_block (mnemonic_row h) ≡ false → mark.hint ≡ p → g ≡ f → (((i : Instr) (n : List Tok) → reads i ts n → ⊥) → Stuck (at s p (LParen ∷ ts) f)) → ReadsBehind h (λ i. new ≡ open_groups (holder (is_if (mnemonic_row h)) ∷ []) (i ∷ []) (mark ∷ []) ++ s) res u m → TurnAnswers res (at s p (LParen ∷ ts) f) (at new after m g)
+  group_read new mark a b hinted same stuck r =
+      answers h u m res r
+      (λ i k q. turn_group (Ok (tt {0})) (sort_of false (is_if (mnemonic_row h))) s new p after i ts m f g (rw (read_row h ts u taken i m k, b) refl) a (read_whole h ts u taken i m k) (read_suits h ts u taken p i m k ∙ suited) gone (same ∙ sym (put_holder (is_if (mnemonic_row h)) p i f)) (q ∙ (inside_holder (is_if (mnemonic_row h)) i mark s ∙ ap (λ (y : Option ℕ). inside (sort_of false (is_if (mnemonic_row h))) i y ∷ s) hinted)))
+      (λ none. stuck (none_whole h ts u taken none))
+
+-- ---- the end of a group
+
+-- the groups at whose end nothing is added, and those that get an `end`
+abbrev pub ClosesAlone : Kind → Type 0
+ClosesAlone kind.Folded = Unit {0}
+ClosesAlone kind.Arm = Unit {0}
+ClosesAlone _ = ⊥
+
+abbrev pub ClosesWithEnd : Kind → Type 0
+ClosesWithEnd kind.Block = Unit {0}
+ClosesWithEnd kind.AfterThen = Unit {0}
+ClosesWithEnd kind.AfterElse = Unit {0}
+ClosesWithEnd _ = ⊥
+
+closes_alone : (l : OpenGroup) → ClosesAlone (kind_of l) → CanClose l × ((f : Flat) → released l f ≡ closed l f)
+closes_alone (InFolded i h) a = (tt, λ f. refl)
+closes_alone InArm a = (tt, λ f. refl)
+closes_alone InBlock a = absurd a
+closes_alone (InIf i h) a = absurd a
+closes_alone AfterThen a = absurd a
+closes_alone AfterElse a = absurd a
+
+closes_with_end : (l : OpenGroup) → ClosesWithEnd (kind_of l) → CanClose l × ((f : Flat) → push None end_instr (released l f) ≡ closed l f)
+closes_with_end (InFolded i h) a = absurd a
+closes_with_end InArm a = absurd a
+closes_with_end InBlock a = (tt, λ f. refl)
+closes_with_end (InIf i h) a = absurd a
+closes_with_end AfterThen a = (tt, λ f. refl)
+closes_with_end AfterElse a = (tt, λ f. refl)
+
+module _ (l : OpenGroup) (k : Kind) (gs s : List OpenGroup) (p : Option ℕ) (m : List Tok) (f g : Flat) (none : p ≡ None) (popped : gs ≡ l ∷ s) (is : kind_of l ≡ k) where
+  pub close_alone : ClosesAlone k → g ≡ released l f → Turn (at gs p (RParen ∷ m) f) (at s p m g)
+  close_alone a e =
+      let c = closes_alone l (subst ClosesAlone (sym is) a) in
+      turn_close (Ok (tt {0})) l gs s p m f g none popped c.0 (e ∙ c.1 f)
+
+  pub close_with_end : {A : Type 0} (res : Result A Error) (mid : Flat) → ClosesWithEnd k → mid ≡ released l f → MatchResult res (λ _. g ≡ push None end_instr mid) (λ e. e.fault ≡ Memory) → TurnAnswers res (at gs p (RParen ∷ m) f) (at s p m g)
+  close_with_end res mid a e r =
+      let c = closes_with_end l (subst ClosesWithEnd (sym is) a) in
+      turn_close res l gs s p m f g none popped c.0 (rw (e, c.1 f) at r)
+
+-- an `if` without (then
+pub close_if : (l : OpenGroup) (gs s : List OpenGroup) (p : Option ℕ) (m : List Tok) (f : Flat) → gs ≡ l ∷ s → kind_of l ≡ kind.If → Stuck (at gs p (RParen ∷ m) f)
+close_if (InIf i h) gs s p m f e k = if_close gs s p h i m f e
+close_if l gs s p m f e k = absurd cc
+
+-- (then, which an `if` was open for
+pub then_read : {A : Type 0} (res : Result A Error) (l : OpenGroup) (gs s new mid : List OpenGroup) (p : Option ℕ) (m : List Tok) (f g : Flat) → p ≡ None → gs ≡ l ∷ s → kind_of l ≡ kind.If → g ≡ released l f → mid ≡ AfterThen ∷ s → MatchResult res (λ _. new ≡ InArm ∷ mid) (λ e. e.fault ≡ Memory) → TurnAnswers res (at gs p (LParen ∷ keyword (codes "then") ∷ m) f) (at new p m g)
+then_read res (InIf i h) gs s new mid p m f g none e k q n r = turn_then res gs s new mid p h i m f g none e q n r
+then_read res l gs s new mid p m f g none e k q n r = absurd cc
+
+-- behind (then ..) nothing waits
+left_then : (r : Option Kind) (old new s : List OpenGroup) (f g : Flat) → Pops (Ok r) old new f g → old ≡ AfterThen ∷ s → (new ≡ s) × (g ≡ f)
+left_then None old new s f g m e = absurd (let k = m.0 in cc)
+left_then (Some k) old new s f g (AfterThen, e2, is, q) e = (cc, q)
+left_then (Some k) old new s f g (l, e2, is, q) e = absurd cc
+
+pub else_read : {A : Type 0} (res : Result A Error) (k : Option Kind) (gs left s new : List OpenGroup) (p : Option ℕ) (ts m : List Tok) (f mid g : Flat) → p ≡ None → gs ≡ AfterThen ∷ s → ts ≡ keyword (codes "else") ∷ m → Pops (Ok k) gs left f mid → new ≡ InArm ∷ AfterElse ∷ left → MatchResult res (λ _. g ≡ push None else_instr mid) (λ e. e.fault ≡ Memory) → TurnAnswers res (at gs p (LParen ∷ ts) f) (at new p m g)
+else_read res k gs left s new p ts m f mid g none e taken o n r =
+    let x = left_then k gs left s f mid o e in
+    turn_else res gs s new p ts m f g none e taken (n ∙ ap (λ (y : List OpenGroup). InArm ∷ AfterElse ∷ y) x.0) (subst (λ (y : Flat). MatchResult res (λ _. g ≡ push None else_instr y) (λ e. e.fault ≡ Memory)) x.1 r)
