@@ -13,10 +13,12 @@ use Rattle.wat_expr.specs.OpenGroups.{OpenGroup, InFolded, InBlock, InIf, AfterT
 use Rattle.wat_expr.specs.declared.open_groups.Kind.{Kind}
 use Rattle.wat_expr.specs.declared.open_groups.Kind.TheVariants as kind
 use Rattle.wat_expr.specs.declared.open_groups.Mark.{Mark}
-use Rattle.wat_expr.specs.Progress.{IsOpen, TakesPlain, LoopState, Turn, TurnAnswers, Stuck}
+use Rattle.wat_expr.specs.Progress.{IsOpen, TakesPlain, LoopState, Turn, TurnAnswers, Stuck, suits}
+use Rattle.wat_expr.specs.Laws.Facts.{reads_nothing}
+use Rattle.wat_tokens.specs.Tests.{ends}
 use Rattle.wat_expr.specs.Taken.{ReadsBehind, suits_word}
 use Rattle.wat_expr.proofs.Instructions.{read_whole, read_suits, read_row, none_whole}
-use Rattle.wat_expr.proofs.Turns.{at, inside, put, closed, CanClose, turn_plain, turn_group, turn_close, turn_then, turn_else, sort_block, if_close}
+use Rattle.wat_expr.proofs.Turns.{at, inside, put, closed, CanClose, no_plain, turn_plain, turn_group, turn_close, turn_then, turn_else, sort_block, if_close}
 
 -- ---- an instruction
 
@@ -53,6 +55,16 @@ module _ {A : Type 0} (res : Result A Error) (h : Mnemonic) (s : List OpenGroup)
       answers h u m res r
       (λ i k q. turn_group (Ok (tt {0})) (sort_of false (is_if (mnemonic_row h))) s new p after i ts m f g (rw (read_row h ts u taken i m k, b) refl) a (read_whole h ts u taken i m k) (read_suits h ts u taken p i m k ∙ suited) gone (same ∙ sym (put_holder (is_if (mnemonic_row h)) p i f)) (q ∙ (inside_holder (is_if (mnemonic_row h)) i mark s ∙ ap (λ (y : Option ℕ). inside (sort_of false (is_if (mnemonic_row h))) i y ∷ s) hinted)))
       (λ none. stuck (none_whole h ts u taken none))
+
+-- no instruction where one is needed
+pub no_plain_here : (s : List OpenGroup) (p : Option ℕ) (ts : List Tok) (f : Flat) → ends ts ≡ false → ((d : List Tok) → ts ≡ LParen ∷ d → ⊥) → (TakesPlain s → (i : Instr) (m : List Tok) → reads i ts m → suits p i ≡ true → ⊥) → Stuck (at s p ts f)
+no_plain_here s p ts f more no_group never = no_plain s p ts f no_group (λ n d q. let k = ap ends q in cc) (λ n e. cc) never
+
+-- the text ends in an open group
+pub text_ends : (s : List OpenGroup) (p : Option ℕ) (ts : List Tok) (f : Flat) → ends ts ≡ true → ((d : List Tok) → ts ≡ RParen ∷ d → ⊥) → (s ≡ [] → ⊥) → Stuck (at s p ts f)
+text_ends s p [] f e no_close some = no_plain s p [] f (λ d q. cc) (λ n d q. cc) (λ n q. some n) (λ a i m h t. reads_nothing i m h)
+text_ends s p (RParen ∷ ts) f e no_close some = absurd (no_close ts refl)
+text_ends s p (t ∷ ts) f e no_close some = absurd cc
 
 -- ---- the end of a group
 

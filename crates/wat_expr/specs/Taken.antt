@@ -6,6 +6,8 @@ use Rattle.wat_tokens.specs.Error.{Error, Memory}
 use Rattle.wat_mnemonics.specs.Heads.{mnemonic_row}
 use Rattle.wat_mnemonics.specs.declared.mnemonic.Mnemonic.{Mnemonic}
 use Rattle.wat_instr.specs.Instruction.{Instr, instruction, behind_word, is_br_if, is_if}
+use Rattle.wat_expr.specs.Items.{reads}
+use Rattle.wat_expr.specs.Progress.{suits}
 
 -- from ts to r the token was taken, or it isn't in front and nothing was
 abbrev pub TakesIf : Tok → Bool → List Tok → List Tok → Type 0
@@ -29,6 +31,12 @@ ReadsBehind h Then (Err e) ts r = e.fault ≢ Memory → (behind_word h).reads t
 abbrev pub suits_word : Option ℕ → Mnemonic → Bool
 suits_word None h = true
 suits_word (Some v) h = is_br_if (mnemonic_row h) || is_if (mnemonic_row h)
+
+-- The word of an instruction that suits the pending hint was taken, as above. Or none that does is
+-- in front.
+abbrev pub TakesSuited : Option ℕ → Result Mnemonic Error → List Tok → List Tok → Type 0
+TakesSuited p (Ok h) ts r = TakesHead (Ok h) ts r × (suits_word p h ≡ true)
+TakesSuited p (Err e) ts r = (i : Instr) (m : List Tok) → reads i ts m → suits p i ≡ true → ⊥
 
 -- a string was taken, seen by its content, or none is in front
 abbrev pub TakesString : {X : Type 0} → (X → List ℕ) → Result X Error → List Tok → List Tok → Type 0

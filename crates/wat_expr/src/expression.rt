@@ -1,6 +1,7 @@
 //! Expressions.
 
-ghost use Rattle.std.specs.Prelude.{◌≡◌, [], ◌∷◌, ◌++◌, List, Option, map, None, true};
+ghost use Rattle.std.specs.Prelude.{◌≡◌, ◌<◌, [], ◌∷◌, ◌++◌, List, Option, map, None, true};
+ghost use Rattle.std.specs.Vec.{vec_len, vec_capacity};
 ghost use Rattle.std.specs.Prelude.{IfOk, IfErr, MatchResult};
 ghost use Rattle.wat_expr.specs.Expression.{Expr, hint_view, expression_view, bare_expression};
 ghost use Rattle.wat_expr.specs.Expression.{value_of, SpansAre, kept_spans, and_span};
@@ -146,23 +147,33 @@ impl<'a> Expression<'a> {
         }
     }
 
-    /// Puts an instruction behind the others, with the hint that is directly before its item.
-    /// Memory refuses it.
+    /// Puts an instruction behind the others, for which there is room, with the hint that is
+    /// directly before its item. Memory for the hint or the span may be refused.
     #[inline(always)]
-    pub(crate) fn push(
+    pub(crate) fn push_reserved(
         &mut self,
         hint: Option<u32>,
         instr: Instruction<'a>,
         span: Span,
     ) -> Result<()>
+        requires { vec_len self.old.instrs < vec_capacity self.old.instrs }
         ensures { MatchResult result (λ _. flat self.new ≡ push hint (instruction_view instr.entry)
             (flat self.old)) (λ e. e.fault ≡ Fault.Memory) }
     {
         let index = self.instrs.len();
-        push_into(&mut self.instrs, instr)?;
+        self.instrs.push_reserved(instr);
         add_hint(&mut self.branch_hints, hint, index)?;
         add_span(&mut self.instr_spans, span)?;
         Ok(())
+    }
+
+    /// Puts an instruction that no hint is before behind the others. Memory refuses it.
+    pub(crate) fn push(&mut self, instr: Instruction<'a>, span: Span) -> Result<()>
+        ensures { MatchResult result (λ _. flat self.new ≡ push None (instruction_view instr.entry)
+            (flat self.old)) (λ e. e.fault ≡ Fault.Memory) }
+    {
+        self.instrs.reserve(1)?;
+        self.push_reserved(None, instr, span)
     }
 
     /// Takes the operand of the instruction whose word was taken, and puts the instruction behind the
@@ -196,7 +207,7 @@ impl<'a> Expression<'a> {
         ensures { MatchResult result (λ _. flat self.new ≡ push None end_instr (flat self.old))
             (λ e. e.fault ≡ Fault.Memory) }
     {
-        self.push(None, Instruction::Label(LabelOp::end, None), span)
+        self.push(Instruction::Label(LabelOp::end, None), span)
     }
 }
 

@@ -27,9 +27,9 @@ fn open_group<'a>(open_groups: &mut OpenGroups<'a>, parser: &mut Parser<'a>) -> 
         parser.new.left }
     ensures steady { Steady parser.old parser.new }
 {
-    let span = parser.cur_span();
     match take_head(parser) {
         Ok(head) => {
+            let span = parser.prev_span();
             let mark = Mark { span, hint: None };
             open_groups.hold(Kind::Folded, head, parser, mark)
         }

@@ -2,6 +2,7 @@
 
 ghost use Rattle.std.specs.Prelude.{◌≡◌, ◌<◌, ◌∷◌, ◌++◌, [], List, MatchBool, MatchOption};
 ghost use Rattle.std.specs.Prelude.{MatchResult, length};
+ghost use Rattle.std.specs.Vec.{vec_len, vec_capacity};
 ghost use Rattle.wat_expr.specs.Closed.{Pops, Releases};
 ghost use Rattle.wat_expr.specs.Flat.{flat};
 ghost use Rattle.wat_expr.specs.OpenGroups.{heads_in, open_groups, waiting, TopIs};
@@ -84,8 +85,8 @@ impl<'a> Model for OpenGroups<'a> {
         s.heads.items)) (reverse s.marks.items) };
 }
 
-/// Puts the last of the instructions that wait behind the others of `out`, with its mark. Memory
-/// may be answered; then it is gone.
+/// Puts the last of the instructions that wait behind the others of `out`, where there is room for
+/// it, with its mark. Memory for the hint or the span may be refused.
 #[inline(always)]
 fn release<'a>(
     heads: &mut Vec<Instruction<'a>>,
@@ -94,12 +95,12 @@ fn release<'a>(
 ) -> Result<()>
     requires heads { 0 < length heads.old.items }
     requires marks { 0 < length marks.old.items }
+    requires room { vec_len out.old.instrs < vec_capacity out.old.instrs }
     ensures { Releases result heads.old.items heads.new.items marks.old.items marks.new.items
         (flat out.old) (flat out.new) }
 {
     let mark = marks.pop().unwrap();
-    let head = heads.pop().unwrap();
-    out.push(mark.hint, head, mark.span)
+    out.push_reserved(mark.hint, heads.pop().unwrap(), mark.span)
 }
 
 impl<'a> OpenGroups<'a> {
@@ -165,6 +166,7 @@ impl<'a> OpenGroups<'a> {
     pub fn pop(&mut self, out: &mut Expression<'a>) -> Result<Option<Kind>>
         ensures { Pops result self.old self.new (flat out.old) (flat out.new) }
     {
+        out.instrs.reserve(1)?;
         let Some(kind) = self.kinds.pop() else {
             return Ok(None);
         };

@@ -1,11 +1,12 @@
 //! The loop over the tokens of an expression, turn by turn.
 
-ghost use Rattle.std.specs.Prelude.{◌≡◌, ◌∷◌, [], List, ℕ, Option, None, true, codes, MatchBool};
+ghost use Rattle.std.specs.Prelude.{◌≡◌, ◌∷◌, [], List, ℕ, Option, None, true, false, codes};
+ghost use Rattle.std.specs.Prelude.{MatchBool};
 ghost use Rattle.wat_expr.specs.Flat.{flat, no_output};
 ghost use Rattle.wat_expr.specs.Items.{keyword, hint_name};
 ghost use Rattle.wat_expr.specs.OpenGroups.{OpenGroup as Open, InIf, AfterThen, holder};
 ghost use Rattle.wat_expr.specs.Progress.{IsOpen, TurnAnswers};
-ghost use Rattle.wat_expr.specs.Taken.{suits_word};
+ghost use Rattle.wat_expr.specs.Taken.{suits_word, TakesSuited};
 ghost use Rattle.wat_expr.specs.Turned.{stand, IsHintByte};
 ghost use Rattle.wat_instr.specs.Instruction.{Instr, is_if};
 ghost use Rattle.wat_mnemonics.specs.Heads.{mnemonic_row};
@@ -51,12 +52,13 @@ fn suits(hint: Option<u32>, head: Mnemonic) -> bool
     }
 }
 
-/// The refusal of an instruction that the waiting hint can't stand before, behind its word, which
-/// begins at `span`: that of its operand, or HintTarget at the word.
+/// The refusal of an instruction that the waiting hint can't stand before, behind its word: that of
+/// its operand, or HintTarget at the word.
 #[cold]
-fn unsuited<'a>(head: Mnemonic, parser: &mut Parser<'a>, span: Span) -> Error
+fn unsuited<'a>(head: Mnemonic, parser: &mut Parser<'a>) -> Error
     ensures { Steady parser.old parser.new }
 {
+    let span = parser.prev_span();
     let mut slot = None;
     match Instruction::read_operand(head, parser, &mut slot) {
         Ok(()) => {
@@ -64,6 +66,24 @@ fn unsuited<'a>(head: Mnemonic, parser: &mut Parser<'a>, span: Span) -> Error
             Error::at(Fault::HintTarget, span)
         }
         Err(refused) => refused,
+    }
+}
+
+/// Takes the word of the instruction that is in front. One that the waiting hint can't stand before
+/// is refused with HintTarget at its word; a fault in its operand comes before that.
+#[inline(always)]
+fn take_suited<'a>(parser: &mut Parser<'a>, hint: Option<u32>) -> Result<Mnemonic>
+    ensures exact { TakesSuited hint result parser.old.left parser.new.left }
+    ensures steady { Steady parser.old parser.new }
+{
+    match take_head(parser) {
+        Ok(head) => {
+            if suits(hint, head) {
+                return Ok(head);
+            }
+            Err(unsuited(head, parser))
+        }
+        Err(refused) => Err(refused),
     }
 }
 
@@ -77,15 +97,6 @@ fn holder(head: Mnemonic) -> Kind
     } else {
         Kind::Folded
     }
-}
-
-/// The refusal where no instruction can stand alone: Operator at the end of the text, and else
-/// Unexpected.
-fn misplaced(parser: &Parser<'_>) -> Error {
-    if parser.at_end() {
-        return Error::at(Fault::Operator, parser.cur_span());
-    }
-    parser.unexpected()
 }
 
 impl<'a> Reader<'a> {
@@ -118,11 +129,15 @@ impl<'a> Reader<'a> {
             (stand self.new parser.new.left) }
         ensures steady { Steady parser.old parser.new }
     {
+        if parser.is_empty() {
+            if take_close(parser) {
+                return self.close(parser.prev_span());
+            }
+            // The text ends in an open group.
+            return Err(Error::at(Fault::Operator, parser.cur_span()));
+        }
         if take_open(parser) {
             return self.open(parser);
-        }
-        if !self.open_groups.is_empty() && take_close(parser) {
-            return self.close(parser.prev_span());
         }
         self.plain(parser)
     }
@@ -130,24 +145,19 @@ impl<'a> Reader<'a> {
     /// A turn at an instruction alone.
     fn plain(&mut self, parser: &mut Parser<'a>) -> Result<()>
         requires no_group { (ts : List Tok) → parser.old.left ≡ LParen ∷ ts → ⊥ }
-        requires no_close { (self.old.open_groups ≡ [] → ⊥) → (ts : List Tok)
-            → parser.old.left ≡ RParen ∷ ts → ⊥ }
-        requires no_end { self.old.open_groups ≡ [] → ends parser.old.left ≡ true → ⊥ }
+        requires no_end { ends parser.old.left ≡ false }
         ensures turned { TurnAnswers result (stand self.old parser.old.left)
             (stand self.new parser.new.left) }
         ensures steady { Steady parser.old parser.new }
     {
         if !self.open_groups.takes_plain() {
-            return Err(misplaced(parser));
+            return Err(parser.unexpected());
         }
-        let span = parser.cur_span();
-        let head = match take_head(parser) {
+        let head = match take_suited(parser, self.pending) {
             Ok(head) => head,
             Err(refused) => return Err(refused),
         };
-        if !suits(self.pending, head) {
-            return Err(unsuited(head, parser, span));
-        }
+        let span = parser.prev_span();
         let hint = self.pending.take();
         self.out.read(head, parser, hint, span)
     }
@@ -232,7 +242,7 @@ impl<'a> Reader<'a> {
         self.open_groups.enter(Kind::AfterElse)?;
         self.open_groups.enter(Kind::Arm)?;
         self.out
-            .push(None, Instruction::Label(LabelOp::else_, None), span)
+            .push(Instruction::Label(LabelOp::else_, None), span)
     }
 
     /// A turn at a group or a hint.
@@ -247,14 +257,11 @@ impl<'a> Reader<'a> {
         if take_hint_name(parser) {
             return self.hint(parser);
         }
-        let span = parser.cur_span();
-        let head = match take_head(parser) {
+        let head = match take_suited(parser, self.pending) {
             Ok(head) => head,
             Err(refused) => return Err(refused),
         };
-        if !suits(self.pending, head) {
-            return Err(unsuited(head, parser, span));
-        }
+        let span = parser.prev_span();
         let hint = self.pending.take();
         if opens_block(head) {
             return match self.out.read(head, parser, hint, span) {

@@ -3,7 +3,7 @@ use Rattle.wat_expr.proofs.Instructions.{opens_behind, no_head}
 use Rattle.wat_expr.proofs.folded.open_group.Goals as goal
 
 pub returns-in-Ok-clause-exact : goal.returns-in-Ok-clause-exact
-returns-in-Ok-clause-exact c = opens_behind _ _ (record { span = c.cur_span-span.result; hint = None }) _ _ _ _ _ c.in-Ok.ensures.exact refl c.hold.ensures.exact
+returns-in-Ok-clause-exact c = opens_behind _ _ (record { span = c.prev_span-span.result; hint = None }) _ _ _ _ _ c.in-Ok.ensures.exact refl c.hold.ensures.exact
 
 pub returns-in-Err-clause-exact : goal.returns-in-Err-clause-exact
 returns-in-Err-clause-exact c = λ n. no_head _ c.in-Err.ensures.exact
