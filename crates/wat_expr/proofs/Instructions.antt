@@ -17,10 +17,9 @@ use Rattle.wat_tokens.specs.Steady.{Steady}
 use Rattle.std.specs.Prelude.{IfErr}
 use Rattle.wat_expr.specs.Laws.Facts.{read_of, reads_of}
 use Rattle.wat_expr.specs.Flat.{Flat}
-use Rattle.wat_expr.specs.Closed.{released}
-use Rattle.wat_expr.specs.GroupTurn.{GroupTurn, IsHalted, OpensBehind, Closes, group_state}
+use Rattle.wat_expr.specs.GroupTurn.{GroupTurn, IsHalted, OpensBehind, group_state}
 use Rattle.wat_expr.specs.Items.{reads}
-use Rattle.wat_expr.specs.OpenGroups.{OpenGroup, InFolded, open_groups, kind_of}
+use Rattle.wat_expr.specs.OpenGroups.{OpenGroup, open_groups}
 use Rattle.wat_expr.specs.declared.open_groups.Kind.TheVariants as kind
 use Rattle.wat_expr.specs.declared.open_groups.Mark.{Mark}
 use Rattle.wat_expr.specs.Progress.{suits}

@@ -8,7 +8,7 @@ use Rattle.wat_tokens.specs.Token.{Tok, LParen, RParen}
 use Rattle.wat_instr.specs.Instruction.{Instr, instruction, behind_word, is_block, is_if, end_instr, else_instr}
 use Rattle.wat_expr.specs.Closed.{Pops, released}
 use Rattle.wat_expr.specs.Flat.{Flat, push}
-use Rattle.wat_expr.specs.Items.{sort, sort_of, IsBlock, reads, keyword}
+use Rattle.wat_expr.specs.Items.{sort_of, IsBlock, reads, keyword}
 use Rattle.wat_expr.specs.OpenGroups.{OpenGroup, InFolded, InBlock, InIf, AfterThen, AfterElse, InArm, open_groups, holder, kind_of}
 use Rattle.wat_expr.specs.declared.open_groups.Kind.{Kind}
 use Rattle.wat_expr.specs.declared.open_groups.Kind.TheVariants as kind

@@ -1,5 +1,5 @@
 -- Turns: each leaves as much to do as there was, and where one is refused nothing could be read.
-use Rattle.std.proofs.Common.{◌≡◌, ◌||◌, ◌==◌, ℕ, Bool, true, false, refl, subst, inl, inr, ◌<◌, List, [], ◌∷◌, length, Option, Some, None, sym, suc, ◌≤◌, Result, Ok, Err, MatchResult, MatchOption, ap, arith}
+use Rattle.std.proofs.Common.{◌≡◌, ◌||◌, ◌==◌, ℕ, Bool, true, false, refl, subst, inl, inr, ◌<◌, List, [], ◌∷◌, length, Option, Some, None, sym, suc, ◌≤◌, Result, Ok, Err, MatchResult, arith}
 use Rattle.std.proofs.lemmas.Bool.{eqb-true}
 use Rattle.wat_instr.specs.Instruction.{Instr, is_block, is_if, is_br_if, end_instr, else_instr}
 use Rattle.wat_tokens.specs.Laws.Production.{by_test}

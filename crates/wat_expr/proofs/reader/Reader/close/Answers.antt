@@ -1,4 +1,4 @@
-use Rattle.std.proofs.Common.{refl, ◌∙◌}
+use Rattle.std.proofs.Common.{◌∙◌}
 use Rattle.wat_expr.proofs.Turns.{unpending}
 use Rattle.wat_expr.proofs.ReadTurns.{close_alone, close_with_end, close_if}
 use Rattle.wat_expr.proofs.reader.Reader.close.Goals as goal
