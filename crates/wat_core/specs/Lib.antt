@@ -134,3 +134,4 @@ pub mod FieldGroup
 pub mod Laws
 pub mod Module
 pub mod Rows
+pub mod Text

@@ -1,20 +1,22 @@
 //! Modules of the WebAssembly text format (WebAssembly Core Specification, Text Format, "Modules"),
 //! and everything that is in them.
 //!
-//! [`Module::parse`] takes a module from the tokens of a [`Parser`]. Indices stay as they are
-//! written: nothing is resolved, and nothing is checked for validity. This crate has the names of
-//! the parser, of the types of what is read, and of what reads them, so that a user needs it alone;
-//! what else is public in the crates that it uses is reached by the crate's own name, as
-//! `wat_core::wat_mnemonics::find`.
+//! [`read_module`] reads a text that is one module, and [`Module::parse`] takes a module from the
+//! tokens of a [`Parser`]. Indices stay as they are written: nothing is resolved, and nothing is
+//! checked for validity. This crate has the names of the parser, of the types of what is read, and
+//! of what reads them, so that a user needs it alone; what else is public in the crates that it
+//! uses is reached by the crate's own name, as `wat_core::wat_mnemonics::find`.
 #![tactic(auto)]
 
 pub mod field;
 pub mod laws;
 pub mod module;
+pub mod text;
 
 // Modules and their fields.
 pub use field::{ModuleField, ModuleFieldOf};
-pub use module::{Module, ModuleKind, ModuleKindOf};
+pub use module::{Module, ModuleKind, ModuleKindOf, VisibleModule};
+pub use text::read_module;
 
 // The parser, its tokens and its faults.
 pub use wat_tokens::{

@@ -85,11 +85,15 @@ fn read_module_kind<'a>(parser: &mut Parser<'a>) -> Result<ModuleKind<'a>>
     Ok(ModuleKind::Text(all_parts::<_, FieldGroup>(parser)?))
 }
 
-/// A module, read with the names that are known.
+/// A module, as a value that is read over the tokens that are visible now: a part of a text that is
+/// no module itself, as a script, can hold it. [`Module::parse`] turns the five standard annotations
+/// on for a module; here its hints, names and custom sections are read if they are known.
+///
+/// It is from the word `module` to the end of its group, whose parentheses are the caller's.
 #[derive(Drop)]
-struct WithNamesKnown<'a>(Module<'a>);
+pub struct VisibleModule<'a>(pub Module<'a>);
 
-impl<'a> Parse<'a> for WithNamesKnown<'a> {
+impl<'a> Parse<'a> for VisibleModule<'a> {
     ghost View = { ModuleTy };
 
     ghost view = { owning (λ m. module_view m.0) bare_module };
@@ -104,7 +108,7 @@ impl<'a> Parse<'a> for WithNamesKnown<'a> {
         let id = Option::<Id>::parse(parser)?;
         let name = Option::<NameAnnotation>::parse(parser)?;
         let kind = read_module_kind(parser)?;
-        Ok(WithNamesKnown(Module {
+        Ok(VisibleModule(Module {
             span,
             id,
             name,
@@ -161,7 +165,7 @@ impl<'a> Module<'a> {
     {
         let was = parser.known();
         parser.with_standard_annotations(true);
-        let found = parser.parse::<WithNamesKnown>();
+        let found = parser.parse::<VisibleModule>();
         parser.with_standard_annotations(was);
         match found {
             Ok(named) => Ok(named.0),

@@ -7,17 +7,16 @@ ghost use Rattle.std.specs.Prelude.{◌≡◌, IfOk, MatchResult};
 ghost use Rattle.std.specs.String.{string_bytes};
 ghost use Rattle.wat_core.specs.Module.{ModuleTy};
 ghost use Rattle.wat_example.specs.Listing.{module_lines};
-ghost use Rattle.wat_example.specs.Whole.{SpellsModule};
+ghost use Rattle.wat_core.specs.Text.{SpellsModule};
 ghost use Rattle.wat_core.specs.Error.{Memory};
 
 mod listing;
-mod whole;
 
 use bumpalo::Bump;
 use std::alloc::Global;
 use std::io;
 use std::process::ExitCode;
-use wat_core::{Error, Fault};
+use wat_core::{Error, Fault, read_module};
 
 /// The lines of the functions that are exported by the module that the whole text spells, in its
 /// group.
@@ -32,7 +31,7 @@ pub fn exported(alloc: Global, text: &str) -> Result<String, Error>
         → MatchResult result (λ out. string_bytes out ≡ module_lines m) (λ e. e.fault ≡ Memory) }
 {
     let arena = Bump::new(alloc);
-    let module = whole::read(alloc, text, &arena)?;
+    let module = read_module(alloc, text, &arena)?;
     let mut out = String::new(alloc);
     listing::add_module(&mut out, &module)?;
     Ok(out)

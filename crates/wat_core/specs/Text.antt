@@ -1,10 +1,10 @@
 -- Modules that a whole text spells.
 use Rattle.std.specs.Prelude.{ℕ, List, [], true}
 use Rattle.wat_core.specs.Module.{ModuleTy, module_}
-use Rattle.wat_core.specs.Cut.{IsCut}
-use Rattle.wat_core.specs.Groups.{paren}
-use Rattle.wat_core.specs.Sight.{visible_tokens}
-use Rattle.wat_core.specs.Token.{Placed, tokens_of}
+use Rattle.wat_lexer.specs.Cut.{IsCut}
+use Rattle.wat_tokens.specs.Groups.{paren}
+use Rattle.wat_tokens.specs.Sight.{visible_tokens}
+use Rattle.wat_lexer.specs.Token.{Placed, tokens_of}
 
 -- The text is cut, and its tokens, those visible with the five standard annotations known, are
 -- one group that spells the module.
