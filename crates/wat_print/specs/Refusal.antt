@@ -2,7 +2,8 @@
 use Rattle.std.specs.Prelude.{ℕ}
 use Rattle.wat_print.specs.declared.fault.Refused.{Refused}
 use Rattle.wat_print.specs.declared.fault.Refused.TheVariants.{Memory, EmptyName, Label, PageSize}
-use Rattle.wat_print.specs.declared.fault.Refused.TheVariants.{Parents}
+use Rattle.wat_print.specs.declared.fault.Refused.TheVariants.{Parents, Alignment}
+use Rattle.wat_print.specs.declared.fault.Refused.TheVariants.{Ordering, Float}
 
 abbrev pub refused_number : Refused → ℕ
 refused_number Memory = 1
@@ -10,3 +11,6 @@ refused_number EmptyName = 2
 refused_number Label = 3
 refused_number PageSize = 4
 refused_number Parents = 5
+refused_number Alignment = 6
+refused_number Ordering = 7
+refused_number Float = 8

@@ -6,7 +6,7 @@ ghost use Rattle.wat_print.specs.Refusal.{refused_number};
 use std::alloc::AllocError;
 use thiserror::Error;
 
-/// Why a value isn't printed. Each reason has a number, from 1 to 5.
+/// Why a value isn't printed. Each reason has a number, from 1 to 8.
 ///
 /// No text spells a value that is refused for another reason than Memory.
 #[derive(Clone, Copy, Debug, PartialEq, Eq, Hash, Error)]
@@ -28,10 +28,21 @@ pub enum Refused {
     /// "Recursive Types").
     #[error("a definition without `sub` is below others")]
     Parents = 5,
+    /// The alignment of an access is no power of two, and not the one that is meant where none is
+    /// written (Text Format, Instructions, "Memory Instructions").
+    #[error("an alignment is no power of two")]
+    Alignment = 6,
+    /// An access has an ordering that its instruction can't have (Text Format, Instructions,
+    /// "Memory Instructions", with the proposals on threads).
+    #[error("an access has an ordering that its instruction can't have")]
+    Ordering = 7,
+    /// No text is read as a floating-point number.
+    #[error("a floating-point number has no text")]
+    Float = 8,
 }
 
 impl Refused {
-    /// The number, from 1 to 5.
+    /// The number, from 1 to 8.
     pub fn number(self) -> u8
         ensures { result ≡ refused_number self }
     {
