@@ -15,7 +15,7 @@ use wat_types::{
 
 /// Why a text wasn't printed again.
 #[derive(Debug, Drop)]
-enum Unprinted {
+pub(crate) enum Unprinted {
     /// It wasn't read.
     Unread(Error),
     /// More stands behind it.
@@ -100,7 +100,7 @@ fn add_changed<'a, T: Parse<'a> + Print + Drop>(
 }
 
 /// The text in which a part stands so many times between the first text and the last.
-fn text_of_times<'a>(
+pub(crate) fn text_of_times<'a>(
     alloc: Global,
     arena: &'a Bump,
     (first, part, last): (&str, &str, &str),

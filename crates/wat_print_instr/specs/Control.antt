@@ -1,0 +1,116 @@
+-- How blocks, calls, the types of a `select`, casts, and what is caught and handled are written.
+use Rattle.std.specs.Prelude.{Bool, true, ◌&&◌, List, [], ◌∷◌, ◌++◌, codes, flat_map, Option}
+use Rattle.wat_lexer.specs.Token.{Tok, Keyword}
+use Rattle.wat_tokens.specs.Index.{Idx}
+use Rattle.wat_tokens.specs.Spelled.{in_parens}
+use Rattle.wat_types.specs.Value.{ValTy}
+use Rattle.wat_operands.specs.Block.{BlockTy}
+use Rattle.wat_operands.specs.Call.{CallTy}
+use Rattle.wat_operands.specs.Casts.{BranchTy}
+use Rattle.wat_operands.specs.CatchClause.{CatchTy}
+use Rattle.wat_operands.specs.Catches.{TryTy}
+use Rattle.wat_operands.specs.Handler.{HandleTy, on_label, on_switch}
+use Rattle.wat_operands.specs.Handlers.{ResumeTy, ThrowTy}
+use Rattle.wat_operands.specs.declared.catches.CatchKind.{CatchKind}
+use Rattle.wat_operands.specs.declared.catches.CatchKind.TheVariants.{Catch, CatchRef, CatchAll}
+use Rattle.wat_operands.specs.declared.catches.CatchKind.TheVariants.{CatchAllRef}
+use Rattle.wat_print.specs.Index.{spell_index, fit_index}
+use Rattle.wat_print.specs.Label.{spell_label, fit_label}
+use Rattle.wat_print.specs.Parts.{grouped, spell_option, if_some, each}
+use Rattle.wat_print.specs.Reference.{spell_ref, fit_ref, spell_val, fit_val}
+use Rattle.wat_print.specs.Use.{spell_use, fit_unnamed_use}
+use Rattle.wat_print_instr.specs.Places.{spell_index_or_0}
+
+-- ---- blocks and calls
+
+-- id? name? TypeUse
+abbrev pub spell_block : BlockTy → List Tok
+spell_block b = spell_label b.label ++ spell_use b.ty
+
+abbrev pub fit_block : BlockTy → Bool
+fit_block b = fit_label b.label && fit_unnamed_use b.ty
+
+-- the table unless it is 0, and the type
+abbrev pub spell_call : CallTy → List Tok
+spell_call c = spell_index_or_0 c.table ++ spell_use c.ty
+
+abbrev pub fit_call : CallTy → Bool
+fit_call c = fit_index c.table && fit_unnamed_use c.ty
+
+-- ---- the types of a select
+
+-- ( result ValType* )
+abbrev pub spell_result : List ValTy → List Tok
+spell_result ts = grouped (codes "result") (flat_map spell_val ts)
+
+abbrev pub spell_select : Option (List ValTy) → List Tok
+spell_select ts = spell_option spell_result ts
+
+abbrev pub fit_select : Option (List ValTy) → Bool
+fit_select ts = if_some (each fit_val) ts
+
+-- ---- casts
+
+-- the label, and the types from which and to which
+abbrev pub spell_branch : BranchTy → List Tok
+spell_branch b = spell_index b.label ++ (spell_ref b.from_type ++ spell_ref b.to_type)
+
+abbrev pub fit_branch : BranchTy → Bool
+fit_branch b = fit_index b.label && (fit_ref b.from_type && fit_ref b.to_type)
+
+-- ---- what a try_table catches
+
+abbrev pub spell_catch_kind : CatchKind Idx → List Tok
+spell_catch_kind (Catch i) = Keyword (codes "catch") ∷ spell_index i
+spell_catch_kind (CatchRef i) = Keyword (codes "catch_ref") ∷ spell_index i
+spell_catch_kind CatchAll = Keyword (codes "catch_all") ∷ []
+spell_catch_kind CatchAllRef = Keyword (codes "catch_all_ref") ∷ []
+
+abbrev pub fit_catch_kind : CatchKind Idx → Bool
+fit_catch_kind (Catch i) = fit_index i
+fit_catch_kind (CatchRef i) = fit_index i
+fit_catch_kind _ = true
+
+-- ( word tag? label )
+abbrev pub spell_catch : CatchTy → List Tok
+spell_catch c = in_parens (spell_catch_kind c.kind ++ spell_index c.label)
+
+abbrev pub fit_catch : CatchTy → Bool
+fit_catch c = fit_catch_kind c.kind && fit_index c.label
+
+abbrev pub spell_try : TryTy → List Tok
+spell_try t = spell_block t.block ++ flat_map spell_catch t.catches
+
+abbrev pub fit_try : TryTy → Bool
+fit_try t = fit_block t.block && each fit_catch t.catches
+
+-- ---- handlers
+
+-- ( on tag label ), or ( on tag switch )
+abbrev pub spell_handler : HandleTy → List Tok
+spell_handler (on_label t l) = grouped (codes "on") (spell_index t ++ spell_index l)
+spell_handler (on_switch t) =
+    grouped (codes "on") (spell_index t ++ Keyword (codes "switch") ∷ [])
+
+abbrev pub fit_handler : HandleTy → Bool
+fit_handler (on_label t l) = fit_index t && fit_index l
+fit_handler (on_switch t) = fit_index t
+
+abbrev pub spell_resume_table : List HandleTy → List Tok
+spell_resume_table hs = flat_map spell_handler hs
+
+abbrev pub fit_resume_table : List HandleTy → Bool
+fit_resume_table hs = each fit_handler hs
+
+abbrev pub spell_resume : ResumeTy → List Tok
+spell_resume r = spell_index r.type_index ++ spell_resume_table r.table
+
+abbrev pub fit_resume : ResumeTy → Bool
+fit_resume r = fit_index r.type_index && fit_resume_table r.table
+
+abbrev pub spell_throw : ThrowTy → List Tok
+spell_throw r =
+    spell_index r.type_index ++ (spell_index r.tag_index ++ spell_resume_table r.table)
+
+abbrev pub fit_throw : ThrowTy → Bool
+fit_throw r = fit_index r.type_index && (fit_index r.tag_index && fit_resume_table r.table)

@@ -1,0 +1,6 @@
+-- Laws of the definitions: lemmas that other crates rest on.
+pub mod Numbers
+pub mod Places
+pub mod Access
+pub mod Vectors
+pub mod Control

@@ -1,0 +1,585 @@
+-- Laws: accesses to memories, and orderings, are read again.
+use Rattle.std.specs.Prelude.{◌≡◌, ℕ, zero, suc, ◌^◌, ◌<◌, Bool, true, false, ◌&&◌, ◌||◌, ◌==◌}
+use Rattle.std.specs.Prelude.{List, [], ◌∷◌, ◌++◌, codes, decimal, Option, Some, None, unwrap_or}
+use Rattle.std.specs.Prelude.{is_none, option_map}
+use Rattle.std.specs.Int.{is_power_of_two}
+use Rattle.std.proofs.Common.{refl, ap, subst, sym, inl, inr, lit≤, arith}
+use Rattle.std.proofs.lemmas.Bool.{and_parts, cond_both}
+use Rattle.std.proofs.lemmas.Fmt.{decimal_is_IsNumeral}
+use Rattle.std.proofs.Common.{append-nil}
+use Rattle.wat_print.specs.Laws.Numbers.{no_sign, unsigned_decimal}
+use Rattle.wat_lexer.specs.Number.{unsigned_value, sign_of}
+use Rattle.wat_lexer.specs.Token.{Tok, LParen, RParen, Keyword, Integer}
+use Rattle.wat_tokens.specs.Index.{number, name, index, begins_index}
+use Rattle.wat_tokens.specs.Parts.{seq, opt}
+use Rattle.wat_tokens.specs.PartSpells.{opt_spells}
+use Rattle.wat_tokens.specs.Production.{Production}
+use Rattle.wat_tokens.specs.Tests.{begins_word}
+use Rattle.wat_operands.specs.Align.{past_front, number_behind, field, number_in}
+use Rattle.wat_operands.specs.Lanes.{LaneAccessTy, lane_of, lane_arg, lane_in, access_of, lane_alone}
+use Rattle.wat_operands.specs.Lanes.{is_alone, lane_access}
+use Rattle.wat_operands.specs.Laws.Power.{power_of_two-holds, power_of_two-tested}
+use Rattle.wat_operands.specs.Memory.{TargetTy, memory, array, target, array_follows, begins_with}
+use Rattle.wat_operands.specs.Memory.{offset_or_0, align, align_or, MemArgTy, mem_arg_of, mem_arg}
+use Rattle.wat_operands.specs.Memory.{ordering_as, with_ordering, atomic_mem_arg}
+use Rattle.wat_operands.specs.Ordering.{ordering, begins_ordering, ordered}
+use Rattle.wat_operands.specs.declared.lanes.LaneArg.{LaneArg}
+use Rattle.wat_operands.specs.declared.memory.MemArgOrdering.{MemArgOrdering}
+use Rattle.wat_operands.specs.declared.memory.MemArgOrdering.TheVariants.{Op, Rmw}
+use Rattle.wat_operands.specs.declared.ordering.Ordering.{Ordering}
+use Rattle.wat_operands.specs.declared.ordering.Ordering.TheVariants.{AcqRel, SeqCst}
+use Rattle.wat_print.specs.Index.{spell_index}
+use Rattle.wat_print.specs.Limits.{spell_number, is_u64}
+use Rattle.wat_print.specs.Neat.{is_keyword, is_given, Neat, nothing}
+use Rattle.wat_print.specs.Parts.{each, if_some, spell_option}
+use Rattle.wat_print.specs.Laws.Only.{Only, only_any, only_one, only_where, only_opt, only_seq}
+use Rattle.wat_print.specs.Laws.Only.{only_made, only_group, only_weaker}
+use Rattle.wat_print.specs.Laws.Parts.{Spells, group_here, word_here, neat_one, neat_both, neat_group}
+use Rattle.wat_print.specs.Laws.Parts.{neat_option, and_also}
+use Rattle.wat_print.specs.Laws.Reference.{index_here, index_neat, index_only}
+use Rattle.wat_print_instr.specs.Access.{spell_target, fit_target, spell_unless}
+use Rattle.wat_print_instr.specs.Access.{spell_access, fit_alignment, fit_place, fit_access}
+use Rattle.wat_print_instr.specs.Access.{spell_ordering, ordering_in, spell_atomic}
+use Rattle.wat_print_instr.specs.Access.{fit_ordering, fit_atomic, spell_ordered, fit_ordered}
+use Rattle.wat_print_instr.specs.Access.{spell_lane, fit_lane, spell_lane_access, fit_lane_access}
+use Rattle.wat_print_instr.specs.Numbers.{numbered, is_unsigned}
+use Rattle.wat_print_instr.specs.Places.{is_index_0}
+use Rattle.wat_print_instr.specs.Laws.Numbers.{less_by, equal_by, same_number, number_text}
+use Rattle.wat_print_instr.specs.Laws.Numbers.{number_chars, unsigned_neat}
+use Rattle.wat_print_instr.specs.Laws.Numbers.{unsigned_given}
+use Rattle.wat_print_instr.specs.Laws.Places.{both_here, index_or_0_here, index_or_0_neat}
+use Rattle.wat_print_instr.specs.Laws.Places.{index_or_0_only}
+
+-- ---- targets
+
+-- what may follow a target: where it is memory 0 and nothing is written, what begins neither an
+-- index nor a group of `type`
+abbrev pub EndsTarget : TargetTy → List Tok → Type 0
+EndsTarget (memory (number zero)) x = (begins_index x ≡ false) × (array_follows x ≡ false)
+EndsTarget (memory _) x = begins_word (codes "type") x ≡ false
+EndsTarget (array i) x = Unit {0}
+
+pub target_here : (t : TargetTy) (x : List Tok) → fit_target t ≡ true → EndsTarget t x
+    → target.spells t (spell_target t) x
+unfolding target
+target_here (memory (number zero)) x f e =
+    inr (e.1, (number 0, index_or_0_here (number 0) x f (λ _. e.0), refl, refl))
+target_here (memory (number (suc n))) x f e =
+    inr (e, (number (suc n), index_or_0_here (number (suc n)) x f (λ k. absurd cc), refl, refl))
+target_here (memory (name y)) x f e =
+    inr (e, (name y, index_or_0_here (name y) x f (λ k. absurd cc), refl, refl))
+target_here (array i) x f e =
+    inl (
+      refl,
+      (
+        i,
+        group_here (codes "type") index i (spell_index i) x refl (index_here i f (RParen ∷ x)),
+        refl,
+        refl,
+      ),
+    )
+
+target_neat : (t : TargetTy) → fit_target t ≡ true → Neat (spell_target t)
+target_neat (memory i) f = index_or_0_neat i f
+target_neat (array i) f = neat_group (codes "type") (spell_index i) refl (index_neat i f)
+
+target_only : Only target fit_target
+unfolding target
+target_only =
+    only_where array_follows
+    (only_made (λ _. true) array fit_target (only_group (codes "type") index_only))
+    (only_made (λ _. true) memory fit_target index_or_0_only)
+
+-- ---- words that end in a number
+
+offset_number : (n : ℕ) → n < 2 ^ 64
+    → number_behind (codes "offset=") (numbered (codes "offset=") n) ≡ Some n
+unfolding past_front
+offset_number n lt = number_text n lt
+
+align_number : (n : ℕ) → n < 2 ^ 64
+    → number_behind (codes "align=") (numbered (codes "align=") n) ≡ Some n
+unfolding past_front
+align_number n lt = number_text n lt
+
+offset_chars : (n : ℕ) → n < 2 ^ 64 → is_keyword (codes "offset=" ++ decimal n) ≡ true
+offset_chars n lt = rw (number_chars n lt) refl
+
+align_chars : (n : ℕ) → n < 2 ^ 64 → is_keyword (codes "align=" ++ decimal n) ≡ true
+align_chars n lt = rw (number_chars n lt) refl
+
+-- where none is written, in front of what begins none
+offset_here : (b : Bool) (n : ℕ) (r : List Tok) → (n == 0) ≡ b → is_u64 n ≡ true
+    → (b ≡ true → begins_with (codes "offset=") r ≡ false)
+    → offset_or_0.spells n (spell_unless b (codes "offset=") n) r
+unfolding offset_or_0 field past_front
+offset_here true n r z f e = (None, (refl, e refl), refl, sym (equal_by n 0 z))
+offset_here false n r z f e = (
+  Some n,
+  (refl, (numbered (codes "offset=") n, refl, offset_number n (less_by n (2 ^ 64) f))),
+  refl,
+  refl,
+)
+
+or_second : (b c : Bool) → b ≡ false → b || c ≡ true → c ≡ true
+or_second b c e h = rw e at h
+
+align_here : (a : ℕ) (b : Bool) (n : ℕ) (r : List Tok) → (n == a) ≡ b → fit_alignment a n ≡ true
+    → (b ≡ true → begins_with (codes "align=") r ≡ false)
+    → (align_or a).spells n (spell_unless b (codes "align=") n) r
+unfolding align_or align field past_front
+align_here a true n r z f e = (None, (refl, e refl), refl, sym (equal_by n a z))
+align_here a false n r z f e =
+    let h = or_second (n == a) (is_power_of_two n && is_u64 n) z f in
+    let p = and_parts (is_power_of_two n) (is_u64 n) h in (
+      Some n,
+      (
+        refl,
+        (
+          (numbered (codes "align=") n, refl, align_number n (less_by n (2 ^ 64) p.1)),
+          power_of_two-holds n p.0,
+        ),
+      ),
+      refl,
+      refl,
+    )
+
+-- ---- accesses
+
+-- what follows an access begins neither of its words, and isn't mistaken for a group of `type`
+abbrev pub EndsAccess : List Tok → Type 0
+EndsAccess r =
+    (begins_with (codes "offset=") r ≡ false) × (begins_with (codes "align=") r ≡ false)
+    × (begins_word (codes "type") r ≡ false) × (array_follows r ≡ false)
+
+-- the two words
+abbrev two_words : Bool → Bool → ℕ → ℕ → List Tok
+two_words b c n k = spell_unless b (codes "offset=") n ++ spell_unless c (codes "align=") k
+
+no_type : (b c : Bool) (n k : ℕ) (r : List Tok) → EndsAccess r
+    → begins_word (codes "type") (two_words b c n k ++ r) ≡ false
+no_type false c n k r e = refl
+no_type true false n k r e = refl
+no_type true true n k r e = e.2
+
+no_array : (b c : Bool) (n k : ℕ) (r : List Tok) → EndsAccess r
+    → array_follows (two_words b c n k ++ r) ≡ false
+no_array false false n k r e = refl
+no_array false true n k r e = e.2
+no_array true false n k r e = e.2
+no_array true true n k r e = e.3
+
+no_index : (b c : Bool) (n k : ℕ) (r : List Tok) → (b && c ≡ true → begins_index r ≡ false)
+    → begins_index (two_words b c n k ++ r) ≡ false
+no_index false c n k r e = refl
+no_index true false n k r e = refl
+no_index true true n k r e = e refl
+
+no_offset : (c : Bool) (k : ℕ) (r : List Tok) → EndsAccess r
+    → begins_with (codes "offset=") (spell_unless c (codes "align=") k ++ r) ≡ false
+unfolding past_front
+no_offset false k r e = refl
+no_offset true k r e = e.0
+
+abbrev is_memory_0 : TargetTy → Bool
+is_memory_0 (memory i) = is_index_0 i
+is_memory_0 (array i) = false
+
+ends_target : (t : TargetTy) (b c : Bool) (n k : ℕ) (r : List Tok) → EndsAccess r
+    → (is_memory_0 t ≡ true → b && c ≡ true → begins_index r ≡ false)
+    → EndsTarget t (two_words b c n k ++ r)
+ends_target (memory (number zero)) b c n k r e h =
+    (no_index b c n k r (h refl), no_array b c n k r e)
+ends_target (memory (number (suc m))) b c n k r e h = no_type b c n k r e
+ends_target (memory (name y)) b c n k r e h = no_type b c n k r e
+ends_target (array i) b c n k r e h = tt
+
+-- with b and c: whether the offset is 0, and the alignment the default
+access_by : (a : ℕ) (b c : Bool) (t : TargetTy) (n k : ℕ) (r : List Tok) → (n == 0) ≡ b
+    → (k == a) ≡ c → fit_target t ≡ true → is_u64 n ≡ true → fit_alignment a k ≡ true
+    → EndsAccess r → (is_memory_0 t ≡ true → b && c ≡ true → begins_index r ≡ false)
+    → (mem_arg a).spells (mem_arg_of (t, (n, k))) (spell_target t ++ two_words b c n k) r
+unfolding mem_arg
+access_by a b c t n k r z y f g h e i =
+    let o = spell_unless b (codes "offset=") n in
+    let l = spell_unless c (codes "align=") k in (
+      (t, (n, k)),
+      both_here target (seq offset_or_0 (align_or a)) t (n, k) (spell_target t) (o ++ l) r
+          (target_here t ((o ++ l) ++ r) f (ends_target t b c n k r e i))
+          (both_here offset_or_0 (align_or a) n k o l r
+          (offset_here b n (l ++ r) z g (λ u. (no_offset c k r e)))
+          (align_here a c k r y h (λ u. (e.1)))),
+      refl,
+      refl,
+    )
+
+-- the same access without an ordering
+abbrev unordered : MemArgTy → MemArgTy
+unordered m = mem_arg_of (m.target, (m.offset, m.align))
+
+pub place_here : (a : ℕ) (m : MemArgTy) (r : List Tok) → fit_place a m ≡ true → EndsAccess r
+    → (is_memory_0 m.target ≡ true → (m.offset == 0) && (m.align == a) ≡ true
+    → begins_index r ≡ false)
+    → (mem_arg a).spells (unordered m) (spell_access a m) r
+place_here a m r f e i =
+    let p = and_parts (fit_target m.target) (is_u64 m.offset && fit_alignment a m.align) f in
+    let q = and_parts (is_u64 m.offset) (fit_alignment a m.align) p.1 in
+    access_by a (m.offset == 0) (m.align == a) m.target m.offset m.align r refl refl p.0 q.0 q.1 e i
+
+is_absent : {A : Type 0} (o : Option A) → is_none o ≡ true → None ≡ o
+is_absent None e = refl
+is_absent (Some x) e = absurd cc
+
+none_ordered : (m : MemArgTy) → is_none m.ordering ≡ true → unordered m ≡ m
+none_ordered m e =
+    ap (λ (o : Option MemArgOrdering). record {
+      align = m.align;
+      offset = m.offset;
+      target = m.target;
+      ordering = o;
+    }) (is_absent m.ordering e)
+
+-- in front of what begins neither an index nor one of its words
+pub access_here : (a : ℕ) (m : MemArgTy) (r : List Tok) → fit_access a m ≡ true → EndsAccess r
+    → begins_index r ≡ false → (mem_arg a).spells m (spell_access a m) r
+access_here a m r f e i =
+    let p = and_parts (fit_place a m) (is_none m.ordering) f in
+    subst (λ (x : MemArgTy). (mem_arg a).spells x (spell_access a m) r) (none_ordered m p.1)
+    (place_here a m r p.0 e (λ u v. i))
+
+unless_neat : (b : Bool) (front : List ℕ) (n : ℕ) → (b ≡ false
+    → is_keyword (front ++ decimal n) ≡ true) → Neat (spell_unless b front n)
+unless_neat true front n h = nothing
+unless_neat false front n h = neat_one (numbered front n) (h refl)
+
+alignment_chars : (a n : ℕ) → fit_alignment a n ≡ true → (n == a) ≡ false
+    → is_keyword (codes "align=" ++ decimal n) ≡ true
+alignment_chars a n f e =
+    let h = or_second (n == a) (is_power_of_two n && is_u64 n) e f in
+    align_chars n (less_by n (2 ^ 64) (and_parts (is_power_of_two n) (is_u64 n) h).1)
+
+pub place_neat : (a : ℕ) (m : MemArgTy) → fit_place a m ≡ true → Neat (spell_access a m)
+place_neat a m f =
+    let p = and_parts (fit_target m.target) (is_u64 m.offset && fit_alignment a m.align) f in
+    let q = and_parts (is_u64 m.offset) (fit_alignment a m.align) p.1 in
+    let o = spell_unless (m.offset == 0) (codes "offset=") m.offset in
+    let l = spell_unless (m.align == a) (codes "align=") m.align in
+    neat_both (spell_target m.target) (o ++ l) (target_neat m.target p.0)
+    (neat_both o l
+    (unless_neat (m.offset == 0) (codes "offset=") m.offset
+    (λ e. (offset_chars m.offset (less_by m.offset (2 ^ 64) q.0))))
+    (unless_neat (m.align == a) (codes "align=") m.align
+    (λ e. (alignment_chars a m.align q.1 e))))
+
+pub access_neat : (a : ℕ) (m : MemArgTy) → fit_access a m ≡ true → Neat (spell_access a m)
+access_neat a m f = place_neat a m (and_parts (fit_place a m) (is_none m.ordering) f).0
+
+-- ---- what a text spells can be written
+
+in_number : (o : Option (List ℕ)) (n : ℕ) → number_in o ≡ Some n → is_u64 n ≡ true
+in_number (Some x) n e = unsigned_given 64 (lit≤ tt) (Integer x) n refl e
+in_number None n e = absurd cc
+
+behind_given : (front : List ℕ) (t : Tok) (n : ℕ) → is_given t ≡ true
+    → number_behind front t ≡ Some n → is_u64 n ≡ true
+behind_given front (Keyword w) n a e = in_number (past_front front w) n e
+behind_given front LParen n a e = absurd cc
+behind_given front _ n a e = absurd cc
+
+field_only : (front : List ℕ) → Only (field front) is_u64
+unfolding field
+field_only front = only_one (number_behind front) (refl, refl) is_u64 (behind_given front)
+
+or_0_u64 : (o : Option ℕ) → if_some is_u64 o ≡ true → is_u64 (unwrap_or o 0) ≡ true
+or_0_u64 (Some n) h = h
+or_0_u64 None h = refl
+
+offset_only : Only offset_or_0 is_u64
+unfolding offset_or_0
+offset_only =
+    only_made (λ _. true) (λ o. unwrap_or o 0) is_u64
+    (only_weaker (λ o. is_u64 (unwrap_or o 0)) or_0_u64
+    (only_opt (begins_with (codes "offset=")) (field_only (codes "offset="))))
+
+abbrev is_alignment : ℕ → Bool
+is_alignment n = is_power_of_two n && is_u64 n
+
+align_holds : (n : ℕ) (c r : List Tok) → each is_given c ≡ true → align.spells n c r
+    → is_alignment n ≡ true
+unfolding align
+align_holds n c r a s =
+    rw (power_of_two-tested n s.1, (field_only (codes "align=")).holds n c r a s.0) refl
+
+align_only : Only align is_alignment
+align_only = record { holds = align_holds }
+
+or_is : (b c : Bool) → c ≡ true → b || c ≡ true
+or_is true c h = refl
+or_is false c h = h
+
+or_default : (a : ℕ) (o : Option ℕ) → if_some is_alignment o ≡ true
+    → fit_alignment a (unwrap_or o a) ≡ true
+or_default a (Some n) h = or_is (n == a) (is_alignment n) h
+or_default a None h = rw (same_number a) refl
+
+align_or_only : (a : ℕ) → Only (align_or a) (fit_alignment a)
+unfolding align_or
+align_or_only a =
+    only_made (λ _. true) (λ o. unwrap_or o a) (fit_alignment a)
+    (only_weaker (λ o. fit_alignment a (unwrap_or o a)) (or_default a)
+    (only_opt (begins_with (codes "align=")) align_only))
+
+pub access_only : (a : ℕ) → Only (mem_arg a) (fit_access a)
+unfolding mem_arg
+access_only a =
+    only_made (λ _. true) mem_arg_of (fit_access a)
+    (only_weaker (λ v. fit_access a (mem_arg_of v))
+    (λ v h. (and_also (fit_place a (mem_arg_of v)) h))
+    (only_seq target_only (only_seq offset_only (align_or_only a))))
+
+-- ---- orderings
+
+pub ordering_here : (o : Ordering) → Spells ordering o (spell_ordering o)
+unfolding ordering
+ordering_here SeqCst r = inl (refl, (tt, word_here (codes "seqcst") refl r, refl, refl))
+ordering_here AcqRel r = inr (refl, (tt, word_here (codes "acqrel") refl r, refl, refl))
+
+pub ordering_neat : (o : Ordering) → Neat (spell_ordering o)
+ordering_neat AcqRel = neat_one (Keyword (codes "acqrel")) refl
+ordering_neat SeqCst = neat_one (Keyword (codes "seqcst")) refl
+
+-- an ordering that may be there
+pub fence_here : (o : Option Ordering) (r : List Tok) → begins_ordering r ≡ false
+    → opt_spells begins_ordering ordering o (spell_option spell_ordering o) r
+fence_here (Some SeqCst) r e = (refl, ordering_here SeqCst r)
+fence_here (Some AcqRel) r e = (refl, ordering_here AcqRel r)
+fence_here None r e = (refl, e)
+
+module _ {A : Type 0} (g : Production A) (spell : A → List Tok) (fit : A → Bool) where
+  pub ordered_here : (v : Ordering × A) (r : List Tok) → g.spells v.1 (spell v.1) r
+      → (ordered g).spells v (spell_ordered spell v) r
+  ordered_here v r s =
+      both_here ordering g v.0 v.1 (spell_ordering v.0) (spell v.1) r
+      (ordering_here v.0 (spell v.1 ++ r)) s
+
+  pub ordered_neat : (v : Ordering × A) → Neat (spell v.1) → Neat (spell_ordered spell v)
+  ordered_neat v n = neat_both (spell_ordering v.0) (spell v.1) (ordering_neat v.0) n
+
+  pub ordered_only : Only g fit → Only (ordered g) (fit_ordered fit)
+  ordered_only m = only_seq (only_any ordering) m
+
+-- ---- atomic accesses
+
+kind_of : (rmw : Bool) (o : Option MemArgOrdering) → fit_ordering rmw o ≡ true
+    → option_map (ordering_as rmw) (option_map ordering_in o) ≡ o
+kind_of rmw None h = refl
+kind_of true (Some (Rmw o)) h = refl
+kind_of false (Some (Op o)) h = refl
+kind_of true (Some (Op o)) h = absurd cc
+kind_of false (Some (Rmw o)) h = absurd cc
+
+ends_ordering : (o : Option MemArgOrdering)
+    → EndsAccess (spell_option (λ x. spell_ordering (ordering_in x)) o ++ [])
+    × (begins_index (spell_option (λ x. spell_ordering (ordering_in x)) o ++ []) ≡ false)
+unfolding past_front
+ends_ordering None = ((refl, refl, refl, refl), refl)
+ends_ordering (Some (Op AcqRel)) = ((refl, refl, refl, refl), refl)
+ends_ordering (Some (Op SeqCst)) = ((refl, refl, refl, refl), refl)
+ends_ordering (Some (Rmw AcqRel)) = ((refl, refl, refl, refl), refl)
+ends_ordering (Some (Rmw SeqCst)) = ((refl, refl, refl, refl), refl)
+
+ordering_part : (o : Option MemArgOrdering)
+    → opt_spells begins_ordering ordering (option_map ordering_in o)
+    (spell_option (λ x. spell_ordering (ordering_in x)) o) []
+ordering_part None = fence_here None [] refl
+ordering_part (Some x) = fence_here (Some (ordering_in x)) [] refl
+
+pub atomic_here : (a : ℕ) (rmw : Bool) (m : MemArgTy) → fit_atomic a rmw m ≡ true
+    → (atomic_mem_arg a rmw).spells m (spell_atomic a m) []
+unfolding atomic_mem_arg
+atomic_here a rmw m f =
+    let p = and_parts (fit_place a m) (fit_ordering rmw m.ordering) f in
+    let o = spell_option (λ x. spell_ordering (ordering_in x)) m.ordering in
+    let e = ends_ordering m.ordering in (
+      (unordered m, option_map ordering_in m.ordering),
+      both_here (mem_arg a) (opt begins_ordering ordering) (unordered m)
+          (option_map ordering_in m.ordering) (spell_access a m) o []
+          (place_here a m (o ++ []) p.0 e.0 (λ u v. (e.1))) (ordering_part m.ordering),
+      refl,
+      ap (λ (x : Option MemArgOrdering). record {
+        align = m.align;
+        offset = m.offset;
+        target = m.target;
+        ordering = x;
+      }) (kind_of rmw m.ordering p.1),
+    )
+
+always : {A : Type 0} (o : Option A) → if_some (λ x. true) o ≡ true
+always None = refl
+always (Some x) = refl
+
+pub atomic_neat : (a : ℕ) (rmw : Bool) (m : MemArgTy) → fit_atomic a rmw m ≡ true
+    → Neat (spell_atomic a m)
+atomic_neat a rmw m f =
+    let p = and_parts (fit_place a m) (fit_ordering rmw m.ordering) f in
+    neat_both (spell_access a m) (spell_option (λ x. spell_ordering (ordering_in x)) m.ordering)
+    (place_neat a m p.0)
+    (neat_option (λ x. spell_ordering (ordering_in x)) (λ x. true) m.ordering
+    (λ x h. (ordering_neat (ordering_in x))) (always m.ordering))
+
+fit_kind_of : (rmw : Bool) (o : Option Ordering)
+    → fit_ordering rmw (option_map (ordering_as rmw) o) ≡ true
+fit_kind_of rmw None = refl
+fit_kind_of true (Some o) = refl
+fit_kind_of false (Some o) = refl
+
+fit_with : (a : ℕ) (rmw : Bool) (v : MemArgTy × Option Ordering)
+    → fit_access a v.0 && true ≡ true → fit_atomic a rmw (with_ordering rmw v) ≡ true
+fit_with a rmw v h =
+    let p = and_parts (fit_access a v.0) true h in
+    let q = and_parts (fit_place a v.0) (is_none v.0.ordering) p.0 in
+    rw (q.0) (fit_kind_of rmw v.1)
+
+pub atomic_only : (a : ℕ) (rmw : Bool) → Only (atomic_mem_arg a rmw) (fit_atomic a rmw)
+unfolding atomic_mem_arg
+atomic_only a rmw =
+    only_made (λ _. true) (with_ordering rmw) (fit_atomic a rmw)
+    (only_weaker (λ v. fit_atomic a rmw (with_ordering rmw v)) (fit_with a rmw)
+    (only_seq (access_only a) (only_any (opt begins_ordering ordering))))
+
+-- ---- lanes
+
+lane_given : (t : Tok) (n : ℕ) → is_given t ≡ true → lane_in t ≡ Some n
+    → is_unsigned 8 n ≡ true
+lane_given (Integer x) n a e =
+    cond_both (is_none (sign_of x)) (unsigned_value 8 x) None
+    (λ (o : Option ℕ). o ≡ Some n → is_unsigned 8 n ≡ true)
+    (λ u k. (unsigned_given 8 (lit≤ tt) (Integer x) n refl k)) (λ u k. absurd cc) e
+lane_given LParen n a e = absurd cc
+lane_given _ n a e = absurd cc
+
+lane_number : (n : ℕ) → is_unsigned 8 n ≡ true → lane_in (Integer (decimal n)) ≡ Some n
+lane_number n h =
+    let lt : n < 2 ^ 8 = less_by n (2 ^ 8) h in
+    let d = decimal_is_IsNumeral n (omega arith) in
+    let x = decimal n in
+    let k : is_none (sign_of x) ≡ true = ap is_none (no_sign x d.0.1).0 in
+    cond_both (is_none (sign_of x)) (unsigned_value 8 x) None (λ (o : Option ℕ). o ≡ Some n)
+    (λ e. (unsigned_decimal 8 n (omega arith) (omega arith))) (λ e. absurd cc)
+
+pub lane_here : (l : LaneArg) → fit_lane l ≡ true → Spells lane_arg l (spell_lane l)
+unfolding lane_arg
+lane_here l f r =
+    (l.lane, (Integer (decimal l.lane), refl, lane_number l.lane f), refl, refl)
+
+pub lane_neat : (l : LaneArg) → fit_lane l ≡ true → Neat (spell_lane l)
+lane_neat l f = unsigned_neat 8 l.lane (lit≤ tt) f
+
+pub lane_only : Only lane_arg fit_lane
+unfolding lane_arg
+lane_only =
+    only_made (λ _. true) lane_of fit_lane
+    (only_weaker (λ n. fit_lane (lane_of n)) (λ n h. h)
+    (only_one lane_in (refl, refl) (is_unsigned 8) lane_given))
+
+-- ---- accesses to one lane
+
+ends_lane : (n : ℕ) → EndsAccess (spell_number n ++ [])
+unfolding past_front
+ends_lane n = (refl, refl, refl, refl)
+
+alone : (a n : ℕ) → (lane_arg).spells (lane_of n) (spell_number n) []
+    → (lane_access a).spells (lane_alone a (lane_of n)) (spell_number n) []
+unfolding lane_access
+alone a n s = inl (refl, (lane_of n, s, refl, refl))
+
+-- the value of an access and a lane
+abbrev lane_value : ℕ → TargetTy → ℕ → ℕ → ℕ → LaneAccessTy
+lane_value a t n k lane = access_of (mem_arg_of (t, (n, k)), lane_of lane)
+
+-- behind something else
+behind : (a : ℕ) (b c : Bool) (t : TargetTy) (n k lane : ℕ)
+    → is_alone ((spell_target t ++ two_words b c n k) ++ spell_number lane) ≡ false
+    → (mem_arg a).spells (mem_arg_of (t, (n, k))) (spell_target t ++ two_words b c n k)
+    (spell_number lane ++ []) → lane_arg.spells (lane_of lane) (spell_number lane) []
+    → (lane_access a).spells (lane_value a t n k lane)
+    ((spell_target t ++ two_words b c n k) ++ spell_number lane) []
+unfolding lane_access
+behind a b c t n k lane e s u =
+    let x = (spell_target t ++ two_words b c n k) ++ spell_number lane in
+    inr (
+      subst (λ (l : List Tok). is_alone l ≡ false) (sym (append-nil x)) e,
+      (
+        (mem_arg_of (t, (n, k)), lane_of lane),
+        both_here (mem_arg a) lane_arg (mem_arg_of (t, (n, k))) (lane_of lane)
+            (spell_target t ++ two_words b c n k) (spell_number lane) [] s u,
+        refl,
+        refl,
+      ),
+    )
+
+not_alone : (t : TargetTy) (b c : Bool) (n k lane : ℕ) → is_memory_0 t && (b && c) ≡ false
+    → is_alone ((spell_target t ++ two_words b c n k) ++ spell_number lane) ≡ false
+unfolding past_front
+not_alone (memory (number zero)) true true n k lane h = absurd cc
+not_alone (memory (number zero)) true false n k lane h = refl
+not_alone (memory (number zero)) false c n k lane h = refl
+not_alone (memory (number (suc m))) false c n k lane h = refl
+not_alone (memory (number (suc m))) true false n k lane h = refl
+not_alone (memory (number (suc m))) true true n k lane h = refl
+not_alone (memory (name y)) b c n k lane h = refl
+not_alone (array i) b c n k lane h = refl
+
+-- with d: whether nothing is written before the lane
+lane_by : (d b c : Bool) (a : ℕ) (t : TargetTy) (n k lane : ℕ) → is_memory_0 t && (b && c) ≡ d
+    → (n == 0) ≡ b → (k == a) ≡ c → fit_target t ≡ true → is_u64 n ≡ true
+    → fit_alignment a k ≡ true → is_unsigned 8 lane ≡ true
+    → (lane_access a).spells (lane_value a t n k lane)
+    ((spell_target t ++ two_words b c n k) ++ spell_number lane) []
+lane_by false b c a t n k lane d z y f g h i =
+    behind a b c t n k lane (not_alone t b c n k lane d)
+    (access_by a b c t n k (spell_number lane ++ []) z y f g h (ends_lane lane)
+    (λ u v. (let w : is_memory_0 t && (b && c) ≡ true = rw (u, v) refl in absurd cc)))
+    (lane_here (lane_of lane) i [])
+lane_by true true true a (memory (number zero)) n k lane d z y f g h i =
+    subst (λ (v : LaneAccessTy). (lane_access a).spells v (spell_number lane) [])
+    (rw (equal_by n 0 z, equal_by k a y) refl) (alone a lane (lane_here (lane_of lane) i []))
+lane_by true b c a (memory (number (suc m))) n k lane d z y f g h i = absurd cc
+lane_by true b c a (memory (name x)) n k lane d z y f g h i = absurd cc
+lane_by true b c a (array j) n k lane d z y f g h i = absurd cc
+lane_by true true false a (memory (number zero)) n k lane d z y f g h i = absurd cc
+lane_by true false c a (memory (number zero)) n k lane d z y f g h i = absurd cc
+
+pub lane_access_here : (a : ℕ) (l : LaneAccessTy) → fit_lane_access a l ≡ true
+    → (lane_access a).spells l (spell_lane_access a l) []
+lane_access_here a l f =
+    let m = l.memarg in
+    let p = and_parts (fit_access a m) (fit_lane l.lane) f in
+    let q = and_parts (fit_place a m) (is_none m.ordering) p.0 in
+    let u = and_parts (fit_target m.target) (is_u64 m.offset && fit_alignment a m.align) q.0 in
+    let w = and_parts (is_u64 m.offset) (fit_alignment a m.align) u.1 in
+    subst (λ (x : MemArgTy). (lane_access a).spells (access_of (x, l.lane))
+    (spell_lane_access a l) []) (none_ordered m q.1)
+    (lane_by (is_memory_0 m.target && ((m.offset == 0) && (m.align == a))) (m.offset == 0)
+    (m.align == a) a m.target m.offset m.align l.lane.lane refl refl refl u.0 w.0 w.1 p.1)
+
+pub lane_access_neat : (a : ℕ) (l : LaneAccessTy) → fit_lane_access a l ≡ true
+    → Neat (spell_lane_access a l)
+lane_access_neat a l f =
+    let p = and_parts (fit_access a l.memarg) (fit_lane l.lane) f in
+    neat_both (spell_access a l.memarg) (spell_lane l.lane) (access_neat a l.memarg p.0)
+    (lane_neat l.lane p.1)
+
+alone_fit : (a : ℕ) (l : LaneArg) → fit_lane l ≡ true
+    → fit_lane_access a (lane_alone a l) ≡ true
+alone_fit a l f = rw (same_number a, f) refl
+
+pub lane_access_only : (a : ℕ) → Only (lane_access a) (fit_lane_access a)
+unfolding lane_access
+lane_access_only a =
+    only_where is_alone
+    (only_made (λ _. true) (lane_alone a) (fit_lane_access a)
+    (only_weaker (λ l. fit_lane_access a (lane_alone a l)) (alone_fit a) lane_only))
+    (only_made (λ _. true) access_of (fit_lane_access a)
+    (only_weaker (λ v. fit_lane_access a (access_of v)) (λ v h. h)
+    (only_seq (access_only a) lane_only)))

@@ -1,0 +1,537 @@
+-- Laws: blocks, calls, the types of a `select`, casts, and what is caught and handled are read
+-- again.
+use Rattle.std.specs.Prelude.{◌≡◌, ℕ, Bool, true, false, ◌&&◌, List, [], ◌∷◌, ◌++◌, codes, flat_map}
+use Rattle.std.specs.Prelude.{Option, Some, None, zero, suc}
+use Rattle.std.specs.Str.{bytes_eq}
+use Rattle.std.proofs.Common.{refl, sym, append-nil, inl, inr}
+use Rattle.std.proofs.lemmas.Bool.{and_parts}
+use Rattle.wat_lexer.specs.Token.{Tok, LParen, RParen, Keyword}
+use Rattle.wat_tokens.specs.Index.{Idx, number, name, index, begins_index}
+use Rattle.wat_tokens.specs.Joined.{all_of}
+use Rattle.wat_tokens.specs.ManySpells.{many_spells}
+use Rattle.wat_tokens.specs.NameAnnotation.{begins_name}
+use Rattle.wat_tokens.specs.Parts.{seq, made, opt, word, after_word}
+use Rattle.wat_tokens.specs.Many.{many}
+use Rattle.wat_tokens.specs.PartSpells.{opt_spells}
+use Rattle.wat_tokens.specs.Production.{Production}
+use Rattle.wat_tokens.specs.Tests.{begins_word, begins_id, more}
+use Rattle.wat_types.specs.Group.{Group, param, result, FuncTy, val_types}
+use Rattle.wat_types.specs.Laws.Value.{val_type_consumes}
+use Rattle.wat_types.specs.Label.{label}
+use Rattle.wat_types.specs.Reference.{ref_type}
+use Rattle.wat_types.specs.Use.{UseTy}
+use Rattle.wat_types.specs.Value.{ValTy, val_type}
+use Rattle.wat_operands.specs.Block.{BlockTy, block_of, signature, block_type}
+use Rattle.wat_operands.specs.Call.{CallTy, call_of, or_zero, call_indirect}
+use Rattle.wat_operands.specs.Casts.{BranchTy, branch_of, cast_branch}
+use Rattle.wat_operands.specs.CatchClause.{CatchTy, catch_of, catch_kind, catch_clause}
+use Rattle.wat_operands.specs.Catches.{TryTy, try_of, begins_catch, try_table}
+use Rattle.wat_operands.specs.Handler.{HandleTy, on_label, on_switch, aim, handler_to, handler}
+use Rattle.wat_operands.specs.Handlers.{begins_handler, resume_table, ResumeTy, resume_of, resume}
+use Rattle.wat_operands.specs.Handlers.{ThrowTy, throw_of, resume_throw}
+use Rattle.wat_operands.specs.Laws.Catches.{catch_clause_consumes}
+use Rattle.wat_operands.specs.Laws.Handlers.{handler_consumes}
+use Rattle.wat_operands.specs.Laws.Select.{result_group_consumes}
+use Rattle.wat_operands.specs.ResultGroup.{result_group}
+use Rattle.wat_operands.specs.Select.{result_follows, select_types}
+use Rattle.wat_operands.specs.declared.catches.CatchKind.{CatchKind}
+use Rattle.wat_operands.specs.declared.catches.CatchKind.TheVariants.{Catch, CatchRef, CatchAll}
+use Rattle.wat_operands.specs.declared.catches.CatchKind.TheVariants.{CatchAllRef}
+use Rattle.wat_print.specs.Function.{spell_group, groups_of}
+use Rattle.wat_print.specs.Index.{spell_index, fit_index}
+use Rattle.wat_print.specs.Label.{spell_label, fit_label}
+use Rattle.wat_print.specs.Neat.{Neat}
+use Rattle.wat_print.specs.Parts.{grouped, if_some, each}
+use Rattle.wat_print.specs.Reference.{spell_ref, fit_ref, spell_val, fit_val}
+use Rattle.wat_print.specs.Use.{or_empty, spell_use, fit_unnamed_use}
+use Rattle.wat_print.specs.Laws.Label.{label_here, label_neat, label_only}
+use Rattle.wat_print.specs.Laws.Only.{Only, only_any, only_where, only_opt, only_many, only_seq}
+use Rattle.wat_print.specs.Laws.Only.{only_made, only_weaker, only_after, only_group, only_paren}
+use Rattle.wat_print.specs.Laws.Parts.{Spells, paren_here, word_here, group_here, many_here}
+use Rattle.wat_print.specs.Laws.Parts.{neat_both, neat_one, neat_word, neat_group, neat_paren}
+use Rattle.wat_print.specs.Laws.Parts.{neat_each, neat_option, each_all}
+use Rattle.wat_print.specs.Laws.Reference.{index_here, index_neat, index_only, ref_here, ref_neat}
+use Rattle.wat_print.specs.Laws.Reference.{ref_only, val_here, val_neat, val_only, val_more}
+use Rattle.wat_print.specs.Laws.Use.{EndsUse, unnamed_use_here, unnamed_use_neat, unnamed_use_only}
+use Rattle.wat_print_instr.specs.Control.{spell_block, fit_block, spell_call, fit_call}
+use Rattle.wat_print_instr.specs.Control.{spell_result, spell_select, fit_select, spell_branch}
+use Rattle.wat_print_instr.specs.Control.{fit_branch, spell_catch_kind, fit_catch_kind, spell_catch}
+use Rattle.wat_print_instr.specs.Control.{fit_catch, spell_try, fit_try, spell_handler, fit_handler}
+use Rattle.wat_print_instr.specs.Control.{spell_resume_table, fit_resume_table, spell_resume}
+use Rattle.wat_print_instr.specs.Control.{fit_resume, spell_throw, fit_throw}
+use Rattle.wat_print_instr.specs.Places.{spell_index_or_0}
+use Rattle.wat_print_instr.specs.Laws.Places.{both_here, index_or_0_neat}
+
+-- ---- what a type use begins with
+
+-- the test says so of a group's first two tokens, a `(` and a word
+abbrev OfGroups : (List Tok → Bool) → Bool → Type 0
+OfGroups test b = (w : List ℕ) (x : List Tok) → test (LParen ∷ Keyword w ∷ x) ≡ b
+
+groups_front : (test : List Tok → Bool) (b : Bool) → OfGroups test b → (gs : List Group)
+    (r : List Tok) → test (flat_map spell_group (or_empty gs) ++ r) ≡ b
+groups_front test b h [] r = h (codes "param") _
+groups_front test b h (param ps ∷ gs) r = h (codes "param") _
+groups_front test b h (result ts ∷ gs) r = h (codes "result") _
+
+use_parts : (test : List Tok → Bool) (b : Bool) → OfGroups test b → (i : Option Idx)
+    (f : Option FuncTy) (r : List Tok) → test r ≡ b
+    → test (spell_use (record { index = i; inline = f }) ++ r) ≡ b
+use_parts test b h (Some i) f r e = h (codes "type") _
+use_parts test b h None (Some f) r e = groups_front test b h (groups_of f) r
+use_parts test b h None None r e = e
+
+use_front : (test : List Tok → Bool) (b : Bool) → OfGroups test b → (u : UseTy FuncTy)
+    (r : List Tok) → test r ≡ b → test (spell_use u ++ r) ≡ b
+use_front test b h u r e = use_parts test b h u.index u.inline r e
+
+-- ---- blocks and calls
+
+-- what may follow a block without taking part in it
+abbrev pub EndsBlock : List Tok → Type 0
+EndsBlock r = EndsUse r × (begins_id r ≡ false) × (begins_name r ≡ false)
+
+pub block_here : (b : BlockTy) (r : List Tok) → fit_block b ≡ true → EndsBlock r
+    → block_type.spells b (spell_block b) r
+unfolding block_type
+block_here b r f e =
+    let a = and_parts (fit_label b.label) (fit_unnamed_use b.ty) f in
+    let x = spell_use b.ty in (
+      (b.label, b.ty),
+      both_here label signature b.label b.ty (spell_label b.label) x r
+          (label_here b.label (x ++ r) a.0 (use_front begins_id false (λ w y. refl) b.ty r e.1)
+          (use_front begins_name false (λ w y. refl) b.ty r e.2))
+          (unnamed_use_here b.ty r a.1 e.0),
+      refl,
+      refl,
+    )
+
+pub block_neat : (b : BlockTy) → fit_block b ≡ true → Neat (spell_block b)
+block_neat b f =
+    let a = and_parts (fit_label b.label) (fit_unnamed_use b.ty) f in
+    neat_both (spell_label b.label) (spell_use b.ty) (label_neat b.label a.0)
+    (unnamed_use_neat b.ty a.1)
+
+pub block_only : Only block_type fit_block
+unfolding block_type
+block_only =
+    only_made (λ _. true) (λ v. block_of v.0 v.1) fit_block
+    (only_weaker (λ v. fit_block (block_of v.0 v.1)) (λ v h. h)
+    (only_seq label_only unnamed_use_only))
+
+-- what may follow a call without taking part in it
+abbrev pub EndsCall : List Tok → Type 0
+EndsCall r = EndsUse r × (begins_index r ≡ false)
+
+call_by : (o : Option Idx) (c : List Tok) (u : UseTy FuncTy) (r : List Tok)
+    → opt_spells begins_index index o c (spell_use u ++ r) → fit_unnamed_use u ≡ true → EndsUse r
+    → call_indirect.spells (call_of (or_zero o) u) (c ++ spell_use u) r
+unfolding call_indirect
+call_by o c u r s f e = (
+  (o, u),
+  both_here (opt begins_index index) signature o u c (spell_use u) r s (unnamed_use_here u r f e),
+  refl,
+  refl,
+)
+
+index_begins_here : (i : Idx) (r : List Tok) → fit_index i ≡ true
+    → opt_spells begins_index index (Some i) (spell_index i) r
+index_begins_here (number n) r f = (refl, index_here (number n) f r)
+index_begins_here (name x) r f = (refl, index_here (name x) f r)
+
+call_parts : (i : Idx) (u : UseTy FuncTy) (r : List Tok) → fit_index i ≡ true
+    → fit_unnamed_use u ≡ true → EndsCall r
+    → call_indirect.spells (call_of i u) (spell_index_or_0 i ++ spell_use u) r
+call_parts (number zero) u r f g e =
+    call_by None [] u r (refl, use_front begins_index false (λ w y. refl) u r e.1) g e.0
+call_parts (number (suc n)) u r f g e =
+    call_by (Some (number (suc n))) (spell_index (number (suc n))) u r
+    (index_begins_here (number (suc n)) (spell_use u ++ r) f) g e.0
+call_parts (name x) u r f g e =
+    call_by (Some (name x)) (spell_index (name x)) u r
+    (index_begins_here (name x) (spell_use u ++ r) f) g e.0
+
+pub call_here : (c : CallTy) (r : List Tok) → fit_call c ≡ true → EndsCall r
+    → call_indirect.spells c (spell_call c) r
+call_here c r f e =
+    let a = and_parts (fit_index c.table) (fit_unnamed_use c.ty) f in
+    call_parts c.table c.ty r a.0 a.1 e
+
+pub call_neat : (c : CallTy) → fit_call c ≡ true → Neat (spell_call c)
+call_neat c f =
+    let a = and_parts (fit_index c.table) (fit_unnamed_use c.ty) f in
+    neat_both (spell_index_or_0 c.table) (spell_use c.ty) (index_or_0_neat c.table a.0)
+    (unnamed_use_neat c.ty a.1)
+
+zero_fit : (o : Option Idx) → if_some fit_index o ≡ true → fit_index (or_zero o) ≡ true
+zero_fit (Some i) h = h
+zero_fit None h = refl
+
+call_fit : (v : Option Idx × UseTy FuncTy)
+    → if_some fit_index v.0 && fit_unnamed_use v.1 ≡ true
+    → fit_call (call_of (or_zero v.0) v.1) ≡ true
+call_fit v h =
+    let a = and_parts (if_some fit_index v.0) (fit_unnamed_use v.1) h in
+    rw (zero_fit v.0 a.0) (a.1)
+
+pub call_only : Only call_indirect fit_call
+unfolding call_indirect
+call_only =
+    only_made (λ _. true) (λ v. call_of (or_zero v.0) v.1) fit_call
+    (only_weaker (λ v. fit_call (call_of (or_zero v.0) v.1)) call_fit
+    (only_seq (only_opt begins_index index_only) unnamed_use_only))
+
+-- ---- the types of a select
+
+result_here : (ts : List ValTy) → each fit_val ts ≡ true
+    → Spells result_group ts (spell_result ts)
+unfolding val_types
+result_here ts f r =
+    group_here (codes "result") val_types ts (flat_map spell_val ts) r refl
+    (many_here more val_type spell_val fit_val val_here (λ t x o. (val_more t x)) ts
+    (RParen ∷ r) f refl)
+
+one_group : (ts : List ValTy) (r : List Tok) → each fit_val ts ≡ true → result_follows r ≡ false
+    → many_spells result_follows result_group (ts ∷ []) (spell_result ts) r
+one_group ts r f e =
+    (spell_result ts, [], sym (append-nil (spell_result ts)), refl, result_here ts f r, (refl, e))
+
+-- where no group of results follows
+pub select_here : (o : Option (List ValTy)) (r : List Tok) → fit_select o ≡ true
+    → result_follows r ≡ false → select_types.spells o (spell_select o) r
+unfolding select_types
+select_here None r f e = (refl, e)
+select_here (Some ts) r f e = (refl, (ts ∷ [], one_group ts r f e, refl, append-nil ts))
+
+result_neat : (ts : List ValTy) → each fit_val ts ≡ true → Neat (spell_result ts)
+result_neat ts f =
+    neat_group (codes "result") (flat_map spell_val ts) refl
+    (neat_each spell_val fit_val val_neat ts f)
+
+pub select_neat : (o : Option (List ValTy)) → fit_select o ≡ true → Neat (spell_select o)
+select_neat o f = neat_option spell_result (each fit_val) o result_neat f
+
+result_only : Only result_group (each fit_val)
+unfolding val_types
+result_only = only_group (codes "result") (only_many more val_type_consumes val_only)
+
+pub select_only : Only select_types fit_select
+unfolding select_types
+select_only =
+    only_opt result_follows
+    (only_made (λ _. true) (λ gs. all_of gs) (each fit_val)
+    (only_weaker (λ gs. each fit_val (all_of gs)) (λ gs h. (each_all fit_val gs h))
+    (only_many result_follows result_group_consumes result_only)))
+
+-- ---- casts
+
+pub branch_here : (b : BranchTy) → fit_branch b ≡ true → Spells cast_branch b (spell_branch b)
+unfolding cast_branch
+branch_here b f r =
+    let a = and_parts (fit_index b.label) (fit_ref b.from_type && fit_ref b.to_type) f in
+    let c = and_parts (fit_ref b.from_type) (fit_ref b.to_type) a.1 in
+    let s = spell_ref b.from_type in
+    let t = spell_ref b.to_type in (
+      (b.label, (b.from_type, b.to_type)),
+      both_here index (seq ref_type ref_type) b.label (b.from_type, b.to_type)
+          (spell_index b.label) (s ++ t) r (index_here b.label a.0 ((s ++ t) ++ r))
+          (both_here ref_type ref_type b.from_type b.to_type s t r
+          (ref_here b.from_type c.0 (t ++ r)) (ref_here b.to_type c.1 r)),
+      refl,
+      refl,
+    )
+
+pub branch_neat : (b : BranchTy) → fit_branch b ≡ true → Neat (spell_branch b)
+branch_neat b f =
+    let a = and_parts (fit_index b.label) (fit_ref b.from_type && fit_ref b.to_type) f in
+    let c = and_parts (fit_ref b.from_type) (fit_ref b.to_type) a.1 in
+    neat_both (spell_index b.label) (spell_ref b.from_type ++ spell_ref b.to_type)
+    (index_neat b.label a.0)
+    (neat_both (spell_ref b.from_type) (spell_ref b.to_type) (ref_neat b.from_type c.0)
+    (ref_neat b.to_type c.1))
+
+pub branch_only : Only cast_branch fit_branch
+unfolding cast_branch
+branch_only =
+    only_made (λ _. true) (λ v. branch_of v.0 v.1.0 v.1.1) fit_branch
+    (only_weaker (λ v. fit_branch (branch_of v.0 v.1.0 v.1.1)) (λ v h. h)
+    (only_seq index_only (only_seq ref_only ref_only)))
+
+-- ---- what a try_table catches
+
+after_here : {A : Type 0} (w : List ℕ) (g : Production A) (v : A) (d r : List Tok)
+    → bytes_eq w w ≡ true → g.spells v d r → (after_word w g).spells v (Keyword w ∷ d) r
+after_here w g v d r e s = (
+  (tt, v),
+  both_here (word w) g tt v (Keyword w ∷ []) d r (word_here w e (d ++ r)) s,
+  refl,
+  refl,
+)
+
+kind_here : (k : CatchKind Idx) → fit_catch_kind k ≡ true
+    → Spells catch_kind k (spell_catch_kind k)
+unfolding catch_kind
+kind_here (Catch i) f r =
+    inl (
+      refl,
+      (i, after_here (codes "catch") index i (spell_index i) r refl (index_here i f r), refl, refl),
+    )
+kind_here (CatchRef i) f r =
+    inr (
+      refl,
+      inl (
+        refl,
+        (
+          i,
+          after_here (codes "catch_ref") index i (spell_index i) r refl (index_here i f r),
+          refl,
+          refl,
+        ),
+      ),
+    )
+kind_here CatchAll f r =
+    inr (
+      refl,
+      inr (refl, inl (refl, (tt, word_here (codes "catch_all") refl r, refl, refl))),
+    )
+kind_here CatchAllRef f r =
+    inr (
+      refl,
+      inr (refl, inr (refl, (tt, word_here (codes "catch_all_ref") refl r, refl, refl))),
+    )
+
+pub catch_here : (c : CatchTy) → fit_catch c ≡ true → Spells catch_clause c (spell_catch c)
+unfolding catch_clause
+catch_here c f r =
+    let a = and_parts (fit_catch_kind c.kind) (fit_index c.label) f in
+    let k = spell_catch_kind c.kind in
+    paren_here (made (λ v. catch_of v.0 v.1) (seq catch_kind index)) c (k ++ spell_index c.label) r (
+      (c.kind, c.label),
+      both_here catch_kind index c.kind c.label k (spell_index c.label) (RParen ∷ r)
+          (kind_here c.kind a.0 (spell_index c.label ++ RParen ∷ r))
+          (index_here c.label a.1 (RParen ∷ r)),
+      refl,
+      refl,
+    )
+
+kind_neat : (k : CatchKind Idx) → fit_catch_kind k ≡ true → Neat (spell_catch_kind k)
+kind_neat (Catch i) f = neat_word (codes "catch") (spell_index i) refl (index_neat i f)
+kind_neat (CatchRef i) f = neat_word (codes "catch_ref") (spell_index i) refl (index_neat i f)
+kind_neat CatchAll f = neat_one (Keyword (codes "catch_all")) refl
+kind_neat CatchAllRef f = neat_one (Keyword (codes "catch_all_ref")) refl
+
+pub catch_neat : (c : CatchTy) → fit_catch c ≡ true → Neat (spell_catch c)
+catch_neat c f =
+    let a = and_parts (fit_catch_kind c.kind) (fit_index c.label) f in
+    neat_paren (spell_catch_kind c.kind ++ spell_index c.label)
+    (neat_both (spell_catch_kind c.kind) (spell_index c.label) (kind_neat c.kind a.0)
+    (index_neat c.label a.1))
+
+kind_only : Only catch_kind fit_catch_kind
+unfolding catch_kind
+kind_only =
+    only_where (begins_word (codes "catch"))
+    (only_made (λ _. true) Catch fit_catch_kind (only_after (codes "catch") index_only))
+    (only_where (begins_word (codes "catch_ref"))
+    (only_made (λ _. true) CatchRef fit_catch_kind (only_after (codes "catch_ref") index_only))
+    (only_where (begins_word (codes "catch_all"))
+    (only_made (λ _. true) (λ _. CatchAll) fit_catch_kind (only_any (word (codes "catch_all"))))
+    (only_made (λ _. true) (λ _. CatchAllRef) fit_catch_kind
+    (only_any (word (codes "catch_all_ref"))))))
+
+pub catch_only : Only catch_clause fit_catch
+unfolding catch_clause
+catch_only =
+    only_paren (only_made (λ _. true) (λ v. catch_of v.0 v.1) fit_catch
+    (only_weaker (λ v. fit_catch (catch_of v.0 v.1)) (λ v h. h) (only_seq kind_only index_only)))
+
+kind_begins : (k : CatchKind Idx) (l : Idx) (x : List Tok)
+    → begins_catch (spell_catch (catch_of k l) ++ x) ≡ true
+kind_begins (Catch i) l x = refl
+kind_begins (CatchRef i) l x = refl
+kind_begins CatchAll l x = refl
+kind_begins CatchAllRef l x = refl
+
+clause_ends : (k : CatchKind Idx) (l : Idx) (x : List Tok)
+    → EndsBlock ((spell_catch (catch_of k l) ++ x) ++ [])
+clause_ends (Catch i) l x = ((refl, refl, refl), refl, refl)
+clause_ends (CatchRef i) l x = ((refl, refl, refl), refl, refl)
+clause_ends CatchAll l x = ((refl, refl, refl), refl, refl)
+clause_ends CatchAllRef l x = ((refl, refl, refl), refl, refl)
+
+catch_begins : (c : CatchTy) (x : List Tok) → begins_catch (spell_catch c ++ x) ≡ true
+catch_begins c x = kind_begins c.kind c.label x
+
+catches_end : (cs : List CatchTy) → EndsBlock (flat_map spell_catch cs ++ [])
+catches_end [] = ((refl, refl, refl), refl, refl)
+catches_end (c ∷ cs) = clause_ends c.kind c.label (flat_map spell_catch cs)
+
+-- in front of nothing
+pub try_here : (t : TryTy) → fit_try t ≡ true → try_table.spells t (spell_try t) []
+unfolding try_table
+try_here t f =
+    let a = and_parts (fit_block t.block) (each fit_catch t.catches) f in
+    let cs = flat_map spell_catch t.catches in (
+      (t.block, t.catches),
+      both_here block_type (many begins_catch catch_clause catch_clause_consumes) t.block t.catches
+          (spell_block t.block) cs [] (block_here t.block (cs ++ []) a.0 (catches_end t.catches))
+          (many_here begins_catch catch_clause spell_catch fit_catch catch_here
+          (λ c x o. (catch_begins c x)) t.catches [] a.1 refl),
+      refl,
+      refl,
+    )
+
+pub try_neat : (t : TryTy) → fit_try t ≡ true → Neat (spell_try t)
+try_neat t f =
+    let a = and_parts (fit_block t.block) (each fit_catch t.catches) f in
+    neat_both (spell_block t.block) (flat_map spell_catch t.catches) (block_neat t.block a.0)
+    (neat_each spell_catch fit_catch catch_neat t.catches a.1)
+
+pub try_only : Only try_table fit_try
+unfolding try_table
+try_only =
+    only_made (λ _. true) (λ v. try_of v.0 v.1) fit_try
+    (only_weaker (λ v. fit_try (try_of v.0 v.1)) (λ v h. h)
+    (only_seq block_only (only_many begins_catch catch_clause_consumes catch_only)))
+
+-- ---- handlers
+
+label_aim : (l : Idx) (r : List Tok) → fit_index l ≡ true
+    → aim.spells (Some l) (spell_index l) r
+unfolding aim
+label_aim (number n) r f = inr (refl, (number n, index_here (number n) f r, refl, refl))
+label_aim (name x) r f = inr (refl, (name x, index_here (name x) f r, refl, refl))
+
+switch_aim : (r : List Tok) → aim.spells None (Keyword (codes "switch") ∷ []) r
+unfolding aim
+switch_aim r = inl (refl, (tt, word_here (codes "switch") refl r, refl, refl))
+
+handler_by : (t : Idx) (o : Option Idx) (c r : List Tok) → fit_index t ≡ true
+    → aim.spells o c (RParen ∷ r)
+    → handler.spells (handler_to t o) (grouped (codes "on") (spell_index t ++ c)) r
+unfolding handler
+handler_by t o c r f s =
+    group_here (codes "on") (made (λ v. handler_to v.0 v.1) (seq index aim)) (handler_to t o)
+    (spell_index t ++ c) r refl (
+      (t, o),
+      both_here index aim t o (spell_index t) c (RParen ∷ r) (index_here t f (c ++ RParen ∷ r)) s,
+      refl,
+      refl,
+    )
+
+pub handler_here : (h : HandleTy) → fit_handler h ≡ true → Spells handler h (spell_handler h)
+handler_here (on_label t l) f r =
+    let a = and_parts (fit_index t) (fit_index l) f in
+    handler_by t (Some l) (spell_index l) r a.0 (label_aim l (RParen ∷ r) a.1)
+handler_here (on_switch t) f r =
+    handler_by t None (Keyword (codes "switch") ∷ []) r f (switch_aim (RParen ∷ r))
+
+pub handler_neat : (h : HandleTy) → fit_handler h ≡ true → Neat (spell_handler h)
+handler_neat (on_label t l) f =
+    let a = and_parts (fit_index t) (fit_index l) f in
+    neat_group (codes "on") (spell_index t ++ spell_index l) refl
+    (neat_both (spell_index t) (spell_index l) (index_neat t a.0) (index_neat l a.1))
+handler_neat (on_switch t) f =
+    neat_group (codes "on") (spell_index t ++ Keyword (codes "switch") ∷ []) refl
+    (neat_both (spell_index t) (Keyword (codes "switch") ∷ []) (index_neat t f)
+    (neat_one (Keyword (codes "switch")) refl))
+
+aim_only : Only aim (if_some fit_index)
+unfolding aim
+aim_only =
+    only_where (begins_word (codes "switch"))
+    (only_made (λ _. true) (λ _. None) (if_some fit_index) (only_any (word (codes "switch"))))
+    (only_made (λ _. true) Some (if_some fit_index) index_only)
+
+handler_fit : (t : Idx) (o : Option Idx) → fit_index t && if_some fit_index o ≡ true
+    → fit_handler (handler_to t o) ≡ true
+handler_fit t (Some l) h = h
+handler_fit t None h = (and_parts (fit_index t) true h).0
+
+pub handler_only : Only handler fit_handler
+unfolding handler
+handler_only =
+    only_group (codes "on") (only_made (λ _. true) (λ v. handler_to v.0 v.1) fit_handler
+    (only_weaker (λ v. fit_handler (handler_to v.0 v.1)) (λ v h. (handler_fit v.0 v.1 h))
+    (only_seq index_only aim_only)))
+
+handler_begins : (h : HandleTy) (x : List Tok) → begins_handler (spell_handler h ++ x) ≡ true
+handler_begins (on_label t l) x = refl
+handler_begins (on_switch t) x = refl
+
+-- in front of what begins no handler
+pub resume_table_here : (hs : List HandleTy) (r : List Tok) → fit_resume_table hs ≡ true
+    → begins_handler r ≡ false → resume_table.spells hs (spell_resume_table hs) r
+unfolding resume_table
+resume_table_here hs r f e =
+    many_here begins_handler handler spell_handler fit_handler handler_here
+    (λ h x o. (handler_begins h x)) hs r f e
+
+pub resume_table_neat : (hs : List HandleTy) → fit_resume_table hs ≡ true
+    → Neat (spell_resume_table hs)
+resume_table_neat hs f = neat_each spell_handler fit_handler handler_neat hs f
+
+pub resume_table_only : Only resume_table fit_resume_table
+unfolding resume_table
+resume_table_only = only_many begins_handler handler_consumes handler_only
+
+pub resume_here : (v : ResumeTy) (r : List Tok) → fit_resume v ≡ true
+    → begins_handler r ≡ false → resume.spells v (spell_resume v) r
+unfolding resume
+resume_here v r f e =
+    let a = and_parts (fit_index v.type_index) (fit_resume_table v.table) f in
+    let t = spell_resume_table v.table in (
+      (v.type_index, v.table),
+      both_here index resume_table v.type_index v.table (spell_index v.type_index) t r
+          (index_here v.type_index a.0 (t ++ r)) (resume_table_here v.table r a.1 e),
+      refl,
+      refl,
+    )
+
+pub resume_neat : (v : ResumeTy) → fit_resume v ≡ true → Neat (spell_resume v)
+resume_neat v f =
+    let a = and_parts (fit_index v.type_index) (fit_resume_table v.table) f in
+    neat_both (spell_index v.type_index) (spell_resume_table v.table)
+    (index_neat v.type_index a.0) (resume_table_neat v.table a.1)
+
+pub resume_only : Only resume fit_resume
+unfolding resume
+resume_only =
+    only_made (λ _. true) (λ v. resume_of v.0 v.1) fit_resume
+    (only_weaker (λ v. fit_resume (resume_of v.0 v.1)) (λ v h. h)
+    (only_seq index_only resume_table_only))
+
+pub throw_here : (v : ThrowTy) (r : List Tok) → fit_throw v ≡ true
+    → begins_handler r ≡ false → resume_throw.spells v (spell_throw v) r
+unfolding resume_throw
+throw_here v r f e =
+    let a = and_parts (fit_index v.type_index)
+    (fit_index v.tag_index && fit_resume_table v.table) f in
+    let b = and_parts (fit_index v.tag_index) (fit_resume_table v.table) a.1 in
+    let i = spell_index v.tag_index in
+    let t = spell_resume_table v.table in (
+      (v.type_index, (v.tag_index, v.table)),
+      both_here index (seq index resume_table) v.type_index (v.tag_index, v.table)
+          (spell_index v.type_index) (i ++ t) r (index_here v.type_index a.0 ((i ++ t) ++ r))
+          (both_here index resume_table v.tag_index v.table i t r
+          (index_here v.tag_index b.0 (t ++ r)) (resume_table_here v.table r b.1 e)),
+      refl,
+      refl,
+    )
+
+pub throw_neat : (v : ThrowTy) → fit_throw v ≡ true → Neat (spell_throw v)
+throw_neat v f =
+    let a = and_parts (fit_index v.type_index)
+    (fit_index v.tag_index && fit_resume_table v.table) f in
+    let b = and_parts (fit_index v.tag_index) (fit_resume_table v.table) a.1 in
+    neat_both (spell_index v.type_index)
+    (spell_index v.tag_index ++ spell_resume_table v.table) (index_neat v.type_index a.0)
+    (neat_both (spell_index v.tag_index) (spell_resume_table v.table)
+    (index_neat v.tag_index b.0) (resume_table_neat v.table b.1))
+
+pub throw_only : Only resume_throw fit_throw
+unfolding resume_throw
+throw_only =
+    only_made (λ _. true) (λ v. throw_of v.0 v.1.0 v.1.1) fit_throw
+    (only_weaker (λ v. fit_throw (throw_of v.0 v.1.0 v.1.1)) (λ v h. h)
+    (only_seq index_only (only_seq index_only resume_table_only)))

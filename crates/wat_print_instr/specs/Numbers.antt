@@ -1,0 +1,26 @@
+-- How numbers with a sign, and words that end in a number, are written.
+use Rattle.std.specs.Prelude.{ℕ, ℤ, pos, negsuc, ◌^◌, ◌-◌, Bool, ◌&&◌, ◌==◌, nat_lt, List, [], ◌∷◌}
+use Rattle.std.specs.Prelude.{◌++◌, length, decimal}
+use Rattle.std.specs.Fmt.{signed_decimal}
+use Rattle.wat_lexer.specs.Token.{Tok, Keyword, Integer}
+use Rattle.wat_print.specs.Parts.{each}
+
+abbrev pub spell_signed : ℤ → List Tok
+spell_signed z = Integer (signed_decimal z) ∷ []
+
+-- of so many bits, with a sign
+abbrev pub is_signed : ℕ → ℤ → Bool
+is_signed bits (pos n) = nat_lt n (2 ^ (bits - 1))
+is_signed bits (negsuc n) = nat_lt n (2 ^ (bits - 1))
+
+-- of so many bits, without one
+abbrev pub is_unsigned : ℕ → ℕ → Bool
+is_unsigned bits n = nat_lt n (2 ^ bits)
+
+-- a word that ends in a number
+abbrev pub numbered : List ℕ → ℕ → Tok
+numbered front n = Keyword (front ++ decimal n)
+
+-- so many values that pass the test
+abbrev pub fit_number_of : {A : Type 0} → ℕ → (A → Bool) → List A → Bool
+fit_number_of n fit vs = (length vs == n) && each fit vs

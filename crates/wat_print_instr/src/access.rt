@@ -1,0 +1,254 @@
+//! How accesses to memories, orderings and lanes are printed.
+
+ghost use Rattle.std.specs.Prelude.{◌≡◌, ◌≢◌, OnOk, IfErr, true, false};
+ghost use Rattle.wat_operands.specs.Lanes.{lane_arg, lane_access_view};
+ghost use Rattle.wat_operands.specs.Memory.{target_view, mem_arg_view};
+ghost use Rattle.wat_operands.specs.Ordering.{ordering, ordered, ordered_view};
+ghost use Rattle.wat_print.specs.Parts.{spell_option};
+ghost use Rattle.wat_print.specs.Text.{put};
+ghost use Rattle.wat_print.specs.declared.fault.Refused.TheVariants.{Memory};
+ghost use Rattle.wat_print_instr.specs.Access.{spell_target, fit_target, spell_access, fit_place};
+ghost use Rattle.wat_print_instr.specs.Access.{fit_access, spell_ordering, spell_atomic};
+ghost use Rattle.wat_print_instr.specs.Access.{fit_ordering, fit_atomic, ordering_in};
+ghost use Rattle.wat_print_instr.specs.Access.{spell_lane_access, fit_lane_access, fit_alignment};
+ghost use Rattle.wat_print_instr.specs.Access.{spell_lane, fit_lane, ordering_word};
+ghost use Rattle.wat_print_instr.specs.Printings.{ordering_printing, ordered_printing};
+ghost use Rattle.wat_print_instr.specs.Printings.{lane_printing};
+
+use crate::numbers::write_unless;
+use crate::places::write_index_or_zero;
+use crate::traits::PrintCode;
+use wat_operands::{
+    LaneArg, LoadOrStoreLane, MemArg, MemArgOrdering, MemArgTarget, Ordered, Ordering,
+};
+use wat_print::reference::write_index;
+use wat_print::{Output, Refused};
+
+/// Writes what is accessed: an array's type in its group, or a memory, unless it is 0.
+#[tactic(auto, using(wat_print::specs::Laws::Written::put_both))]
+fn write_target(out: &mut Output, target: &MemArgTarget) -> Result<(), Refused>
+    ensures written { OnOk result (out.new ≡ put out.old (spell_target (target_view target.now))) }
+    ensures fit { OnOk result (fit_target (target_view target.now) ≡ true) }
+    ensures refused { IfErr result (λ e. e ≢ Memory
+        → fit_target (target_view target.now) ≡ false) }
+{
+    match target {
+        MemArgTarget::Memory(index) => {
+            write_index_or_zero(out, index)?;
+            Ok(())
+        }
+        MemArgTarget::Array(index) => {
+            out.open()?;
+            out.word("type")?;
+            write_index(out, index)?;
+            out.close()?;
+            Ok(())
+        }
+    }
+}
+
+/// Whether it is the default, or a power of two.
+fn may_align(align: u64, default: u64) -> bool
+    ensures { result ≡ fit_alignment default align }
+{
+    align == default || align.is_power_of_two()
+}
+
+/// Writes what an access is given but for its ordering: its target, its offset unless it is 0, and
+/// its alignment unless it is the default. An alignment that is no power of two and not the default
+/// is refused with Alignment.
+#[tactic(auto, using(wat_print::specs::Laws::Written::put_both))]
+fn write_place(out: &mut Output, access: &MemArg, default: u64) -> Result<(), Refused>
+    ensures written { OnOk result (out.new ≡ put out.old
+        (spell_access default (mem_arg_view access.now))) }
+    ensures fit { OnOk result (fit_place default (mem_arg_view access.now) ≡ true) }
+    ensures refused { IfErr result (λ e. e ≢ Memory
+        → fit_place default (mem_arg_view access.now) ≡ false) }
+{
+    if !may_align(access.align, default) {
+        return Err(Refused::Alignment);
+    }
+    write_target(out, &access.target)?;
+    write_unless(out, access.offset == 0, "offset=", access.offset)?;
+    write_unless(out, access.align == default, "align=", access.align)?;
+    Ok(())
+}
+
+/// Writes what an access is given (Text Format, Instructions, "Memory Instructions"): its target,
+/// its offset unless it is 0, and its alignment unless it is the default.
+///
+/// An alignment that is no power of two and not the default is refused with Alignment, and an
+/// access that has an ordering with Ordering.
+pub fn write_access(out: &mut Output, access: &MemArg, default: u64) -> Result<(), Refused>
+    ensures written { OnOk result (out.new ≡ put out.old
+        (spell_access default (mem_arg_view access.now))) }
+    ensures fit { OnOk result (fit_access default (mem_arg_view access.now) ≡ true) }
+    ensures refused { IfErr result (λ e. e ≢ Memory
+        → fit_access default (mem_arg_view access.now) ≡ false) }
+{
+    if access.ordering.is_some() {
+        return Err(Refused::Ordering);
+    }
+    write_place(out, access, default)?;
+    Ok(())
+}
+
+/// The word for the ordering.
+fn word_of(ordering: Ordering) -> &'static str
+    ensures { result.now ≡ ordering_word ordering }
+{
+    match ordering {
+        Ordering::AcqRel => "acqrel",
+        Ordering::SeqCst => "seqcst",
+    }
+}
+
+/// Writes an ordering.
+pub fn write_ordering(out: &mut Output, ordering: Ordering) -> Result<(), Refused>
+    ensures written { OnOk result (out.new ≡ put out.old (spell_ordering ordering)) }
+    ensures refused { IfErr result (λ e. e ≡ Memory) }
+{
+    out.word(word_of(ordering))?;
+    Ok(())
+}
+
+/// Whether an atomic instruction can have the ordering; `rmw` says whether it reads, changes and
+/// writes.
+fn may_order(ordering: Option<MemArgOrdering>, rmw: bool) -> bool
+    ensures { result ≡ fit_ordering rmw ordering }
+{
+    match ordering {
+        None => true,
+        Some(MemArgOrdering::Op(_)) => !rmw,
+        Some(MemArgOrdering::Rmw(_)) => rmw,
+    }
+}
+
+/// Writes the ordering of an access, where it has one.
+fn write_access_ordering(out: &mut Output, ordering: Option<MemArgOrdering>) -> Result<(), Refused>
+    ensures written { OnOk result (out.new ≡ put out.old
+        (spell_option (λ o. spell_ordering (ordering_in o)) ordering)) }
+    ensures refused { IfErr result (λ e. e ≡ Memory) }
+{
+    match ordering {
+        None => Ok(()),
+        Some(MemArgOrdering::Op(ordering)) => {
+            write_ordering(out, ordering)?;
+            Ok(())
+        }
+        Some(MemArgOrdering::Rmw(ordering)) => {
+            write_ordering(out, ordering)?;
+            Ok(())
+        }
+    }
+}
+
+/// Writes what an atomic access is given (Text Format, Instructions, "Memory Instructions", with the
+/// proposals on threads): what [`write_access`] writes, and then its ordering, where it has one.
+/// `rmw` says whether the instruction reads, changes and writes.
+///
+/// An alignment that is no power of two and not the default is refused with Alignment. An ordering
+/// of an instruction that reads, changes and writes is refused with Ordering where the instruction
+/// does not, and one of another instruction where it does.
+#[tactic(auto, using(wat_print::specs::Laws::Written::put_both))]
+pub fn write_atomic(
+    out: &mut Output,
+    access: &MemArg,
+    default: u64,
+    rmw: bool,
+) -> Result<(), Refused>
+    ensures written { OnOk result (out.new ≡ put out.old
+        (spell_atomic default (mem_arg_view access.now))) }
+    ensures fit { OnOk result (fit_atomic default rmw (mem_arg_view access.now) ≡ true) }
+    ensures refused { IfErr result (λ e. e ≢ Memory
+        → fit_atomic default rmw (mem_arg_view access.now) ≡ false) }
+{
+    if !may_order(access.ordering, rmw) {
+        return Err(Refused::Ordering);
+    }
+    write_place(out, access, default)?;
+    write_access_ordering(out, access.ordering)?;
+    Ok(())
+}
+
+/// Writes a lane.
+fn write_lane(out: &mut Output, lane: &LaneArg) -> Result<(), Refused>
+    ensures written { OnOk result (out.new ≡ put out.old (spell_lane lane.now)) }
+    ensures fit { OnOk result (fit_lane lane.now ≡ true) }
+    ensures refused { IfErr result (λ e. e ≡ Memory) }
+{
+    out.number(u64::from(lane.lane))?;
+    Ok(())
+}
+
+/// Writes what an access to one lane is given (Text Format, Instructions, "Memory Instructions"):
+/// what [`write_access`] writes, and then the lane.
+#[tactic(auto, using(wat_print::specs::Laws::Written::put_both))]
+pub fn write_lane_access(
+    out: &mut Output,
+    lane: &LoadOrStoreLane,
+    default: u64,
+) -> Result<(), Refused>
+    ensures written { OnOk result (out.new ≡ put out.old
+        (spell_lane_access default (lane_access_view lane.now))) }
+    ensures fit { OnOk result (fit_lane_access default (lane_access_view lane.now) ≡ true) }
+    ensures refused { IfErr result (λ e. e ≢ Memory
+        → fit_lane_access default (lane_access_view lane.now) ≡ false) }
+{
+    write_access(out, &lane.memarg, default)?;
+    write_lane(out, &lane.lane)?;
+    Ok(())
+}
+
+impl PrintCode for Ordering {
+    ghost use Rattle.wat_operands.specs.declared.ordering.Ordering.{Ordering};
+
+    ghost View = { Ordering };
+
+    ghost view = { λ o. o };
+
+    ghost grammar = { ordering };
+
+    ghost printing = { ordering_printing };
+
+    fn write(&self, out: &mut Output) -> Result<(), Refused> {
+        write_ordering(out, *self)?;
+        Ok(())
+    }
+}
+
+impl<T: PrintCode> PrintCode for Ordered<T> {
+    ghost use Rattle.wat_operands.specs.declared.ordering.Ordering.{Ordering};
+
+    ghost View = { Ordering × T.View };
+
+    ghost view = { ordered_view T.view };
+
+    ghost grammar = { ordered T.grammar };
+
+    ghost printing = { ordered_printing T.grammar T.printing };
+
+    #[tactic(auto, using(wat_print::specs::Laws::Written::put_both))]
+    fn write(&self, out: &mut Output) -> Result<(), Refused> {
+        write_ordering(out, self.ordering)?;
+        self.inner.write(out)?;
+        Ok(())
+    }
+}
+
+impl PrintCode for LaneArg {
+    ghost use Rattle.wat_operands.specs.declared.lanes.LaneArg.{LaneArg};
+
+    ghost View = { LaneArg };
+
+    ghost view = { λ l. l };
+
+    ghost grammar = { lane_arg };
+
+    ghost printing = { lane_printing };
+
+    fn write(&self, out: &mut Output) -> Result<(), Refused> {
+        write_lane(out, self)?;
+        Ok(())
+    }
+}

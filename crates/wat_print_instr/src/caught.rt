@@ -1,0 +1,202 @@
+//! How what a `try_table` catches, and tables of handlers, are printed.
+
+ghost use Rattle.std.specs.Prelude.{◌≡◌, ◌≢◌, List, OnOk, IfErr, true, false};
+ghost use Rattle.wat_tokens.specs.Index.{index_view};
+ghost use Rattle.wat_operands.specs.CatchClause.{CatchTy, catch_clause};
+ghost use Rattle.wat_operands.specs.Catches.{catch_kind_view, catch_view, TryTy, try_view};
+ghost use Rattle.wat_operands.specs.Catches.{try_table};
+ghost use Rattle.wat_operands.specs.Handler.{HandleTy, handler};
+ghost use Rattle.wat_operands.specs.Handlers.{handle_view, resume_table_view, resume_table};
+ghost use Rattle.wat_operands.specs.Handlers.{ResumeTy, resume_view, resume_throw_ref_view, resume};
+ghost use Rattle.wat_operands.specs.Handlers.{ThrowTy, resume_throw_view, resume_throw};
+ghost use Rattle.wat_print.specs.Text.{put};
+ghost use Rattle.wat_print.specs.declared.fault.Refused.TheVariants.{Memory};
+ghost use Rattle.wat_print_instr.specs.Control.{spell_catch_kind, fit_catch_kind};
+ghost use Rattle.wat_print_instr.specs.Control.{spell_resume_table, fit_resume_table};
+ghost use Rattle.wat_print_instr.specs.Printings.{catch_printing, try_printing, handler_printing};
+ghost use Rattle.wat_print_instr.specs.Printings.{resume_table_printing, resume_printing};
+ghost use Rattle.wat_print_instr.specs.Printings.{throw_printing};
+
+use crate::control::write_block;
+use crate::traits::{PrintCode, write_each};
+use wat_operands::{
+    CatchKind, Handle, Resume, ResumeTable, ResumeThrow, ResumeThrowRef, TryTable, TryTableCatch,
+    TryTableCatchKind,
+};
+use wat_print::reference::write_index;
+use wat_print::{Output, Refused};
+
+/// Writes the word of a clause, and the tag where it has one.
+fn write_catch_kind(out: &mut Output, kind: &TryTableCatchKind) -> Result<(), Refused>
+    ensures written { OnOk result (out.new ≡ put out.old
+        (spell_catch_kind (catch_kind_view index_view kind.now))) }
+    ensures fit { OnOk result (fit_catch_kind (catch_kind_view index_view kind.now) ≡ true) }
+    ensures refused { IfErr result (λ e. e ≢ Memory
+        → fit_catch_kind (catch_kind_view index_view kind.now) ≡ false) }
+{
+    match kind {
+        CatchKind::Catch(tag) => {
+            out.word("catch")?;
+            write_index(out, tag)?;
+            Ok(())
+        }
+        CatchKind::CatchRef(tag) => {
+            out.word("catch_ref")?;
+            write_index(out, tag)?;
+            Ok(())
+        }
+        CatchKind::CatchAll => {
+            out.word("catch_all")?;
+            Ok(())
+        }
+        CatchKind::CatchAllRef => {
+            out.word("catch_all_ref")?;
+            Ok(())
+        }
+    }
+}
+
+impl PrintCode for TryTableCatch<'_> {
+    ghost View = { CatchTy };
+
+    ghost view = { catch_view };
+
+    ghost grammar = { catch_clause };
+
+    ghost printing = { catch_printing };
+
+    #[tactic(auto, using(wat_print::specs::Laws::Written::put_both))]
+    fn write(&self, out: &mut Output) -> Result<(), Refused> {
+        out.open()?;
+        write_catch_kind(out, &self.kind)?;
+        write_index(out, &self.label)?;
+        out.close()?;
+        Ok(())
+    }
+}
+
+impl PrintCode for TryTable<'_> {
+    ghost View = { TryTy };
+
+    ghost view = { try_view };
+
+    ghost grammar = { try_table };
+
+    ghost printing = { try_printing };
+
+    #[tactic(auto, using(wat_print::specs::Laws::Written::put_both))]
+    fn write(&self, out: &mut Output) -> Result<(), Refused> {
+        write_block(out, &self.block)?;
+        write_each(out, &self.catches)?;
+        Ok(())
+    }
+}
+
+impl PrintCode for Handle<'_> {
+    ghost View = { HandleTy };
+
+    ghost view = { handle_view };
+
+    ghost grammar = { handler };
+
+    ghost printing = { handler_printing };
+
+    #[tactic(auto, using(wat_print::specs::Laws::Written::put_both))]
+    fn write(&self, out: &mut Output) -> Result<(), Refused> {
+        out.open()?;
+        out.word("on")?;
+        match self {
+            Handle::OnLabel { tag, label } => {
+                write_index(out, tag)?;
+                write_index(out, label)?;
+                out.close()?;
+                Ok(())
+            }
+            Handle::OnSwitch { tag } => {
+                write_index(out, tag)?;
+                out.word("switch")?;
+                out.close()?;
+                Ok(())
+            }
+        }
+    }
+}
+
+/// Writes handlers, one behind the other.
+fn write_handlers(out: &mut Output, table: &ResumeTable) -> Result<(), Refused>
+    ensures written { OnOk result (out.new ≡ put out.old
+        (spell_resume_table (resume_table_view table.now))) }
+    ensures fit { OnOk result (fit_resume_table (resume_table_view table.now) ≡ true) }
+    ensures refused { IfErr result (λ e. e ≢ Memory
+        → fit_resume_table (resume_table_view table.now) ≡ false) }
+{
+    write_each(out, &table.handlers)?;
+    Ok(())
+}
+
+impl PrintCode for ResumeTable<'_> {
+    ghost View = { List HandleTy };
+
+    ghost view = { resume_table_view };
+
+    ghost grammar = { resume_table };
+
+    ghost printing = { resume_table_printing };
+
+    fn write(&self, out: &mut Output) -> Result<(), Refused> {
+        write_handlers(out, self)?;
+        Ok(())
+    }
+}
+
+impl PrintCode for Resume<'_> {
+    ghost View = { ResumeTy };
+
+    ghost view = { resume_view };
+
+    ghost grammar = { resume };
+
+    ghost printing = { resume_printing };
+
+    #[tactic(auto, using(wat_print::specs::Laws::Written::put_both))]
+    fn write(&self, out: &mut Output) -> Result<(), Refused> {
+        write_index(out, &self.type_index)?;
+        write_handlers(out, &self.table)?;
+        Ok(())
+    }
+}
+
+impl PrintCode for ResumeThrow<'_> {
+    ghost View = { ThrowTy };
+
+    ghost view = { resume_throw_view };
+
+    ghost grammar = { resume_throw };
+
+    ghost printing = { throw_printing };
+
+    #[tactic(auto, using(wat_print::specs::Laws::Written::put_both))]
+    fn write(&self, out: &mut Output) -> Result<(), Refused> {
+        write_index(out, &self.type_index)?;
+        write_index(out, &self.tag_index)?;
+        write_handlers(out, &self.table)?;
+        Ok(())
+    }
+}
+
+impl PrintCode for ResumeThrowRef<'_> {
+    ghost View = { ResumeTy };
+
+    ghost view = { resume_throw_ref_view };
+
+    ghost grammar = { resume };
+
+    ghost printing = { resume_printing };
+
+    #[tactic(auto, using(wat_print::specs::Laws::Written::put_both))]
+    fn write(&self, out: &mut Output) -> Result<(), Refused> {
+        write_index(out, &self.type_index)?;
+        write_handlers(out, &self.table)?;
+        Ok(())
+    }
+}

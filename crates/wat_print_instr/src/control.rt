@@ -1,0 +1,272 @@
+//! How the types of blocks, calls, selects and casts are printed.
+
+ghost use Rattle.std.specs.Prelude.{◌≡◌, ◌≢◌, List, Option, OnOk, IfErr, true, false, map};
+ghost use Rattle.wat_tokens.specs.Index.{index_view};
+ghost use Rattle.wat_types.specs.Function.{function_view};
+ghost use Rattle.wat_types.specs.Reference.{RefTy, ref_view, ref_type};
+ghost use Rattle.wat_types.specs.Value.{ValTy, val_view};
+ghost use Rattle.wat_operands.specs.Block.{BlockTy, signature_view, block_view, block_type};
+ghost use Rattle.wat_operands.specs.Call.{CallTy, call_view, call_indirect};
+ghost use Rattle.wat_operands.specs.Casts.{test_view, cast_view, cast_desc_eq_view, BranchTy};
+ghost use Rattle.wat_operands.specs.Casts.{branch_between, branch_view, branch_fail_view};
+ghost use Rattle.wat_operands.specs.Casts.{branch_desc_eq_view, branch_desc_eq_fail_view};
+ghost use Rattle.wat_operands.specs.Casts.{cast_branch};
+ghost use Rattle.wat_operands.specs.Select.{select_view, select_types};
+ghost use Rattle.wat_print.specs.Function.{param_label};
+ghost use Rattle.wat_print.specs.Label.{none_labelled};
+ghost use Rattle.wat_print.specs.Parts.{if_some, each};
+ghost use Rattle.wat_print.specs.Printings.{ref_printing};
+ghost use Rattle.wat_print.specs.Reference.{fit_val};
+ghost use Rattle.wat_print.specs.Text.{put};
+ghost use Rattle.wat_print.specs.Use.{spell_use, fit_unnamed_use};
+ghost use Rattle.wat_print.specs.declared.fault.Refused.TheVariants.{Memory};
+ghost use Rattle.wat_print_instr.specs.Control.{spell_block, fit_block, spell_branch, fit_branch};
+ghost use Rattle.wat_print_instr.specs.Control.{spell_result};
+ghost use Rattle.wat_print_instr.specs.Printings.{block_printing, call_printing, select_printing};
+ghost use Rattle.wat_print_instr.specs.Printings.{branch_printing};
+
+use crate::places::write_index_or_zero;
+use crate::traits::PrintCode;
+use wat_operands::{
+    BlockType, BrOnCast, BrOnCastDescEq, BrOnCastDescEqFail, BrOnCastFail, CallIndirect, RefCast,
+    RefCastDescEq, RefTest, SelectTypes,
+};
+use wat_print::function::{are_unlabelled, write_vals};
+use wat_print::label::write_label;
+use wat_print::reference::{write_index, write_ref};
+use wat_print::type_use::write_use;
+use wat_print::{Output, Refused};
+use wat_tokens::Index;
+use wat_types::{FunctionType, RefType, TypeUse, ValType};
+
+/// Whether no parameter of the inline type has an identifier or a name.
+fn is_unlabelled(ty: &TypeUse<FunctionType>) -> bool
+    ensures { result ≡ if_some (λ f. none_labelled param_label f.params)
+        (signature_view ty.now).inline }
+{
+    match &ty.inline {
+        Some(function) => are_unlabelled(&function.params),
+        None => true,
+    }
+}
+
+/// Writes the type of a block or of a call: a use of a function type without names. One whose
+/// inline type has a label is refused with Label.
+fn write_signature(out: &mut Output, ty: &TypeUse<FunctionType>) -> Result<(), Refused>
+    ensures written { OnOk result (out.new ≡ put out.old (spell_use (signature_view ty.now))) }
+    ensures fit { OnOk result (fit_unnamed_use (signature_view ty.now) ≡ true) }
+    ensures refused { IfErr result (λ e. e ≢ Memory
+        → fit_unnamed_use (signature_view ty.now) ≡ false) }
+{
+    if !is_unlabelled(ty) {
+        return Err(Refused::Label);
+    }
+    write_use(out, ty)?;
+    Ok(())
+}
+
+/// Writes what an instruction says of its block (Text Format, Instructions, "Control
+/// Instructions"): its label, and its type. A type that has a label is refused with Label.
+#[tactic(auto, using(wat_print::specs::Laws::Written::put_both))]
+pub fn write_block(out: &mut Output, block: &BlockType) -> Result<(), Refused>
+    ensures written { OnOk result (out.new ≡ put out.old (spell_block (block_view block.now))) }
+    ensures fit { OnOk result (fit_block (block_view block.now) ≡ true) }
+    ensures refused { IfErr result (λ e. e ≢ Memory → fit_block (block_view block.now) ≡ false) }
+{
+    write_label(out, &block.label, &block.label_name)?;
+    write_signature(out, &block.ty)?;
+    Ok(())
+}
+
+/// Writes a label, and the types that a branch casts from and to.
+#[tactic(auto, using(wat_print::specs::Laws::Written::put_both))]
+fn write_branch(
+    out: &mut Output,
+    label: &Index,
+    from_type: &RefType,
+    to_type: &RefType,
+) -> Result<(), Refused>
+    ensures written { OnOk result (out.new ≡ put out.old
+        (spell_branch (branch_between label.now from_type.now to_type.now))) }
+    ensures fit { OnOk result
+        (fit_branch (branch_between label.now from_type.now to_type.now) ≡ true) }
+    ensures refused { IfErr result (λ e. e ≢ Memory
+        → fit_branch (branch_between label.now from_type.now to_type.now) ≡ false) }
+{
+    write_index(out, label)?;
+    write_ref(out, from_type)?;
+    write_ref(out, to_type)?;
+    Ok(())
+}
+
+impl PrintCode for BlockType<'_> {
+    ghost View = { BlockTy };
+
+    ghost view = { block_view };
+
+    ghost grammar = { block_type };
+
+    ghost printing = { block_printing };
+
+    fn write(&self, out: &mut Output) -> Result<(), Refused> {
+        write_block(out, self)?;
+        Ok(())
+    }
+}
+
+/// A type that has a label is refused with Label.
+impl PrintCode for CallIndirect<'_> {
+    ghost View = { CallTy };
+
+    ghost view = { call_view };
+
+    ghost grammar = { call_indirect };
+
+    ghost printing = { call_printing };
+
+    #[tactic(auto, using(wat_print::specs::Laws::Written::put_both))]
+    fn write(&self, out: &mut Output) -> Result<(), Refused> {
+        write_index_or_zero(out, &self.table)?;
+        write_signature(out, &self.ty)?;
+        Ok(())
+    }
+}
+
+/// Writes types in a group of results.
+fn write_result(out: &mut Output, types: &[ValType]) -> Result<(), Refused>
+    ensures written { OnOk result (out.new ≡ put out.old (spell_result (map val_view types.now))) }
+    ensures fit { OnOk result (each fit_val (map val_view types.now) ≡ true) }
+    ensures refused { IfErr result (λ e. e ≢ Memory
+        → each fit_val (map val_view types.now) ≡ false) }
+{
+    out.open()?;
+    out.word("result")?;
+    write_vals(out, types)?;
+    out.close()?;
+    Ok(())
+}
+
+impl PrintCode for SelectTypes<'_> {
+    ghost View = { Option (List ValTy) };
+
+    ghost view = { select_view };
+
+    ghost grammar = { select_types };
+
+    ghost printing = { select_printing };
+
+    fn write(&self, out: &mut Output) -> Result<(), Refused> {
+        match &self.tys {
+            None => Ok(()),
+            Some(types) => {
+                write_result(out, types)?;
+                Ok(())
+            }
+        }
+    }
+}
+
+impl PrintCode for RefTest<'_> {
+    ghost View = { RefTy };
+
+    ghost view = { test_view };
+
+    ghost grammar = { ref_type };
+
+    ghost printing = { ref_printing };
+
+    fn write(&self, out: &mut Output) -> Result<(), Refused> {
+        write_ref(out, &self.type_)?;
+        Ok(())
+    }
+}
+
+impl PrintCode for RefCast<'_> {
+    ghost View = { RefTy };
+
+    ghost view = { cast_view };
+
+    ghost grammar = { ref_type };
+
+    ghost printing = { ref_printing };
+
+    fn write(&self, out: &mut Output) -> Result<(), Refused> {
+        write_ref(out, &self.type_)?;
+        Ok(())
+    }
+}
+
+impl PrintCode for RefCastDescEq<'_> {
+    ghost View = { RefTy };
+
+    ghost view = { cast_desc_eq_view };
+
+    ghost grammar = { ref_type };
+
+    ghost printing = { ref_printing };
+
+    fn write(&self, out: &mut Output) -> Result<(), Refused> {
+        write_ref(out, &self.type_)?;
+        Ok(())
+    }
+}
+
+impl PrintCode for BrOnCast<'_> {
+    ghost View = { BranchTy };
+
+    ghost view = { branch_view };
+
+    ghost grammar = { cast_branch };
+
+    ghost printing = { branch_printing };
+
+    fn write(&self, out: &mut Output) -> Result<(), Refused> {
+        write_branch(out, &self.label, &self.from_type, &self.to_type)?;
+        Ok(())
+    }
+}
+
+impl PrintCode for BrOnCastFail<'_> {
+    ghost View = { BranchTy };
+
+    ghost view = { branch_fail_view };
+
+    ghost grammar = { cast_branch };
+
+    ghost printing = { branch_printing };
+
+    fn write(&self, out: &mut Output) -> Result<(), Refused> {
+        write_branch(out, &self.label, &self.from_type, &self.to_type)?;
+        Ok(())
+    }
+}
+
+impl PrintCode for BrOnCastDescEq<'_> {
+    ghost View = { BranchTy };
+
+    ghost view = { branch_desc_eq_view };
+
+    ghost grammar = { cast_branch };
+
+    ghost printing = { branch_printing };
+
+    fn write(&self, out: &mut Output) -> Result<(), Refused> {
+        write_branch(out, &self.label, &self.from_type, &self.to_type)?;
+        Ok(())
+    }
+}
+
+impl PrintCode for BrOnCastDescEqFail<'_> {
+    ghost View = { BranchTy };
+
+    ghost view = { branch_desc_eq_fail_view };
+
+    ghost grammar = { cast_branch };
+
+    ghost printing = { branch_printing };
+
+    fn write(&self, out: &mut Output) -> Result<(), Refused> {
+        write_branch(out, &self.label, &self.from_type, &self.to_type)?;
+        Ok(())
+    }
+}

@@ -1,0 +1,15 @@
+//! Operands of instructions as text (WebAssembly Core Specification, Text Format, "Instructions").
+//!
+//! A type that has [`PrintCode`] is printed by [`wat_print::print`] as [`Code`], and what is
+//! printed is read again as the same value.
+#![tactic(auto)]
+
+pub mod access;
+pub mod caught;
+pub mod control;
+pub mod numbers;
+pub mod places;
+pub mod traits;
+pub mod vectors;
+
+pub use traits::{Code, PrintCode};

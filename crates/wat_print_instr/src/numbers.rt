@@ -1,0 +1,150 @@
+//! How numbers are printed.
+
+ghost use Rattle.std.specs.Prelude.{◌≡◌, ◌∷◌, [], ◌≤◌, OnOk, IfErr, length};
+ghost use Rattle.wat_print.specs.Text.{put};
+ghost use Rattle.wat_print.specs.declared.fault.Refused.TheVariants.{Memory};
+ghost use Rattle.wat_print_instr.specs.Access.{spell_unless};
+ghost use Rattle.wat_print_instr.specs.Numbers.{spell_signed, numbered};
+
+use crate::traits::PrintCode;
+use arrayvec::ArrayString;
+use itoa::Buffer;
+use wat_print::{Output, Refused};
+
+/// Writes a number with a sign.
+pub fn write_signed(out: &mut Output, number: i64) -> Result<(), Refused>
+    ensures written { OnOk result (out.new ≡ put out.old (spell_signed number)) }
+    ensures refused { IfErr result (λ e. e ≡ Memory) }
+{
+    let mut buffer = Buffer::new();
+    // (a word and an integer of the same characters are written alike)
+    out.word(buffer.format(number))?;
+    Ok(())
+}
+
+/// Writes a word that ends in a number.
+fn write_numbered(out: &mut Output, front: &str, number: u64) -> Result<(), Refused>
+    requires { length front.now ≤ 7 }
+    ensures written { OnOk result (out.new ≡ put out.old (numbered front.now number ∷ [])) }
+    ensures refused { IfErr result (λ e. e ≡ Memory) }
+{
+    let mut word = ArrayString::<48>::new();
+    let mut buffer = Buffer::new();
+    word.push_str(front);
+    word.push_str(buffer.format(number));
+    out.word(word.as_str())?;
+    Ok(())
+}
+
+/// Writes a word that ends in the number, unless the number is meant without it.
+pub(crate) fn write_unless(
+    out: &mut Output,
+    is_meant: bool,
+    front: &str,
+    number: u64,
+) -> Result<(), Refused>
+    requires { length front.now ≤ 7 }
+    ensures written { OnOk result (out.new ≡ put out.old (spell_unless is_meant front.now
+        number)) }
+    ensures refused { IfErr result (λ e. e ≡ Memory) }
+{
+    if !is_meant {
+        write_numbered(out, front, number)?;
+    }
+    Ok(())
+}
+
+impl PrintCode for i8 {
+    ghost use Rattle.std.specs.Prelude.{ℤ};
+    ghost use Rattle.wat_tokens.specs.Integers.{signed};
+    ghost use Rattle.wat_print_instr.specs.Printings.{i8_printing};
+
+    ghost View = { ℤ };
+
+    ghost view = { λ z. z };
+
+    ghost grammar = { signed 8 };
+
+    ghost printing = { i8_printing };
+
+    fn write(&self, out: &mut Output) -> Result<(), Refused> {
+        write_signed(out, i64::from(*self))?;
+        Ok(())
+    }
+}
+
+impl PrintCode for i16 {
+    ghost use Rattle.std.specs.Prelude.{ℤ};
+    ghost use Rattle.wat_tokens.specs.Integers.{signed};
+    ghost use Rattle.wat_print_instr.specs.Printings.{i16_printing};
+
+    ghost View = { ℤ };
+
+    ghost view = { λ z. z };
+
+    ghost grammar = { signed 16 };
+
+    ghost printing = { i16_printing };
+
+    fn write(&self, out: &mut Output) -> Result<(), Refused> {
+        write_signed(out, i64::from(*self))?;
+        Ok(())
+    }
+}
+
+impl PrintCode for i32 {
+    ghost use Rattle.std.specs.Prelude.{ℤ};
+    ghost use Rattle.wat_tokens.specs.Integers.{signed};
+    ghost use Rattle.wat_print_instr.specs.Printings.{i32_printing};
+
+    ghost View = { ℤ };
+
+    ghost view = { λ z. z };
+
+    ghost grammar = { signed 32 };
+
+    ghost printing = { i32_printing };
+
+    fn write(&self, out: &mut Output) -> Result<(), Refused> {
+        write_signed(out, i64::from(*self))?;
+        Ok(())
+    }
+}
+
+impl PrintCode for i64 {
+    ghost use Rattle.std.specs.Prelude.{ℤ};
+    ghost use Rattle.wat_tokens.specs.Integers.{signed};
+    ghost use Rattle.wat_print_instr.specs.Printings.{i64_printing};
+
+    ghost View = { ℤ };
+
+    ghost view = { λ z. z };
+
+    ghost grammar = { signed 64 };
+
+    ghost printing = { i64_printing };
+
+    fn write(&self, out: &mut Output) -> Result<(), Refused> {
+        write_signed(out, *self)?;
+        Ok(())
+    }
+}
+
+impl PrintCode for u8 {
+    ghost use Rattle.std.specs.Prelude.{ℕ};
+    ghost use Rattle.wat_tokens.specs.Integers.{unsigned};
+    ghost use Rattle.wat_print_instr.specs.Printings.{u8_printing};
+
+    ghost View = { ℕ };
+
+    ghost view = { λ n. n };
+
+    ghost grammar = { unsigned 8 };
+
+    ghost printing = { u8_printing };
+
+    fn write(&self, out: &mut Output) -> Result<(), Refused> {
+        out.number(u64::from(*self))?;
+        Ok(())
+    }
+}

@@ -1,0 +1,355 @@
+//! How operands of indices alone are printed.
+
+ghost use Rattle.std.specs.Prelude.{◌≡◌, ◌≢◌, ℕ, OnOk, IfErr, true, false};
+ghost use Rattle.wat_tokens.specs.Index.{Idx, index_view, index};
+ghost use Rattle.wat_operands.specs.Aggregates.{struct_access_view, cont_bind_view, switch_view};
+ghost use Rattle.wat_operands.specs.Aggregates.{array_fill_view, array_copy_view, array_init_view};
+ghost use Rattle.wat_operands.specs.Aggregates.{array_new_fixed_view, array_new_data_view};
+ghost use Rattle.wat_operands.specs.Aggregates.{array_new_elem_view, array_of_length};
+ghost use Rattle.wat_operands.specs.Branch.{BrTableTy, br_table_view};
+ghost use Rattle.wat_operands.specs.BranchTable.{br_table};
+ghost use Rattle.wat_operands.specs.Tables.{index_or_0, index_pair, init, copy, table_arg_view};
+ghost use Rattle.wat_operands.specs.Tables.{memory_arg_view, table_init_view, memory_init_view};
+ghost use Rattle.wat_operands.specs.Tables.{table_copy_view, memory_copy_view};
+ghost use Rattle.wat_print.specs.Index.{fit_index};
+ghost use Rattle.wat_print.specs.Printings.{index_printing};
+ghost use Rattle.wat_print.specs.Text.{put};
+ghost use Rattle.wat_print.specs.declared.fault.Refused.TheVariants.{Memory};
+ghost use Rattle.wat_print_instr.specs.Places.{is_index_0, spell_index_or_0, spell_pair, fit_pair};
+ghost use Rattle.wat_print_instr.specs.Places.{spell_init, spell_copy};
+ghost use Rattle.wat_print_instr.specs.Printings.{index_or_0_printing, pair_printing};
+ghost use Rattle.wat_print_instr.specs.Printings.{init_printing, copy_printing, sized_printing};
+ghost use Rattle.wat_print_instr.specs.Printings.{br_table_printing};
+
+use crate::traits::{PrintCode, write_each};
+use wat_operands::{
+    ArrayCopy, ArrayFill, ArrayInit, ArrayNewData, ArrayNewElem, ArrayNewFixed, BrTableIndices,
+    ContBind, MemoryArg, MemoryCopy, MemoryInit, StructAccess, Switch, TableArg, TableCopy,
+    TableInit,
+};
+use wat_print::reference::write_index;
+use wat_print::{Output, Refused};
+use wat_tokens::Index;
+
+/// Whether it is the number 0.
+fn is_zero(index: &Index) -> bool
+    ensures { result ≡ is_index_0 (index_view index.now) }
+{
+    matches!(index, Index::Num(0, _))
+}
+
+/// Writes an index, or nothing where 0 is meant.
+pub fn write_index_or_zero(out: &mut Output, index: &Index) -> Result<(), Refused>
+    ensures written { OnOk result (out.new ≡ put out.old
+        (spell_index_or_0 (index_view index.now))) }
+    ensures fit { OnOk result (fit_index (index_view index.now) ≡ true) }
+    ensures refused { IfErr result (λ e. e ≢ Memory → fit_index (index_view index.now) ≡ false) }
+{
+    if is_zero(index) {
+        return Ok(());
+    }
+    write_index(out, index)?;
+    Ok(())
+}
+
+/// Writes two indices.
+#[tactic(auto, using(wat_print::specs::Laws::Written::put_both))]
+fn write_pair(out: &mut Output, first: &Index, second: &Index) -> Result<(), Refused>
+    ensures written { OnOk result (out.new ≡ put out.old
+        (spell_pair (index_view first.now, index_view second.now))) }
+    ensures fit { OnOk result (fit_pair (index_view first.now, index_view second.now) ≡ true) }
+    ensures refused { IfErr result (λ e. e ≢ Memory
+        → fit_pair (index_view first.now, index_view second.now) ≡ false) }
+{
+    write_index(out, first)?;
+    write_index(out, second)?;
+    Ok(())
+}
+
+/// Writes a target, unless it is 0, and a segment.
+#[tactic(auto, using(wat_print::specs::Laws::Written::put_both))]
+fn write_init(out: &mut Output, target: &Index, segment: &Index) -> Result<(), Refused>
+    ensures written { OnOk result (out.new ≡ put out.old
+        (spell_init (index_view target.now, index_view segment.now))) }
+    ensures fit { OnOk result (fit_pair (index_view target.now, index_view segment.now) ≡ true) }
+    ensures refused { IfErr result (λ e. e ≢ Memory
+        → fit_pair (index_view target.now, index_view segment.now) ≡ false) }
+{
+    write_index_or_zero(out, target)?;
+    write_index(out, segment)?;
+    Ok(())
+}
+
+/// Writes a destination and a source, or nothing where both are 0.
+fn write_copy(out: &mut Output, destination: &Index, source: &Index) -> Result<(), Refused>
+    ensures written { OnOk result (out.new ≡ put out.old
+        (spell_copy (index_view destination.now, index_view source.now))) }
+    ensures fit { OnOk result
+        (fit_pair (index_view destination.now, index_view source.now) ≡ true) }
+    ensures refused { IfErr result (λ e. e ≢ Memory
+        → fit_pair (index_view destination.now, index_view source.now) ≡ false) }
+{
+    if is_zero(destination) && is_zero(source) {
+        return Ok(());
+    }
+    write_pair(out, destination, source)?;
+    Ok(())
+}
+
+impl PrintCode for Index<'_> {
+    ghost View = { Idx };
+
+    ghost view = { index_view };
+
+    ghost grammar = { index };
+
+    ghost printing = { index_printing };
+
+    fn write(&self, out: &mut Output) -> Result<(), Refused> {
+        write_index(out, self)?;
+        Ok(())
+    }
+}
+
+impl PrintCode for TableArg<'_> {
+    ghost View = { Idx };
+
+    ghost view = { table_arg_view };
+
+    ghost grammar = { index_or_0 };
+
+    ghost printing = { index_or_0_printing };
+
+    fn write(&self, out: &mut Output) -> Result<(), Refused> {
+        write_index_or_zero(out, &self.dst)?;
+        Ok(())
+    }
+}
+
+impl PrintCode for MemoryArg<'_> {
+    ghost View = { Idx };
+
+    ghost view = { memory_arg_view };
+
+    ghost grammar = { index_or_0 };
+
+    ghost printing = { index_or_0_printing };
+
+    fn write(&self, out: &mut Output) -> Result<(), Refused> {
+        write_index_or_zero(out, &self.mem)?;
+        Ok(())
+    }
+}
+
+impl PrintCode for TableInit<'_> {
+    ghost View = { Idx × Idx };
+
+    ghost view = { table_init_view };
+
+    ghost grammar = { init };
+
+    ghost printing = { init_printing };
+
+    fn write(&self, out: &mut Output) -> Result<(), Refused> {
+        write_init(out, &self.table, &self.elem)?;
+        Ok(())
+    }
+}
+
+impl PrintCode for MemoryInit<'_> {
+    ghost View = { Idx × Idx };
+
+    ghost view = { memory_init_view };
+
+    ghost grammar = { init };
+
+    ghost printing = { init_printing };
+
+    fn write(&self, out: &mut Output) -> Result<(), Refused> {
+        write_init(out, &self.mem, &self.data)?;
+        Ok(())
+    }
+}
+
+impl PrintCode for TableCopy<'_> {
+    ghost View = { Idx × Idx };
+
+    ghost view = { table_copy_view };
+
+    ghost grammar = { copy };
+
+    ghost printing = { copy_printing };
+
+    fn write(&self, out: &mut Output) -> Result<(), Refused> {
+        write_copy(out, &self.dst, &self.src)?;
+        Ok(())
+    }
+}
+
+impl PrintCode for MemoryCopy<'_> {
+    ghost View = { Idx × Idx };
+
+    ghost view = { memory_copy_view };
+
+    ghost grammar = { copy };
+
+    ghost printing = { copy_printing };
+
+    fn write(&self, out: &mut Output) -> Result<(), Refused> {
+        write_copy(out, &self.dst, &self.src)?;
+        Ok(())
+    }
+}
+
+impl PrintCode for StructAccess<'_> {
+    ghost View = { Idx × Idx };
+
+    ghost view = { struct_access_view };
+
+    ghost grammar = { index_pair };
+
+    ghost printing = { pair_printing };
+
+    fn write(&self, out: &mut Output) -> Result<(), Refused> {
+        write_pair(out, &self.struct_, &self.field)?;
+        Ok(())
+    }
+}
+
+impl PrintCode for ContBind<'_> {
+    ghost View = { Idx × Idx };
+
+    ghost view = { cont_bind_view };
+
+    ghost grammar = { index_pair };
+
+    ghost printing = { pair_printing };
+
+    fn write(&self, out: &mut Output) -> Result<(), Refused> {
+        write_pair(out, &self.argument_index, &self.result_index)?;
+        Ok(())
+    }
+}
+
+impl PrintCode for Switch<'_> {
+    ghost View = { Idx × Idx };
+
+    ghost view = { switch_view };
+
+    ghost grammar = { index_pair };
+
+    ghost printing = { pair_printing };
+
+    fn write(&self, out: &mut Output) -> Result<(), Refused> {
+        write_pair(out, &self.type_index, &self.tag_index)?;
+        Ok(())
+    }
+}
+
+impl PrintCode for ArrayFill<'_> {
+    ghost View = { Idx };
+
+    ghost view = { array_fill_view };
+
+    ghost grammar = { index };
+
+    ghost printing = { index_printing };
+
+    fn write(&self, out: &mut Output) -> Result<(), Refused> {
+        write_index(out, &self.array)?;
+        Ok(())
+    }
+}
+
+impl PrintCode for ArrayCopy<'_> {
+    ghost View = { Idx × Idx };
+
+    ghost view = { array_copy_view };
+
+    ghost grammar = { index_pair };
+
+    ghost printing = { pair_printing };
+
+    fn write(&self, out: &mut Output) -> Result<(), Refused> {
+        write_pair(out, &self.dest_array, &self.src_array)?;
+        Ok(())
+    }
+}
+
+impl PrintCode for ArrayInit<'_> {
+    ghost View = { Idx × Idx };
+
+    ghost view = { array_init_view };
+
+    ghost grammar = { index_pair };
+
+    ghost printing = { pair_printing };
+
+    fn write(&self, out: &mut Output) -> Result<(), Refused> {
+        write_pair(out, &self.array, &self.segment)?;
+        Ok(())
+    }
+}
+
+impl PrintCode for ArrayNewFixed<'_> {
+    ghost View = { Idx × ℕ };
+
+    ghost view = { array_new_fixed_view };
+
+    ghost grammar = { array_of_length };
+
+    ghost printing = { sized_printing };
+
+    #[tactic(auto, using(wat_print::specs::Laws::Written::put_both))]
+    fn write(&self, out: &mut Output) -> Result<(), Refused> {
+        write_index(out, &self.array)?;
+        out.number(u64::from(self.length))?;
+        Ok(())
+    }
+}
+
+impl PrintCode for ArrayNewData<'_> {
+    ghost View = { Idx × Idx };
+
+    ghost view = { array_new_data_view };
+
+    ghost grammar = { index_pair };
+
+    ghost printing = { pair_printing };
+
+    fn write(&self, out: &mut Output) -> Result<(), Refused> {
+        write_pair(out, &self.array, &self.data_idx)?;
+        Ok(())
+    }
+}
+
+impl PrintCode for ArrayNewElem<'_> {
+    ghost View = { Idx × Idx };
+
+    ghost view = { array_new_elem_view };
+
+    ghost grammar = { index_pair };
+
+    ghost printing = { pair_printing };
+
+    fn write(&self, out: &mut Output) -> Result<(), Refused> {
+        write_pair(out, &self.array, &self.elem_idx)?;
+        Ok(())
+    }
+}
+
+impl PrintCode for BrTableIndices<'_> {
+    ghost View = { BrTableTy };
+
+    ghost view = { br_table_view };
+
+    ghost grammar = { br_table };
+
+    ghost printing = { br_table_printing };
+
+    fn write(&self, out: &mut Output) -> Result<(), Refused> {
+        write_each(out, &self.labels)?;
+        write_index(out, &self.default)?;
+        Ok(())
+    }
+}

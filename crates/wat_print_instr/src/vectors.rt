@@ -1,0 +1,69 @@
+//! How constants of 128 bits, and lanes that are shuffled, are printed.
+
+ghost use Rattle.std.specs.Prelude.{◌≡◌, ◌≢◌, OnOk, IfErr, true, false};
+ghost use Rattle.wat_operands.specs.Vector.{v128_const, shuffle};
+ghost use Rattle.wat_print.specs.Text.{put};
+ghost use Rattle.wat_print.specs.declared.fault.Refused.TheVariants.{Memory};
+ghost use Rattle.wat_print_instr.specs.Printings.{vector_printing, shuffle_printing};
+
+use crate::traits::{PrintCode, write_each};
+use wat_operands::{I8x16Shuffle, V128Const};
+use wat_print::{Output, Refused};
+
+/// A constant of floating-point numbers is refused with Float.
+impl PrintCode for V128Const {
+    ghost use Rattle.wat_operands.specs.declared.vector.V128Const.{V128Const};
+
+    ghost View = { V128Const };
+
+    ghost view = { λ v. v };
+
+    ghost grammar = { v128_const };
+
+    ghost printing = { vector_printing };
+
+    #[tactic(auto, using(wat_print::specs::Laws::Written::put_both))]
+    fn write(&self, out: &mut Output) -> Result<(), Refused> {
+        match self {
+            V128Const::I8x16(lanes) => {
+                out.word("i8x16")?;
+                write_each(out, lanes)?;
+                Ok(())
+            }
+            V128Const::I16x8(lanes) => {
+                out.word("i16x8")?;
+                write_each(out, lanes)?;
+                Ok(())
+            }
+            V128Const::I32x4(lanes) => {
+                out.word("i32x4")?;
+                write_each(out, lanes)?;
+                Ok(())
+            }
+            V128Const::I64x2(lanes) => {
+                out.word("i64x2")?;
+                write_each(out, lanes)?;
+                Ok(())
+            }
+            V128Const::F32x4(_) => Err(Refused::Float),
+            V128Const::F64x2(_) => Err(Refused::Float),
+        }
+    }
+}
+
+impl PrintCode for I8x16Shuffle {
+    ghost use Rattle.wat_operands.specs.declared.vector.I8x16Shuffle.{I8x16Shuffle};
+
+    ghost View = { I8x16Shuffle };
+
+    ghost view = { λ s. s };
+
+    ghost grammar = { shuffle };
+
+    ghost printing = { shuffle_printing };
+
+    fn write(&self, out: &mut Output) -> Result<(), Refused> {
+        write_each(out, &self.lanes)?;
+        Ok(())
+    }
+}
