@@ -55,7 +55,7 @@ fn add_otherwise(
 
 /// Adds each text of which something else is printed than what stands beside it, and each of the
 /// latter that isn't printed as itself, in either layout.
-fn add_misprinted<'a, T: Parse<'a> + PrintCode + Drop>(
+pub(crate) fn add_misprinted<'a, T: Parse<'a> + PrintCode + Drop>(
     wrong: &mut String,
     arena: &'a Bump,
     rows: &[(&'a str, &'a str)],
@@ -73,7 +73,7 @@ fn add_misprinted<'a, T: Parse<'a> + PrintCode + Drop>(
 }
 
 /// Adds each text of which something else than itself is printed.
-fn add_changed<'a, T: Parse<'a> + PrintCode + Drop>(
+pub(crate) fn add_changed<'a, T: Parse<'a> + PrintCode + Drop>(
     wrong: &mut String,
     arena: &'a Bump,
     texts: &[&'a str],
@@ -420,7 +420,7 @@ fn catches_and_handlers(rt: HostRuntime) -> Result<(), Fail> {
 }
 
 /// The reason for which a value isn't printed.
-fn refusal<T: PrintCode>(alloc: Global, value: &T) -> Option<u8> {
+pub(crate) fn refusal<T: PrintCode>(alloc: Global, value: &T) -> Option<u8> {
     match print(alloc, &Code(value), Layout::Line) {
         Ok(_) => None,
         Err(refused) => Some(refused.number()),

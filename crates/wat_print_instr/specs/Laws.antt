@@ -1,4 +1,5 @@
 -- Laws of the definitions: lemmas that other crates rest on.
+pub mod Instruction
 pub mod Numbers
 pub mod Places
 pub mod Access

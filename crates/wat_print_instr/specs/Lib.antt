@@ -1,3 +1,4 @@
+pub use Rattle.wat_instr.specs.Instruction
 pub use Rattle.wat_operands.specs.Aggregates
 pub use Rattle.wat_operands.specs.Block
 pub use Rattle.wat_operands.specs.BranchTable
@@ -11,6 +12,8 @@ pub use Rattle.wat_operands.specs.Select
 pub use Rattle.wat_operands.specs.Vector
 pub mod Access
 pub mod Control
+pub mod InstructionForm
+pub mod InstructionPrinting
 pub mod Laws
 pub mod Numbers
 pub mod Places

@@ -1,6 +1,14 @@
 -- How the values of each operand are printed.
-use Rattle.std.specs.Prelude.{ℕ, Bool, true, [], refl}
+use Rattle.std.specs.Prelude.{ℕ, Bool, true, [], refl, false}
 use Rattle.std.proofs.Common.{lit≤}
+use Rattle.wat_tokens.specs.Floats.{none}
+use Rattle.wat_tokens.specs.Followed.{blank}
+use Rattle.wat_tokens.specs.Index.{identifier}
+use Rattle.wat_tokens.specs.Parts.{opt}
+use Rattle.wat_tokens.specs.Tests.{begins_id}
+use Rattle.wat_print.specs.Label.{spell_id}
+use Rattle.wat_print.specs.Neat.{is_name, nothing}
+use Rattle.wat_print.specs.Parts.{spell_option, if_some}
 use Rattle.wat_tokens.specs.Integers.{signed, unsigned}
 use Rattle.wat_tokens.specs.Production.{Production}
 use Rattle.wat_operands.specs.Aggregates.{array_of_length}
@@ -14,7 +22,7 @@ use Rattle.wat_operands.specs.Handler.{handler}
 use Rattle.wat_operands.specs.Handlers.{resume_table, resume, resume_throw}
 use Rattle.wat_operands.specs.Lanes.{lane_arg, lane_access}
 use Rattle.wat_operands.specs.Memory.{mem_arg, atomic_mem_arg}
-use Rattle.wat_operands.specs.Ordering.{ordering, ordered}
+use Rattle.wat_operands.specs.Ordering.{ordering, ordered, begins_ordering}
 use Rattle.wat_operands.specs.Select.{select_types}
 use Rattle.wat_operands.specs.Tables.{index_or_0, index_pair, init, copy}
 use Rattle.wat_operands.specs.Vector.{v128_const, shuffle}
@@ -35,7 +43,8 @@ use Rattle.wat_print_instr.specs.Places.{spell_copy, spell_sized, fit_sized, spe
 use Rattle.wat_print_instr.specs.Places.{fit_br_table}
 use Rattle.wat_print_instr.specs.Vectors.{spell_vector, fit_vector, spell_shuffle, fit_shuffle}
 use Rattle.wat_print_instr.specs.Laws.Access.{access_here, access_neat, access_only, ordering_here}
-use Rattle.wat_print_instr.specs.Laws.Access.{ordering_neat, ordered_here, ordered_neat}
+use Rattle.wat_print_instr.specs.Laws.Access.{ordering_neat, ordered_here, ordered_neat, fence_here}
+use Rattle.wat_print_instr.specs.Laws.Access.{fence_neat}
 use Rattle.wat_print_instr.specs.Laws.Access.{ordered_only, atomic_here, atomic_neat, atomic_only}
 use Rattle.wat_print_instr.specs.Laws.Access.{lane_here, lane_neat, lane_only, lane_access_here}
 use Rattle.wat_print_instr.specs.Laws.Access.{lane_access_neat, lane_access_only}
@@ -47,7 +56,8 @@ use Rattle.wat_print_instr.specs.Laws.Control.{try_neat, try_only, handler_here,
 use Rattle.wat_print_instr.specs.Laws.Control.{handler_only, resume_table_here}
 use Rattle.wat_print_instr.specs.Laws.Control.{resume_table_neat, resume_table_only, resume_here}
 use Rattle.wat_print_instr.specs.Laws.Control.{resume_neat, resume_only, throw_here, throw_neat}
-use Rattle.wat_print_instr.specs.Laws.Control.{throw_only}
+use Rattle.wat_print_instr.specs.Laws.Control.{throw_only, end_label_here, end_label_neat}
+use Rattle.wat_print_instr.specs.Laws.Control.{end_label_only}
 use Rattle.wat_print_instr.specs.Laws.Numbers.{Halves, halves_8, halves_16, halves_32, halves_64}
 use Rattle.wat_print_instr.specs.Laws.Numbers.{signed_here, signed_neat, signed_only}
 use Rattle.wat_print_instr.specs.Laws.Numbers.{unsigned_here, unsigned_neat, unsigned_only}
@@ -57,7 +67,7 @@ use Rattle.wat_print_instr.specs.Laws.Places.{init_only, copy_here, copy_neat, c
 use Rattle.wat_print_instr.specs.Laws.Places.{sized_here, sized_neat, sized_only, br_table_here}
 use Rattle.wat_print_instr.specs.Laws.Places.{br_table_neat, br_table_only}
 use Rattle.wat_print_instr.specs.Laws.Vectors.{vector_here, vector_neat, vector_only, shuffle_here}
-use Rattle.wat_print_instr.specs.Laws.Vectors.{shuffle_neat, shuffle_only}
+use Rattle.wat_print_instr.specs.Laws.Vectors.{shuffle_neat, shuffle_only, unfit}
 
 -- ---- numbers
 
@@ -316,4 +326,46 @@ throw_printing = record {
   neat = throw_neat;
   spells = λ v h. throw_here v [] h refl;
   only = throw_only.holds;
+}
+
+-- ---- what stands behind the word of an instruction alone
+
+-- the label that may be at `else` and `end`
+abbrev pub end_label_printing : Printing (opt begins_id identifier)
+end_label_printing = record {
+  spell = spell_option spell_id;
+  fit = if_some is_name;
+  neat = end_label_neat;
+  spells = end_label_here;
+  only = end_label_only.holds;
+}
+
+-- the ordering that a fence may have
+abbrev pub fence_printing : Printing (opt begins_ordering ordering)
+fence_printing = record {
+  spell = spell_option spell_ordering;
+  fit = λ _. true;
+  neat = λ v h. fence_neat v;
+  spells = λ v h. fence_here v [] refl;
+  only = λ v c r a s. refl;
+}
+
+-- no tokens spell a number of floating point
+abbrev pub number_printing : Printing (none {A = ℕ})
+number_printing = record {
+  spell = λ _. [];
+  fit = λ _. false;
+  neat = λ v h. unfit h;
+  spells = λ v h. unfit h;
+  only = λ v c r a s. absurd s;
+}
+
+-- no operand
+abbrev pub nothing_printing : Printing (blank (tt {0}))
+nothing_printing = record {
+  spell = λ _. [];
+  fit = λ _. true;
+  neat = λ v h. nothing;
+  spells = λ v h. (refl, refl);
+  only = λ v c r a s. refl;
 }

@@ -1,4 +1,5 @@
-//! Operands of instructions as text (WebAssembly Core Specification, Text Format, "Instructions").
+//! Instructions and their operands as text (WebAssembly Core Specification, Text Format,
+//! "Instructions").
 //!
 //! A type that has [`PrintCode`] is printed by [`wat_print::print`] as [`Code`], and what is
 //! printed is read again as the same value.
@@ -7,6 +8,8 @@
 pub mod access;
 pub mod caught;
 pub mod control;
+pub mod instruction;
+pub mod laws;
 pub mod numbers;
 pub mod places;
 pub mod traits;

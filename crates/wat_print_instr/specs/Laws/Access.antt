@@ -355,6 +355,10 @@ fence_here (Some SeqCst) r e = (refl, ordering_here SeqCst r)
 fence_here (Some AcqRel) r e = (refl, ordering_here AcqRel r)
 fence_here None r e = (refl, e)
 
+pub fence_neat : (o : Option Ordering) → Neat (spell_option spell_ordering o)
+fence_neat (Some o) = ordering_neat o
+fence_neat None = nothing
+
 module _ {A : Type 0} (g : Production A) (spell : A → List Tok) (fit : A → Bool) where
   pub ordered_here : (v : Ordering × A) (r : List Tok) → g.spells v.1 (spell v.1) r
       → (ordered g).spells v (spell_ordered spell v) r

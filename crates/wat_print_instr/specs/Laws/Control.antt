@@ -39,12 +39,14 @@ use Rattle.wat_operands.specs.declared.catches.CatchKind.TheVariants.{Catch, Cat
 use Rattle.wat_operands.specs.declared.catches.CatchKind.TheVariants.{CatchAllRef}
 use Rattle.wat_print.specs.Function.{spell_group, groups_of}
 use Rattle.wat_print.specs.Index.{spell_index, fit_index}
-use Rattle.wat_print.specs.Label.{spell_label, fit_label}
-use Rattle.wat_print.specs.Neat.{Neat}
-use Rattle.wat_print.specs.Parts.{grouped, if_some, each}
+use Rattle.wat_print.specs.Label.{spell_label, fit_label, spell_id}
+use Rattle.wat_print.specs.Neat.{Neat, is_name}
+use Rattle.wat_print.specs.Parts.{grouped, spell_option, if_some, each}
 use Rattle.wat_print.specs.Reference.{spell_ref, fit_ref, spell_val, fit_val}
 use Rattle.wat_print.specs.Use.{or_empty, spell_use, fit_unnamed_use}
-use Rattle.wat_print.specs.Laws.Label.{label_here, label_neat, label_only}
+use Rattle.wat_print.specs.Laws.Label.{label_here, label_neat, label_only, id_here, id_neat}
+use Rattle.wat_print.specs.Laws.Label.{id_only}
+use Rattle.wat_tokens.specs.Index.{identifier}
 use Rattle.wat_print.specs.Laws.Only.{Only, only_any, only_where, only_opt, only_many, only_seq}
 use Rattle.wat_print.specs.Laws.Only.{only_made, only_weaker, only_after, only_group, only_paren}
 use Rattle.wat_print.specs.Laws.Parts.{Spells, paren_here, word_here, group_here, many_here}
@@ -84,6 +86,20 @@ use_parts test b h None None r e = e
 use_front : (test : List Tok → Bool) (b : Bool) → OfGroups test b → (u : UseTy FuncTy)
     (r : List Tok) → test r ≡ b → test (spell_use u ++ r) ≡ b
 use_front test b h u r e = use_parts test b h u.index u.inline r e
+
+-- ---- the label of an end
+
+pub end_label_here : (o : Option (List ℕ)) → if_some is_name o ≡ true
+    → opt_spells begins_id identifier o (spell_option spell_id o) []
+end_label_here (Some n) f = (refl, id_here n f [])
+end_label_here None f = (refl, refl)
+
+pub end_label_neat : (o : Option (List ℕ)) → if_some is_name o ≡ true
+    → Neat (spell_option spell_id o)
+end_label_neat o f = neat_option spell_id is_name o id_neat f
+
+pub end_label_only : Only (opt begins_id identifier) (if_some is_name)
+end_label_only = only_opt begins_id id_only
 
 -- ---- blocks and calls
 

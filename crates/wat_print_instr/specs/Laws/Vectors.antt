@@ -232,6 +232,9 @@ shape_only {fit = fit} w f h m =
     only_made (λ _. true) (λ v. f v.1) fit_vector
     (only_weaker (λ v. fit_vector (f v.1)) (λ v e. (h v.1 e)) (only_seq (only_any (word w)) m))
 
+pub unfit : {P : Type 0} → false ≡ true → P
+unfit h = absurd cc
+
 pub none_only : {A : Type 0} (fit : A → Bool) → Only (none {A = A}) fit
 none_only fit = record { holds = λ v c r a s. absurd s }
 

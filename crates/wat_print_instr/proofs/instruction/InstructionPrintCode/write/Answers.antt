@@ -1,0 +1,33 @@
+use Rattle.std.specs.Prelude.{◌≡◌, ◌≢◌, [], ◌∷◌, List, ℕ, false}
+use Rattle.std.proofs.Common.{rules, ap, sym, ◌∙◌}
+use Rattle.wat_lexer.specs.Token.{Tok, Keyword}
+use Rattle.wat_instr.specs.Instruction.{head_in, operand_in, instruction_view}
+use Rattle.wat_print.specs.Text.{put}
+use Rattle.wat_print.specs.declared.fault.Refused.TheVariants.{Memory}
+use Rattle.wat_print.specs.Laws.Written.{put_then}
+use Rattle.wat_print_instr.specs.InstructionForm.{operand_form, fit_instruction}
+use Rattle.wat_print_instr.specs.Laws.Instruction.{spell_of, fit_of}
+use Rattle.wat_print_instr.proofs.instruction.InstructionPrintCode.write.Goals as goal
+
+pub returns-clause-written : goal.returns-clause-written
+returns-clause-written c =
+    let h = head_in c.args.self.now in
+    let o = operand_in c.args.self.now in
+    put_then (Keyword c.mnemonic.result.now ∷ []) ((operand_form h).spell o) c.args.out.now _ _
+    c.in_ok-word.ensures c.in_ok-write_operand.ensures.written
+    ∙ ap (λ (w : List ℕ). put c.args.out.now (Keyword w ∷ (operand_form h).spell o))
+    c.mnemonic.ensures
+    ∙ ap (λ (l : List Tok). put c.args.out.now l) (sym (spell_of h o))
+
+pub returns-clause-fit : goal.returns-clause-fit
+returns-clause-fit c =
+    fit_of (head_in c.args.self.now) (operand_in c.args.self.now)
+    ∙ c.in_ok-write_operand.ensures.fit
+
+pub returns-in_err-write_operand-clause-refused : goal.returns-in_err-write_operand-clause-refused
+returns-in_err-write_operand-clause-refused c =
+    let k = c.in_err-write_operand.ensures.refused in
+    let h : c.in_err-write_operand.field-0.0 ≢ Memory
+    → fit_instruction (instruction_view c.args.self.now) ≡ false =
+    λ n. (fit_of (head_in c.args.self.now) (operand_in c.args.self.now) ∙ k n) in
+    search (rules, h)

@@ -1,0 +1,409 @@
+-- Laws: instructions are read again.
+use Rattle.std.specs.Prelude.{◌≡◌, ℕ, ℤ, suc, zero, ◌<◌, Bool, true, false, ◌&&◌, ◌==◌, List, [], ◌∷◌}
+use Rattle.std.specs.Prelude.{◌++◌, Option, Some, None, length}
+use Rattle.std.proofs.Common.{refl, ap, subst, sym, ◌∙◌, get_or, arith}
+use Rattle.std.proofs.lemmas.Bool.{and_parts}
+use Rattle.wat_lexer.specs.Token.{Tok, Keyword}
+use Rattle.wat_tokens.specs.Index.{Idx}
+use Rattle.wat_types.specs.Heap.{HeapTy}
+use Rattle.wat_types.specs.Reference.{RefTy}
+use Rattle.wat_types.specs.Value.{ValTy}
+use Rattle.wat_operands.specs.Block.{BlockTy}
+use Rattle.wat_operands.specs.Branch.{BrTableTy}
+use Rattle.wat_operands.specs.Call.{CallTy}
+use Rattle.wat_operands.specs.Casts.{BranchTy}
+use Rattle.wat_operands.specs.Catches.{TryTy}
+use Rattle.wat_operands.specs.Handlers.{ResumeTy, ThrowTy}
+use Rattle.wat_operands.specs.Lanes.{LaneAccessTy}
+use Rattle.wat_operands.specs.Memory.{MemArgTy}
+use Rattle.wat_operands.specs.declared.lanes.LaneArg.{LaneArg}
+use Rattle.wat_operands.specs.declared.ordering.Ordering.{Ordering}
+use Rattle.wat_operands.specs.declared.vector.I8x16Shuffle.{I8x16Shuffle}
+use Rattle.wat_operands.specs.declared.vector.V128Const.{V128Const}
+use Rattle.wat_tokens.specs.Parts.{made}
+use Rattle.wat_tokens.specs.Production.{Production}
+use Rattle.wat_mnemonics.specs.Access.{access_align, atomic_access_align, rmw_access_align}
+use Rattle.wat_mnemonics.specs.Access.{lane_access_align}
+use Rattle.wat_mnemonics.specs.Heads.{mnemonic_word, mnemonic_row}
+use Rattle.wat_mnemonics.specs.Laws.Places.{there, place_below, table_length}
+use Rattle.wat_mnemonics.specs.Order.{first}
+use Rattle.wat_mnemonics.specs.Places.{mnemonic_of_row, place}
+use Rattle.wat_mnemonics.specs.Table.{all_mnemonics}
+use Rattle.wat_mnemonics.specs.declared.mnemonic.Mnemonic.{Mnemonic}
+use Rattle.wat_mnemonics.specs.declared.mnemonic.Mnemonic.TheVariants as head
+use Rattle.wat_instr.specs.Instruction.{Instr, instr_of, instruction}
+use Rattle.wat_instr.specs.Operand.{Operand, operand, nothing, block, label, one_index, two_indices}
+use Rattle.wat_instr.specs.Operand.{branches, call, chosen, access, ordered_index, ordered_indices}
+use Rattle.wat_instr.specs.Operand.{lane_access, lane, heap, sized, reference, cast, integer, float}
+use Rattle.wat_instr.specs.Operand.{fence, vector, shuffled, caught, resumed, thrown}
+use Rattle.wat_operands.specs.Tables.{index_or_0, index_pair}
+use Rattle.wat_tokens.specs.Index.{index}
+use Rattle.wat_print.specs.Neat.{Neat, is_given, is_keyword}
+use Rattle.wat_print.specs.Parts.{each, spell_option}
+use Rattle.wat_print.specs.Printed.{Printing}
+use Rattle.wat_print.specs.Printings.{index_printing, heap_printing, ref_printing}
+use Rattle.wat_print.specs.Laws.Parts.{neat_word}
+use Rattle.wat_print.specs.Laws.Only.{Only}
+use Rattle.wat_print.specs.Neat as neat
+use Rattle.wat_tokens.specs.Followed.{blank}
+use Rattle.wat_print_instr.specs.InstructionForm.{found_nothing, found_block, found_label, found_one_index}
+use Rattle.wat_print_instr.specs.InstructionForm.{found_two_indices, found_branches, found_call, found_chosen}
+use Rattle.wat_print_instr.specs.InstructionForm.{found_access, found_ordered_index, found_ordered_indices}
+use Rattle.wat_print_instr.specs.InstructionForm.{found_lane_access, found_lane, found_heap, found_sized}
+use Rattle.wat_print_instr.specs.InstructionForm.{found_reference, found_cast, found_integer, found_float, found_fence}
+use Rattle.wat_print_instr.specs.InstructionForm.{found_vector, found_shuffled, found_caught, found_resumed}
+use Rattle.wat_print_instr.specs.InstructionForm.{found_thrown, passes, OperandForm, form, operand_form}
+use Rattle.wat_print_instr.specs.InstructionForm.{spell_instruction, fit_instruction}
+use Rattle.wat_print_instr.specs.Printings.{i32_printing, i64_printing, index_or_0_printing}
+use Rattle.wat_print_instr.specs.Printings.{pair_printing, init_printing, copy_printing}
+use Rattle.wat_print_instr.specs.Printings.{sized_printing, br_table_printing, access_printing}
+use Rattle.wat_print_instr.specs.Printings.{atomic_printing, ordered_printing, lane_printing}
+use Rattle.wat_print_instr.specs.Printings.{lane_access_printing, vector_printing}
+use Rattle.wat_print_instr.specs.Printings.{shuffle_printing, block_printing, call_printing}
+use Rattle.wat_print_instr.specs.Printings.{select_printing, branch_printing, try_printing}
+use Rattle.wat_print_instr.specs.Printings.{resume_printing, throw_printing, end_label_printing}
+use Rattle.wat_print_instr.specs.Printings.{fence_printing, number_printing, nothing_printing}
+use Rattle.wat_print_instr.specs.Laws.Numbers.{equal_by, same_number}
+
+-- ---- what is found in an operand is what it was made of
+
+block_from : (o : Operand) (v : BlockTy) → found_block o ≡ Some v → block v ≡ o
+block_from (block x) v e = let same : x ≡ v = cc in ap block (sym same)
+block_from _ v e = absurd cc
+
+label_from : (o : Operand) (v : Option (List ℕ)) → found_label o ≡ Some v → label v ≡ o
+label_from (label x) v e = let same : x ≡ v = cc in ap label (sym same)
+label_from _ v e = absurd cc
+
+one_index_from : (o : Operand) (v : Idx) → found_one_index o ≡ Some v → one_index v ≡ o
+one_index_from (one_index x) v e = let same : x ≡ v = cc in ap one_index (sym same)
+one_index_from _ v e = absurd cc
+
+two_indices_from : (o : Operand) (v : Idx × Idx) → found_two_indices o ≡ Some v → two_indices v ≡ o
+two_indices_from (two_indices x) v e = let same : x ≡ v = cc in ap two_indices (sym same)
+two_indices_from _ v e = absurd cc
+
+branches_from : (o : Operand) (v : BrTableTy) → found_branches o ≡ Some v → branches v ≡ o
+branches_from (branches x) v e = let same : x ≡ v = cc in ap branches (sym same)
+branches_from _ v e = absurd cc
+
+call_from : (o : Operand) (v : CallTy) → found_call o ≡ Some v → call v ≡ o
+call_from (call x) v e = let same : x ≡ v = cc in ap call (sym same)
+call_from _ v e = absurd cc
+
+chosen_from : (o : Operand) (v : Option (List ValTy)) → found_chosen o ≡ Some v → chosen v ≡ o
+chosen_from (chosen x) v e = let same : x ≡ v = cc in ap chosen (sym same)
+chosen_from _ v e = absurd cc
+
+access_from : (o : Operand) (v : MemArgTy) → found_access o ≡ Some v → access v ≡ o
+access_from (access x) v e = let same : x ≡ v = cc in ap access (sym same)
+access_from _ v e = absurd cc
+
+ordered_index_from : (o : Operand) (v : Ordering × Idx) → found_ordered_index o ≡ Some v → ordered_index v ≡ o
+ordered_index_from (ordered_index x) v e = let same : x ≡ v = cc in ap ordered_index (sym same)
+ordered_index_from _ v e = absurd cc
+
+ordered_indices_from : (o : Operand) (v : Ordering × (Idx × Idx)) → found_ordered_indices o ≡ Some v → ordered_indices v ≡ o
+ordered_indices_from (ordered_indices x) v e = let same : x ≡ v = cc in ap ordered_indices (sym same)
+ordered_indices_from _ v e = absurd cc
+
+lane_access_from : (o : Operand) (v : LaneAccessTy) → found_lane_access o ≡ Some v → lane_access v ≡ o
+lane_access_from (lane_access x) v e = let same : x ≡ v = cc in ap lane_access (sym same)
+lane_access_from _ v e = absurd cc
+
+lane_from : (o : Operand) (v : LaneArg) → found_lane o ≡ Some v → lane v ≡ o
+lane_from (lane x) v e = let same : x ≡ v = cc in ap lane (sym same)
+lane_from _ v e = absurd cc
+
+heap_from : (o : Operand) (v : HeapTy) → found_heap o ≡ Some v → heap v ≡ o
+heap_from (heap x) v e = let same : x ≡ v = cc in ap heap (sym same)
+heap_from _ v e = absurd cc
+
+sized_from : (o : Operand) (v : Idx × ℕ) → found_sized o ≡ Some v → sized v ≡ o
+sized_from (sized x) v e = let same : x ≡ v = cc in ap sized (sym same)
+sized_from _ v e = absurd cc
+
+reference_from : (o : Operand) (v : RefTy) → found_reference o ≡ Some v → reference v ≡ o
+reference_from (reference x) v e = let same : x ≡ v = cc in ap reference (sym same)
+reference_from _ v e = absurd cc
+
+cast_from : (o : Operand) (v : BranchTy) → found_cast o ≡ Some v → cast v ≡ o
+cast_from (cast x) v e = let same : x ≡ v = cc in ap cast (sym same)
+cast_from _ v e = absurd cc
+
+integer_from : (o : Operand) (v : ℤ) → found_integer o ≡ Some v → integer v ≡ o
+integer_from (integer x) v e = let same : x ≡ v = cc in ap integer (sym same)
+integer_from _ v e = absurd cc
+
+float_from : (o : Operand) (v : ℕ) → found_float o ≡ Some v → float v ≡ o
+float_from (float x) v e = let same : x ≡ v = cc in ap float (sym same)
+float_from _ v e = absurd cc
+
+fence_from : (o : Operand) (v : Option Ordering) → found_fence o ≡ Some v → fence v ≡ o
+fence_from (fence x) v e = let same : x ≡ v = cc in ap fence (sym same)
+fence_from _ v e = absurd cc
+
+vector_from : (o : Operand) (v : V128Const) → found_vector o ≡ Some v → vector v ≡ o
+vector_from (vector x) v e = let same : x ≡ v = cc in ap vector (sym same)
+vector_from _ v e = absurd cc
+
+shuffled_from : (o : Operand) (v : I8x16Shuffle) → found_shuffled o ≡ Some v → shuffled v ≡ o
+shuffled_from (shuffled x) v e = let same : x ≡ v = cc in ap shuffled (sym same)
+shuffled_from _ v e = absurd cc
+
+caught_from : (o : Operand) (v : TryTy) → found_caught o ≡ Some v → caught v ≡ o
+caught_from (caught x) v e = let same : x ≡ v = cc in ap caught (sym same)
+caught_from _ v e = absurd cc
+
+resumed_from : (o : Operand) (v : ResumeTy) → found_resumed o ≡ Some v → resumed v ≡ o
+resumed_from (resumed x) v e = let same : x ≡ v = cc in ap resumed (sym same)
+resumed_from _ v e = absurd cc
+
+thrown_from : (o : Operand) (v : ThrowTy) → found_thrown o ≡ Some v → thrown v ≡ o
+thrown_from (thrown x) v e = let same : x ≡ v = cc in ap thrown (sym same)
+thrown_from _ v e = absurd cc
+
+-- ---- operands
+
+-- an operand is printed so
+pub record Forms (g : Production Operand) (f : OperandForm) : Type 0 where
+  pub neat : (o : Operand) → f.fit o ≡ true → Neat (f.spell o)
+  pub spells : (o : Operand) → f.fit o ≡ true → g.spells o (f.spell o) []
+  pub only : (o : Operand) (c r : List Tok) → each is_given c ≡ true → g.spells o c r
+      → f.fit o ≡ true
+
+-- what is made of a value that is printed
+module _ {A : Type 0} {g : Production A} (make : A → Operand) (from : Operand → Option A)
+    (back : (v : A) → from (make v) ≡ Some v)
+    (made_of : (o : Operand) (v : A) → from o ≡ Some v → make v ≡ o) (p : Printing g)
+  where
+    neat_by : (o : Option A) → passes p.fit o ≡ true → Neat (spell_option p.spell o)
+    neat_by (Some v) h = p.neat v h
+    neat_by None h = absurd cc
+
+    spells_by : (o : Operand) (x : Option A) → from o ≡ x → passes p.fit x ≡ true
+        → (made make g).spells o (spell_option p.spell x) []
+    spells_by o (Some v) e h = (v, p.spells v h, refl, made_of o v e)
+    spells_by o None e h = absurd cc
+
+    only_by : (o : Operand) (c r : List Tok) → each is_given c ≡ true
+        → (made make g).spells o c r → passes p.fit (from o) ≡ true
+    only_by o c r a s =
+        subst (λ (u : Operand). passes p.fit (from u) ≡ true) s.3
+        (subst (λ (x : Option A). passes p.fit x ≡ true) (sym (back s.0)) (p.only s.0 c r a s.1))
+
+    forms_made : Forms (made make g) (form from p)
+    forms_made = record {
+      neat = λ o h. neat_by (from o) h;
+      spells = λ o h. spells_by o (from o) refl h;
+      only = only_by;
+    }
+
+nothing_neat : (o : Operand) → passes nothing_printing.fit (found_nothing o) ≡ true
+    → Neat (spell_option nothing_printing.spell (found_nothing o))
+nothing_neat nothing h = neat.nothing
+nothing_neat _ h = absurd cc
+
+nothing_spells : (o : Operand) → passes nothing_printing.fit (found_nothing o) ≡ true
+    → (blank nothing).spells o (spell_option nothing_printing.spell (found_nothing o)) []
+nothing_spells nothing h = (refl, refl)
+nothing_spells _ h = absurd cc
+
+nothing_only : (o : Operand) (c r : List Tok) → each is_given c ≡ true
+    → (blank nothing).spells o c r → passes nothing_printing.fit (found_nothing o) ≡ true
+nothing_only o c r a s =
+    subst (λ (u : Operand). passes nothing_printing.fit (found_nothing u) ≡ true) (sym s.1) refl
+
+-- an instruction without an operand
+forms_nothing : Forms (blank nothing) (form found_nothing nothing_printing)
+forms_nothing = record { neat = nothing_neat; spells = nothing_spells; only = nothing_only }
+
+operand_forms : (h : Mnemonic) → Forms (operand h) (operand_form h)
+unfolding operand
+operand_forms (head.Block op) =
+    forms_made block found_block (λ v. refl) block_from block_printing
+operand_forms (head.Label op) =
+    forms_made label found_label (λ v. refl) label_from end_label_printing
+operand_forms (head.Scalar op) = forms_nothing
+operand_forms (head.Indexed op) =
+    forms_made one_index found_one_index (λ v. refl) one_index_from index_printing
+operand_forms (head.CallIndirect op) =
+    forms_made call found_call (λ v. refl) call_from call_printing
+operand_forms (head.Table op) =
+    forms_made one_index found_one_index (λ v. refl) one_index_from index_or_0_printing
+operand_forms (head.Access op) =
+    forms_made access found_access (λ v. refl) access_from (access_printing (access_align op))
+operand_forms (head.Memory op) =
+    forms_made one_index found_one_index (λ v. refl) one_index_from index_or_0_printing
+operand_forms (head.Struct op) =
+    forms_made two_indices found_two_indices (λ v. refl) two_indices_from pair_printing
+operand_forms (head.ArrayInit op) =
+    forms_made two_indices found_two_indices (λ v. refl) two_indices_from pair_printing
+operand_forms (head.AtomicAccess op) =
+    forms_made access found_access (λ v. refl) access_from (atomic_printing (atomic_access_align op) false)
+operand_forms (head.RmwAccess op) =
+    forms_made access found_access (λ v. refl) access_from (atomic_printing (rmw_access_align op) true)
+operand_forms (head.OrderedIndex op) =
+    forms_made ordered_index found_ordered_index (λ v. refl) ordered_index_from (ordered_printing index index_printing)
+operand_forms (head.OrderedTable op) =
+    forms_made ordered_index found_ordered_index (λ v. refl) ordered_index_from (ordered_printing index_or_0 index_or_0_printing)
+operand_forms (head.OrderedStruct op) =
+    forms_made ordered_indices found_ordered_indices (λ v. refl) ordered_indices_from (ordered_printing index_pair pair_printing)
+operand_forms (head.LaneAccess op) =
+    forms_made lane_access found_lane_access (λ v. refl) lane_access_from (lane_access_printing (lane_access_align op))
+operand_forms (head.Lane op) =
+    forms_made lane found_lane (λ v. refl) lane_from lane_printing
+operand_forms (head.Vector op) = forms_nothing
+operand_forms head.br_table =
+    forms_made branches found_branches (λ v. refl) branches_from br_table_printing
+operand_forms head.select =
+    forms_made chosen found_chosen (λ v. refl) chosen_from select_printing
+operand_forms head.memory_init =
+    forms_made two_indices found_two_indices (λ v. refl) two_indices_from init_printing
+operand_forms head.memory_copy =
+    forms_made two_indices found_two_indices (λ v. refl) two_indices_from copy_printing
+operand_forms head.table_init =
+    forms_made two_indices found_two_indices (λ v. refl) two_indices_from init_printing
+operand_forms head.table_copy =
+    forms_made two_indices found_two_indices (λ v. refl) two_indices_from copy_printing
+operand_forms head.ref_null =
+    forms_made heap found_heap (λ v. refl) heap_from heap_printing
+operand_forms head.array_new_fixed =
+    forms_made sized found_sized (λ v. refl) sized_from sized_printing
+operand_forms head.array_new_data =
+    forms_made two_indices found_two_indices (λ v. refl) two_indices_from pair_printing
+operand_forms head.array_new_elem =
+    forms_made two_indices found_two_indices (λ v. refl) two_indices_from pair_printing
+operand_forms head.array_fill =
+    forms_made one_index found_one_index (λ v. refl) one_index_from index_printing
+operand_forms head.array_copy =
+    forms_made two_indices found_two_indices (λ v. refl) two_indices_from pair_printing
+operand_forms head.ref_test =
+    forms_made reference found_reference (λ v. refl) reference_from ref_printing
+operand_forms head.ref_cast =
+    forms_made reference found_reference (λ v. refl) reference_from ref_printing
+operand_forms head.br_on_cast =
+    forms_made cast found_cast (λ v. refl) cast_from branch_printing
+operand_forms head.br_on_cast_fail =
+    forms_made cast found_cast (λ v. refl) cast_from branch_printing
+operand_forms head.i32_const =
+    forms_made integer found_integer (λ v. refl) integer_from i32_printing
+operand_forms head.i64_const =
+    forms_made integer found_integer (λ v. refl) integer_from i64_printing
+operand_forms head.f32_const =
+    forms_made float found_float (λ v. refl) float_from number_printing
+operand_forms head.f64_const =
+    forms_made float found_float (λ v. refl) float_from number_printing
+operand_forms head.atomic_fence =
+    forms_made fence found_fence (λ v. refl) fence_from fence_printing
+operand_forms head.v128_const =
+    forms_made vector found_vector (λ v. refl) vector_from vector_printing
+operand_forms head.i8x16_shuffle =
+    forms_made shuffled found_shuffled (λ v. refl) shuffled_from shuffle_printing
+operand_forms head.try_table =
+    forms_made caught found_caught (λ v. refl) caught_from try_printing
+operand_forms head.cont_bind =
+    forms_made two_indices found_two_indices (λ v. refl) two_indices_from pair_printing
+operand_forms head.resume =
+    forms_made resumed found_resumed (λ v. refl) resumed_from resume_printing
+operand_forms head.resume_throw =
+    forms_made thrown found_thrown (λ v. refl) thrown_from throw_printing
+operand_forms head.resume_throw_ref =
+    forms_made resumed found_resumed (λ v. refl) resumed_from resume_printing
+operand_forms head.switch =
+    forms_made two_indices found_two_indices (λ v. refl) two_indices_from pair_printing
+operand_forms head.ref_cast_desc_eq =
+    forms_made reference found_reference (λ v. refl) reference_from ref_printing
+operand_forms head.br_on_cast_desc_eq =
+    forms_made cast found_cast (λ v. refl) cast_from branch_printing
+operand_forms head.br_on_cast_desc_eq_fail =
+    forms_made cast found_cast (λ v. refl) cast_from branch_printing
+
+-- ---- words
+
+words_fit : each (λ h. is_keyword (mnemonic_word h)) all_mnemonics ≡ true
+words_fit = refl
+
+fit_at : (xs : List Mnemonic) (k : ℕ) → each (λ h. is_keyword (mnemonic_word h)) xs ≡ true
+    → k < length xs → is_keyword (mnemonic_word (get_or xs k first)) ≡ true
+fit_at [] k e l = absurd (omega (arith, l))
+fit_at (x ∷ xs) zero e l =
+    (and_parts (is_keyword (mnemonic_word x)) (each (λ h. is_keyword (mnemonic_word h)) xs) e).0
+fit_at (x ∷ xs) (suc k) e l =
+    let a = and_parts (is_keyword (mnemonic_word x))
+    (each (λ h. is_keyword (mnemonic_word h)) xs) e in
+    fit_at xs k a.1 (omega (arith, l))
+
+pub word_fit : (h : Mnemonic) → is_keyword (mnemonic_word h) ≡ true
+word_fit h =
+    let e = fit_at all_mnemonics (place h) words_fit
+    (let l = table_length in let b = place_below h in omega arith) in
+    subst (λ (x : Mnemonic). is_keyword (mnemonic_word x) ≡ true) (there h) e
+
+-- ---- instructions
+
+-- of an instruction of a word
+pub spell_of : (h : Mnemonic) (o : Operand)
+    → spell_instruction (instr_of h o) ≡ Keyword (mnemonic_word h) ∷ (operand_form h).spell o
+spell_of h o =
+    ap (λ (x : Mnemonic). Keyword (mnemonic_word x) ∷ (operand_form x).spell o) (there h)
+
+pub fit_of : (h : Mnemonic) (o : Operand)
+    → fit_instruction (instr_of h o) ≡ (operand_form h).fit o
+fit_of h o =
+    ap (λ (x : Mnemonic). (mnemonic_row x == mnemonic_row h) && (operand_form x).fit o) (there h)
+    ∙ ap (λ (b : Bool). b && (operand_form h).fit o) (same_number (mnemonic_row h))
+
+spells_of : (h : Mnemonic) (o : Operand) → (operand_form h).fit o ≡ true
+    → instruction.spells (instr_of h o) (Keyword (mnemonic_word h) ∷ (operand_form h).spell o) []
+unfolding instruction
+spells_of h o f = (
+  h,
+  Keyword (mnemonic_word h) ∷ [],
+  (operand_form h).spell o,
+  refl,
+  refl,
+  (o, (operand_forms h).spells o f, refl, refl),
+)
+
+-- the instruction of the row
+of_row : (i : Instr) → fit_instruction i ≡ true → instr_of (mnemonic_of_row i.row) i.operand ≡ i
+of_row i f =
+    let h = mnemonic_of_row i.row in
+    let a = and_parts (mnemonic_row h == i.row) ((operand_form h).fit i.operand) f in
+    ap (λ (n : ℕ). record { row = n; operand = i.operand })
+    (equal_by (mnemonic_row h) i.row a.0)
+
+-- in front of nothing
+pub instruction_here : (i : Instr) → fit_instruction i ≡ true
+    → instruction.spells i (spell_instruction i) []
+instruction_here i f =
+    let h = mnemonic_of_row i.row in
+    let a = and_parts (mnemonic_row h == i.row) ((operand_form h).fit i.operand) f in
+    subst (λ (x : Instr). instruction.spells x (spell_instruction i) []) (of_row i f)
+    (spells_of h i.operand a.1)
+
+pub instruction_neat : (i : Instr) → fit_instruction i ≡ true → Neat (spell_instruction i)
+instruction_neat i f =
+    let h = mnemonic_of_row i.row in
+    let a = and_parts (mnemonic_row h == i.row) ((operand_form h).fit i.operand) f in
+    neat_word (mnemonic_word h) ((operand_form h).spell i.operand) (word_fit h)
+    ((operand_forms h).neat i.operand a.1)
+
+part_given_back : (d e : List Tok) → each is_given (d ++ e) ≡ true → each is_given e ≡ true
+part_given_back [] e a = a
+part_given_back (t ∷ d) e a =
+    part_given_back d e (and_parts (is_given t) (each is_given (d ++ e)) a).1
+
+instruction_holds : (i : Instr) (c r : List Tok) → each is_given c ≡ true
+    → instruction.spells i c r → fit_instruction i ≡ true
+unfolding instruction
+instruction_holds i c r a s =
+    let h = s.0 in
+    let o = s.5.0 in
+    let g = part_given_back s.1 s.2 (subst (λ (l : List Tok). each is_given l ≡ true) s.3 a) in
+    subst (λ (x : Instr). fit_instruction x ≡ true) s.5.3
+    (fit_of h o ∙ (operand_forms h).only o s.2 r g s.5.1)
+
+pub instruction_only : Only instruction fit_instruction
+instruction_only = record { holds = instruction_holds }

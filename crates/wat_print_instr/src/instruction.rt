@@ -1,0 +1,131 @@
+//! How instructions are printed.
+
+ghost use Rattle.std.specs.Prelude.{◌≡◌, ◌≢◌, OnOk, IfErr, true, false};
+ghost use Rattle.wat_tokens.specs.Index.{name_of};
+ghost use Rattle.wat_tokens.specs.Views.{option_view};
+ghost use Rattle.wat_instr.specs.Instruction.{Instr, head_in, operand_in, instruction_view};
+ghost use Rattle.wat_instr.specs.Instruction.{instruction};
+ghost use Rattle.wat_print.specs.Label.{spell_id};
+ghost use Rattle.wat_print.specs.Neat.{is_name};
+ghost use Rattle.wat_print.specs.Parts.{spell_option, if_some};
+ghost use Rattle.wat_print.specs.Text.{put};
+ghost use Rattle.wat_print.specs.declared.fault.Refused.TheVariants.{Memory};
+ghost use Rattle.wat_print_instr.specs.Access.{spell_ordering};
+ghost use Rattle.wat_print_instr.specs.InstructionForm.{operand_form};
+ghost use Rattle.wat_print_instr.specs.InstructionPrinting.{instruction_printing};
+
+use crate::access::{write_access, write_atomic, write_lane_access, write_ordering};
+use crate::control::write_block;
+use crate::traits::PrintCode;
+use wat_instr::{Instruction, InstructionOf};
+use wat_operands::Ordering;
+use wat_print::reference::{write_heap, write_index};
+use wat_print::{Output, Refused};
+use wat_tokens::Id;
+
+/// Writes the label that may be at `else` and `end`.
+fn write_end_label(out: &mut Output, label: &Option<Id>) -> Result<(), Refused>
+    ensures written { OnOk result (out.new ≡ put out.old
+        (spell_option spell_id (option_view name_of label.now))) }
+    ensures fit { OnOk result (if_some is_name (option_view name_of label.now) ≡ true) }
+    ensures refused { IfErr result (λ e. e ≢ Memory
+        → if_some is_name (option_view name_of label.now) ≡ false) }
+{
+    match label {
+        Some(label) => out.id(label.name()),
+        None => Ok(()),
+    }
+}
+
+/// Writes the ordering that a fence may have.
+fn write_fence(out: &mut Output, ordering: Option<Ordering>) -> Result<(), Refused>
+    ensures written { OnOk result (out.new ≡ put out.old
+        (spell_option spell_ordering (option_view (λ o. o) ordering))) }
+    ensures refused { IfErr result (λ e. e ≡ Memory) }
+{
+    match ordering {
+        Some(ordering) => write_ordering(out, ordering),
+        None => Ok(()),
+    }
+}
+
+/// Writes the operand of an instruction, behind its word.
+fn write_operand(out: &mut Output, instr: &Instruction) -> Result<(), Refused>
+    ensures written { OnOk result (out.new ≡ put out.old
+        ((operand_form (head_in instr.now)).spell (operand_in instr.now))) }
+    ensures fit { OnOk result
+        ((operand_form (head_in instr.now)).fit (operand_in instr.now) ≡ true) }
+    ensures refused { IfErr result (λ e. e ≢ Memory
+        → (operand_form (head_in instr.now)).fit (operand_in instr.now) ≡ false) }
+{
+    match instr {
+        InstructionOf::Block(_, block) => write_block(out, block),
+        InstructionOf::Label(_, label) => write_end_label(out, label),
+        InstructionOf::Scalar(_) => Ok(()),
+        InstructionOf::Indexed(_, index) => write_index(out, index),
+        InstructionOf::CallIndirect(_, call) => call.write(out),
+        InstructionOf::Table(_, table) => table.write(out),
+        InstructionOf::Access(op, access) => write_access(out, access, op.align()),
+        InstructionOf::Memory(_, memory) => memory.write(out),
+        InstructionOf::Struct(_, access) => access.write(out),
+        InstructionOf::ArrayInit(_, init) => init.write(out),
+        InstructionOf::AtomicAccess(op, access) => write_atomic(out, access, op.align(), false),
+        InstructionOf::RmwAccess(op, access) => write_atomic(out, access, op.align(), true),
+        InstructionOf::OrderedIndex(_, index) => index.write(out),
+        InstructionOf::OrderedTable(_, table) => table.write(out),
+        InstructionOf::OrderedStruct(_, access) => access.write(out),
+        InstructionOf::LaneAccess(op, lane) => write_lane_access(out, lane, op.align()),
+        InstructionOf::Lane(_, lane) => lane.write(out),
+        InstructionOf::Vector(_) => Ok(()),
+        InstructionOf::br_table(table) => table.write(out),
+        InstructionOf::select(types) => types.write(out),
+        InstructionOf::memory_init(init) => init.write(out),
+        InstructionOf::memory_copy(copy) => copy.write(out),
+        InstructionOf::table_init(init) => init.write(out),
+        InstructionOf::table_copy(copy) => copy.write(out),
+        InstructionOf::ref_null(heap) => write_heap(out, heap),
+        InstructionOf::array_new_fixed(array) => array.write(out),
+        InstructionOf::array_new_data(array) => array.write(out),
+        InstructionOf::array_new_elem(array) => array.write(out),
+        InstructionOf::array_fill(array) => array.write(out),
+        InstructionOf::array_copy(array) => array.write(out),
+        InstructionOf::ref_test(test) => test.write(out),
+        InstructionOf::ref_cast(cast) => cast.write(out),
+        InstructionOf::br_on_cast(branch) => branch.write(out),
+        InstructionOf::br_on_cast_fail(branch) => branch.write(out),
+        InstructionOf::i32_const(number) => number.write(out),
+        InstructionOf::i64_const(number) => number.write(out),
+        InstructionOf::f32_const(_) => Err(Refused::Float),
+        InstructionOf::f64_const(_) => Err(Refused::Float),
+        InstructionOf::atomic_fence(ordering) => write_fence(out, *ordering),
+        InstructionOf::v128_const(vector) => vector.write(out),
+        InstructionOf::i8x16_shuffle(lanes) => lanes.write(out),
+        InstructionOf::try_table(table) => table.write(out),
+        InstructionOf::cont_bind(bind) => bind.write(out),
+        InstructionOf::resume(resume) => resume.write(out),
+        InstructionOf::resume_throw(resume) => resume.write(out),
+        InstructionOf::resume_throw_ref(resume) => resume.write(out),
+        InstructionOf::switch(switch) => switch.write(out),
+        InstructionOf::ref_cast_desc_eq(cast) => cast.write(out),
+        InstructionOf::br_on_cast_desc_eq(branch) => branch.write(out),
+        InstructionOf::br_on_cast_desc_eq_fail(branch) => branch.write(out),
+    }
+}
+
+/// A floating-point number is refused with Float. What the operand is refused with is said at its
+/// type.
+impl PrintCode for Instruction<'_> {
+    ghost View = { Instr };
+
+    ghost view = { instruction_view };
+
+    ghost grammar = { instruction };
+
+    ghost printing = { instruction_printing };
+
+    fn write(&self, out: &mut Output) -> Result<(), Refused> {
+        out.word(self.mnemonic())?;
+        write_operand(out, self)?;
+        Ok(())
+    }
+}
