@@ -1,3 +1,4 @@
+pub mod Begun
 mod Digits
 pub mod Enclosed
 pub mod InstructionText
