@@ -5,7 +5,7 @@ use std::alloc::{AllocError, Global};
 use std::process::Abort;
 use std::test::Fail;
 use wat_core::{Error, Fault, Module, Parser, Span};
-use wat_report::{add_report, line_at, line_column, nearest_mnemonics};
+use wat_report::{add_report, line_at, line_column, nearest_mnemonics, text_or_report};
 
 /// Why a text isn't one module in its parentheses.
 fn refusal_of(alloc: Global, text: &str) -> Result<(), Error> {
@@ -124,7 +124,27 @@ fn broken_texts_are_reported(rt: HostRuntime) -> Result<(), Fail> {
         ),
         (
             "(module (func)",
-            "a.wat:1:15: error: not expected here: the end of the text\n(module (func)\n              ^\n",
+            "a.wat:1:15: error: not expected here: the end of the text\n(module (func)\n              ^\nhint: a `)` may be missing: the text has 2 `(` and 1 `)`\n",
+        ),
+        (
+            "",
+            "a.wat:1:1: error: not expected here: the end of the text\n\n^\n",
+        ),
+        (
+            "(module (func get_local 0))",
+            "a.wat:1:15: error: no instruction is called `get_local`\n(module (func get_local 0))\n              ^\nhint: this is written `local.get` today\n",
+        ),
+        (
+            "(module (table 1 anyfunc))",
+            "a.wat:1:18: error: not expected here: `anyfunc`\n(module (table 1 anyfunc))\n                 ^\nhint: this is written `funcref` today\n",
+        ),
+        (
+            "(module // none\n)",
+            "a.wat:1:9: error: not expected here: `//`\n(module // none\n        ^\nhint: a comment is written `;; ..` to the line's end, or `(; .. ;)`\n",
+        ),
+        (
+            "(module (func nop; nop))",
+            "a.wat:1:18: error: no token begins with this character\n(module (func nop; nop))\n                 ^\nhint: `;;` begins a comment, and nothing ends an instruction\n",
         ),
         (
             "(module (func)))",
@@ -140,7 +160,11 @@ fn broken_texts_are_reported(rt: HostRuntime) -> Result<(), Fail> {
         ),
         (
             "(module (data \"\u{e9}\\q\"))",
-            "a.wat:1:15: error: this string isn't closed, or has what no string may have\n(module (data \"\u{e9}\\q\"))\n              ^\n",
+            "a.wat:1:15: error: this string isn't closed, or has what no string may have\n(module (data \"\u{e9}\\q\"))\n              ^\nhint: a backslash is written `\\\\`, and a byte `\\` and two hexadecimal digits\n",
+        ),
+        (
+            "(module (data \"a\nb\"))",
+            "a.wat:1:15: error: this string isn't closed, or has what no string may have\n(module (data \"a\n              ^\nhint: no `\"` closes it in this line, and no string has a line break\n",
         ),
         (
             "(module (; \u{e9} ;) [)",
@@ -270,6 +294,31 @@ fn faults_without_a_text_are_reported(rt: HostRuntime) -> Result<(), Fail> {
         let found = report_at(rt.alloc(), "x", fault, 0)?;
         let report = format!(in rt.alloc(); "a.wat:1:1: error: {words}\nx\n^\n")?;
         assert_report(&rt, &found, report.as_str());
+    }
+    Ok(())
+}
+
+#[test]
+fn wrong_bytes_are_reported(rt: HostRuntime) -> Result<(), Fail> {
+    for (bytes, report) in [
+        (&b"(module)"[..], ""),
+        (
+            b"(module\n  \xffx)",
+            "a.wat:2:3: error: this isn't UTF-8: the byte 0xff\n  ..\n  ^\n",
+        ),
+        (
+            b"\xc3\xa9\xc3",
+            "a.wat:1:2: error: this isn't UTF-8: the byte 0xc3\n\u{e9}..\n ^\n",
+        ),
+        (
+            b"\xfe\xff\0(",
+            "a.wat:1:1: error: this isn't UTF-8: the byte 0xfe\n..\n^\nhint: this may be UTF-16, and has to be UTF-8\n",
+        ),
+    ] {
+        let mut found = Vec::new(rt.alloc());
+        let text = text_or_report(&mut found, "a.wat", bytes)?;
+        assert_eq!(rt; text.is_some(), report.is_empty(), "of {report}");
+        assert_report(&rt, &found, report);
     }
     Ok(())
 }

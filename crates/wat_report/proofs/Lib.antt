@@ -1,3 +1,4 @@
+pub mod Added
 pub mod Boundaries
 pub mod Counted
 pub mod Distances

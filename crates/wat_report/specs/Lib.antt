@@ -9,3 +9,4 @@ pub mod Places
 pub mod Report
 pub mod Rules
 pub mod Shown
+pub mod WrongBytes

@@ -1,7 +1,7 @@
 -- The report of a fault.
 use Rattle.std.specs.Prelude.{ℕ, List, [], ◌++◌, codes, decimal, if◌then◌else◌}
 use Rattle.wat_tokens.specs.Error.{Fault}
-use Rattle.wat_report.specs.Found.{found_text, is_word_at, word_at}
+use Rattle.wat_report.specs.Found.{found_text, is_word_at}
 use Rattle.wat_report.specs.HintLine.{hint_line}
 use Rattle.wat_report.specs.Hints.{hint_of}
 use Rattle.wat_report.specs.Places.{char_start, place_of_char}
@@ -25,7 +25,7 @@ abbrev pub placed_report : List ℕ → List ℕ → ℕ → Fault → List ℕ
 placed_report name text at f =
     heading_text name (place_of_char text at)
     ++ (message_text text at f
-    ++ (codes "\n" ++ (shown_line text at ++ hint_line (word_at text at) (hint_of text at f))))
+    ++ (codes "\n" ++ (shown_line text at ++ hint_line text at (hint_of text at f))))
 
 -- `NAME: error: ` and the message on a line
 abbrev pub bare_report : List ℕ → List ℕ

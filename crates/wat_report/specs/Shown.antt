@@ -1,6 +1,6 @@
 -- The line that a report shows, and the caret below it.
 use Rattle.std.specs.Prelude.{ℕ, ◌+◌, ◌-◌, ◌==◌, Bool, List, [], ◌++◌, map, min, codes, nat_lt}
-use Rattle.std.specs.Prelude.{slice_range, if◌then◌else◌}
+use Rattle.std.specs.Prelude.{drop, length, slice_range, true, if◌then◌else◌}
 use Rattle.std.specs.Str.{chars}
 use Rattle.wat_report.specs.Places.{char_start, line_start, line_stop}
 
@@ -49,3 +49,14 @@ line_shown_from text start at stop = marked_line text start (min at stop) stop
 abbrev pub shown_line : List ℕ → ℕ → List ℕ
 shown_line text at =
     line_shown_from text (line_start text at) at (line_stop text (line_start text at))
+
+-- the bytes from first on of the line that begins at start and goes on behind the text
+abbrev pub open_from : List ℕ → ℕ → ℕ → List ℕ
+open_from text start first =
+    source_line (drop first text) (nat_lt start first) true
+    ++ caret_line (drop first text) (nat_lt start first)
+
+-- The line that begins at start, of which there is more than the text has, with the caret below the
+-- text's end.
+abbrev pub open_line : List ℕ → ℕ → List ℕ
+open_line text start = open_from text start (first_shown text start (length text))

@@ -1,12 +1,17 @@
 //! What may help whoever wrote the text.
 
-ghost use Rattle.std.specs.Prelude.{◌≡◌, ◌≤◌, ◌==◌, length, count_by, take};
+ghost use Rattle.std.specs.Prelude.{◌≡◌, ◌≤◌, ◌==◌, length, count_by, option_map, take};
 ghost use Rattle.std.specs.Str.{IsCharBoundary};
 ghost use Rattle.wat_report.specs.Found.{word_at};
-ghost use Rattle.wat_report.specs.Hints.{begins_with_mark, hint_of, is_field_word, is_first_field};
-ghost use Rattle.wat_report.specs.Hints.{is_lex_char, is_operator, is_unexpected};
+ghost use Rattle.wat_report.specs.Hints.{begins_with_mark, char_hint, count_in_line, count_of};
+ghost use Rattle.wat_report.specs.Hints.{hint_of, is_lex_string, string_hint};
+ghost use Rattle.wat_report.specs.Hints.{is_field_word, is_unclosed};
+ghost use Rattle.wat_report.specs.Hints.{is_first_field, is_lex_char, is_operator, is_semicolon};
+ghost use Rattle.wat_report.specs.Hints.{is_slash_comment, is_unexpected, new_word, place_hint};
+ghost use Rattle.wat_report.specs.Hints.{token_hint};
 
 use crate::found::{is_word_at, word_at};
+use crate::place::line_stop;
 use crate::rules::names_token;
 use wat_tokens::Fault;
 
@@ -19,6 +24,18 @@ pub enum Hint {
     SeqCst,
     /// A module's fields stand without `(module ..)` round them.
     ModuleGroup,
+    /// The word was replaced by another when the format was standardized.
+    OldWord,
+    /// A comment is begun by `//` or `/*`.
+    SlashComment,
+    /// A single `;` stands between tokens.
+    Semicolon,
+    /// The string doesn't end in its line.
+    OpenString,
+    /// The string may have an escape that is none.
+    Escapes,
+    /// The text ends too soon, and has more `(` than `)`.
+    Unclosed,
     /// A word that is no instruction's may be meant for one that is.
     Nearest,
 }
@@ -28,6 +45,13 @@ fn is_lex_char(fault: Fault) -> bool
     ensures { result ≡ is_lex_char fault }
 {
     matches!(fault, Fault::LexChar)
+}
+
+/// Whether the fault is a string that is none.
+fn is_lex_string(fault: Fault) -> bool
+    ensures { result ≡ is_lex_string fault }
+{
+    matches!(fault, Fault::LexString)
 }
 
 /// Whether another token was needed.
@@ -73,6 +97,43 @@ fn is_field_word(word: &str) -> bool
     )
 }
 
+/// The word that stands today for one of the time before the format was a standard.
+#[tactic(auto, unfolding(crate::specs::Hints::new_word))]
+pub(crate) fn new_word(word: &str) -> Option<&'static str>
+    ensures { option_map (λ new. new.now) result ≡ new_word word.now }
+{
+    match word {
+        "get_local" => Some("local.get"),
+        "set_local" => Some("local.set"),
+        "tee_local" => Some("local.tee"),
+        "get_global" => Some("global.get"),
+        "set_global" => Some("global.set"),
+        "current_memory" => Some("memory.size"),
+        "grow_memory" => Some("memory.grow"),
+        "anyfunc" => Some("funcref"),
+        _ => None,
+    }
+}
+
+/// Whether a comment of another language begins at the offset, with `//` or `/*`.
+fn is_slash_comment(text: &str, at: usize) -> bool
+    ensures { result ≡ is_slash_comment text.now at }
+{
+    let bytes = text.as_bytes();
+    at < bytes.len()
+        && at + 1 < bytes.len()
+        && bytes[at] == b'/'
+        && (bytes[at + 1] == b'/' || bytes[at + 1] == b'*')
+}
+
+/// Whether a `;` is at the offset.
+fn is_semicolon(text: &str, at: usize) -> bool
+    ensures { result ≡ is_semicolon text.now at }
+{
+    let bytes = text.as_bytes();
+    at < bytes.len() && bytes[at] == b';'
+}
+
 /// Whether a field's word is at the offset, directly behind a `(` before which no other stands.
 fn is_first_field(text: &str, at: usize) -> bool
     requires within { at ≤ length text.now }
@@ -84,23 +145,112 @@ fn is_first_field(text: &str, at: usize) -> bool
     at > 0 && bytes[at - 1] == b'(' && opened == 1 && is_field_word(word_at(text, at))
 }
 
+/// How often a byte is in the text.
+pub(crate) fn count_of(text: &str, byte: u8) -> usize
+    ensures { result ≡ count_of text.now byte }
+{
+    text.bytes().filter(|b| *b == byte).count()
+}
+
+/// Whether the text ends at the offset, and has more `(` than `)`.
+#[tactic(auto, unfolding(crate::specs::Hints::is_unclosed))]
+fn is_unclosed(text: &str, at: usize) -> bool
+    ensures { result ≡ is_unclosed text.now at }
+{
+    text.len() <= at && count_of(text, b')') < count_of(text, b'(')
+}
+
+/// How often a byte is in the text's line from the offset on.
+#[tactic(auto, unfolding(crate::specs::Hints::count_in_line))]
+fn count_in_line(text: &str, at: usize, byte: u8) -> usize
+    requires { at ≤ length text.now }
+    ensures { result ≡ count_in_line text.now at byte }
+{
+    let rest = &text.as_bytes()[at..line_stop(text, at)];
+    rest.iter().filter(|b| **b == byte).count()
+}
+
+/// The hint for a string that is none.
+#[tactic(auto, unfolding(crate::specs::Hints::string_hint))]
+fn string_hint(text: &str, at: usize) -> Option<Hint>
+    requires { at ≤ length text.now }
+    ensures { result ≡ string_hint text.now at }
+{
+    if count_in_line(text, at, b'"') < 2 {
+        return Some(Hint::OpenString);
+    }
+    if count_in_line(text, at, b'\\') > 0 {
+        return Some(Hint::Escapes);
+    }
+    None
+}
+
+/// The hint where a character begins no token.
+fn char_hint(text: &str, at: usize) -> Option<Hint>
+    ensures { result ≡ char_hint text.now at }
+{
+    if at == 0 && begins_with_mark(text) {
+        return Some(Hint::ByteOrderMark);
+    }
+    if is_semicolon(text, at) {
+        return Some(Hint::Semicolon);
+    }
+    None
+}
+
+/// The hint where another token was needed, or an instruction, if the token itself has one.
+#[tactic(auto, unfolding(crate::specs::Hints::token_hint))]
+fn token_hint(text: &str, at: usize) -> Option<Hint>
+    requires within { at ≤ length text.now }
+    requires boundary { IsCharBoundary text.now at }
+    ensures { result ≡ token_hint text.now at }
+{
+    let word = word_at(text, at);
+    if word == "seq_cst" {
+        return Some(Hint::SeqCst);
+    }
+    if new_word(word).is_some() {
+        return Some(Hint::OldWord);
+    }
+    if is_slash_comment(text, at) {
+        return Some(Hint::SlashComment);
+    }
+    if is_unclosed(text, at) {
+        return Some(Hint::Unclosed);
+    }
+    None
+}
+
+/// The hint where another token was needed, or an instruction.
+#[tactic(auto, unfolding(crate::specs::Hints::place_hint))]
+fn place_hint(text: &str, at: usize, fault: Fault) -> Option<Hint>
+    requires within { at ≤ length text.now }
+    requires boundary { IsCharBoundary text.now at }
+    ensures { result ≡ place_hint text.now at fault }
+{
+    if is_unexpected(fault) && is_first_field(text, at) {
+        return Some(Hint::ModuleGroup);
+    }
+    if is_operator(fault) && is_word_at(text, at) {
+        return Some(Hint::Nearest);
+    }
+    None
+}
+
 /// The hint for a fault at the character that begins at the offset.
 pub(crate) fn hint_of(text: &str, at: usize, fault: Fault) -> Option<Hint>
     requires within { at ≤ length text.now }
     requires boundary { IsCharBoundary text.now at }
     ensures { result ≡ hint_of text.now at fault }
 {
-    if is_lex_char(fault) && at == 0 && begins_with_mark(text) {
-        return Some(Hint::ByteOrderMark);
+    if is_lex_char(fault) {
+        return char_hint(text, at);
     }
-    if names_token(fault) && word_at(text, at) == "seq_cst" {
-        return Some(Hint::SeqCst);
+    if is_lex_string(fault) {
+        return string_hint(text, at);
     }
-    if is_unexpected(fault) && is_first_field(text, at) {
-        return Some(Hint::ModuleGroup);
-    }
-    if is_operator(fault) && is_word_at(text, at) {
-        return Some(Hint::Nearest);
+    if names_token(fault) {
+        return token_hint(text, at).or(place_hint(text, at, fault));
     }
     None
 }

@@ -1,18 +1,17 @@
 //! The line of a hint.
 
-ghost use Rattle.std.specs.Prelude.{◌≡◌, ◌++◌, ◌≤◌, OnOk, flat_map, length};
+ghost use Rattle.std.specs.Prelude.{◌≡◌, ◌++◌, ◌≤◌, OnOk, decimal, flat_map, length};
 ghost use Rattle.std.specs.Str.{IsCharBoundary};
 ghost use Rattle.wat_mnemonics.specs.declared.table.TheConstants.{MNEMONICS};
-ghost use Rattle.wat_report.specs.Found.{word_at};
-ghost use Rattle.wat_report.specs.HintLine.{hint_line, nearest_line, next_quoted};
-ghost use Rattle.wat_report.specs.HintLine.{question_line, in_backquotes};
-ghost use Rattle.wat_report.specs.Hints.{hint_of};
+ghost use Rattle.wat_report.specs.HintLine.{hint_line, nearest_line, new_word_line, next_quoted};
+ghost use Rattle.wat_report.specs.HintLine.{question_line, in_backquotes, unclosed_line};
+ghost use Rattle.wat_report.specs.Hints.{count_of, hint_of, new_word};
 ghost use Rattle.wat_report.specs.Nearest.{nearest_among};
 
 use crate::found::word_at;
-use crate::hint::{Hint, hint_of};
+use crate::hint::{Hint, count_of, hint_of, new_word};
 use crate::nearest::nearest_mnemonics;
-use crate::write::add;
+use crate::write::{add, add_number};
 use std::alloc::AllocError;
 use wat_mnemonics::Mnemonic;
 use wat_tokens::Fault;
@@ -69,6 +68,37 @@ fn add_nearest_to(out: &mut Vec<u8>, word: &str) -> Result<(), AllocError>
     add_nearest(out, &found)
 }
 
+/// Adds the line of a word of old, which has another today.
+fn add_new_word(out: &mut Vec<u8>, word: &str) -> Result<(), AllocError>
+    ensures { OnOk result (out.new.items ≡ out.old.items ++ new_word_line (new_word word.now)) }
+{
+    let Some(new) = new_word(word) else {
+        return Ok(());
+    };
+    add(out, "hint: this is written `")?;
+    add(out, new)?;
+    add(out, "` today\n")
+}
+
+/// Adds words and how often a byte is in the text.
+fn add_count(out: &mut Vec<u8>, words: &str, text: &str, byte: u8) -> Result<(), AllocError>
+    ensures { OnOk result (out.new.items ≡ out.old.items ++ (words.now
+        ++ decimal (count_of text.now byte))) }
+{
+    add(out, words)?;
+    add_number(out, count_of(text, byte))
+}
+
+/// Adds the line of a text that ends too soon.
+#[tactic(auto, unfolding(crate::specs::HintLine::unclosed_line))]
+fn add_unclosed(out: &mut Vec<u8>, text: &str) -> Result<(), AllocError>
+    ensures { OnOk result (out.new.items ≡ out.old.items ++ unclosed_line text.now) }
+{
+    add_count(out, "hint: a `)` may be missing: the text has ", text, b'(')?;
+    add_count(out, " `(` and ", text, b')')?;
+    add(out, " `)`\n")
+}
+
 /// Adds the line of the hint, if there is one.
 pub(crate) fn add_hint(
     out: &mut Vec<u8>,
@@ -78,7 +108,7 @@ pub(crate) fn add_hint(
 ) -> Result<(), AllocError>
     requires within { at ≤ length text.now }
     requires boundary { IsCharBoundary text.now at }
-    ensures { OnOk result (out.new.items ≡ out.old.items ++ hint_line (word_at text.now at)
+    ensures { OnOk result (out.new.items ≡ out.old.items ++ hint_line text.now at
         (hint_of text.now at fault)) }
 {
     match hint_of(text, at, fault) {
@@ -91,6 +121,24 @@ pub(crate) fn add_hint(
         Some(Hint::ModuleGroup) => {
             add(out, "hint: the fields of a module stand in `(module ..)`\n")
         }
+        Some(Hint::OldWord) => add_new_word(out, word_at(text, at)),
+        Some(Hint::SlashComment) => add(
+            out,
+            "hint: a comment is written `;; ..` to the line's end, or `(; .. ;)`\n",
+        ),
+        Some(Hint::Semicolon) => add(
+            out,
+            "hint: `;;` begins a comment, and nothing ends an instruction\n",
+        ),
+        Some(Hint::OpenString) => add(
+            out,
+            "hint: no `\"` closes it in this line, and no string has a line break\n",
+        ),
+        Some(Hint::Escapes) => add(
+            out,
+            "hint: a backslash is written `\\\\`, and a byte `\\` and two hexadecimal digits\n",
+        ),
+        Some(Hint::Unclosed) => add_unclosed(out, text),
         Some(Hint::Nearest) => add_nearest_to(out, word_at(text, at)),
     }
 }

@@ -1,11 +1,13 @@
 //! What a person reads of a fault: its line and column, the line itself, and what is wrong.
 //!
+//! [`text_or_report`] answers the text that bytes are, or reports the first that is wrong, and
 //! [`add_report`] adds the whole report of an error in a text. [`line_column`] and [`line_at`] answer
 //! the place and the line of an offset, and [`nearest_mnemonics`] the instructions whose words are
 //! nearest to a word. Offsets are in bytes from the start of the text. No call asks for anything: an
 //! offset may be inside a character, or behind the text's end.
 #![tactic(auto)]
 
+pub mod bytes;
 mod found;
 mod hint;
 mod hint_line;
@@ -17,6 +19,7 @@ mod rules;
 mod shown;
 mod write;
 
+pub use bytes::text_or_report;
 pub use nearest::nearest_mnemonics;
 pub use place::{Place, line_at, line_column};
 pub use report::add_report;

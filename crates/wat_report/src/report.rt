@@ -15,7 +15,7 @@ use std::alloc::AllocError;
 use wat_tokens::{Error, Fault};
 
 /// Adds the name, the line and the column.
-fn add_heading(out: &mut Vec<u8>, name: &str, place: Place) -> Result<(), AllocError>
+pub(crate) fn add_heading(out: &mut Vec<u8>, name: &str, place: Place) -> Result<(), AllocError>
     ensures { OnOk result (out.new.items ≡ out.old.items ++ heading_text name.now place) }
 {
     add(out, name)?;

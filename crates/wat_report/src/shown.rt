@@ -4,7 +4,7 @@ ghost use Rattle.std.specs.Prelude.{◌≡◌, ◌++◌, ◌≤◌, ◌<◌, ◌
 ghost use Rattle.std.specs.Str.{IsCharBoundary, chars};
 ghost use Rattle.wat_report.specs.Places.{line_start, line_stop};
 ghost use Rattle.wat_report.specs.Shown.{padding, caret_line, first_shown, last_shown};
-ghost use Rattle.wat_report.specs.Shown.{marked_line, shown_line, source_line};
+ghost use Rattle.wat_report.specs.Shown.{marked_line, open_line, shown_line, source_line};
 
 use crate::place::{char_start, line_start, line_stop};
 use crate::write::add;
@@ -113,4 +113,16 @@ pub(crate) fn add_line(out: &mut Vec<u8>, text: &str, at: usize) -> Result<(), A
     let start = line_start(text, at);
     let stop = line_stop(text, start);
     add_marked(out, text, start, at.min(stop), stop)
+}
+
+/// Adds the line that begins at start and goes on behind the text, and a caret below where that is.
+pub(crate) fn add_open(out: &mut Vec<u8>, text: &str, start: usize) -> Result<(), AllocError>
+    requires within { start ≤ length text.now }
+    requires boundary { IsCharBoundary text.now start }
+    ensures { OnOk result (out.new.items ≡ out.old.items ++ open_line text.now start) }
+{
+    let first = first_shown(text, start, text.len());
+    let shown = &text[first..];
+    add_source(out, shown, start < first, true)?;
+    add_caret(out, shown, start < first)
 }

@@ -1,11 +1,8 @@
-use Rattle.std.proofs.Common.{◌≡◌, ℕ, List, ◌++◌, append_assoc}
 use Rattle.std.specs.Prelude.{codes, flat_map}
 use Rattle.std.proofs.lemmas.Result.{on_ok_weaker}
 use Rattle.wat_report.specs.HintLine.{next_quoted, question_line, in_backquotes}
+use Rattle.wat_report.proofs.Added.{four_added}
 use Rattle.wat_report.proofs.hint_line.add_question.Goals as goal
-
-four_added : (out a b c d first second third last : List ℕ) → first ≡ out ++ a → second ≡ first ++ b → third ≡ second ++ c → last ≡ third ++ d → last ≡ out ++ (a ++ (b ++ (c ++ d)))
-four_added out a b c d first second third last e f g h = rw (h, g, f, e) (simp append_assoc)
 
 pub returns : goal.returns
 unfolding question_line
