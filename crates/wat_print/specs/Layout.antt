@@ -33,7 +33,7 @@ tokens_in (one t ∷ ps) = t ∷ tokens_in ps
 tokens_in (line n ∷ ps) = tokens_in ps
 
 -- From a to b the tokens were written, and lines broken between them where they may be.
-pub record Puts (ts : List Tok) (a b : Page) : Type 0 where
+pub record Writes (ts : List Tok) (a b : Page) : Type 0 where
   pub pieces : List LayoutPart
   pub tokens : tokens_in pieces ≡ ts
   pub page : b ≡ lay a pieces

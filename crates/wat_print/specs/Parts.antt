@@ -3,7 +3,7 @@ use Rattle.std.specs.Prelude.{◌≡◌, ℕ, Bool, true, ◌&&◌, if◌then◌
 use Rattle.std.specs.Prelude.{None, map, flat_map}
 use Rattle.wat_lexer.specs.Token.{Tok, Keyword}
 use Rattle.wat_tokens.specs.Spelled.{in_parens}
-use Rattle.wat_print.specs.Layout.{Puts}
+use Rattle.wat_print.specs.Layout.{Writes}
 use Rattle.wat_print.specs.Text.{Page, put}
 
 -- ( word .. )
@@ -40,5 +40,5 @@ pub record Wrote {X A : Type 0} (view : X → A) (spell : A → List Tok) (fit :
 pub record WroteLines {X A : Type 0} (view : X → A) (spell : A → List Tok) (fit : A → Bool)
     (xs : List X) (a b : Page)
     : Type 0 where
-  pub written : Puts (flat_map spell (map view xs)) a b
+  pub written : Writes (flat_map spell (map view xs)) a b
   pub fits : each fit (map view xs) ≡ true

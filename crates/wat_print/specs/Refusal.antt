@@ -3,7 +3,8 @@ use Rattle.std.specs.Prelude.{ℕ}
 use Rattle.wat_print.specs.declared.fault.Refused.{Refused}
 use Rattle.wat_print.specs.declared.fault.Refused.TheVariants.{Memory, EmptyName, Label, PageSize}
 use Rattle.wat_print.specs.declared.fault.Refused.TheVariants.{Parents, Alignment}
-use Rattle.wat_print.specs.declared.fault.Refused.TheVariants.{Ordering, Float}
+use Rattle.wat_print.specs.declared.fault.Refused.TheVariants.{Ordering, Float, Hint}
+use Rattle.wat_print.specs.declared.fault.Refused.TheVariants.{Table, Section}
 
 abbrev pub refused_number : Refused → ℕ
 refused_number Memory = 1
@@ -14,3 +15,6 @@ refused_number Parents = 5
 refused_number Alignment = 6
 refused_number Ordering = 7
 refused_number Float = 8
+refused_number Hint = 9
+refused_number Table = 10
+refused_number Section = 11

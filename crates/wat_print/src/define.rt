@@ -13,7 +13,7 @@ ghost use Rattle.wat_print.specs.Define.{spell_kind, fit_kind, spell_described, 
 ghost use Rattle.wat_print.specs.Define.{spell_shared, spell_sub, spell_def, fit_def, spell_type};
 ghost use Rattle.wat_print.specs.Define.{fit_type, spell_grouped_type, spell_rec, fit_rec};
 ghost use Rattle.wat_print.specs.Index.{spell_index, fit_index};
-ghost use Rattle.wat_print.specs.Layout.{Puts};
+ghost use Rattle.wat_print.specs.Layout.{Writes};
 ghost use Rattle.wat_print.specs.Parts.{grouped, spell_option, if_some, each, Wrote, WroteLines};
 ghost use Rattle.wat_print.specs.Printings.{index_printing, kind_printing, type_printing};
 ghost use Rattle.wat_print.specs.Printings.{rec_printing};
@@ -180,7 +180,7 @@ pub fn write_type(out: &mut Output, ty: &Type) -> Result<(), Refused>
 
 /// Writes a type in its parentheses, on a line of its own where the layout has lines.
 fn write_grouped_type(out: &mut Output, ty: &Type) -> Result<(), Refused>
-    ensures written { OnOk result (Puts (spell_grouped_type (type_view ty.now)) out.old out.new) }
+    ensures written { OnOk result (Writes (spell_grouped_type (type_view ty.now)) out.old out.new) }
     ensures fit { OnOk result (fit_type (type_view ty.now) ≡ true) }
     ensures refused { IfErr result (λ e. e ≢ Memory → fit_type (type_view ty.now) ≡ false) }
 {
@@ -207,7 +207,7 @@ fn write_types(out: &mut Output, types: &[Type]) -> Result<(), Refused>
 
 /// Writes a recursion group, without its parentheses (Text Format, Types, "Recursive Types").
 pub fn write_rec(out: &mut Output, group: &Rec) -> Result<(), Refused>
-    ensures written { OnOk result (Puts (spell_rec (rec_view group.now)) out.old out.new) }
+    ensures written { OnOk result (Writes (spell_rec (rec_view group.now)) out.old out.new) }
     ensures fit { OnOk result (fit_rec (rec_view group.now) ≡ true) }
     ensures refused { IfErr result (λ e. e ≢ Memory → fit_rec (rec_view group.now) ≡ false) }
 {

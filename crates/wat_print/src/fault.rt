@@ -6,7 +6,7 @@ ghost use Rattle.wat_print.specs.Refusal.{refused_number};
 use std::alloc::AllocError;
 use thiserror::Error;
 
-/// Why a value isn't printed. Each reason has a number, from 1 to 8.
+/// Why a value isn't printed. Each reason has a number, from 1 to 11.
 ///
 /// No text spells a value that is refused for another reason than Memory.
 #[derive(Clone, Copy, Debug, PartialEq, Eq, Hash, Error)]
@@ -17,8 +17,9 @@ pub enum Refused {
     /// An identifier has no character (Text Format, "Identifiers").
     #[error("an identifier is empty")]
     EmptyName = 2,
-    /// A parameter has an identifier or a name where none may have one (Text Format, "Type Uses").
-    #[error("a parameter has a label where none may stand")]
+    /// A parameter has an identifier or a name where none may have one (Text Format, "Type Uses"),
+    /// or one of several locals in a group has, or a signature that items share has an identifier.
+    #[error("a label stands where none may stand")]
     Label = 3,
     /// A page has 2 to the k bytes, and k is 32 or more, so that the number has more than 32 bits
     /// (Text Format, Types, "Memory Types", with the size of a page).
@@ -39,10 +40,24 @@ pub enum Refused {
     /// No text is read as a floating-point number.
     #[error("a floating-point number has no text")]
     Float = 8,
+    /// A hint stands before another instruction than `br_if` or `if`, is neither 0 nor 1, or isn't
+    /// in the order of the instructions (Branch Hinting, Custom Annotation
+    /// `@metadata.code.branch_hint`).
+    #[error("a hint has no instruction that it can stand before")]
+    Hint = 9,
+    /// A table is both shared and of 64 bits with its elements in line, these are of another type
+    /// than the table's or a list that is read as another, or what its elements are at first has no
+    /// instruction (Text Format, Modules, "Tables").
+    #[error("a table has a form that no text is read as")]
+    Table = 10,
+    /// The entries of a `producers` section aren't in the order of its fields, or a field has none;
+    /// or the entries of a `dylink.0` section aren't gathered as a text gathers them.
+    #[error("a custom section has a form that no text is read as")]
+    Section = 11,
 }
 
 impl Refused {
-    /// The number, from 1 to 8.
+    /// The number, from 1 to 11.
     pub fn number(self) -> u8
         ensures { result ≡ refused_number self }
     {

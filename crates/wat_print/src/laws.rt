@@ -4,7 +4,7 @@ ghost use Rattle.std.specs.Prelude.{◌≡◌, ℕ, List, true};
 ghost use Rattle.wat_lexer.specs.Cut.{IsCut};
 ghost use Rattle.wat_lexer.specs.Sight.{visible_tokens};
 ghost use Rattle.wat_lexer.specs.Token.{Tok, Placed, tokens_of};
-ghost use Rattle.wat_print.specs.Layout.{Puts};
+ghost use Rattle.wat_print.specs.Layout.{Writes};
 ghost use Rattle.wat_print.specs.Neat.{Neat, is_given};
 ghost use Rattle.wat_print.specs.Text.{Page, printed_text, blank_page};
 ghost use Rattle.std.specs.Prelude.{Bool};
@@ -22,7 +22,7 @@ pub fn text_is_cut()
 /// Tokens that can be written are cut again from each text in which they are laid out on lines.
 pub fn lines_are_cut()
     ensures { (ts : List Tok) (lines : Bool) (page : Page) → Neat ts
-        → Puts ts (blank_page lines) page
+        → Writes ts (blank_page lines) page
         → (ps : List Placed) × IsCut page.bytes ps × (tokens_of ps ≡ ts) }
 {}
 

@@ -2,7 +2,7 @@
 //! Specification, Text Format, "Types").
 //!
 //! [`print`] makes a text of a value whose type has [`Print`]. The text is cut into tokens that
-//! spell this value and no other.
+//! spell this value and no other, and [`read_value`] reads it again.
 #![tactic(auto)]
 
 pub mod define;
@@ -21,5 +21,5 @@ pub mod type_use;
 
 pub use fault::Refused;
 pub use output::{Layout, Output};
-pub use text::print;
+pub use text::{print, read_value};
 pub use traits::Print;

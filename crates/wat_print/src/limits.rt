@@ -47,7 +47,7 @@ pub fn write_limits(out: &mut Output, limits: &Limits) -> Result<(), Refused>
 
 /// Writes `( pagesize number )`, the number being 2 to the k, where a k is given. A k of 32 or more
 /// is refused with PageSize.
-fn write_page_size(out: &mut Output, exponent: Option<u32>) -> Result<(), Refused>
+pub fn write_page_size(out: &mut Output, exponent: Option<u32>) -> Result<(), Refused>
     ensures written { OnOk result (out.new ≡ put out.old
         (spell_option spell_page_size exponent)) }
     ensures fit { OnOk result (if_some is_exponent exponent ≡ true) }

@@ -3,6 +3,7 @@
 ghost use Rattle.std.specs.Prelude.{◌≡◌, ◌≢◌, ◌∷◌, ◌++◌, ◌*◌, [], ◌<◌, ℕ, true, false};
 ghost use Rattle.std.specs.Prelude.{if◌then◌else◌, OnOk, IfOk, IfErr, decimal, string_bytes};
 ghost use Rattle.std.specs.Char.{digit_char};
+ghost use Rattle.std.specs.Fmt.{signed_decimal};
 ghost use Rattle.std.specs.Str.{is_utf8};
 ghost use Rattle.wat_lexer.specs.Bytes.{is_idchar};
 ghost use Rattle.wat_lexer.specs.Token.{LParen, RParen, Keyword, Id, Annotation, Integer};
@@ -17,13 +18,17 @@ use crate::fault::Refused;
 use std::alloc::{AllocError, Global};
 use std::marker::Model;
 
+/// How many groups and blocks at most a line is indented for. So a line has 100 spaces more than
+/// its tokens at most, and the text of deep nesting stays as long as its tokens, 100 times over.
+const MOST_STEPS: usize = 50;
+
 /// How a text is laid out.
 #[derive(Clone, Copy, Debug, PartialEq, Eq, Hash)]
 pub enum Layout {
     /// On one line.
     Line,
-    /// On lines. Where a line is broken, the next begins with two spaces for each group that is
-    /// open there.
+    /// On lines. Where a line is broken, the next begins with two spaces for each group and each
+    /// block of instructions that is open there, and for 50 at most.
     Indented,
 }
 
@@ -40,6 +45,8 @@ pub struct Output {
     lines: bool,
     /// How many groups are open.
     depth: usize,
+    /// How many blocks of instructions are open.
+    blocks: usize,
 }
 
 impl Model for Output {
@@ -64,6 +71,7 @@ impl Output {
                 Layout::Indented => true,
             },
             depth: 0,
+            blocks: 0,
         }
     }
 
@@ -75,7 +83,7 @@ impl Output {
     }
 
     /// Breaks the line, where the layout has lines and a blank may stand; two spaces for each
-    /// group that is open follow the break.
+    /// group and each block that is open follow the break, for 50 at most.
     pub fn line(&mut self) -> Result<(), AllocError>
         ensures { OnOk result ((n : ℕ) × (self.new ≡ broken n self.old)) }
     {
@@ -83,9 +91,31 @@ impl Output {
             return Ok(());
         }
         self.text.push_str("\n")?;
-        push_blanks(&mut self.text, self.depth)?;
+        let steps = self.depth.saturating_add(self.blocks).min(MOST_STEPS);
+        push_blanks(&mut self.text, steps)?;
         self.tight = true;
         Ok(())
+    }
+
+    /// The lines that follow are inside of one block more, until [`leave`](Output::leave).
+    pub fn enter(&mut self)
+        ensures { self.new ≡ self.old }
+    {
+        self.blocks = self.blocks.saturating_add(1);
+    }
+
+    /// The lines that follow are outside of the innermost block, where one is open.
+    pub fn leave(&mut self)
+        ensures { self.new ≡ self.old }
+    {
+        self.blocks = self.blocks.saturating_sub(1);
+    }
+
+    /// The lines that follow are outside of every block.
+    pub fn leave_all(&mut self)
+        ensures { self.new ≡ self.old }
+    {
+        self.blocks = 0;
     }
 
     /// A space, where one is wanted before a token other than `)`.
@@ -136,8 +166,29 @@ impl Output {
         ensures { OnOk result (self.new ≡ put self.old (Integer (decimal number) ∷ [])) }
     {
         self.space()?;
-        let digits = format!(in *self.text.allocator(); "{number}")?;
-        self.text.push_str(digits.as_str())?;
+        write!(self.text, "{number}")?;
+        self.tight = false;
+        Ok(())
+    }
+
+    /// Writes a number in decimal digits, behind `-` where it is below 0.
+    pub fn signed(&mut self, value: i64) -> Result<(), AllocError>
+        ensures { OnOk result (self.new ≡ put self.old (Integer (signed_decimal value) ∷ [])) }
+    {
+        self.space()?;
+        write!(self.text, "{value}")?;
+        self.tight = false;
+        Ok(())
+    }
+
+    /// Writes a keyword that ends in a number, as `offset=8`: its front, and behind it the number
+    /// in decimal digits.
+    pub fn numbered(&mut self, front: &str, number: u64) -> Result<(), AllocError>
+        ensures { OnOk result (self.new ≡ put self.old (Keyword (front.now ++ decimal number)
+            ∷ [])) }
+    {
+        self.space()?;
+        write!(self.text, "{front}{number}")?;
         self.tight = false;
         Ok(())
     }

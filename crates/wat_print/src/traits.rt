@@ -2,7 +2,7 @@
 
 ghost use Rattle.std.specs.Prelude.{◌≡◌, ◌≢◌, OnOk, IfErr, true, false};
 ghost use Rattle.wat_tokens.specs.Production.{Production};
-ghost use Rattle.wat_print.specs.Layout.{Puts};
+ghost use Rattle.wat_print.specs.Layout.{Writes};
 ghost use Rattle.wat_print.specs.Printed.{Printing};
 ghost use Rattle.wat_print.specs.declared.fault.Refused.TheVariants.{Memory};
 
@@ -28,7 +28,7 @@ pub trait Print {
     /// A value that can't be written is refused with the first reason that is met, and one that
     /// can be only with Memory. What was written before a refusal stays.
     fn write(&self, out: &mut Output) -> Result<(), Refused>
-        ensures written { OnOk result (Puts (printing.spell (view self.now)) out.old out.new) }
+        ensures written { OnOk result (Writes (printing.spell (view self.now)) out.old out.new) }
         ensures fit { OnOk result (printing.fit (view self.now) ≡ true) }
         ensures refused { IfErr result (λ e. e ≢ Memory
             → printing.fit (view self.now) ≡ false) };

@@ -10,7 +10,7 @@ use Rattle.wat_lexer.specs.Cut.{Begins, in_no_run, Run, Classed, Token, Cuts, do
 use Rattle.wat_lexer.specs.Cut.{space}
 use Rattle.wat_lexer.specs.Token.{Tok, Placed, LParen, RParen, Keyword, Id, Annotation, Integer}
 use Rattle.wat_lexer.specs.Token.{String, Reserved, tokens_of, is_open}
-use Rattle.wat_print.specs.Layout.{LayoutPart, one, line, blanks, lay, tokens_in, Puts}
+use Rattle.wat_print.specs.Layout.{LayoutPart, one, line, blanks, lay, tokens_in, Writes}
 use Rattle.wat_print.specs.Text.{all_are, quoted, token_text, gap, Page, blank_page}
 use Rattle.wat_print.specs.Neat.{is_keyword, is_name, is_fit}
 use Rattle.wat_print.specs.Laws.Quoted.{quoted_is, idchars_are, idchars_run, string_run, name_is}
@@ -193,7 +193,7 @@ cut_laid n true false false (line k ∷ r) f h =
 cut_laid n false behind tight (line k ∷ r) f h = cut_laid n false behind tight r f h
 
 pub page_cuts : (n : ℕ) (ts : List Tok) (lines : Bool) (q : Page) → AllFit false ts
-    → Puts ts (blank_page lines) q → CutInto n false q.bytes ts
+    → Writes ts (blank_page lines) q → CutInto n false q.bytes ts
 page_cuts n ts lines q f w =
     let x : q.bytes ≡ laid lines true w.pieces =
     ap (λ (p : Page). p.bytes) w.page ∙ lay_laid w.pieces [] lines true in

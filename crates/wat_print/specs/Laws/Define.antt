@@ -36,7 +36,7 @@ use Rattle.wat_print.specs.Storage.{spell_field}
 use Rattle.wat_print.specs.Struct.{spell_struct}
 use Rattle.wat_print.specs.Laws.Function.{function_here, function_neat, function_only}
 use Rattle.wat_print.specs.Laws.Label.{label_here, label_neat, label_only}
-use Rattle.wat_print.specs.Laws.Only.{Only, only_any, only_where, only_seq, only_made, only_opt}
+use Rattle.wat_print.specs.Laws.Only.{OnlyFit, only_any, only_where, only_seq, only_made, only_opt}
 use Rattle.wat_print.specs.Laws.Only.{only_many, only_paren, only_after, only_weaker}
 use Rattle.wat_print.specs.Laws.Parts.{Spells, paren_here, word_here, flag_here, many_here}
 use Rattle.wat_print.specs.Laws.Parts.{neat_word, neat_paren, neat_group, neat_both, neat_each}
@@ -46,7 +46,7 @@ use Rattle.wat_print.specs.Laws.Storage.{field_here, field_neat, field_only}
 use Rattle.wat_print.specs.Laws.Struct.{struct_here, struct_neat, struct_only}
 
 -- a word, and what follows it
-after_here : {A : Type 0} (w : List ℕ) (g : Production A) (v : A) (d r : List Tok)
+pub after_here : {A : Type 0} (w : List ℕ) (g : Production A) (v : A) (d r : List Tok)
     → bytes_eq w w ≡ true → g.spells v d r → (after_word w g).spells v (Keyword w ∷ d) r
 after_here w g v d r e s =
     ((tt, v), (Keyword w ∷ [], d, refl, word_here w e (d ++ r), s), refl, refl)
@@ -127,7 +127,7 @@ kind_neat (struct_ ms) h = neat_word (codes "struct") (spell_struct ms) refl (st
 kind_neat (array f) h = neat_word (codes "array") (spell_field f) refl (field_neat f h)
 kind_neat (cont i) h = neat_word (codes "cont") (spell_index i) refl (index_neat i h)
 
-pub kind_only : Only kind fit_kind
+pub kind_only : OnlyFit kind fit_kind
 unfolding kind
 kind_only =
     only_where (begins_word (codes "func"))
@@ -551,20 +551,20 @@ rec_neat ts f =
 first_of : (a b : Bool) → a && b ≡ true → a ≡ true
 first_of a b h = (and_parts a b h).0
 
-link_only : (w : List ℕ) → Only (linked w) (if_some fit_index)
+link_only : (w : List ℕ) → OnlyFit (linked w) (if_some fit_index)
 unfolding linked
 link_only w =
     only_opt (begins_word w) (only_after w (only_made (λ _. true) (λ v. v.0) fit_index
     (only_weaker (λ v. fit_index v.0) (λ v h. (first_of (fit_index v.0) true h))
     (only_seq index_only (only_any turn)))))
 
-described_only : Only described fit_def
+described_only : OnlyFit described fit_def
 unfolding described
 described_only =
     only_made (λ _. true) plain_def fit_def
     (only_seq (link_only (codes "describes")) (only_seq (link_only (codes "descriptor")) kind_only))
 
-maybe_only : Only maybe_shared fit_def
+maybe_only : OnlyFit maybe_shared fit_def
 unfolding maybe_shared
 maybe_only =
     only_where (begins_word (codes "shared"))
@@ -577,7 +577,7 @@ sub_fit is d h =
     let a = and_parts (each fit_index is) (fit_def d) h in
     rw (a.0) (and_parts (fit_parents d.final_type d.parents) (fit_described d) a.1).1
 
-pub def_only : Only type_def fit_def
+pub def_only : OnlyFit type_def fit_def
 unfolding type_def
 def_only =
     only_where (begins_word (codes "sub"))
@@ -587,13 +587,13 @@ def_only =
     (only_seq (only_many begins_index (lit≤ tt) index_only) (only_paren maybe_only))))))
     maybe_only
 
-pub type_only : Only type_ fit_type
+pub type_only : OnlyFit type_ fit_type
 unfolding type_
 type_only =
     only_made (λ _. true) (λ v. record { label = v.0; def = v.1 }) fit_type
     (only_after (codes "type") (only_seq label_only (only_paren def_only)))
 
-pub rec_only : Only rec fit_rec
+pub rec_only : OnlyFit rec fit_rec
 unfolding rec types
 rec_only =
     only_after (codes "rec")

@@ -27,7 +27,8 @@ use Rattle.wat_print.specs.Reference.{spell_val, fit_val}
 use Rattle.wat_print.specs.Use.{fit_unnamed}
 use Rattle.wat_print.specs.Laws.Label.{label_neat, fit_parts, parts_here, in_groups_fit}
 use Rattle.wat_print.specs.Laws.Label.{in_groups_all, label_only}
-use Rattle.wat_print.specs.Laws.Only.{Only, only_where, only_seq, only_made, only_many, only_group}
+use Rattle.wat_print.specs.Laws.Only.{OnlyFit, only_where, only_seq, only_made, only_many}
+use Rattle.wat_print.specs.Laws.Only.{only_group}
 use Rattle.wat_print.specs.Laws.Only.{only_weaker}
 use Rattle.wat_print.specs.Laws.Parts.{and_also, each_both, Spells, group_here, many_here}
 use Rattle.wat_print.specs.Laws.Parts.{neat_group, neat_both, neat_each}
@@ -128,16 +129,16 @@ groups_fit f h =
     (param_groups_fit f.params a.0) (result_groups_fit f.results a.1)
 
 -- what groups of parameters are, in front of others
-abbrev Fronted : List (List ParamTy) → List Group → Type 0
-Fronted gs hs =
+abbrev ParamsInFront : List (List ParamTy) → List Group → Type 0
+ParamsInFront gs hs =
     (flat_map params_in (map param gs ++ hs) ≡ all_of gs ++ flat_map params_in hs)
     × (flat_map results_in (map param gs ++ hs) ≡ flat_map results_in hs)
     × (in_order (map param gs ++ hs) ≡ in_order hs)
 
-fronted : (gs : List (List ParamTy)) (hs : List Group) → Fronted gs hs
-fronted [] hs = (refl, refl, refl)
-fronted (g ∷ gs) hs =
-    let f = fronted gs hs in (
+params_in_front : (gs : List (List ParamTy)) (hs : List Group) → ParamsInFront gs hs
+params_in_front [] hs = (refl, refl, refl)
+params_in_front (g ∷ gs) hs =
+    let f = params_in_front gs hs in (
       ap (λ (l : List ParamTy). g ++ l) f.0 ∙ sym
           (append_assoc g (all_of gs) (flat_map params_in hs)),
       f.1,
@@ -163,7 +164,7 @@ AreGroupsOf f gs =
 
 pub groups_are : (f : FuncTy) → AreGroupsOf f (groups_of f)
 groups_are f =
-    let g = fronted (in_groups param_label f.params) (result_groups f.results) in
+    let g = params_in_front (in_groups param_label f.params) (result_groups f.results) in
     let ps = flat_map params_in (result_groups f.results) in (
       sym (g.0 ∙ ap (λ (l : List ParamTy). l ++ ps) (in_groups_all param_label f.params)
           ∙ ap (λ (l : List ParamTy). f.params ++ l) (results_no_params f.results)
@@ -232,7 +233,7 @@ abbrev group_given : Group → Bool
 group_given (param ps) = each fit_param ps
 group_given (result ts) = each fit_val ts
 
-params_only : Only (params true) (each fit_param)
+params_only : OnlyFit (params true) (each fit_param)
 unfolding params plain_params
 params_only =
     only_where begins_label
@@ -241,7 +242,7 @@ params_only =
     (λ v h. (and_also (fit_label v.0 && fit_val v.1) h)) (only_seq label_only val_only)))
     (only_many more val_type_consumes (only_made (λ _. true) plain_param fit_param val_only))
 
-group_only : Only (func_group true) group_given
+group_only : OnlyFit (func_group true) group_given
 unfolding func_group val_types
 group_only =
     only_where (begins_group (codes "param"))
@@ -249,7 +250,7 @@ group_only =
     (only_made (λ _. true) result group_given
     (only_group (codes "result") (only_many more val_type_consumes val_only)))
 
-groups_only : Only (func_groups true) (each group_given)
+groups_only : OnlyFit (func_groups true) (each group_given)
 unfolding func_groups
 groups_only = only_many group_follows (func_group_consumes true) group_only
 
@@ -272,11 +273,11 @@ function_holds f c r a s =
     let g = params_given s.0 (groups_only.holds s.0 c r a s.1) in
     rw (s.3, s.4, g.0, g.1) refl
 
-pub function_only : Only function_type fit_function
+pub function_only : OnlyFit function_type fit_function
 unfolding function_groups
 function_only = record { holds = function_holds }
 
-pub unnamed_only : Only function_type_no_names fit_unnamed
+pub unnamed_only : OnlyFit function_type_no_names fit_unnamed
 unnamed_only =
     record {
       holds = λ f c r a s. (rw (labels_none f.params ∙ s.1, function_holds f c r a s.0) refl);

@@ -21,7 +21,7 @@ use Rattle.wat_print.specs.Label.{by_itself, in_groups}
 use Rattle.wat_print.specs.Neat.{is_name, is_given, Neat, nothing, noted}
 use Rattle.wat_print.specs.Parts.{each, spell_option, if_some}
 use Rattle.wat_print.specs.Laws.Bytes.{utf8_bytes}
-use Rattle.wat_print.specs.Laws.Only.{Only, only_any, only_one, only_opt, only_paren, only_seq}
+use Rattle.wat_print.specs.Laws.Only.{OnlyFit, only_any, only_one, only_opt, only_paren, only_seq}
 use Rattle.wat_print.specs.Laws.Only.{only_made}
 use Rattle.wat_print.specs.Laws.Parts.{Spells, many_told, neat_one, neat_both, neat_option}
 use Rattle.wat_print.specs.Laws.Quoted.{if_cases}
@@ -297,7 +297,7 @@ id_given (Id m) n a e =
 id_given LParen n a e = absurd cc
 id_given _ n a e = absurd cc
 
-pub id_only : Only identifier is_name
+pub id_only : OnlyFit identifier is_name
 id_only = only_one as_id (refl, refl) is_name id_given
 
 text_given : (t : Tok) (n : List ℕ) → is_given t ≡ true → text_in t ≡ Some n → is_utf8 n ≡ true
@@ -308,14 +308,14 @@ text_given (String s) n a e =
 text_given LParen n a e = absurd cc
 text_given _ n a e = absurd cc
 
-pub name_only : Only name_annotation is_utf8
+pub name_only : OnlyFit name_annotation is_utf8
 unfolding name_annotation
 name_only =
     only_paren (only_made (λ _. true) (λ v. v.1) is_utf8
     (only_seq (only_any (annotation_token (codes "name")))
     (only_one text_in (refl, refl) is_utf8 text_given)))
 
-pub label_only : Only label fit_label
+pub label_only : OnlyFit label fit_label
 unfolding label
 label_only =
     only_made (λ _. true) (λ v. label_of v.0 v.1) fit_label

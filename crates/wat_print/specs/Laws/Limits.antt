@@ -24,7 +24,7 @@ use Rattle.wat_print.specs.Neat.{is_given, Neat}
 use Rattle.wat_print.specs.Parts.{each, spell_flag, spell_option, if_some}
 use Rattle.wat_print.specs.Reference.{spell_ref, fit_ref}
 use Rattle.wat_print.specs.Laws.Numbers.{decimal_fit, unsigned_decimal, unsigned_fits}
-use Rattle.wat_print.specs.Laws.Only.{Only, only_any, only_one, only_opt, only_seq, only_made}
+use Rattle.wat_print.specs.Laws.Only.{OnlyFit, only_any, only_one, only_opt, only_seq, only_made}
 use Rattle.wat_print.specs.Laws.Only.{only_group}
 use Rattle.wat_print.specs.Laws.Parts.{Spells, word_here, group_here, flag_here, neat_one}
 use Rattle.wat_print.specs.Laws.Parts.{neat_group, neat_both, neat_option, neat_flag}
@@ -53,12 +53,12 @@ u64_given (Integer x) n a e = let le = unsigned_fits 64 x n e in is_below n (2 ^
 u64_given LParen n a e = absurd cc
 u64_given _ n a e = absurd cc
 
-u64_only : Only (unsigned 64) is_u64
+u64_only : OnlyFit (unsigned 64) is_u64
 u64_only = only_one (unsigned_of 64) (refl, refl) is_u64 u64_given
 
 -- ---- limits
 
-width_here : (b : Bool) (x : List Tok) → begins_word (codes "i64") x ≡ false
+pub width_here : (b : Bool) (x : List Tok) → begins_word (codes "i64") x ≡ false
     → begins_word (codes "i32") x ≡ false → is_64.spells b (spell_flag (codes "i64") b) x
 unfolding is_64
 width_here true x h k = inl (refl, (tt, word_here (codes "i64") refl x, refl, refl))
@@ -97,7 +97,7 @@ limits_neat l f =
     (neat_both (spell_number l.min) m (u64_neat l.min a.0)
     (neat_option spell_number is_u64 l.max u64_neat a.1))
 
-pub limits_only : Only limits_type fit_limits
+pub limits_only : OnlyFit limits_type fit_limits
 unfolding limits_type
 limits_only =
     only_made (λ _. true) limits_of fit_limits
@@ -108,14 +108,14 @@ limits_only =
 power_below : (k : ℕ) → k < 32 → 2 ^ k ≤ 2 ^ 31
 power_below k lt = pow_mono {i = k} {j = 31} (omega arith)
 
-page_here : (k : ℕ) → is_exponent k ≡ true → Spells pagesize k (spell_page_size k)
+pub page_here : (k : ℕ) → is_exponent k ≡ true → Spells pagesize k (spell_page_size k)
 unfolding pagesize page_exponent
 page_here k h r =
     let le = power_below k (below k 32 h) in
     group_here (codes "pagesize") page_exponent k (spell_number (2 ^ k)) r refl
     (2 ^ k, number_here 32 (2 ^ k) (omega arith) (omega arith) (RParen ∷ r), refl)
 
-page_neat : (k : ℕ) → is_exponent k ≡ true → Neat (spell_page_size k)
+pub page_neat : (k : ℕ) → is_exponent k ≡ true → Neat (spell_page_size k)
 page_neat k h =
     let le = power_below k (below k 32 h) in
     neat_group (codes "pagesize") (spell_number (2 ^ k)) refl
@@ -141,11 +141,11 @@ exponent_holds k c r a s =
     let le = u32_given s.1.0 s.0 s.1.2 in
     is_below k 32 (not_above k (subst (λ (n : ℕ). n ≤ 2 ^ 32 - 1) s.2 le))
 
-exponent_only : Only page_exponent is_exponent
+exponent_only : OnlyFit page_exponent is_exponent
 unfolding page_exponent
 exponent_only = record { holds = exponent_holds }
 
-page_only : Only pagesize_or_none (if_some is_exponent)
+pub page_only : OnlyFit pagesize_or_none (if_some is_exponent)
 unfolding pagesize_or_none pagesize
 page_only = only_opt (begins_group (codes "pagesize")) (only_group (codes "pagesize") exponent_only)
 
@@ -157,7 +157,7 @@ EndsMemory r =
     (begins_integer r ≡ false) × (begins_word (codes "shared") r ≡ false)
     × (begins_group (codes "pagesize") r ≡ false)
 
-page_part : (o : Option ℕ) (r : List Tok) → if_some is_exponent o ≡ true
+pub page_part : (o : Option ℕ) (r : List Tok) → if_some is_exponent o ≡ true
     → begins_group (codes "pagesize") r ≡ false
     → pagesize_or_none.spells o (spell_option spell_page_size o) r
 unfolding pagesize_or_none
@@ -210,7 +210,7 @@ memory_type_neat m f =
     (neat_both s p (neat_flag (codes "shared") m.shared refl)
     (neat_option spell_page_size is_exponent m.page_size_log2 page_neat a.1))
 
-pub memory_type_only : Only memory_type fit_memory_type
+pub memory_type_only : OnlyFit memory_type fit_memory_type
 unfolding memory_type
 memory_type_only =
     only_made (λ _. true) memory_type_of fit_memory_type
@@ -268,7 +268,7 @@ table_type_neat t f =
     (neat_both (spell_limits t.limits) (spell_ref t.elem) (limits_neat t.limits a.0)
     (ref_neat t.elem a.1))
 
-pub table_type_only : Only table_type fit_table_type
+pub table_type_only : OnlyFit table_type fit_table_type
 unfolding table_type
 table_type_only =
     only_made (λ _. true) table_type_of fit_table_type

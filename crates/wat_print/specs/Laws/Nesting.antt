@@ -1,5 +1,5 @@
--- Laws: tokens that can be written. Each stands where it may, their annotations' groups are closed, and
--- all are visible where the standard annotations are known.
+-- Laws: tokens that can be written. Each stands where it may, their annotations' groups are closed,
+-- and all are visible where the standard annotations are known.
 use Rattle.std.specs.Prelude.{◌≡◌, ℕ, zero, suc, ◌+◌, ◌-◌, Bool, true, false, List, [], ◌∷◌, ◌++◌}
 use Rattle.std.specs.Prelude.{length, Some, None}
 use Rattle.std.proofs.Common.{refl, ap, subst, sym, ◌∙◌, arith, append_assoc, append-nil}
@@ -9,7 +9,7 @@ use Rattle.wat_lexer.specs.Sight.{visible_tokens}
 use Rattle.wat_lexer.specs.Token.{Tok, Placed, LParen, RParen, Keyword, Id, Annotation, Integer}
 use Rattle.wat_lexer.specs.Token.{String, Reserved, tokens_of, is_open}
 use Rattle.wat_print.specs.Neat.{is_fit, Neat, nothing, token, group, noted}
-use Rattle.wat_print.specs.Layout.{Puts}
+use Rattle.wat_print.specs.Layout.{Writes}
 use Rattle.wat_print.specs.Text.{Page, blank_page}
 use Rattle.wat_print.specs.Laws.Cutting.{Fit, AllFit, page_cuts}
 
@@ -229,7 +229,7 @@ neat_closed ts n =
     all_closed ts (subst (λ (l : List Tok). AllShut l) (append-nil ts) (neat_shut ts [] n tt))
 
 -- what is laid out of such tokens is cut into them
-pub neat_cut : (ts : List Tok) (lines : Bool) (q : Page) → Neat ts → Puts ts (blank_page lines) q
+pub neat_cut : (ts : List Tok) (lines : Bool) (q : Page) → Neat ts → Writes ts (blank_page lines) q
     → (ps : List Placed) × IsCut q.bytes ps × (tokens_of ps ≡ ts)
 neat_cut ts lines q n w =
     let f = subst (λ (l : List Tok). AllFit false l) (append-nil ts) (neat_fit ts [] n tt) in

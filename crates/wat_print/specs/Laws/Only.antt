@@ -14,7 +14,7 @@ use Rattle.wat_print.specs.Neat.{is_given}
 use Rattle.wat_print.specs.Parts.{each, if_some}
 
 -- each value that tokens of a text spell passes the test
-pub record Only {A : Type 0} (g : Production A) (fit : A → Bool) : Type 0 where
+pub record OnlyFit {A : Type 0} (g : Production A) (fit : A → Bool) : Type 0 where
   pub holds : (v : A) (c r : List Tok) → each is_given c ≡ true → g.spells v c r → fit v ≡ true
 
 given_both : (d e : List Tok) → each is_given (d ++ e) ≡ true
@@ -29,12 +29,12 @@ given_parts : (c d e : List Tok) → c ≡ d ++ e → each is_given c ≡ true
     → (each is_given d ≡ true) × (each is_given e ≡ true)
 given_parts c d e s a = given_both d e (subst (λ (l : List Tok). each is_given l ≡ true) s a)
 
-pub only_any : {A : Type 0} (g : Production A) → Only g (λ _. true)
+pub only_any : {A : Type 0} (g : Production A) → OnlyFit g (λ _. true)
 only_any g = record { holds = λ v c r a s. refl }
 
 pub only_one : {A : Type 0} (value_of : Tok → Option A) (flat : NoParens value_of) (fit : A → Bool)
     → ((t : Tok) (v : A) → is_given t ≡ true → value_of t ≡ Some v → fit v ≡ true)
-    → Only (one value_of flat) fit
+    → OnlyFit (one value_of flat) fit
 only_one value_of flat fit h =
     record {
       holds = λ v c r a s. (let k = subst (λ (l : List Tok). each is_given l ≡ true) s.1 a in
@@ -42,27 +42,27 @@ only_one value_of flat fit h =
     }
 
 where_holds : {A : Type 0} {g h : Production A} {fit : A → Bool} (test : List Tok → Bool)
-    → Only g fit → Only h fit → (v : A) (c r : List Tok) → each is_given c ≡ true
+    → OnlyFit g fit → OnlyFit h fit → (v : A) (c r : List Tok) → each is_given c ≡ true
     → (where_else test g h).spells v c r → fit v ≡ true
 where_holds test m n v c r a s =
     elim s [ inl k ↦ m.holds v c r a k.1 | inr k ↦ n.holds v c r a k.1 ]
 
 pub only_where : {A : Type 0} {g h : Production A} {fit : A → Bool} (test : List Tok → Bool)
-    → Only g fit → Only h fit → Only (where_else test g h) fit
+    → OnlyFit g fit → OnlyFit h fit → OnlyFit (where_else test g h) fit
 only_where test m n = record { holds = where_holds test m n }
 
 opt_holds : {A : Type 0} {g : Production A} {fit : A → Bool} (begins : List Tok → Bool)
-    → Only g fit → (o : Option A) (c r : List Tok) → each is_given c ≡ true
+    → OnlyFit g fit → (o : Option A) (c r : List Tok) → each is_given c ≡ true
     → (opt begins g).spells o c r → if_some fit o ≡ true
 opt_holds begins m (Some v) c r a s = m.holds v c r a s.1
 opt_holds begins m None c r a s = refl
 
 pub only_opt : {A : Type 0} {g : Production A} {fit : A → Bool} (begins : List Tok → Bool)
-    → Only g fit → Only (opt begins g) (if_some fit)
+    → OnlyFit g fit → OnlyFit (opt begins g) (if_some fit)
 only_opt begins m = record { holds = opt_holds begins m }
 
-pub only_paren : {A : Type 0} {g : Production A} {fit : A → Bool} → Only g fit
-    → Only (paren g) fit
+pub only_paren : {A : Type 0} {g : Production A} {fit : A → Bool} → OnlyFit g fit
+    → OnlyFit (paren g) fit
 only_paren m =
     record {
       holds = λ v c r a s. (let p = given_parts c (LParen ∷ s.0) (RParen ∷ []) s.1 a in
@@ -70,7 +70,7 @@ only_paren m =
     }
 
 many_holds : {A : Type 0} {g : Production A} {fit : A → Bool} (begins : List Tok → Bool)
-    → Only g fit → (vs : List A) (c r : List Tok) → each is_given c ≡ true
+    → OnlyFit g fit → (vs : List A) (c r : List Tok) → each is_given c ≡ true
     → many_spells begins g vs c r → each fit vs ≡ true
 many_holds begins m [] c r a s = refl
 many_holds begins m (v ∷ vs) c r a s =
@@ -78,11 +78,11 @@ many_holds begins m (v ∷ vs) c r a s =
     rw (m.holds v s.0 (s.1 ++ r) p.0 s.4) (many_holds begins m vs s.1 r p.1 s.5)
 
 pub only_many : {A : Type 0} {g : Production A} {fit : A → Bool} (begins : List Tok → Bool)
-    (consumes : 1 ≤ g.least) → Only g fit → Only (many begins g consumes) (each fit)
+    (consumes : 1 ≤ g.least) → OnlyFit g fit → OnlyFit (many begins g consumes) (each fit)
 only_many begins consumes m = record { holds = many_holds begins m }
 
 pub only_seq : {A B : Type 0} {g : Production A} {h : Production B} {f : A → Bool} {k : B → Bool}
-    → Only g f → Only h k → Only (seq g h) (λ v. f v.0 && k v.1)
+    → OnlyFit g f → OnlyFit h k → OnlyFit (seq g h) (λ v. f v.0 && k v.1)
 only_seq m n =
     record {
       holds = λ v c r a s. (let p = given_parts c s.0 s.1 s.2 a in
@@ -90,7 +90,7 @@ only_seq m n =
     }
 
 pub only_made : {A B : Type 0} {g : Production A} (ok : A → Bool) (make : A → B) (fit : B → Bool)
-    → Only g (λ v. fit (make v)) → Only (made_where ok make g) fit
+    → OnlyFit g (λ v. fit (make v)) → OnlyFit (made_where ok make g) fit
 only_made {B = B} ok make fit m =
     record {
       holds = λ v c r a s. (subst (λ (w : B). fit w ≡ true) s.3 (m.holds s.0 c r a s.1));
@@ -98,13 +98,13 @@ only_made {B = B} ok make fit m =
 
 -- a weaker test
 pub only_weaker : {A : Type 0} {g : Production A} {f : A → Bool} (k : A → Bool)
-    → ((v : A) → f v ≡ true → k v ≡ true) → Only g f → Only g k
+    → ((v : A) → f v ≡ true → k v ≡ true) → OnlyFit g f → OnlyFit g k
 only_weaker k h m = record { holds = λ v c r a s. h v (m.holds v c r a s) }
 
-pub only_after : {A : Type 0} {g : Production A} {fit : A → Bool} (w : List ℕ) → Only g fit
-    → Only (after_word w g) fit
+pub only_after : {A : Type 0} {g : Production A} {fit : A → Bool} (w : List ℕ) → OnlyFit g fit
+    → OnlyFit (after_word w g) fit
 only_after {fit = fit} w m = only_made (λ _. true) (λ v. v.1) fit (only_seq (only_any (word w)) m)
 
-pub only_group : {A : Type 0} {g : Production A} {fit : A → Bool} (w : List ℕ) → Only g fit
-    → Only (group w g) fit
+pub only_group : {A : Type 0} {g : Production A} {fit : A → Bool} (w : List ℕ) → OnlyFit g fit
+    → OnlyFit (group w g) fit
 only_group w m = only_paren (only_after w m)

@@ -4,7 +4,7 @@ use Rattle.std.proofs.Common.{ap, subst, sym, ◌∙◌}
 use Rattle.wat_lexer.specs.Sight.{visible_tokens}
 use Rattle.wat_lexer.specs.Token.{Tok}
 use Rattle.wat_tokens.specs.Production.{Production}
-use Rattle.wat_print.specs.Layout.{Puts}
+use Rattle.wat_print.specs.Layout.{Writes}
 use Rattle.wat_print.specs.Neat.{is_given, Neat}
 use Rattle.wat_print.specs.Parts.{each}
 use Rattle.wat_print.specs.Printed.{may_break, ReadsBack, NoneSpells}
@@ -17,7 +17,7 @@ use Rattle.wat_print.specs.Laws.Written.{put_puts}
 
 -- the text of what was written on a new page
 pub on_one_line : (layout : Layout) (ts : List Tok) (p q : Page) (x : List ℕ) → layout ≡ Line
-    → p ≡ blank_page (may_break layout) → Puts ts p q → x ≡ q.bytes → x ≡ printed_text ts
+    → p ≡ blank_page (may_break layout) → Writes ts p q → x ≡ q.bytes → x ≡ printed_text ts
 on_one_line layout ts p q x l e w b =
     let start : p ≡ blank_page false = e ∙ ap (λ (k : Layout). blank_page (may_break k)) l in
     let whole : p.lines ≡ false = ap (λ (k : Page). k.lines) start in
@@ -26,9 +26,9 @@ on_one_line layout ts p q x l e w b =
 
 module _ {A : Type 0} (g : Production A) (v : A) where
   pub reads_back : (ts : List Tok) (lines : Bool) (p q : Page) (x : List ℕ) → Neat ts
-      → g.spells v ts [] → p ≡ blank_page lines → Puts ts p q → x ≡ q.bytes → ReadsBack g v x
+      → g.spells v ts [] → p ≡ blank_page lines → Writes ts p q → x ≡ q.bytes → ReadsBack g v x
   reads_back ts lines p q x n s e w b =
-      let c = neat_cut ts lines q n (subst (λ (k : Page). Puts ts k q) e w) in
+      let c = neat_cut ts lines q n (subst (λ (k : Page). Writes ts k q) e w) in
       let seen : visible_tokens true _ ≡ ts =
       ap (λ (l : List Tok). visible_tokens true l) c.2 ∙ neat_visible ts n in
       subst (λ (y : List ℕ). ReadsBack g v y) (sym b)

@@ -26,7 +26,8 @@ use Rattle.wat_print.specs.Reference.{abstract_word, spell_abstract, spell_heap,
 use Rattle.wat_print.specs.Reference.{short_word, spell_long, spell_reference, spell_ref, fit_ref}
 use Rattle.wat_print.specs.Reference.{spell_val, fit_val}
 use Rattle.wat_print.specs.Laws.Numbers.{decimal_fit, unsigned_decimal, unsigned_fits}
-use Rattle.wat_print.specs.Laws.Only.{Only, only_any, only_one, only_where, only_made, only_group}
+use Rattle.wat_print.specs.Laws.Only.{OnlyFit, only_any, only_one, only_where, only_made}
+use Rattle.wat_print.specs.Laws.Only.{only_group}
 use Rattle.wat_print.specs.Laws.Only.{only_seq}
 use Rattle.wat_print.specs.Laws.Parts.{Spells, group_here, flag_here, neat_one, neat_group}
 use Rattle.wat_print.specs.Laws.Parts.{neat_both, neat_flag}
@@ -284,10 +285,10 @@ index_given (Id n) i a e = let k : name n ≡ i = cc in subst (λ (j : Idx). fit
 index_given LParen i a e = absurd cc
 index_given _ i a e = absurd cc
 
-pub index_only : Only index fit_index
+pub index_only : OnlyFit index fit_index
 index_only = only_one index_of (refl, refl) fit_index index_given
 
-pub heap_only : Only heap_type fit_heap
+pub heap_only : OnlyFit heap_type fit_heap
 unfolding heap_type
 heap_only =
     only_where begins_index (only_made (λ _. true) concrete fit_heap index_only)
@@ -301,7 +302,7 @@ heap_only =
 abbrev ref_of : Bool × HeapTy → RefTy
 ref_of v = record { nullable = v.0; heap = v.1 }
 
-pub ref_only : Only ref_type fit_ref
+pub ref_only : OnlyFit ref_type fit_ref
 unfolding ref_type
 ref_only =
     only_where (begins_group (codes "ref"))
@@ -327,7 +328,7 @@ plain_given (Keyword w) v a e = look_up_fit fit_val plain_words w v refl e
 plain_given LParen v a e = absurd cc
 plain_given _ v a e = absurd cc
 
-pub val_only : Only val_type fit_val
+pub val_only : OnlyFit val_type fit_val
 unfolding val_type
 val_only =
     only_where (begins_one_of (word_in plain_words))

@@ -18,7 +18,8 @@ use Rattle.wat_print.specs.Parts.{spell_flag}
 use Rattle.wat_print.specs.Reference.{short_word, spell_reference, spell_val, fit_val}
 use Rattle.wat_print.specs.Storage.{spell_storage, fit_storage, spell_field_of, spell_field}
 use Rattle.wat_print.specs.Storage.{fit_field, spell_global_of, spell_global, fit_global}
-use Rattle.wat_print.specs.Laws.Only.{Only, only_any, only_where, only_paren, only_seq, only_made}
+use Rattle.wat_print.specs.Laws.Only.{OnlyFit, only_any, only_where, only_paren, only_seq}
+use Rattle.wat_print.specs.Laws.Only.{only_made}
 use Rattle.wat_print.specs.Laws.Only.{only_group}
 use Rattle.wat_print.specs.Laws.Parts.{Spells, paren_here, word_here, group_here, flag_here}
 use Rattle.wat_print.specs.Laws.Parts.{neat_one, neat_group, neat_paren, neat_both, neat_flag}
@@ -119,7 +120,7 @@ storage_neat i8 f = neat_one (Keyword (codes "i8")) refl
 storage_neat i16 f = neat_one (Keyword (codes "i16")) refl
 storage_neat (val t) f = val_neat t f
 
-pub storage_only : Only storage_type fit_storage
+pub storage_only : OnlyFit storage_type fit_storage
 unfolding storage_type
 storage_only =
     only_where (begins_word (codes "i8"))
@@ -183,7 +184,7 @@ field_of_neat false t h = storage_neat t h
 pub field_neat : (f : FieldTy) → fit_field f ≡ true → Neat (spell_field f)
 field_neat f h = field_of_neat f.mutable f.ty h
 
-pub field_only : Only field_type fit_field
+pub field_only : OnlyFit field_type fit_field
 unfolding field_type
 field_only =
     only_where (second (begins_word (codes "mut")))
@@ -273,7 +274,7 @@ global_of_neat false true t f = long_neat false true t f
 pub global_neat : (g : GlobalTy) → fit_global g ≡ true → Neat (spell_global g)
 global_neat g f = global_of_neat g.shared g.mutable g.ty f
 
-pub global_only : Only global_type fit_global
+pub global_only : OnlyFit global_type fit_global
 unfolding global_type
 global_only =
     only_where long_global

@@ -24,7 +24,8 @@ use Rattle.wat_print.specs.Storage.{spell_storage, spell_field_of, spell_field, 
 use Rattle.wat_print.specs.Struct.{member_label, spell_member, fit_member, spell_struct, fit_struct}
 use Rattle.wat_print.specs.Laws.Label.{label_neat, label_only, fit_parts, parts_here, in_groups_fit}
 use Rattle.wat_print.specs.Laws.Label.{in_groups_all}
-use Rattle.wat_print.specs.Laws.Only.{Only, only_where, only_seq, only_made, only_many, only_group}
+use Rattle.wat_print.specs.Laws.Only.{OnlyFit, only_where, only_seq, only_made, only_many}
+use Rattle.wat_print.specs.Laws.Only.{only_group}
 use Rattle.wat_print.specs.Laws.Only.{only_weaker}
 use Rattle.wat_print.specs.Laws.Parts.{and_also, each_all, Spells, group_here, many_here}
 use Rattle.wat_print.specs.Laws.Parts.{neat_group, neat_both, neat_each}
@@ -142,7 +143,7 @@ struct_neat ms f =
 
 -- ---- what a text spells can be written
 
-members_only : Only members fit_struct
+members_only : OnlyFit members fit_struct
 unfolding members plain_members
 members_only =
     only_where begins_label
@@ -152,11 +153,11 @@ members_only =
     (only_many more field_type_consumes
     (only_made (λ _. true) (member_of no_label) fit_member field_only))
 
-group_of_only : Only member_group fit_struct
+group_of_only : OnlyFit member_group fit_struct
 unfolding member_group
 group_of_only = only_group (codes "field") members_only
 
-pub struct_only : Only struct_type fit_struct
+pub struct_only : OnlyFit struct_type fit_struct
 unfolding struct_type
 struct_only =
     only_made (λ _. true) (λ gs. all_of gs) fit_struct

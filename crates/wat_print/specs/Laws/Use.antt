@@ -25,7 +25,8 @@ use Rattle.wat_print.specs.Use.{fit_unnamed, fit_unnamed_use}
 use Rattle.wat_print.specs.Laws.Function.{fit_group, AreGroupsOf, groups_fit, groups_are}
 use Rattle.wat_print.specs.Laws.Function.{function_by, groups_neat, labels_none, function_only}
 use Rattle.wat_print.specs.Laws.Function.{unnamed_only}
-use Rattle.wat_print.specs.Laws.Only.{Only, only_opt, only_seq, only_made, only_group, only_weaker}
+use Rattle.wat_print.specs.Laws.Only.{OnlyFit, only_opt, only_seq, only_made, only_group}
+use Rattle.wat_print.specs.Laws.Only.{only_weaker}
 use Rattle.wat_print.specs.Laws.Parts.{group_here, neat_group, neat_both, neat_option}
 use Rattle.wat_print.specs.Laws.Quoted.{if_cases}
 use Rattle.wat_print.specs.Laws.Reference.{index_here, index_neat, index_only}
@@ -165,7 +166,7 @@ unnamed_use_neat u f = use_neat u (unnamed_use_fit u f)
 use_only_of : {g : Production FuncTy} {fit : FuncTy → Bool} (fits : UseTy FuncTy → Bool)
     → ((i : Option Idx) (o : Option FuncTy)
     → fits (use_of i o) ≡ if_some fit_index i && if_some fit o)
-    → Only g fit → Only (type_use begins_func g) fits
+    → OnlyFit g fit → OnlyFit (type_use begins_func g) fits
 unfolding type_use
 use_only_of {fit = fit} fits same m =
     only_made (λ _. true) (λ v. use_of v.0 v.1) fits
@@ -173,10 +174,10 @@ use_only_of {fit = fit} fits same m =
     (only_seq (only_opt type_follows (only_group (codes "type") index_only))
     (only_opt begins_func m)))
 
-pub use_only : Only (type_use begins_func function_type) fit_use
+pub use_only : OnlyFit (type_use begins_func function_type) fit_use
 use_only = use_only_of fit_use (λ i o. refl) function_only
 
-pub unnamed_use_only : Only (type_use begins_func function_type_no_names) fit_unnamed_use
+pub unnamed_use_only : OnlyFit (type_use begins_func function_type_no_names) fit_unnamed_use
 unnamed_use_only = use_only_of fit_unnamed_use (λ i o. refl) unnamed_only
 
 -- ---- a type with no parameter and no result

@@ -6,7 +6,7 @@ use Rattle.std.proofs.Common.{refl, ap, subst, sym, ◌∙◌, append_assoc, app
 use Rattle.std.proofs.lemmas.List.{take_more}
 use Rattle.std.proofs.lemmas.Bool.{and_parts, cond_both}
 use Rattle.wat_lexer.specs.Token.{Tok}
-use Rattle.wat_print.specs.Layout.{LayoutPart, one, line, blanks, broken, lay, tokens_in, Puts}
+use Rattle.wat_print.specs.Layout.{LayoutPart, one, line, blanks, broken, lay, tokens_in, Writes}
 use Rattle.wat_print.specs.Text.{Page, put_one, put}
 use Rattle.wat_lexer.specs.Token.{LParen, RParen, Keyword}
 use Rattle.wat_tokens.specs.Spelled.{in_parens}
@@ -30,7 +30,7 @@ tokens_one [] = refl
 tokens_one (t ∷ ts) = ap (λ (l : List Tok). t ∷ l) (tokens_one ts)
 
 -- on one line
-pub puts_put : (ts : List Tok) (a b : Page) → b ≡ put a ts → Puts ts a b
+pub puts_put : (ts : List Tok) (a b : Page) → b ≡ put a ts → Writes ts a b
 puts_put ts a b e =
     record { pieces = map one ts; tokens = tokens_one ts; page = e ∙ lay_put ts a }
 
@@ -46,11 +46,11 @@ line_whole (one t ∷ ps) p h = line_whole ps (put_one p t) h
 line_whole (line n ∷ ps) p h =
     ap (λ (q : Page). lay q ps) (unbroken n p h) ∙ line_whole ps p h
 
-pub put_puts : (ts : List Tok) (a b : Page) → a.lines ≡ false → Puts ts a b → b ≡ put a ts
+pub put_puts : (ts : List Tok) (a b : Page) → a.lines ≡ false → Writes ts a b → b ≡ put a ts
 put_puts ts a b h w = w.page ∙ line_whole w.pieces a h ∙ ap (λ (l : List Tok). put a l) w.tokens
 
 -- a line break, or nothing
-pub puts_line : (n : ℕ) (a b : Page) → b ≡ broken n a → Puts [] a b
+pub puts_line : (n : ℕ) (a b : Page) → b ≡ broken n a → Writes [] a b
 puts_line n a b e = record { pieces = line n ∷ []; tokens = refl; page = e }
 
 lay_both : (ps qs : List LayoutPart) (p : Page) → lay p (ps ++ qs) ≡ lay (lay p ps) qs
@@ -64,7 +64,8 @@ tokens_both (one t ∷ ps) qs = ap (λ (l : List Tok). t ∷ l) (tokens_both ps 
 tokens_both (line n ∷ ps) qs = tokens_both ps qs
 
 -- first these, and then those
-pub puts_both : (ts us : List Tok) (a b c : Page) → Puts ts a b → Puts us b c → Puts (ts ++ us) a c
+pub puts_both : (ts us : List Tok) (a b c : Page) → Writes ts a b → Writes us b c
+    → Writes (ts ++ us) a c
 puts_both ts us a b c v w =
     record {
       pieces = v.pieces ++ w.pieces;
@@ -112,14 +113,14 @@ module _ {X A : Type 0} (view : X → A) (spell : A → List Tok) (fit : A → B
 
   -- one value more, on further lines
   pub lines_more : (xs : List X) (i : ℕ) (x : X) (a b c : Page) → i < length xs
-      → x ≡ get_or xs i x → WroteLines view spell fit (take i xs) a b → Puts (spell (view x)) b c
+      → x ≡ get_or xs i x → WroteLines view spell fit (take i xs) a b → Writes (spell (view x)) b c
       → fit (view x) ≡ true → WroteLines view spell fit (take (i + 1) xs) a c
   lines_more xs i x a b c lt s w e f =
       let ys = take i xs in
       let same : take (i + 1) xs ≡ ys ++ x ∷ [] =
       take_more xs i x lt ∙ ap (λ (y : X). ys ++ y ∷ []) (sym s) in
       subst (λ (l : List X). WroteLines view spell fit l a c) (sym same) (record {
-        written = subst (λ (l : List Tok). Puts l a c) (sym (spell_last ys x))
+        written = subst (λ (l : List Tok). Writes l a c) (sym (spell_last ys x))
             (puts_both (flat_map spell (map view ys)) (spell (view x)) a b c w.written e);
         fits = fit_last ys x w.fits f;
       })
@@ -286,7 +287,7 @@ put_parens ts a b c d e f g =
 
 -- a line break, and then tokens
 pub puts_behind : (n : ℕ) (ts : List Tok) (a b c : Page) → b ≡ broken n a → c ≡ put b ts
-    → Puts ts a c
+    → Writes ts a c
 puts_behind n ts a b c e f = puts_both [] ts a b c (puts_line n a b e) (puts_put ts b c f)
 
 -- where one value can't be, not all can

@@ -4,7 +4,7 @@ use Rattle.wat_print.proofs.output.Output.line.Goals as goal
 
 pub returns : goal.returns
 returns c = (
-  2 * c.self.inside.depth,
+  2 * c.min-steps.result,
   line_broken _ _ _ _ _ _ _ c.self.view_is c.if-not-self.false c.if-self.false
       c.in_ok-push_str.ensures.bytes c.in_ok-push_blanks.ensures,
 )
