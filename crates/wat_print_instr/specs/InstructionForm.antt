@@ -177,12 +177,17 @@ operand_form (head.Access op) = form found_access (access_printing (access_align
 operand_form (head.Memory op) = form found_one_index index_or_0_printing
 operand_form (head.Struct op) = form found_two_indices pair_printing
 operand_form (head.ArrayInit op) = form found_two_indices pair_printing
-operand_form (head.AtomicAccess op) = form found_access (atomic_printing (atomic_access_align op) false)
+operand_form (head.AtomicAccess op) =
+    form found_access (atomic_printing (atomic_access_align op) false)
 operand_form (head.RmwAccess op) = form found_access (atomic_printing (rmw_access_align op) true)
-operand_form (head.OrderedIndex op) = form found_ordered_index (ordered_printing index index_printing)
-operand_form (head.OrderedTable op) = form found_ordered_index (ordered_printing index_or_0 index_or_0_printing)
-operand_form (head.OrderedStruct op) = form found_ordered_indices (ordered_printing index_pair pair_printing)
-operand_form (head.LaneAccess op) = form found_lane_access (lane_access_printing (lane_access_align op))
+operand_form (head.OrderedIndex op) =
+    form found_ordered_index (ordered_printing index index_printing)
+operand_form (head.OrderedTable op) =
+    form found_ordered_index (ordered_printing index_or_0 index_or_0_printing)
+operand_form (head.OrderedStruct op) =
+    form found_ordered_indices (ordered_printing index_pair pair_printing)
+operand_form (head.LaneAccess op) =
+    form found_lane_access (lane_access_printing (lane_access_align op))
 operand_form (head.Lane op) = form found_lane lane_printing
 operand_form (head.Vector op) = form found_nothing nothing_printing
 operand_form head.br_table = form found_branches br_table_printing

@@ -1,4 +1,6 @@
 -- Laws of the definitions: lemmas that other crates rest on.
+pub mod Expression
+pub mod ExpressionOnly
 pub mod Instruction
 pub mod Numbers
 pub mod Places

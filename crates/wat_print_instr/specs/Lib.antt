@@ -1,3 +1,4 @@
+pub use Rattle.wat_expr.specs.Expression
 pub use Rattle.wat_instr.specs.Instruction
 pub use Rattle.wat_operands.specs.Aggregates
 pub use Rattle.wat_operands.specs.Block
@@ -12,6 +13,7 @@ pub use Rattle.wat_operands.specs.Select
 pub use Rattle.wat_operands.specs.Vector
 pub mod Access
 pub mod Control
+pub mod ExpressionForm
 pub mod InstructionForm
 pub mod InstructionPrinting
 pub mod Laws

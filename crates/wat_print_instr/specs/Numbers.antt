@@ -1,12 +1,18 @@
 -- How numbers with a sign, and words that end in a number, are written.
-use Rattle.std.specs.Prelude.{ℕ, ℤ, pos, negsuc, ◌^◌, ◌-◌, Bool, ◌&&◌, ◌==◌, nat_lt, List, [], ◌∷◌}
-use Rattle.std.specs.Prelude.{◌++◌, length, decimal}
+use Rattle.std.specs.Prelude.{◌≡◌, ℕ, ℤ, pos, negsuc, ◌*◌, ◌^◌, ◌-◌, ◌≤◌, Bool, ◌&&◌, ◌==◌, nat_lt}
+use Rattle.std.specs.Prelude.{List, [], ◌∷◌, ◌++◌, length, decimal}
 use Rattle.std.specs.Fmt.{signed_decimal}
 use Rattle.wat_lexer.specs.Token.{Tok, Keyword, Integer}
 use Rattle.wat_print.specs.Parts.{each}
 
 abbrev pub spell_signed : ℤ → List Tok
 spell_signed z = Integer (signed_decimal z) ∷ []
+
+-- a width in bits, of which twice the half is the whole
+pub record Halves (bits : ℕ) : Type 0 where
+  pub whole : 2 ^ bits ≡ 2 * 2 ^ (bits - 1)
+  pub some : 1 ≤ 2 ^ (bits - 1)
+  pub fits : 2 ^ bits ≤ 2 ^ 64
 
 -- of so many bits, with a sign
 abbrev pub is_signed : ℕ → ℤ → Bool

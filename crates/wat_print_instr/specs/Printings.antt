@@ -30,14 +30,15 @@ use Rattle.wat_print.specs.Index.{fit_index}
 use Rattle.wat_print.specs.Limits.{spell_number}
 use Rattle.wat_print.specs.Printed.{Printing}
 use Rattle.wat_print_instr.specs.Access.{spell_access, fit_access, spell_ordering, spell_atomic}
-use Rattle.wat_print_instr.specs.Access.{fit_atomic, spell_ordered, fit_ordered, spell_lane, fit_lane}
+use Rattle.wat_print_instr.specs.Access.{fit_atomic, spell_ordered, fit_ordered, spell_lane}
+use Rattle.wat_print_instr.specs.Access.{fit_lane}
 use Rattle.wat_print_instr.specs.Access.{spell_lane_access, fit_lane_access}
 use Rattle.wat_print_instr.specs.Control.{spell_block, fit_block, spell_call, fit_call}
 use Rattle.wat_print_instr.specs.Control.{spell_select, fit_select, spell_branch, fit_branch}
 use Rattle.wat_print_instr.specs.Control.{spell_catch, fit_catch, spell_try, fit_try, spell_handler}
 use Rattle.wat_print_instr.specs.Control.{fit_handler, spell_resume_table, fit_resume_table}
 use Rattle.wat_print_instr.specs.Control.{spell_resume, fit_resume, spell_throw, fit_throw}
-use Rattle.wat_print_instr.specs.Numbers.{spell_signed, is_signed, is_unsigned}
+use Rattle.wat_print_instr.specs.Numbers.{Halves, spell_signed, is_signed, is_unsigned}
 use Rattle.wat_print_instr.specs.Places.{spell_index_or_0, spell_pair, fit_pair, spell_init}
 use Rattle.wat_print_instr.specs.Places.{spell_copy, spell_sized, fit_sized, spell_br_table}
 use Rattle.wat_print_instr.specs.Places.{fit_br_table}
@@ -58,7 +59,7 @@ use Rattle.wat_print_instr.specs.Laws.Control.{resume_table_neat, resume_table_o
 use Rattle.wat_print_instr.specs.Laws.Control.{resume_neat, resume_only, throw_here, throw_neat}
 use Rattle.wat_print_instr.specs.Laws.Control.{throw_only, end_label_here, end_label_neat}
 use Rattle.wat_print_instr.specs.Laws.Control.{end_label_only}
-use Rattle.wat_print_instr.specs.Laws.Numbers.{Halves, halves_8, halves_16, halves_32, halves_64}
+use Rattle.wat_print_instr.specs.Laws.Numbers.{halves_8, halves_16, halves_32, halves_64}
 use Rattle.wat_print_instr.specs.Laws.Numbers.{signed_here, signed_neat, signed_only}
 use Rattle.wat_print_instr.specs.Laws.Numbers.{unsigned_here, unsigned_neat, unsigned_only}
 use Rattle.wat_print_instr.specs.Laws.Places.{index_or_0_here, index_or_0_neat, index_or_0_only}
@@ -174,7 +175,7 @@ atomic_printing a rmw = record {
   spell = spell_atomic a;
   fit = fit_atomic a rmw;
   neat = atomic_neat a rmw;
-  spells = atomic_here a rmw;
+  spells = λ v h. atomic_here a rmw v [] h (refl, refl, refl, refl) refl refl;
   only = (atomic_only a rmw).holds;
 }
 
@@ -210,7 +211,7 @@ lane_access_printing a = record {
   spell = spell_lane_access a;
   fit = fit_lane_access a;
   neat = lane_access_neat a;
-  spells = lane_access_here a;
+  spells = λ v h. lane_access_here a v [] h (refl, refl, refl, refl) refl;
   only = (lane_access_only a).holds;
 }
 
@@ -288,7 +289,7 @@ try_printing = record {
   spell = spell_try;
   fit = fit_try;
   neat = try_neat;
-  spells = try_here;
+  spells = λ v h. try_here v [] h ((refl, refl, refl), refl, refl) refl;
   only = try_only.holds;
 }
 
@@ -336,7 +337,7 @@ end_label_printing = record {
   spell = spell_option spell_id;
   fit = if_some is_name;
   neat = end_label_neat;
-  spells = end_label_here;
+  spells = λ v h. end_label_here v [] h refl;
   only = end_label_only.holds;
 }
 

@@ -143,9 +143,9 @@ fn write_access_ordering(out: &mut Output, ordering: Option<MemArgOrdering>) -> 
     }
 }
 
-/// Writes what an atomic access is given (Text Format, Instructions, "Memory Instructions", with the
-/// proposals on threads): what [`write_access`] writes, and then its ordering, where it has one.
-/// `rmw` says whether the instruction reads, changes and writes.
+/// Writes what an atomic access is given (Text Format, Instructions, "Memory Instructions", with
+/// the proposals on threads): what [`write_access`] writes, and then its ordering, where it has
+/// one. `rmw` says whether the instruction reads, changes and writes.
 ///
 /// An alignment that is no power of two and not the default is refused with Alignment. An ordering
 /// of an instruction that reads, changes and writes is refused with Ordering where the instruction

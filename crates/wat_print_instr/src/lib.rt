@@ -1,13 +1,14 @@
-//! Instructions and their operands as text (WebAssembly Core Specification, Text Format,
-//! "Instructions").
+//! Instructions, their operands and expressions as text (WebAssembly Core Specification, Text
+//! Format, "Instructions").
 //!
-//! A type that has [`PrintCode`] is printed by [`wat_print::print`] as [`Code`], and what is
-//! printed is read again as the same value.
+//! A type that has [`PrintCode`] is printed by [`wat_print::print`] as [`Code`], an expression by
+//! [`expression::print_expression`], and what is printed is read again as the same value.
 #![tactic(auto)]
 
 pub mod access;
 pub mod caught;
 pub mod control;
+pub mod expression;
 pub mod instruction;
 pub mod laws;
 pub mod numbers;

@@ -1,14 +1,12 @@
 //! How numbers are printed.
 
-ghost use Rattle.std.specs.Prelude.{◌≡◌, ◌∷◌, [], ◌≤◌, OnOk, IfErr, length};
+ghost use Rattle.std.specs.Prelude.{◌≡◌, OnOk, IfErr};
 ghost use Rattle.wat_print.specs.Text.{put};
 ghost use Rattle.wat_print.specs.declared.fault.Refused.TheVariants.{Memory};
 ghost use Rattle.wat_print_instr.specs.Access.{spell_unless};
-ghost use Rattle.wat_print_instr.specs.Numbers.{spell_signed, numbered};
+ghost use Rattle.wat_print_instr.specs.Numbers.{spell_signed};
 
 use crate::traits::PrintCode;
-use arrayvec::ArrayString;
-use itoa::Buffer;
 use wat_print::{Output, Refused};
 
 /// Writes a number with a sign.
@@ -16,23 +14,7 @@ pub fn write_signed(out: &mut Output, number: i64) -> Result<(), Refused>
     ensures written { OnOk result (out.new ≡ put out.old (spell_signed number)) }
     ensures refused { IfErr result (λ e. e ≡ Memory) }
 {
-    let mut buffer = Buffer::new();
-    // (a word and an integer of the same characters are written alike)
-    out.word(buffer.format(number))?;
-    Ok(())
-}
-
-/// Writes a word that ends in a number.
-fn write_numbered(out: &mut Output, front: &str, number: u64) -> Result<(), Refused>
-    requires { length front.now ≤ 7 }
-    ensures written { OnOk result (out.new ≡ put out.old (numbered front.now number ∷ [])) }
-    ensures refused { IfErr result (λ e. e ≡ Memory) }
-{
-    let mut word = ArrayString::<48>::new();
-    let mut buffer = Buffer::new();
-    word.push_str(front);
-    word.push_str(buffer.format(number));
-    out.word(word.as_str())?;
+    out.signed(number)?;
     Ok(())
 }
 
@@ -43,13 +25,12 @@ pub(crate) fn write_unless(
     front: &str,
     number: u64,
 ) -> Result<(), Refused>
-    requires { length front.now ≤ 7 }
     ensures written { OnOk result (out.new ≡ put out.old (spell_unless is_meant front.now
         number)) }
     ensures refused { IfErr result (λ e. e ≡ Memory) }
 {
     if !is_meant {
-        write_numbered(out, front, number)?;
+        out.numbered(front, number)?;
     }
     Ok(())
 }

@@ -32,7 +32,7 @@ use wat_print::{Output, Refused};
 use wat_tokens::Index;
 
 /// Whether it is the number 0.
-fn is_zero(index: &Index) -> bool
+pub fn is_zero(index: &Index) -> bool
     ensures { result ≡ is_index_0 (index_view index.now) }
 {
     matches!(index, Index::Num(0, _))

@@ -1,12 +1,12 @@
 -- Laws: accesses to memories, and orderings, are read again.
+use Rattle.std.specs.Prelude.{not}
 use Rattle.std.specs.Prelude.{◌≡◌, ℕ, zero, suc, ◌^◌, ◌<◌, Bool, true, false, ◌&&◌, ◌||◌, ◌==◌}
-use Rattle.std.specs.Prelude.{List, [], ◌∷◌, ◌++◌, codes, decimal, Option, Some, None, unwrap_or}
+use Rattle.std.specs.Prelude.{List, ◌∷◌, ◌++◌, codes, decimal, Option, Some, None, unwrap_or}
 use Rattle.std.specs.Prelude.{is_none, option_map}
 use Rattle.std.specs.Int.{is_power_of_two}
 use Rattle.std.proofs.Common.{refl, ap, subst, sym, inl, inr, lit≤, arith}
 use Rattle.std.proofs.lemmas.Bool.{and_parts, cond_both}
 use Rattle.std.proofs.lemmas.Fmt.{decimal_is_IsNumeral}
-use Rattle.std.proofs.Common.{append-nil}
 use Rattle.wat_print.specs.Laws.Numbers.{no_sign, unsigned_decimal}
 use Rattle.wat_lexer.specs.Number.{unsigned_value, sign_of}
 use Rattle.wat_lexer.specs.Token.{Tok, LParen, RParen, Keyword, Integer}
@@ -16,8 +16,9 @@ use Rattle.wat_tokens.specs.PartSpells.{opt_spells}
 use Rattle.wat_tokens.specs.Production.{Production}
 use Rattle.wat_tokens.specs.Tests.{begins_word}
 use Rattle.wat_operands.specs.Align.{past_front, number_behind, field, number_in}
-use Rattle.wat_operands.specs.Lanes.{LaneAccessTy, lane_of, lane_arg, lane_in, access_of, lane_alone}
-use Rattle.wat_operands.specs.Lanes.{is_alone, lane_access}
+use Rattle.wat_operands.specs.Lanes.{LaneAccessTy, lane_of, lane_arg, lane_in, access_of}
+use Rattle.wat_operands.specs.Lanes.{lane_alone}
+use Rattle.wat_operands.specs.Lanes.{goes_on, is_alone, lane_access}
 use Rattle.wat_operands.specs.Laws.Power.{power_of_two-holds, power_of_two-tested}
 use Rattle.wat_operands.specs.Memory.{TargetTy, memory, array, target, array_follows, begins_with}
 use Rattle.wat_operands.specs.Memory.{offset_or_0, align, align_or, MemArgTy, mem_arg_of, mem_arg}
@@ -32,9 +33,10 @@ use Rattle.wat_print.specs.Index.{spell_index}
 use Rattle.wat_print.specs.Limits.{spell_number, is_u64}
 use Rattle.wat_print.specs.Neat.{is_keyword, is_given, Neat, nothing}
 use Rattle.wat_print.specs.Parts.{each, if_some, spell_option}
-use Rattle.wat_print.specs.Laws.Only.{Only, only_any, only_one, only_where, only_opt, only_seq}
+use Rattle.wat_print.specs.Laws.Only.{OnlyFit, only_any, only_one, only_where, only_opt, only_seq}
 use Rattle.wat_print.specs.Laws.Only.{only_made, only_group, only_weaker}
-use Rattle.wat_print.specs.Laws.Parts.{Spells, group_here, word_here, neat_one, neat_both, neat_group}
+use Rattle.wat_print.specs.Laws.Parts.{Spells, group_here, word_here, neat_one, neat_both}
+use Rattle.wat_print.specs.Laws.Parts.{neat_group}
 use Rattle.wat_print.specs.Laws.Parts.{neat_option, and_also}
 use Rattle.wat_print.specs.Laws.Reference.{index_here, index_neat, index_only}
 use Rattle.wat_print_instr.specs.Access.{spell_target, fit_target, spell_unless}
@@ -83,7 +85,7 @@ target_neat : (t : TargetTy) → fit_target t ≡ true → Neat (spell_target t)
 target_neat (memory i) f = index_or_0_neat i f
 target_neat (array i) f = neat_group (codes "type") (spell_index i) refl (index_neat i f)
 
-target_only : Only target fit_target
+target_only : OnlyFit target fit_target
 unfolding target
 target_only =
     only_where array_follows
@@ -286,7 +288,7 @@ behind_given front (Keyword w) n a e = in_number (past_front front w) n e
 behind_given front LParen n a e = absurd cc
 behind_given front _ n a e = absurd cc
 
-field_only : (front : List ℕ) → Only (field front) is_u64
+field_only : (front : List ℕ) → OnlyFit (field front) is_u64
 unfolding field
 field_only front = only_one (number_behind front) (refl, refl) is_u64 (behind_given front)
 
@@ -294,7 +296,7 @@ or_0_u64 : (o : Option ℕ) → if_some is_u64 o ≡ true → is_u64 (unwrap_or 
 or_0_u64 (Some n) h = h
 or_0_u64 None h = refl
 
-offset_only : Only offset_or_0 is_u64
+offset_only : OnlyFit offset_or_0 is_u64
 unfolding offset_or_0
 offset_only =
     only_made (λ _. true) (λ o. unwrap_or o 0) is_u64
@@ -310,7 +312,7 @@ unfolding align
 align_holds n c r a s =
     rw (power_of_two-tested n s.1, (field_only (codes "align=")).holds n c r a s.0) refl
 
-align_only : Only align is_alignment
+align_only : OnlyFit align is_alignment
 align_only = record { holds = align_holds }
 
 or_is : (b c : Bool) → c ≡ true → b || c ≡ true
@@ -322,14 +324,14 @@ or_default : (a : ℕ) (o : Option ℕ) → if_some is_alignment o ≡ true
 or_default a (Some n) h = or_is (n == a) (is_alignment n) h
 or_default a None h = rw (same_number a) refl
 
-align_or_only : (a : ℕ) → Only (align_or a) (fit_alignment a)
+align_or_only : (a : ℕ) → OnlyFit (align_or a) (fit_alignment a)
 unfolding align_or
 align_or_only a =
     only_made (λ _. true) (λ o. unwrap_or o a) (fit_alignment a)
     (only_weaker (λ o. fit_alignment a (unwrap_or o a)) (or_default a)
     (only_opt (begins_with (codes "align=")) align_only))
 
-pub access_only : (a : ℕ) → Only (mem_arg a) (fit_access a)
+pub access_only : (a : ℕ) → OnlyFit (mem_arg a) (fit_access a)
 unfolding mem_arg
 access_only a =
     only_made (λ _. true) mem_arg_of (fit_access a)
@@ -369,7 +371,7 @@ module _ {A : Type 0} (g : Production A) (spell : A → List Tok) (fit : A → B
   pub ordered_neat : (v : Ordering × A) → Neat (spell v.1) → Neat (spell_ordered spell v)
   ordered_neat v n = neat_both (spell_ordering v.0) (spell v.1) (ordering_neat v.0) n
 
-  pub ordered_only : Only g fit → Only (ordered g) (fit_ordered fit)
+  pub ordered_only : OnlyFit g fit → OnlyFit (ordered g) (fit_ordered fit)
   ordered_only m = only_seq (only_any ordering) m
 
 -- ---- atomic accesses
@@ -382,33 +384,36 @@ kind_of false (Some (Op o)) h = refl
 kind_of true (Some (Op o)) h = absurd cc
 kind_of false (Some (Rmw o)) h = absurd cc
 
-ends_ordering : (o : Option MemArgOrdering)
-    → EndsAccess (spell_option (λ x. spell_ordering (ordering_in x)) o ++ [])
-    × (begins_index (spell_option (λ x. spell_ordering (ordering_in x)) o ++ []) ≡ false)
+ends_ordering : (o : Option MemArgOrdering) (r : List Tok) → EndsAccess r
+    → begins_index r ≡ false
+    → EndsAccess (spell_option (λ x. spell_ordering (ordering_in x)) o ++ r)
+    × (begins_index (spell_option (λ x. spell_ordering (ordering_in x)) o ++ r) ≡ false)
 unfolding past_front
-ends_ordering None = ((refl, refl, refl, refl), refl)
-ends_ordering (Some (Op AcqRel)) = ((refl, refl, refl, refl), refl)
-ends_ordering (Some (Op SeqCst)) = ((refl, refl, refl, refl), refl)
-ends_ordering (Some (Rmw AcqRel)) = ((refl, refl, refl, refl), refl)
-ends_ordering (Some (Rmw SeqCst)) = ((refl, refl, refl, refl), refl)
+ends_ordering None r e i = (e, i)
+ends_ordering (Some (Op AcqRel)) r e i = ((refl, refl, refl, e.2), refl)
+ends_ordering (Some (Op SeqCst)) r e i = ((refl, refl, refl, e.2), refl)
+ends_ordering (Some (Rmw AcqRel)) r e i = ((refl, refl, refl, e.2), refl)
+ends_ordering (Some (Rmw SeqCst)) r e i = ((refl, refl, refl, e.2), refl)
 
-ordering_part : (o : Option MemArgOrdering)
+ordering_part : (o : Option MemArgOrdering) (r : List Tok) → begins_ordering r ≡ false
     → opt_spells begins_ordering ordering (option_map ordering_in o)
-    (spell_option (λ x. spell_ordering (ordering_in x)) o) []
-ordering_part None = fence_here None [] refl
-ordering_part (Some x) = fence_here (Some (ordering_in x)) [] refl
+    (spell_option (λ x. spell_ordering (ordering_in x)) o) r
+ordering_part None r e = fence_here None r e
+ordering_part (Some x) r e = fence_here (Some (ordering_in x)) r e
 
-pub atomic_here : (a : ℕ) (rmw : Bool) (m : MemArgTy) → fit_atomic a rmw m ≡ true
-    → (atomic_mem_arg a rmw).spells m (spell_atomic a m) []
+-- in front of what begins neither an index nor an ordering nor one of its words
+pub atomic_here : (a : ℕ) (rmw : Bool) (m : MemArgTy) (r : List Tok) → fit_atomic a rmw m ≡ true
+    → EndsAccess r → begins_index r ≡ false → begins_ordering r ≡ false
+    → (atomic_mem_arg a rmw).spells m (spell_atomic a m) r
 unfolding atomic_mem_arg
-atomic_here a rmw m f =
+atomic_here a rmw m r f e i k =
     let p = and_parts (fit_place a m) (fit_ordering rmw m.ordering) f in
     let o = spell_option (λ x. spell_ordering (ordering_in x)) m.ordering in
-    let e = ends_ordering m.ordering in (
+    let b = ends_ordering m.ordering r e i in (
       (unordered m, option_map ordering_in m.ordering),
       both_here (mem_arg a) (opt begins_ordering ordering) (unordered m)
-          (option_map ordering_in m.ordering) (spell_access a m) o []
-          (place_here a m (o ++ []) p.0 e.0 (λ u v. (e.1))) (ordering_part m.ordering),
+          (option_map ordering_in m.ordering) (spell_access a m) o r
+          (place_here a m (o ++ r) p.0 b.0 (λ u v. (b.1))) (ordering_part m.ordering r k),
       refl,
       ap (λ (x : Option MemArgOrdering). record {
         align = m.align;
@@ -444,7 +449,7 @@ fit_with a rmw v h =
     let q = and_parts (fit_place a v.0) (is_none v.0.ordering) p.0 in
     rw (q.0) (fit_kind_of rmw v.1)
 
-pub atomic_only : (a : ℕ) (rmw : Bool) → Only (atomic_mem_arg a rmw) (fit_atomic a rmw)
+pub atomic_only : (a : ℕ) (rmw : Bool) → OnlyFit (atomic_mem_arg a rmw) (fit_atomic a rmw)
 unfolding atomic_mem_arg
 atomic_only a rmw =
     only_made (λ _. true) (with_ordering rmw) (fit_atomic a rmw)
@@ -479,7 +484,7 @@ lane_here l f r =
 pub lane_neat : (l : LaneArg) → fit_lane l ≡ true → Neat (spell_lane l)
 lane_neat l f = unsigned_neat 8 l.lane (lit≤ tt) f
 
-pub lane_only : Only lane_arg fit_lane
+pub lane_only : OnlyFit lane_arg fit_lane
 unfolding lane_arg
 lane_only =
     only_made (λ _. true) lane_of fit_lane
@@ -488,84 +493,87 @@ lane_only =
 
 -- ---- accesses to one lane
 
-ends_lane : (n : ℕ) → EndsAccess (spell_number n ++ [])
+ends_lane : (n : ℕ) (r : List Tok) → EndsAccess r → EndsAccess (spell_number n ++ r)
 unfolding past_front
-ends_lane n = (refl, refl, refl, refl)
+ends_lane n r e = (refl, refl, refl, e.2)
 
-alone : (a n : ℕ) → (lane_arg).spells (lane_of n) (spell_number n) []
-    → (lane_access a).spells (lane_alone a (lane_of n)) (spell_number n) []
+alone : (a n : ℕ) (r : List Tok) → goes_on r ≡ false
+    → lane_arg.spells (lane_of n) (spell_number n) r
+    → (lane_access a).spells (lane_alone a (lane_of n)) (spell_number n) r
 unfolding lane_access
-alone a n s = inl (refl, (lane_of n, s, refl, refl))
+alone a n r e s = inl (ap not e, (lane_of n, s, refl, refl))
 
 -- the value of an access and a lane
 abbrev lane_value : ℕ → TargetTy → ℕ → ℕ → ℕ → LaneAccessTy
 lane_value a t n k lane = access_of (mem_arg_of (t, (n, k)), lane_of lane)
 
 -- behind something else
-behind : (a : ℕ) (b c : Bool) (t : TargetTy) (n k lane : ℕ)
-    → is_alone ((spell_target t ++ two_words b c n k) ++ spell_number lane) ≡ false
+behind : (a : ℕ) (b c : Bool) (t : TargetTy) (n k lane : ℕ) (r : List Tok)
+    → is_alone (((spell_target t ++ two_words b c n k) ++ spell_number lane) ++ r) ≡ false
     → (mem_arg a).spells (mem_arg_of (t, (n, k))) (spell_target t ++ two_words b c n k)
-    (spell_number lane ++ []) → lane_arg.spells (lane_of lane) (spell_number lane) []
+    (spell_number lane ++ r) → lane_arg.spells (lane_of lane) (spell_number lane) r
     → (lane_access a).spells (lane_value a t n k lane)
-    ((spell_target t ++ two_words b c n k) ++ spell_number lane) []
+    ((spell_target t ++ two_words b c n k) ++ spell_number lane) r
 unfolding lane_access
-behind a b c t n k lane e s u =
-    let x = (spell_target t ++ two_words b c n k) ++ spell_number lane in
+behind a b c t n k lane r e s u =
     inr (
-      subst (λ (l : List Tok). is_alone l ≡ false) (sym (append-nil x)) e,
+      e,
       (
         (mem_arg_of (t, (n, k)), lane_of lane),
         both_here (mem_arg a) lane_arg (mem_arg_of (t, (n, k))) (lane_of lane)
-            (spell_target t ++ two_words b c n k) (spell_number lane) [] s u,
+            (spell_target t ++ two_words b c n k) (spell_number lane) r s u,
         refl,
         refl,
       ),
     )
 
-not_alone : (t : TargetTy) (b c : Bool) (n k lane : ℕ) → is_memory_0 t && (b && c) ≡ false
-    → is_alone ((spell_target t ++ two_words b c n k) ++ spell_number lane) ≡ false
+not_alone : (t : TargetTy) (b c : Bool) (n k lane : ℕ) (r : List Tok)
+    → is_memory_0 t && (b && c) ≡ false
+    → is_alone (((spell_target t ++ two_words b c n k) ++ spell_number lane) ++ r) ≡ false
 unfolding past_front
-not_alone (memory (number zero)) true true n k lane h = absurd cc
-not_alone (memory (number zero)) true false n k lane h = refl
-not_alone (memory (number zero)) false c n k lane h = refl
-not_alone (memory (number (suc m))) false c n k lane h = refl
-not_alone (memory (number (suc m))) true false n k lane h = refl
-not_alone (memory (number (suc m))) true true n k lane h = refl
-not_alone (memory (name y)) b c n k lane h = refl
-not_alone (array i) b c n k lane h = refl
+not_alone (memory (number zero)) true true n k lane r h = absurd cc
+not_alone (memory (number zero)) true false n k lane r h = refl
+not_alone (memory (number zero)) false c n k lane r h = refl
+not_alone (memory (number (suc m))) false c n k lane r h = refl
+not_alone (memory (number (suc m))) true false n k lane r h = refl
+not_alone (memory (number (suc m))) true true n k lane r h = refl
+not_alone (memory (name y)) b c n k lane r h = refl
+not_alone (array i) b c n k lane r h = refl
 
 -- with d: whether nothing is written before the lane
-lane_by : (d b c : Bool) (a : ℕ) (t : TargetTy) (n k lane : ℕ) → is_memory_0 t && (b && c) ≡ d
-    → (n == 0) ≡ b → (k == a) ≡ c → fit_target t ≡ true → is_u64 n ≡ true
-    → fit_alignment a k ≡ true → is_unsigned 8 lane ≡ true
-    → (lane_access a).spells (lane_value a t n k lane)
-    ((spell_target t ++ two_words b c n k) ++ spell_number lane) []
-lane_by false b c a t n k lane d z y f g h i =
-    behind a b c t n k lane (not_alone t b c n k lane d)
-    (access_by a b c t n k (spell_number lane ++ []) z y f g h (ends_lane lane)
+lane_by : (d b c : Bool) (a : ℕ) (t : TargetTy) (n k lane : ℕ) (r : List Tok)
+    → is_memory_0 t && (b && c) ≡ d → (n == 0) ≡ b → (k == a) ≡ c → fit_target t ≡ true
+    → is_u64 n ≡ true → fit_alignment a k ≡ true → is_unsigned 8 lane ≡ true → EndsAccess r
+    → goes_on r ≡ false → (lane_access a).spells (lane_value a t n k lane)
+    ((spell_target t ++ two_words b c n k) ++ spell_number lane) r
+lane_by false b c a t n k lane r d z y f g h i e o =
+    behind a b c t n k lane r (not_alone t b c n k lane r d)
+    (access_by a b c t n k (spell_number lane ++ r) z y f g h (ends_lane lane r e)
     (λ u v. (let w : is_memory_0 t && (b && c) ≡ true = rw (u, v) refl in absurd cc)))
-    (lane_here (lane_of lane) i [])
-lane_by true true true a (memory (number zero)) n k lane d z y f g h i =
-    subst (λ (v : LaneAccessTy). (lane_access a).spells v (spell_number lane) [])
-    (rw (equal_by n 0 z, equal_by k a y) refl) (alone a lane (lane_here (lane_of lane) i []))
-lane_by true b c a (memory (number (suc m))) n k lane d z y f g h i = absurd cc
-lane_by true b c a (memory (name x)) n k lane d z y f g h i = absurd cc
-lane_by true b c a (array j) n k lane d z y f g h i = absurd cc
-lane_by true true false a (memory (number zero)) n k lane d z y f g h i = absurd cc
-lane_by true false c a (memory (number zero)) n k lane d z y f g h i = absurd cc
+    (lane_here (lane_of lane) i r)
+lane_by true true true a (memory (number zero)) n k lane r d z y f g h i e o =
+    subst (λ (v : LaneAccessTy). (lane_access a).spells v (spell_number lane) r)
+    (rw (equal_by n 0 z, equal_by k a y) refl) (alone a lane r o (lane_here (lane_of lane) i r))
+lane_by true b c a (memory (number (suc m))) n k lane r d z y f g h i e o = absurd cc
+lane_by true b c a (memory (name x)) n k lane r d z y f g h i e o = absurd cc
+lane_by true b c a (array j) n k lane r d z y f g h i e o = absurd cc
+lane_by true true false a (memory (number zero)) n k lane r d z y f g h i e o = absurd cc
+lane_by true false c a (memory (number zero)) n k lane r d z y f g h i e o = absurd cc
 
-pub lane_access_here : (a : ℕ) (l : LaneAccessTy) → fit_lane_access a l ≡ true
-    → (lane_access a).spells l (spell_lane_access a l) []
-lane_access_here a l f =
+-- in front of what is neither an integer nor one of its words
+pub lane_access_here : (a : ℕ) (l : LaneAccessTy) (r : List Tok) → fit_lane_access a l ≡ true
+    → EndsAccess r → goes_on r ≡ false
+    → (lane_access a).spells l (spell_lane_access a l) r
+lane_access_here a l r f e o =
     let m = l.memarg in
     let p = and_parts (fit_access a m) (fit_lane l.lane) f in
     let q = and_parts (fit_place a m) (is_none m.ordering) p.0 in
     let u = and_parts (fit_target m.target) (is_u64 m.offset && fit_alignment a m.align) q.0 in
     let w = and_parts (is_u64 m.offset) (fit_alignment a m.align) u.1 in
     subst (λ (x : MemArgTy). (lane_access a).spells (access_of (x, l.lane))
-    (spell_lane_access a l) []) (none_ordered m q.1)
+    (spell_lane_access a l) r) (none_ordered m q.1)
     (lane_by (is_memory_0 m.target && ((m.offset == 0) && (m.align == a))) (m.offset == 0)
-    (m.align == a) a m.target m.offset m.align l.lane.lane refl refl refl u.0 w.0 w.1 p.1)
+    (m.align == a) a m.target m.offset m.align l.lane.lane r refl refl refl u.0 w.0 w.1 p.1 e o)
 
 pub lane_access_neat : (a : ℕ) (l : LaneAccessTy) → fit_lane_access a l ≡ true
     → Neat (spell_lane_access a l)
@@ -578,7 +586,7 @@ alone_fit : (a : ℕ) (l : LaneArg) → fit_lane l ≡ true
     → fit_lane_access a (lane_alone a l) ≡ true
 alone_fit a l f = rw (same_number a, f) refl
 
-pub lane_access_only : (a : ℕ) → Only (lane_access a) (fit_lane_access a)
+pub lane_access_only : (a : ℕ) → OnlyFit (lane_access a) (fit_lane_access a)
 unfolding lane_access
 lane_access_only a =
     only_where is_alone

@@ -47,7 +47,7 @@ use Rattle.wat_print.specs.Use.{or_empty, spell_use, fit_unnamed_use}
 use Rattle.wat_print.specs.Laws.Label.{label_here, label_neat, label_only, id_here, id_neat}
 use Rattle.wat_print.specs.Laws.Label.{id_only}
 use Rattle.wat_tokens.specs.Index.{identifier}
-use Rattle.wat_print.specs.Laws.Only.{Only, only_any, only_where, only_opt, only_many, only_seq}
+use Rattle.wat_print.specs.Laws.Only.{OnlyFit, only_any, only_where, only_opt, only_many, only_seq}
 use Rattle.wat_print.specs.Laws.Only.{only_made, only_weaker, only_after, only_group, only_paren}
 use Rattle.wat_print.specs.Laws.Parts.{Spells, paren_here, word_here, group_here, many_here}
 use Rattle.wat_print.specs.Laws.Parts.{neat_both, neat_one, neat_word, neat_group, neat_paren}
@@ -89,16 +89,16 @@ use_front test b h u r e = use_parts test b h u.index u.inline r e
 
 -- ---- the label of an end
 
-pub end_label_here : (o : Option (List ℕ)) → if_some is_name o ≡ true
-    → opt_spells begins_id identifier o (spell_option spell_id o) []
-end_label_here (Some n) f = (refl, id_here n f [])
-end_label_here None f = (refl, refl)
+pub end_label_here : (o : Option (List ℕ)) (r : List Tok) → if_some is_name o ≡ true
+    → begins_id r ≡ false → opt_spells begins_id identifier o (spell_option spell_id o) r
+end_label_here (Some n) r f e = (refl, id_here n f r)
+end_label_here None r f e = (refl, e)
 
 pub end_label_neat : (o : Option (List ℕ)) → if_some is_name o ≡ true
     → Neat (spell_option spell_id o)
 end_label_neat o f = neat_option spell_id is_name o id_neat f
 
-pub end_label_only : Only (opt begins_id identifier) (if_some is_name)
+pub end_label_only : OnlyFit (opt begins_id identifier) (if_some is_name)
 end_label_only = only_opt begins_id id_only
 
 -- ---- blocks and calls
@@ -128,7 +128,7 @@ block_neat b f =
     neat_both (spell_label b.label) (spell_use b.ty) (label_neat b.label a.0)
     (unnamed_use_neat b.ty a.1)
 
-pub block_only : Only block_type fit_block
+pub block_only : OnlyFit block_type fit_block
 unfolding block_type
 block_only =
     only_made (λ _. true) (λ v. block_of v.0 v.1) fit_block
@@ -190,7 +190,7 @@ call_fit v h =
     let a = and_parts (if_some fit_index v.0) (fit_unnamed_use v.1) h in
     rw (zero_fit v.0 a.0) (a.1)
 
-pub call_only : Only call_indirect fit_call
+pub call_only : OnlyFit call_indirect fit_call
 unfolding call_indirect
 call_only =
     only_made (λ _. true) (λ v. call_of (or_zero v.0) v.1) fit_call
@@ -227,11 +227,11 @@ result_neat ts f =
 pub select_neat : (o : Option (List ValTy)) → fit_select o ≡ true → Neat (spell_select o)
 select_neat o f = neat_option spell_result (each fit_val) o result_neat f
 
-result_only : Only result_group (each fit_val)
+result_only : OnlyFit result_group (each fit_val)
 unfolding val_types
 result_only = only_group (codes "result") (only_many more val_type_consumes val_only)
 
-pub select_only : Only select_types fit_select
+pub select_only : OnlyFit select_types fit_select
 unfolding select_types
 select_only =
     only_opt result_follows
@@ -266,7 +266,7 @@ branch_neat b f =
     (neat_both (spell_ref b.from_type) (spell_ref b.to_type) (ref_neat b.from_type c.0)
     (ref_neat b.to_type c.1))
 
-pub branch_only : Only cast_branch fit_branch
+pub branch_only : OnlyFit cast_branch fit_branch
 unfolding cast_branch
 branch_only =
     only_made (λ _. true) (λ v. branch_of v.0 v.1.0 v.1.1) fit_branch
@@ -343,7 +343,7 @@ catch_neat c f =
     (neat_both (spell_catch_kind c.kind) (spell_index c.label) (kind_neat c.kind a.0)
     (index_neat c.label a.1))
 
-kind_only : Only catch_kind fit_catch_kind
+kind_only : OnlyFit catch_kind fit_catch_kind
 unfolding catch_kind
 kind_only =
     only_where (begins_word (codes "catch"))
@@ -355,7 +355,7 @@ kind_only =
     (only_made (λ _. true) (λ _. CatchAllRef) fit_catch_kind
     (only_any (word (codes "catch_all_ref"))))))
 
-pub catch_only : Only catch_clause fit_catch
+pub catch_only : OnlyFit catch_clause fit_catch
 unfolding catch_clause
 catch_only =
     only_paren (only_made (λ _. true) (λ v. catch_of v.0 v.1) fit_catch
@@ -369,30 +369,32 @@ kind_begins CatchAll l x = refl
 kind_begins CatchAllRef l x = refl
 
 clause_ends : (k : CatchKind Idx) (l : Idx) (x : List Tok)
-    → EndsBlock ((spell_catch (catch_of k l) ++ x) ++ [])
-clause_ends (Catch i) l x = ((refl, refl, refl), refl, refl)
-clause_ends (CatchRef i) l x = ((refl, refl, refl), refl, refl)
-clause_ends CatchAll l x = ((refl, refl, refl), refl, refl)
-clause_ends CatchAllRef l x = ((refl, refl, refl), refl, refl)
+    (r : List Tok) → EndsBlock ((spell_catch (catch_of k l) ++ x) ++ r)
+clause_ends (Catch i) l x r = ((refl, refl, refl), refl, refl)
+clause_ends (CatchRef i) l x r = ((refl, refl, refl), refl, refl)
+clause_ends CatchAll l x r = ((refl, refl, refl), refl, refl)
+clause_ends CatchAllRef l x r = ((refl, refl, refl), refl, refl)
 
 catch_begins : (c : CatchTy) (x : List Tok) → begins_catch (spell_catch c ++ x) ≡ true
 catch_begins c x = kind_begins c.kind c.label x
 
-catches_end : (cs : List CatchTy) → EndsBlock (flat_map spell_catch cs ++ [])
-catches_end [] = ((refl, refl, refl), refl, refl)
-catches_end (c ∷ cs) = clause_ends c.kind c.label (flat_map spell_catch cs)
+catches_end : (cs : List CatchTy) (r : List Tok) → EndsBlock r
+    → EndsBlock (flat_map spell_catch cs ++ r)
+catches_end [] r e = e
+catches_end (c ∷ cs) r e = clause_ends c.kind c.label (flat_map spell_catch cs) r
 
--- in front of nothing
-pub try_here : (t : TryTy) → fit_try t ≡ true → try_table.spells t (spell_try t) []
+-- in front of what begins neither a part of a block nor a clause
+pub try_here : (t : TryTy) (r : List Tok) → fit_try t ≡ true → EndsBlock r
+    → begins_catch r ≡ false → try_table.spells t (spell_try t) r
 unfolding try_table
-try_here t f =
+try_here t r f e k =
     let a = and_parts (fit_block t.block) (each fit_catch t.catches) f in
     let cs = flat_map spell_catch t.catches in (
       (t.block, t.catches),
       both_here block_type (many begins_catch catch_clause catch_clause_consumes) t.block t.catches
-          (spell_block t.block) cs [] (block_here t.block (cs ++ []) a.0 (catches_end t.catches))
+          (spell_block t.block) cs r (block_here t.block (cs ++ r) a.0 (catches_end t.catches r e))
           (many_here begins_catch catch_clause spell_catch fit_catch catch_here
-          (λ c x o. (catch_begins c x)) t.catches [] a.1 refl),
+          (λ c x o. (catch_begins c x)) t.catches r a.1 k),
       refl,
       refl,
     )
@@ -403,7 +405,7 @@ try_neat t f =
     neat_both (spell_block t.block) (flat_map spell_catch t.catches) (block_neat t.block a.0)
     (neat_each spell_catch fit_catch catch_neat t.catches a.1)
 
-pub try_only : Only try_table fit_try
+pub try_only : OnlyFit try_table fit_try
 unfolding try_table
 try_only =
     only_made (λ _. true) (λ v. try_of v.0 v.1) fit_try
@@ -452,7 +454,7 @@ handler_neat (on_switch t) f =
     (neat_both (spell_index t) (Keyword (codes "switch") ∷ []) (index_neat t f)
     (neat_one (Keyword (codes "switch")) refl))
 
-aim_only : Only aim (if_some fit_index)
+aim_only : OnlyFit aim (if_some fit_index)
 unfolding aim
 aim_only =
     only_where (begins_word (codes "switch"))
@@ -464,7 +466,7 @@ handler_fit : (t : Idx) (o : Option Idx) → fit_index t && if_some fit_index o 
 handler_fit t (Some l) h = h
 handler_fit t None h = (and_parts (fit_index t) true h).0
 
-pub handler_only : Only handler fit_handler
+pub handler_only : OnlyFit handler fit_handler
 unfolding handler
 handler_only =
     only_group (codes "on") (only_made (λ _. true) (λ v. handler_to v.0 v.1) fit_handler
@@ -487,7 +489,7 @@ pub resume_table_neat : (hs : List HandleTy) → fit_resume_table hs ≡ true
     → Neat (spell_resume_table hs)
 resume_table_neat hs f = neat_each spell_handler fit_handler handler_neat hs f
 
-pub resume_table_only : Only resume_table fit_resume_table
+pub resume_table_only : OnlyFit resume_table fit_resume_table
 unfolding resume_table
 resume_table_only = only_many begins_handler handler_consumes handler_only
 
@@ -510,7 +512,7 @@ resume_neat v f =
     neat_both (spell_index v.type_index) (spell_resume_table v.table)
     (index_neat v.type_index a.0) (resume_table_neat v.table a.1)
 
-pub resume_only : Only resume fit_resume
+pub resume_only : OnlyFit resume fit_resume
 unfolding resume
 resume_only =
     only_made (λ _. true) (λ v. resume_of v.0 v.1) fit_resume
@@ -545,7 +547,7 @@ throw_neat v f =
     (neat_both (spell_index v.tag_index) (spell_resume_table v.table)
     (index_neat v.tag_index b.0) (resume_table_neat v.table b.1))
 
-pub throw_only : Only resume_throw fit_throw
+pub throw_only : OnlyFit resume_throw fit_throw
 unfolding resume_throw
 throw_only =
     only_made (λ _. true) (λ v. throw_of v.0 v.1.0 v.1.1) fit_throw

@@ -1,5 +1,6 @@
 -- Laws: instructions are read again.
-use Rattle.std.specs.Prelude.{◌≡◌, ℕ, ℤ, suc, zero, ◌<◌, Bool, true, false, ◌&&◌, ◌==◌, List, [], ◌∷◌}
+use Rattle.std.specs.Prelude.{◌≡◌, ℕ, ℤ, suc, zero, ◌<◌, Bool, true, false, ◌&&◌, ◌==◌, List, []}
+use Rattle.std.specs.Prelude.{◌∷◌}
 use Rattle.std.specs.Prelude.{◌++◌, Option, Some, None, length}
 use Rattle.std.proofs.Common.{refl, ap, subst, sym, ◌∙◌, get_or, arith}
 use Rattle.std.proofs.lemmas.Bool.{and_parts}
@@ -43,16 +44,23 @@ use Rattle.wat_print.specs.Parts.{each, spell_option}
 use Rattle.wat_print.specs.Printed.{Printing}
 use Rattle.wat_print.specs.Printings.{index_printing, heap_printing, ref_printing}
 use Rattle.wat_print.specs.Laws.Parts.{neat_word}
-use Rattle.wat_print.specs.Laws.Only.{Only}
+use Rattle.wat_print.specs.Laws.Only.{OnlyFit}
 use Rattle.wat_print.specs.Neat as neat
 use Rattle.wat_tokens.specs.Followed.{blank}
-use Rattle.wat_print_instr.specs.InstructionForm.{found_nothing, found_block, found_label, found_one_index}
-use Rattle.wat_print_instr.specs.InstructionForm.{found_two_indices, found_branches, found_call, found_chosen}
-use Rattle.wat_print_instr.specs.InstructionForm.{found_access, found_ordered_index, found_ordered_indices}
-use Rattle.wat_print_instr.specs.InstructionForm.{found_lane_access, found_lane, found_heap, found_sized}
-use Rattle.wat_print_instr.specs.InstructionForm.{found_reference, found_cast, found_integer, found_float, found_fence}
-use Rattle.wat_print_instr.specs.InstructionForm.{found_vector, found_shuffled, found_caught, found_resumed}
-use Rattle.wat_print_instr.specs.InstructionForm.{found_thrown, passes, OperandForm, form, operand_form}
+use Rattle.wat_print_instr.specs.InstructionForm.{found_nothing, found_block, found_label}
+use Rattle.wat_print_instr.specs.InstructionForm.{found_one_index}
+use Rattle.wat_print_instr.specs.InstructionForm.{found_two_indices, found_branches, found_call}
+use Rattle.wat_print_instr.specs.InstructionForm.{found_chosen}
+use Rattle.wat_print_instr.specs.InstructionForm.{found_access, found_ordered_index}
+use Rattle.wat_print_instr.specs.InstructionForm.{found_ordered_indices}
+use Rattle.wat_print_instr.specs.InstructionForm.{found_lane_access, found_lane, found_heap}
+use Rattle.wat_print_instr.specs.InstructionForm.{found_sized}
+use Rattle.wat_print_instr.specs.InstructionForm.{found_reference, found_cast, found_integer}
+use Rattle.wat_print_instr.specs.InstructionForm.{found_float, found_fence}
+use Rattle.wat_print_instr.specs.InstructionForm.{found_vector, found_shuffled, found_caught}
+use Rattle.wat_print_instr.specs.InstructionForm.{found_resumed}
+use Rattle.wat_print_instr.specs.InstructionForm.{found_thrown, passes, OperandForm, form}
+use Rattle.wat_print_instr.specs.InstructionForm.{operand_form}
 use Rattle.wat_print_instr.specs.InstructionForm.{spell_instruction, fit_instruction}
 use Rattle.wat_print_instr.specs.Printings.{i32_printing, i64_printing, index_or_0_printing}
 use Rattle.wat_print_instr.specs.Printings.{pair_printing, init_printing, copy_printing}
@@ -64,6 +72,27 @@ use Rattle.wat_print_instr.specs.Printings.{select_printing, branch_printing, tr
 use Rattle.wat_print_instr.specs.Printings.{resume_printing, throw_printing, end_label_printing}
 use Rattle.wat_print_instr.specs.Printings.{fence_printing, number_printing, nothing_printing}
 use Rattle.wat_print_instr.specs.Laws.Numbers.{equal_by, same_number}
+use Rattle.std.specs.Prelude.{codes}
+use Rattle.std.specs.Str.{bytes_eq}
+use Rattle.wat_lexer.specs.Token.{LParen, Annotation}
+use Rattle.wat_tokens.specs.Index.{begins_index}
+use Rattle.wat_operands.specs.Catches.{begins_catch}
+use Rattle.wat_operands.specs.Handlers.{begins_handler}
+use Rattle.wat_operands.specs.Lanes.{goes_on}
+use Rattle.wat_operands.specs.Ordering.{begins_ordering}
+use Rattle.wat_operands.specs.Select.{result_follows}
+use Rattle.wat_print.specs.Index.{spell_index, fit_index}
+use Rattle.wat_print.specs.Laws.Reference.{index_here, heap_here, ref_here}
+use Rattle.wat_print_instr.specs.Places.{spell_index_or_0, spell_pair, fit_pair}
+use Rattle.wat_print_instr.specs.Laws.Access.{EndsAccess, access_here, atomic_here, ordered_here}
+use Rattle.wat_print_instr.specs.Laws.Access.{fence_here, lane_here, lane_access_here}
+use Rattle.wat_print_instr.specs.Laws.Control.{EndsBlock, block_here, call_here, select_here}
+use Rattle.wat_print_instr.specs.Laws.Control.{branch_here, try_here, resume_here, throw_here}
+use Rattle.wat_print_instr.specs.Laws.Control.{end_label_here}
+use Rattle.wat_print_instr.specs.Laws.Numbers.{halves_32, halves_64, signed_here}
+use Rattle.wat_print_instr.specs.Laws.Places.{index_or_0_here, pair_here, init_here, copy_here}
+use Rattle.wat_print_instr.specs.Laws.Places.{sized_here, br_table_here}
+use Rattle.wat_print_instr.specs.Laws.Vectors.{vector_here, shuffle_here, unfit}
 
 -- ---- what is found in an operand is what it was made of
 
@@ -99,15 +128,19 @@ access_from : (o : Operand) (v : MemArgTy) → found_access o ≡ Some v → acc
 access_from (access x) v e = let same : x ≡ v = cc in ap access (sym same)
 access_from _ v e = absurd cc
 
-ordered_index_from : (o : Operand) (v : Ordering × Idx) → found_ordered_index o ≡ Some v → ordered_index v ≡ o
+ordered_index_from : (o : Operand) (v : Ordering × Idx) → found_ordered_index o ≡ Some v
+    → ordered_index v ≡ o
 ordered_index_from (ordered_index x) v e = let same : x ≡ v = cc in ap ordered_index (sym same)
 ordered_index_from _ v e = absurd cc
 
-ordered_indices_from : (o : Operand) (v : Ordering × (Idx × Idx)) → found_ordered_indices o ≡ Some v → ordered_indices v ≡ o
-ordered_indices_from (ordered_indices x) v e = let same : x ≡ v = cc in ap ordered_indices (sym same)
+ordered_indices_from : (o : Operand) (v : Ordering × (Idx × Idx)) → found_ordered_indices o ≡ Some v
+    → ordered_indices v ≡ o
+ordered_indices_from (ordered_indices x) v e = let same : x ≡ v = cc in
+    ap ordered_indices (sym same)
 ordered_indices_from _ v e = absurd cc
 
-lane_access_from : (o : Operand) (v : LaneAccessTy) → found_lane_access o ≡ Some v → lane_access v ≡ o
+lane_access_from : (o : Operand) (v : LaneAccessTy) → found_lane_access o ≡ Some v
+    → lane_access v ≡ o
 lane_access_from (lane_access x) v e = let same : x ≡ v = cc in ap lane_access (sym same)
 lane_access_from _ v e = absurd cc
 
@@ -165,10 +198,48 @@ thrown_from _ v e = absurd cc
 
 -- ---- operands
 
+-- what may follow an operand without taking part in it
+pub record EndsOperand (r : List Tok) : Type 0 where
+  pub no_index : begins_index r ≡ false
+  pub no_lane : goes_on r ≡ false
+  pub no_ordering : begins_ordering r ≡ false
+  pub no_result : result_follows r ≡ false
+  pub no_catch : begins_catch r ≡ false
+  pub no_handler : begins_handler r ≡ false
+  pub access : EndsAccess r
+  pub block : EndsBlock r
+
+pub ends_nothing : EndsOperand []
+ends_nothing = record {
+  no_index = refl;
+  no_lane = refl;
+  no_ordering = refl;
+  no_result = refl;
+  no_catch = refl;
+  no_handler = refl;
+  access = (refl, refl, refl, refl);
+  block = ((refl, refl, refl), refl, refl);
+}
+
+-- a group that begins with another annotation than `@name`
+pub ends_annotation : (n : List ℕ) (x : List Tok) → bytes_eq n (codes "name") ≡ false
+    → EndsOperand (LParen ∷ Annotation n ∷ x)
+ends_annotation n x e = record {
+  no_index = refl;
+  no_lane = refl;
+  no_ordering = refl;
+  no_result = refl;
+  no_catch = refl;
+  no_handler = refl;
+  access = (refl, refl, refl, refl);
+  block = ((refl, refl, refl), refl, e);
+}
+
 -- an operand is printed so
 pub record Forms (g : Production Operand) (f : OperandForm) : Type 0 where
   pub neat : (o : Operand) → f.fit o ≡ true → Neat (f.spell o)
-  pub spells : (o : Operand) → f.fit o ≡ true → g.spells o (f.spell o) []
+  pub spells : (o : Operand) (r : List Tok) → f.fit o ≡ true → EndsOperand r
+      → g.spells o (f.spell o) r
   pub only : (o : Operand) (c r : List Tok) → each is_given c ≡ true → g.spells o c r
       → f.fit o ≡ true
 
@@ -176,15 +247,16 @@ pub record Forms (g : Production Operand) (f : OperandForm) : Type 0 where
 module _ {A : Type 0} {g : Production A} (make : A → Operand) (from : Operand → Option A)
     (back : (v : A) → from (make v) ≡ Some v)
     (made_of : (o : Operand) (v : A) → from o ≡ Some v → make v ≡ o) (p : Printing g)
+    (here : (v : A) (r : List Tok) → p.fit v ≡ true → EndsOperand r → g.spells v (p.spell v) r)
   where
     neat_by : (o : Option A) → passes p.fit o ≡ true → Neat (spell_option p.spell o)
     neat_by (Some v) h = p.neat v h
     neat_by None h = absurd cc
 
-    spells_by : (o : Operand) (x : Option A) → from o ≡ x → passes p.fit x ≡ true
-        → (made make g).spells o (spell_option p.spell x) []
-    spells_by o (Some v) e h = (v, p.spells v h, refl, made_of o v e)
-    spells_by o None e h = absurd cc
+    spells_by : (o : Operand) (x : Option A) (r : List Tok) → from o ≡ x → passes p.fit x ≡ true
+        → EndsOperand r → (made make g).spells o (spell_option p.spell x) r
+    spells_by o (Some v) r e h k = (v, here v r h k, refl, made_of o v e)
+    spells_by o None r e h k = absurd cc
 
     only_by : (o : Operand) (c r : List Tok) → each is_given c ≡ true
         → (made make g).spells o c r → passes p.fit (from o) ≡ true
@@ -195,7 +267,7 @@ module _ {A : Type 0} {g : Production A} (make : A → Operand) (from : Operand 
     forms_made : Forms (made make g) (form from p)
     forms_made = record {
       neat = λ o h. neat_by (from o) h;
-      spells = λ o h. spells_by o (from o) refl h;
+      spells = λ o r h k. spells_by o (from o) r refl h k;
       only = only_by;
     }
 
@@ -204,10 +276,11 @@ nothing_neat : (o : Operand) → passes nothing_printing.fit (found_nothing o) �
 nothing_neat nothing h = neat.nothing
 nothing_neat _ h = absurd cc
 
-nothing_spells : (o : Operand) → passes nothing_printing.fit (found_nothing o) ≡ true
-    → (blank nothing).spells o (spell_option nothing_printing.spell (found_nothing o)) []
-nothing_spells nothing h = (refl, refl)
-nothing_spells _ h = absurd cc
+nothing_spells : (o : Operand) (r : List Tok)
+    → passes nothing_printing.fit (found_nothing o) ≡ true → EndsOperand r
+    → (blank nothing).spells o (spell_option nothing_printing.spell (found_nothing o)) r
+nothing_spells nothing r h k = (refl, refl)
+nothing_spells _ r h k = absurd cc
 
 nothing_only : (o : Operand) (c r : List Tok) → each is_given c ≡ true
     → (blank nothing).spells o c r → passes nothing_printing.fit (found_nothing o) ≡ true
@@ -222,102 +295,159 @@ operand_forms : (h : Mnemonic) → Forms (operand h) (operand_form h)
 unfolding operand
 operand_forms (head.Block op) =
     forms_made block found_block (λ v. refl) block_from block_printing
+    (λ v r f e. (block_here v r f e.block))
 operand_forms (head.Label op) =
     forms_made label found_label (λ v. refl) label_from end_label_printing
+    (λ v r f e. (end_label_here v r f e.block.1))
 operand_forms (head.Scalar op) = forms_nothing
 operand_forms (head.Indexed op) =
     forms_made one_index found_one_index (λ v. refl) one_index_from index_printing
+    (λ v r f e. (index_here v f r))
 operand_forms (head.CallIndirect op) =
     forms_made call found_call (λ v. refl) call_from call_printing
+    (λ v r f e. (call_here v r f (e.block.0, e.no_index)))
 operand_forms (head.Table op) =
     forms_made one_index found_one_index (λ v. refl) one_index_from index_or_0_printing
+    (λ v r f e. (index_or_0_here v r f (λ k. e.no_index)))
 operand_forms (head.Access op) =
     forms_made access found_access (λ v. refl) access_from (access_printing (access_align op))
+    (λ v r f e. (access_here (access_align op) v r f e.access e.no_index))
 operand_forms (head.Memory op) =
     forms_made one_index found_one_index (λ v. refl) one_index_from index_or_0_printing
+    (λ v r f e. (index_or_0_here v r f (λ k. e.no_index)))
 operand_forms (head.Struct op) =
     forms_made two_indices found_two_indices (λ v. refl) two_indices_from pair_printing
+    (λ v r f e. (pair_here v f r))
 operand_forms (head.ArrayInit op) =
     forms_made two_indices found_two_indices (λ v. refl) two_indices_from pair_printing
+    (λ v r f e. (pair_here v f r))
 operand_forms (head.AtomicAccess op) =
-    forms_made access found_access (λ v. refl) access_from (atomic_printing (atomic_access_align op) false)
+    forms_made access found_access (λ v. refl) access_from
+    (atomic_printing (atomic_access_align op) false)
+    (λ v r f e.
+    (atomic_here (atomic_access_align op) false v r f e.access e.no_index e.no_ordering))
 operand_forms (head.RmwAccess op) =
-    forms_made access found_access (λ v. refl) access_from (atomic_printing (rmw_access_align op) true)
+    forms_made access found_access (λ v. refl) access_from
+    (atomic_printing (rmw_access_align op) true)
+    (λ v r f e. (atomic_here (rmw_access_align op) true v r f e.access e.no_index e.no_ordering))
 operand_forms (head.OrderedIndex op) =
-    forms_made ordered_index found_ordered_index (λ v. refl) ordered_index_from (ordered_printing index index_printing)
+    forms_made ordered_index found_ordered_index (λ v. refl) ordered_index_from
+    (ordered_printing index index_printing)
+    (λ v r f e. (ordered_here index spell_index fit_index v r (index_here v.1 f r)))
 operand_forms (head.OrderedTable op) =
-    forms_made ordered_index found_ordered_index (λ v. refl) ordered_index_from (ordered_printing index_or_0 index_or_0_printing)
+    forms_made ordered_index found_ordered_index (λ v. refl) ordered_index_from
+    (ordered_printing index_or_0 index_or_0_printing)
+    (λ v r f e.
+    (ordered_here index_or_0 spell_index_or_0 fit_index v r
+    (index_or_0_here v.1 r f (λ k. e.no_index))))
 operand_forms (head.OrderedStruct op) =
-    forms_made ordered_indices found_ordered_indices (λ v. refl) ordered_indices_from (ordered_printing index_pair pair_printing)
+    forms_made ordered_indices found_ordered_indices (λ v. refl) ordered_indices_from
+    (ordered_printing index_pair pair_printing)
+    (λ v r f e. (ordered_here index_pair spell_pair fit_pair v r (pair_here v.1 f r)))
 operand_forms (head.LaneAccess op) =
-    forms_made lane_access found_lane_access (λ v. refl) lane_access_from (lane_access_printing (lane_access_align op))
+    forms_made lane_access found_lane_access (λ v. refl) lane_access_from
+    (lane_access_printing (lane_access_align op))
+    (λ v r f e. (lane_access_here (lane_access_align op) v r f e.access e.no_lane))
 operand_forms (head.Lane op) =
     forms_made lane found_lane (λ v. refl) lane_from lane_printing
+    (λ v r f e. (lane_here v f r))
 operand_forms (head.Vector op) = forms_nothing
 operand_forms head.br_table =
     forms_made branches found_branches (λ v. refl) branches_from br_table_printing
+    (λ v r f e. (br_table_here v r f e.no_index))
 operand_forms head.select =
     forms_made chosen found_chosen (λ v. refl) chosen_from select_printing
+    (λ v r f e. (select_here v r f e.no_result))
 operand_forms head.memory_init =
     forms_made two_indices found_two_indices (λ v. refl) two_indices_from init_printing
+    (λ v r f e. (init_here v r f e.no_index))
 operand_forms head.memory_copy =
     forms_made two_indices found_two_indices (λ v. refl) two_indices_from copy_printing
+    (λ v r f e. (copy_here v r f e.no_index))
 operand_forms head.table_init =
     forms_made two_indices found_two_indices (λ v. refl) two_indices_from init_printing
+    (λ v r f e. (init_here v r f e.no_index))
 operand_forms head.table_copy =
     forms_made two_indices found_two_indices (λ v. refl) two_indices_from copy_printing
+    (λ v r f e. (copy_here v r f e.no_index))
 operand_forms head.ref_null =
     forms_made heap found_heap (λ v. refl) heap_from heap_printing
+    (λ v r f e. (heap_here v f r))
 operand_forms head.array_new_fixed =
     forms_made sized found_sized (λ v. refl) sized_from sized_printing
+    (λ v r f e. (sized_here v f r))
 operand_forms head.array_new_data =
     forms_made two_indices found_two_indices (λ v. refl) two_indices_from pair_printing
+    (λ v r f e. (pair_here v f r))
 operand_forms head.array_new_elem =
     forms_made two_indices found_two_indices (λ v. refl) two_indices_from pair_printing
+    (λ v r f e. (pair_here v f r))
 operand_forms head.array_fill =
     forms_made one_index found_one_index (λ v. refl) one_index_from index_printing
+    (λ v r f e. (index_here v f r))
 operand_forms head.array_copy =
     forms_made two_indices found_two_indices (λ v. refl) two_indices_from pair_printing
+    (λ v r f e. (pair_here v f r))
 operand_forms head.ref_test =
     forms_made reference found_reference (λ v. refl) reference_from ref_printing
+    (λ v r f e. (ref_here v f r))
 operand_forms head.ref_cast =
     forms_made reference found_reference (λ v. refl) reference_from ref_printing
+    (λ v r f e. (ref_here v f r))
 operand_forms head.br_on_cast =
     forms_made cast found_cast (λ v. refl) cast_from branch_printing
+    (λ v r f e. (branch_here v f r))
 operand_forms head.br_on_cast_fail =
     forms_made cast found_cast (λ v. refl) cast_from branch_printing
+    (λ v r f e. (branch_here v f r))
 operand_forms head.i32_const =
     forms_made integer found_integer (λ v. refl) integer_from i32_printing
+    (λ v r f e. (signed_here 32 v halves_32 f r))
 operand_forms head.i64_const =
     forms_made integer found_integer (λ v. refl) integer_from i64_printing
+    (λ v r f e. (signed_here 64 v halves_64 f r))
 operand_forms head.f32_const =
     forms_made float found_float (λ v. refl) float_from number_printing
+    (λ v r f e. (unfit f))
 operand_forms head.f64_const =
     forms_made float found_float (λ v. refl) float_from number_printing
+    (λ v r f e. (unfit f))
 operand_forms head.atomic_fence =
     forms_made fence found_fence (λ v. refl) fence_from fence_printing
+    (λ v r f e. (fence_here v r e.no_ordering))
 operand_forms head.v128_const =
     forms_made vector found_vector (λ v. refl) vector_from vector_printing
+    (λ v r f e. (vector_here v f r))
 operand_forms head.i8x16_shuffle =
     forms_made shuffled found_shuffled (λ v. refl) shuffled_from shuffle_printing
+    (λ v r f e. (shuffle_here v f r))
 operand_forms head.try_table =
     forms_made caught found_caught (λ v. refl) caught_from try_printing
+    (λ v r f e. (try_here v r f e.block e.no_catch))
 operand_forms head.cont_bind =
     forms_made two_indices found_two_indices (λ v. refl) two_indices_from pair_printing
+    (λ v r f e. (pair_here v f r))
 operand_forms head.resume =
     forms_made resumed found_resumed (λ v. refl) resumed_from resume_printing
+    (λ v r f e. (resume_here v r f e.no_handler))
 operand_forms head.resume_throw =
     forms_made thrown found_thrown (λ v. refl) thrown_from throw_printing
+    (λ v r f e. (throw_here v r f e.no_handler))
 operand_forms head.resume_throw_ref =
     forms_made resumed found_resumed (λ v. refl) resumed_from resume_printing
+    (λ v r f e. (resume_here v r f e.no_handler))
 operand_forms head.switch =
     forms_made two_indices found_two_indices (λ v. refl) two_indices_from pair_printing
+    (λ v r f e. (pair_here v f r))
 operand_forms head.ref_cast_desc_eq =
     forms_made reference found_reference (λ v. refl) reference_from ref_printing
+    (λ v r f e. (ref_here v f r))
 operand_forms head.br_on_cast_desc_eq =
     forms_made cast found_cast (λ v. refl) cast_from branch_printing
+    (λ v r f e. (branch_here v f r))
 operand_forms head.br_on_cast_desc_eq_fail =
     forms_made cast found_cast (λ v. refl) cast_from branch_printing
+    (λ v r f e. (branch_here v f r))
 
 -- ---- words
 
@@ -354,16 +484,17 @@ fit_of h o =
     ap (λ (x : Mnemonic). (mnemonic_row x == mnemonic_row h) && (operand_form x).fit o) (there h)
     ∙ ap (λ (b : Bool). b && (operand_form h).fit o) (same_number (mnemonic_row h))
 
-spells_of : (h : Mnemonic) (o : Operand) → (operand_form h).fit o ≡ true
-    → instruction.spells (instr_of h o) (Keyword (mnemonic_word h) ∷ (operand_form h).spell o) []
+spells_of : (h : Mnemonic) (o : Operand) (r : List Tok) → (operand_form h).fit o ≡ true
+    → EndsOperand r
+    → instruction.spells (instr_of h o) (Keyword (mnemonic_word h) ∷ (operand_form h).spell o) r
 unfolding instruction
-spells_of h o f = (
+spells_of h o r f e = (
   h,
   Keyword (mnemonic_word h) ∷ [],
   (operand_form h).spell o,
   refl,
   refl,
-  (o, (operand_forms h).spells o f, refl, refl),
+  (o, (operand_forms h).spells o r f e, refl, refl),
 )
 
 -- the instruction of the row
@@ -374,14 +505,14 @@ of_row i f =
     ap (λ (n : ℕ). record { row = n; operand = i.operand })
     (equal_by (mnemonic_row h) i.row a.0)
 
--- in front of nothing
-pub instruction_here : (i : Instr) → fit_instruction i ≡ true
-    → instruction.spells i (spell_instruction i) []
-instruction_here i f =
+-- in front of what doesn't take part in it
+pub instruction_here : (i : Instr) (r : List Tok) → fit_instruction i ≡ true → EndsOperand r
+    → instruction.spells i (spell_instruction i) r
+instruction_here i r f e =
     let h = mnemonic_of_row i.row in
     let a = and_parts (mnemonic_row h == i.row) ((operand_form h).fit i.operand) f in
-    subst (λ (x : Instr). instruction.spells x (spell_instruction i) []) (of_row i f)
-    (spells_of h i.operand a.1)
+    subst (λ (x : Instr). instruction.spells x (spell_instruction i) r) (of_row i f)
+    (spells_of h i.operand r a.1 e)
 
 pub instruction_neat : (i : Instr) → fit_instruction i ≡ true → Neat (spell_instruction i)
 instruction_neat i f =
@@ -405,5 +536,5 @@ instruction_holds i c r a s =
     subst (λ (x : Instr). fit_instruction x ≡ true) s.5.3
     (fit_of h o ∙ (operand_forms h).only o s.2 r g s.5.1)
 
-pub instruction_only : Only instruction fit_instruction
+pub instruction_only : OnlyFit instruction fit_instruction
 instruction_only = record { holds = instruction_holds }

@@ -1,5 +1,5 @@
 -- Laws: numbers with a sign, and words that end in a number, are read again.
-use Rattle.std.specs.Prelude.{◌≡◌, ℕ, ℤ, zero, suc, pos, negsuc, ◌*◌, ◌^◌, ◌-◌, ◌<◌, ◌≤◌, ◌==◌}
+use Rattle.std.specs.Prelude.{◌≡◌, ℕ, ℤ, zero, suc, pos, negsuc, ◌^◌, ◌-◌, ◌<◌, ◌≤◌, ◌==◌}
 use Rattle.std.specs.Prelude.{◌-ℤ◌, neg_ℤ, true, false, nat_lt, nat_le}
 use Rattle.std.specs.Prelude.{Option, Some, None, option_map, decimal}
 use Rattle.std.specs.Fmt.{signed_decimal}
@@ -20,9 +20,9 @@ use Rattle.wat_print.specs.Text.{all_are}
 use Rattle.wat_print.specs.Neat.{is_fit, is_given, Neat}
 use Rattle.wat_print.specs.Laws.Numbers.{magnitude_decimal, decimal_fit, no_sign, digits_idchars}
 use Rattle.wat_print.specs.Laws.Numbers.{unsigned_decimal, unsigned_fits}
-use Rattle.wat_print.specs.Laws.Only.{Only, only_one}
+use Rattle.wat_print.specs.Laws.Only.{OnlyFit, only_one}
 use Rattle.wat_print.specs.Laws.Parts.{Spells, neat_one}
-use Rattle.wat_print_instr.specs.Numbers.{spell_signed, is_signed, is_unsigned}
+use Rattle.wat_print_instr.specs.Numbers.{Halves, spell_signed, is_signed, is_unsigned}
 
 pub less_by : (n m : ℕ) → nat_lt n m ≡ true → n < m
 less_by n m h = grind (arith, nat_tests)
@@ -43,12 +43,6 @@ pub same_number : (n : ℕ) → (n == n) ≡ true
 same_number n = grind (arith, nat_tests)
 
 -- ---- with a sign
-
--- a width of which twice the half is the whole
-pub record Halves (bits : ℕ) : Type 0 where
-  pub whole : 2 ^ bits ≡ 2 * 2 ^ (bits - 1)
-  pub some : 1 ≤ 2 ^ (bits - 1)
-  pub fits : 2 ^ bits ≤ 2 ^ 64
 
 signed_text : (bits : ℕ) (z : ℤ) → Halves bits → is_signed bits z ≡ true
     → signed_value bits (signed_decimal z) ≡ Some z
@@ -117,9 +111,11 @@ some_signed bits n z (Some m) f limit h e =
 signed_given_by : (s : Option Sign) (bits : ℕ) (z : ℤ) (o : Option ℕ) → Halves bits
     → signed_by s bits o ≡ Some z → is_signed bits z ≡ true
 signed_given_by None bits z o k e =
-    some_signed bits 0 z o (twos_complement bits) (2 ^ bits - 1) (λ m h. (complement_is bits m k h)) e
+    some_signed bits 0 z o (twos_complement bits) (2 ^ bits - 1) (λ m h. (complement_is bits m k h))
+    e
 signed_given_by (Some Plus) bits z o k e =
-    some_signed bits 0 z o (twos_complement bits) (2 ^ bits - 1) (λ m h. (complement_is bits m k h)) e
+    some_signed bits 0 z o (twos_complement bits) (2 ^ bits - 1) (λ m h. (complement_is bits m k h))
+    e
 signed_given_by (Some Minus) bits z o k e =
     some_signed bits 0 z o (λ n. neg_ℤ (pos n)) (2 ^ (bits - 1)) (λ m h. (negative_is bits m k h)) e
 
@@ -130,7 +126,7 @@ signed_given bits k (Integer x) z a e =
 signed_given bits k LParen z a e = absurd cc
 signed_given bits k _ z a e = absurd cc
 
-pub signed_only : (bits : ℕ) → Halves bits → Only (signed bits) (is_signed bits)
+pub signed_only : (bits : ℕ) → Halves bits → OnlyFit (signed bits) (is_signed bits)
 signed_only bits k = only_one (signed_of bits) (refl, refl) (is_signed bits) (signed_given bits k)
 
 -- the four widths
@@ -167,7 +163,7 @@ unsigned_given bits p (Integer x) n a e =
 unsigned_given bits p LParen n a e = absurd cc
 unsigned_given bits p _ n a e = absurd cc
 
-pub unsigned_only : (bits : ℕ) → 1 ≤ 2 ^ bits → Only (unsigned bits) (is_unsigned bits)
+pub unsigned_only : (bits : ℕ) → 1 ≤ 2 ^ bits → OnlyFit (unsigned bits) (is_unsigned bits)
 unsigned_only bits p =
     only_one (unsigned_of bits) (refl, refl) (is_unsigned bits) (unsigned_given bits p)
 

@@ -19,7 +19,8 @@ use Rattle.wat_print.specs.Index.{spell_index, fit_index}
 use Rattle.wat_print.specs.Limits.{spell_number}
 use Rattle.wat_print.specs.Neat.{Neat, nothing, is_given}
 use Rattle.wat_print.specs.Parts.{each, if_some}
-use Rattle.wat_print.specs.Laws.Only.{Only, only_where, only_opt, only_seq, only_made, only_weaker}
+use Rattle.wat_print.specs.Laws.Only.{OnlyFit, only_where, only_opt, only_seq, only_made}
+use Rattle.wat_print.specs.Laws.Only.{only_weaker}
 use Rattle.wat_print.specs.Laws.Only.{only_many}
 use Rattle.wat_print.specs.Laws.Parts.{Spells, many_here, neat_both, neat_each, each_both}
 use Rattle.wat_print.specs.Laws.Reference.{index_here, index_neat, index_only}
@@ -62,7 +63,7 @@ or_0_fit : (o : Option Idx) → if_some fit_index o ≡ true
 or_0_fit (Some i) h = h
 or_0_fit None h = refl
 
-pub index_or_0_only : Only index_or_0 fit_index
+pub index_or_0_only : OnlyFit index_or_0 fit_index
 unfolding index_or_0
 index_or_0_only =
     only_made (λ _. true) (λ o. unwrap_or o (number 0)) fit_index
@@ -83,7 +84,7 @@ pair_neat p f =
     let a = and_parts (fit_index p.0) (fit_index p.1) f in
     neat_both (spell_index p.0) (spell_index p.1) (index_neat p.0 a.0) (index_neat p.1 a.1)
 
-pub pair_only : Only index_pair fit_pair
+pub pair_only : OnlyFit index_pair fit_pair
 unfolding index_pair
 pair_only = only_seq index_only index_only
 
@@ -120,7 +121,7 @@ init_neat p f =
     neat_both (spell_index_or_0 p.0) (spell_index p.1) (index_or_0_neat p.0 a.0)
     (index_neat p.1 a.1)
 
-pub init_only : Only init fit_pair
+pub init_only : OnlyFit init fit_pair
 unfolding init
 init_only =
     only_where (second begins_index) pair_only
@@ -168,7 +169,7 @@ or_both_0_fit : (o : Option (Idx × Idx)) → if_some fit_pair o ≡ true
 or_both_0_fit (Some p) h = h
 or_both_0_fit None h = refl
 
-pub copy_only : Only copy fit_pair
+pub copy_only : OnlyFit copy fit_pair
 unfolding copy
 copy_only =
     only_made (λ _. true) (λ o. unwrap_or o (number 0, number 0)) fit_pair
@@ -190,7 +191,7 @@ sized_neat p f =
     neat_both (spell_index p.0) (spell_number p.1) (index_neat p.0 a.0)
     (unsigned_neat 32 p.1 (lit≤ tt) a.1)
 
-pub sized_only : Only array_of_length fit_sized
+pub sized_only : OnlyFit array_of_length fit_sized
 unfolding array_of_length
 sized_only = only_seq index_only (unsigned_only 32 (lit≤ tt))
 
@@ -204,7 +205,8 @@ all_here i is r f e =
       flat_map spell_index is,
       refl,
       index_here i a.0 (flat_map spell_index is ++ r),
-      many_here begins_index index spell_index fit_index index_here (λ j x o. (index_begins j x)) is r
+      many_here begins_index index spell_index fit_index index_here (λ j x o. (index_begins j x)) is
+          r
           a.1 e,
     )
 
@@ -249,7 +251,7 @@ each_front test (v ∷ vs) ws f =
     let b = each_front test vs ws a.1 in
     (rw (a.0) (b.0), b.1)
 
-indices_only : Only indices (λ v. fit_index v.0 && each fit_index v.1)
+indices_only : OnlyFit indices (λ v. fit_index v.0 && each fit_index v.1)
 indices_only = only_seq index_only (only_many begins_index (lit≤ tt) index_only)
 
 table_holds : (b : BrTableTy) (c r : List Tok) → each is_given c ≡ true → BrTableSpells b c r
@@ -260,6 +262,6 @@ table_holds b c r a s =
     (subst (λ (is : List Idx). each fit_index is ≡ true) s.3 f) in
     rw (g.0) (and_parts (fit_index b.default) true g.1).0
 
-pub br_table_only : Only br_table fit_br_table
+pub br_table_only : OnlyFit br_table fit_br_table
 unfolding br_table
 br_table_only = record { holds = table_holds }

@@ -22,12 +22,14 @@ use Rattle.wat_operands.specs.declared.vector.V128Const.TheVariants.{F32x4, F64x
 use Rattle.wat_print.specs.Limits.{spell_number}
 use Rattle.wat_print.specs.Neat.{Neat, is_keyword}
 use Rattle.wat_print.specs.Parts.{each}
-use Rattle.wat_print.specs.Laws.Only.{Only, only_any, only_where, only_seq, only_made, only_weaker}
+use Rattle.wat_print.specs.Laws.Only.{OnlyFit, only_any, only_where, only_seq, only_made}
+use Rattle.wat_print.specs.Laws.Only.{only_weaker}
 use Rattle.wat_print.specs.Laws.Parts.{Spells, word_here, neat_word, neat_each, each_both}
-use Rattle.wat_print_instr.specs.Numbers.{spell_signed, is_signed, is_unsigned, fit_number_of}
+use Rattle.wat_print_instr.specs.Numbers.{Halves, spell_signed, is_signed, is_unsigned}
+use Rattle.wat_print_instr.specs.Numbers.{fit_number_of}
 use Rattle.wat_print_instr.specs.Vectors.{spell_lanes, spell_vector, fit_vector, spell_shuffle}
 use Rattle.wat_print_instr.specs.Vectors.{fit_shuffle}
-use Rattle.wat_print_instr.specs.Laws.Numbers.{equal_by, same_number, Halves, halves_8, halves_16}
+use Rattle.wat_print_instr.specs.Laws.Numbers.{equal_by, same_number, halves_8, halves_16}
 use Rattle.wat_print_instr.specs.Laws.Numbers.{halves_32, halves_64, signed_here, signed_neat}
 use Rattle.wat_print_instr.specs.Laws.Numbers.{signed_only, unsigned_here, unsigned_neat}
 use Rattle.wat_print_instr.specs.Laws.Numbers.{unsigned_only}
@@ -102,7 +104,7 @@ module _ {A : Type 0} (spell : A → List Tok) (ok : A → Bool) where
       → fit_number_of 2 ok (p.0 ∷ (p.1 ∷ [])) ≡ true
   pair_fits p h = let a = and_parts (ok p.0) (ok p.1) h in rw (a.0, a.1) refl
 
-  two_only : (g : Production A) → Only g ok → Only (two g) (fit_number_of 2 ok)
+  two_only : (g : Production A) → OnlyFit g ok → OnlyFit (two g) (fit_number_of 2 ok)
   unfolding two
   two_only g m =
       only_made (λ _. true) (λ v. v.0 ∷ (v.1 ∷ [])) (fit_number_of 2 ok)
@@ -120,22 +122,22 @@ module _ {A : Type 0} (spell : A → List Tok) (ok : A → Bool) where
       let k : length (p.0 ++ p.1) ≡ n + n = omega (arith, length-append p.0 p.1) in
       rw (k, same_number (n + n)) (each_both ok p.0 p.1 b.1 c.1)
 
-  twice_only : (n : ℕ) (g : Production (List A)) → Only g (fit_number_of n ok)
-      → Only (twice g) (fit_number_of (n + n) ok)
+  twice_only : (n : ℕ) (g : Production (List A)) → OnlyFit g (fit_number_of n ok)
+      → OnlyFit (twice g) (fit_number_of (n + n) ok)
   twice_only n g m =
       only_made (λ _. true) (λ v. v.0 ++ v.1) (fit_number_of (n + n) ok)
       (only_weaker (λ v. fit_number_of (n + n) ok (v.0 ++ v.1)) (both_fit n) (only_seq m m))
 
-  module _ (g : Production A) (m : Only g ok) where
-    four_only : Only (four g) (fit_number_of 4 ok)
+  module _ (g : Production A) (m : OnlyFit g ok) where
+    four_only : OnlyFit (four g) (fit_number_of 4 ok)
     unfolding four
     four_only = twice_only 2 (two g) (two_only g m)
 
-    eight_only : Only (eight g) (fit_number_of 8 ok)
+    eight_only : OnlyFit (eight g) (fit_number_of 8 ok)
     unfolding eight
     eight_only = twice_only 4 (four g) four_only
 
-    sixteen_only : Only (sixteen g) (fit_number_of 16 ok)
+    sixteen_only : OnlyFit (sixteen g) (fit_number_of 16 ok)
     unfolding sixteen
     sixteen_only = twice_only 8 (eight g) eight_only
 
@@ -227,7 +229,7 @@ vector_neat (F64x2 xs) f = absurd cc
 
 shape_only : {A : Type 0} {g : Production (List A)} {fit : List A → Bool} (w : List ℕ)
     (f : List A → V128Const) → ((zs : List A) → fit zs ≡ true → fit_vector (f zs) ≡ true)
-    → Only g fit → Only (shaped w f g) fit_vector
+    → OnlyFit g fit → OnlyFit (shaped w f g) fit_vector
 shape_only {fit = fit} w f h m =
     only_made (λ _. true) (λ v. f v.1) fit_vector
     (only_weaker (λ v. fit_vector (f v.1)) (λ v e. (h v.1 e)) (only_seq (only_any (word w)) m))
@@ -235,33 +237,33 @@ shape_only {fit = fit} w f h m =
 pub unfit : {P : Type 0} → false ≡ true → P
 unfit h = absurd cc
 
-pub none_only : {A : Type 0} (fit : A → Bool) → Only (none {A = A}) fit
+pub none_only : {A : Type 0} (fit : A → Bool) → OnlyFit (none {A = A}) fit
 none_only fit = record { holds = λ v c r a s. absurd s }
 
 abbrev never : {A : Type 0} → A → Bool
 never v = false
 
-none_two : {A : Type 0} → Only (two (none {A = A})) never
+none_two : {A : Type 0} → OnlyFit (two (none {A = A})) never
 unfolding two
 none_two = only_made (λ _. true) (λ v. v.0 ∷ (v.1 ∷ [])) never
     (only_weaker (λ v. false) (λ v h. absurd cc) (only_seq (none_only never) (none_only never)))
 
-none_twice : {A : Type 0} {g : Production (List A)} → Only g never → Only (twice g) never
+none_twice : {A : Type 0} {g : Production (List A)} → OnlyFit g never → OnlyFit (twice g) never
 none_twice m = only_made (λ _. true) (λ v. v.0 ++ v.1) never
     (only_weaker (λ v. false) (λ v h. absurd cc) (only_seq m m))
 
-none_four : {A : Type 0} → Only (four (none {A = A})) never
+none_four : {A : Type 0} → OnlyFit (four (none {A = A})) never
 unfolding four
 none_four = none_twice none_two
 
-floats_only : Only float_const fit_vector
+floats_only : OnlyFit float_const fit_vector
 unfolding float_const
 floats_only =
     only_where (begins_word (codes "f32x4"))
     (shape_only (codes "f32x4") f32x4_of (λ zs h. absurd cc) none_four)
     (shape_only (codes "f64x2") f64x2_of (λ zs h. absurd cc) none_two)
 
-wide_only : Only wide_const fit_vector
+wide_only : OnlyFit wide_const fit_vector
 unfolding wide_const
 wide_only =
     only_where (begins_word (codes "i32x4"))
@@ -271,7 +273,7 @@ wide_only =
     (shape_only (codes "i64x2") I64x2 (λ zs h. h)
     (two_only spell_signed (is_signed 64) (signed 64) (signed_only 64 halves_64))) floats_only)
 
-pub vector_only : Only v128_const fit_vector
+pub vector_only : OnlyFit v128_const fit_vector
 unfolding v128_const
 vector_only =
     only_where (begins_word (codes "i8x16"))
@@ -300,7 +302,7 @@ shuffle_neat s f =
     let a = and_parts (length s.lanes == 16) (each (is_unsigned 8) s.lanes) f in
     neat_each spell_number (is_unsigned 8) (λ n h. (unsigned_neat 8 n (lit≤ tt) h)) s.lanes a.1
 
-pub shuffle_only : Only shuffle fit_shuffle
+pub shuffle_only : OnlyFit shuffle fit_shuffle
 unfolding shuffle
 shuffle_only =
     only_made (λ _. true) shuffle_of fit_shuffle

@@ -1,0 +1,158 @@
+-- Instructions and hints that are written in turn.
+use Rattle.std.specs.Prelude.{◌≡◌, ℕ, zero, suc, ◌+◌, ◌<◌, Bool, true, false, ◌&&◌, ◌==◌, List, []}
+use Rattle.std.specs.Prelude.{◌∷◌, ◌++◌}
+use Rattle.std.specs.Prelude.{if◌then◌else◌, flat_map, map, length, drop, Option, Some, None}
+use Rattle.std.specs.Prelude.{option_map}
+use Rattle.std.proofs.Common.{refl, ap, subst, sym, ◌∙◌, append_assoc, append-nil, get_or, arith}
+use Rattle.std.proofs.lemmas.Grind.{flat_map-append}
+use Rattle.wat_lexer.specs.Token.{Tok}
+use Rattle.wat_instr.specs.Instruction.{Instr}
+use Rattle.wat_print.specs.Layout.{Writes}
+use Rattle.wat_print.specs.Parts.{each, spell_option}
+use Rattle.wat_print.specs.Text.{Page}
+use Rattle.wat_print.specs.Laws.Parts.{each_both}
+use Rattle.wat_print.specs.Laws.Written.{puts_both, puts_put}
+use Rattle.wat_print_instr.specs.ExpressionForm.{HintedInstr, step_of, spell_step, fit_step}
+use Rattle.wat_print_instr.specs.ExpressionForm.{steps_from}
+use Rattle.wat_print_instr.specs.ExpressionForm.{hint_for, hints_after, spell_expression}
+use Rattle.wat_print_instr.specs.ExpressionForm.{fit_expression}
+use Rattle.wat_print_instr.specs.InstructionForm.{passes}
+
+-- From p to q the steps before the index b were written, and what is left of the instructions and
+-- of the hints gives those behind them.
+pub record Walked (is : List Instr) (hs : List (ℕ × ℕ)) (b : ℕ) (left : List (ℕ × ℕ)) (p q : Page)
+    : Type 0 where
+  pub done : List HintedInstr
+  pub goes : steps_from 0 is hs
+      ≡ option_map (λ xs. done ++ xs) (steps_from b (drop b is) left)
+  pub written : Writes (flat_map spell_step done) p q
+  pub fits : each fit_step done ≡ true
+
+same_option : (o : Option (List HintedInstr)) → o ≡ option_map (λ xs. [] ++ xs) o
+same_option (Some xs) = refl
+same_option None = refl
+
+pub walk_begins : (is : List Instr) (hs : List (ℕ × ℕ)) (p : Page) → Walked is hs 0 hs p p
+walk_begins is hs p = record {
+  done = [];
+  goes = same_option (steps_from 0 is hs);
+  written = puts_put [] p p refl;
+  fits = refl;
+}
+
+-- an instruction more
+chosen : (t : Bool) (b : ℕ) (i : Instr) (is : List Instr) (h : ℕ × ℕ) (hs : List (ℕ × ℕ))
+    → (if t then option_map (λ xs. step_of (Some h.1) i ∷ xs) (steps_from (b + 1) is hs)
+    else option_map (λ xs. step_of None i ∷ xs) (steps_from (b + 1) is (h ∷ hs)))
+    ≡ option_map (λ xs. step_of (if t then Some h.1 else None) i ∷ xs)
+    (steps_from (b + 1) is (if t then hs else h ∷ hs))
+chosen true b i is h hs = refl
+chosen false b i is h hs = refl
+
+next_step : (b : ℕ) (i : Instr) (is : List Instr) (hs : List (ℕ × ℕ))
+    → steps_from b (i ∷ is) hs
+    ≡ option_map (λ xs. step_of (hint_for b hs) i ∷ xs) (steps_from (b + 1) is (hints_after b hs))
+next_step b i is [] = refl
+next_step b i is (h ∷ hs) =
+    chosen (h.0 == b) b i is h hs
+
+map_twice : (x : HintedInstr) (done : List HintedInstr) (o : Option (List HintedInstr))
+    → option_map (λ xs. done ++ xs) (option_map (λ xs. x ∷ xs) o)
+    ≡ option_map (λ xs. (done ++ x ∷ []) ++ xs) o
+map_twice x done (Some xs) =
+    ap (λ (l : List HintedInstr). Some l) (sym (append_assoc done (x ∷ []) xs))
+map_twice x done None = refl
+
+pub walk_goes : (is : List Instr) (hs : List (ℕ × ℕ)) (b : ℕ) (left : List (ℕ × ℕ)) (i : Instr)
+    (p q s : Page) → drop b is ≡ i ∷ drop (b + 1) is → Walked is hs b left p q
+    → Writes (spell_step (step_of (hint_for b left) i)) q s
+    → fit_step (step_of (hint_for b left) i) ≡ true
+    → Walked is hs (b + 1) (hints_after b left) p s
+walk_goes is hs b left i p q s e w v f =
+    let x = step_of (hint_for b left) i in record {
+      done = w.done ++ x ∷ [];
+      goes = w.goes
+          ∙ ap (λ (l : List Instr). option_map (λ xs. w.done ++ xs) (steps_from b l left)) e
+          ∙ ap (λ (o : Option (List HintedInstr)). option_map (λ xs. w.done ++ xs) o)
+          (next_step b i (drop (b + 1) is) left)
+          ∙ map_twice x w.done (steps_from (b + 1) (drop (b + 1) is) (hints_after b left));
+      written = subst (λ (l : List Tok). Writes l p s)
+          (sym (flat_map-append spell_step w.done (x ∷ [])
+          ∙ ap (λ (l : List Tok). flat_map spell_step w.done ++ l) (append-nil (spell_step x))))
+          (puts_both (flat_map spell_step w.done) (spell_step x) p q s w.written v);
+      fits = each_both fit_step w.done (x ∷ []) w.fits (rw f refl);
+    }
+
+-- ---- where it ends
+
+all_steps : (is : List Instr) (hs : List (ℕ × ℕ)) (b : ℕ) (p q : Page) (e : drop b is ≡ [])
+    (w : Walked is hs b [] p q) → steps_from 0 is hs ≡ Some (w.done ++ [])
+all_steps is hs b p q e w =
+    w.goes ∙ ap (λ (l : List Instr). option_map (λ xs. w.done ++ xs) (steps_from b l [])) e
+
+-- what was found is all, and it can be written
+pub walk_fits : (is : List Instr) (hs : List (ℕ × ℕ)) (b : ℕ) (p q : Page) → drop b is ≡ []
+    → Walked is hs b [] p q
+    → fit_expression (record { instrs = is; hints = hs }) ≡ true
+walk_fits is hs b p q e w =
+    subst (λ (o : Option (List HintedInstr)). passes (each fit_step) o ≡ true)
+    (sym (all_steps is hs b p q e w))
+    (subst (λ (l : List HintedInstr). each fit_step l ≡ true) (sym (append-nil w.done)) w.fits)
+
+pub walk_written : (is : List Instr) (hs : List (ℕ × ℕ)) (b : ℕ) (p q : Page) → drop b is ≡ []
+    → Walked is hs b [] p q
+    → Writes (spell_expression (record { instrs = is; hints = hs })) p q
+walk_written is hs b p q e w =
+    subst (λ (o : Option (List HintedInstr)). Writes (spell_option (flat_map spell_step) o) p q)
+    (sym (all_steps is hs b p q e w))
+    (subst (λ (l : List HintedInstr). Writes (flat_map spell_step l) p q) (sym (append-nil w.done))
+    w.written)
+
+-- a hint is left
+pub walk_left : (is : List Instr) (hs : List (ℕ × ℕ)) (b : ℕ) (h : ℕ × ℕ) (left : List (ℕ × ℕ))
+    (p q : Page) → drop b is ≡ [] → Walked is hs b (h ∷ left) p q
+    → fit_expression (record { instrs = is; hints = hs }) ≡ false
+walk_left is hs b h left p q e w =
+    subst (λ (o : Option (List HintedInstr)). passes (each fit_step) o ≡ false)
+    (sym (w.goes ∙ ap (λ (l : List Instr). option_map (λ xs. w.done ++ xs)
+    (steps_from b l (h ∷ left))) e)) refl
+
+after : (a b : Bool) → b ≡ false → a && b ≡ false
+after true b e = e
+after false b e = refl
+
+not_all : (done : List HintedInstr) (x : HintedInstr) (xs : List HintedInstr) → fit_step x ≡ false
+    → each fit_step (done ++ x ∷ xs) ≡ false
+not_all [] x xs f = rw f refl
+not_all (d ∷ done) x xs f =
+    after (fit_step d) (each fit_step (done ++ x ∷ xs)) (not_all done x xs f)
+
+not_passed : (done : List HintedInstr) (x : HintedInstr) (o : Option (List HintedInstr))
+    → fit_step x ≡ false
+    → passes (each fit_step)
+    (option_map (λ xs. done ++ xs) (option_map (λ xs. x ∷ xs) o)) ≡ false
+not_passed done x (Some xs) f = not_all done x xs f
+not_passed done x None f = refl
+
+-- one of the steps can't be written
+pub walk_stops : (is : List Instr) (hs : List (ℕ × ℕ)) (b : ℕ) (left : List (ℕ × ℕ)) (i : Instr)
+    (p q : Page) → drop b is ≡ i ∷ drop (b + 1) is → Walked is hs b left p q
+    → fit_step (step_of (hint_for b left) i) ≡ false
+    → fit_expression (record { instrs = is; hints = hs }) ≡ false
+walk_stops is hs b left i p q e w f =
+    subst (λ (o : Option (List HintedInstr)). passes (each fit_step) o ≡ false)
+    (sym (w.goes
+    ∙ ap (λ (l : List Instr). option_map (λ xs. w.done ++ xs) (steps_from b l left)) e
+    ∙ ap (λ (o : Option (List HintedInstr)). option_map (λ xs. w.done ++ xs) o)
+    (next_step b i (drop (b + 1) is) left)))
+    (not_passed w.done (step_of (hint_for b left) i)
+    (steps_from (b + 1) (drop (b + 1) is) (hints_after b left)) f)
+
+-- the instruction at an index, and those behind it
+pub drop_step : {X A : Type 0} (v : X → A) (xs : List X) (i : ℕ) (x : X) → i < length xs
+    → x ≡ get_or xs i x → drop i (map v xs) ≡ v x ∷ drop (i + 1) (map v xs)
+drop_step v [] i x lt s = absurd (omega (arith, lt))
+drop_step {X = X} v (y ∷ xs) zero x lt s = ap (λ (z : X). v z ∷ map v xs) (sym s)
+drop_step v (y ∷ xs) (suc i) x lt s =
+    let e : suc i + 1 ≡ suc (i + 1) = omega arith in
+    rw e (drop_step v xs i x (omega (arith, lt)) s)

@@ -1,0 +1,58 @@
+-- How expressions are written: their instructions, each behind its hint where it has one.
+use Rattle.std.specs.Prelude.{ℕ, ◌+◌, Bool, ◌&&◌, ◌==◌, nat_lt, if◌then◌else◌, List, [], ◌∷◌, ◌++◌}
+use Rattle.std.specs.Prelude.{flat_map, Option, Some, None, option_map}
+use Rattle.wat_lexer.specs.Token.{Tok, String}
+use Rattle.wat_tokens.specs.Spelled.{in_parens}
+use Rattle.wat_instr.specs.Instruction.{Instr}
+use Rattle.wat_expr.specs.Expression.{Expr}
+use Rattle.wat_expr.specs.Items.{is_branch, hint_name}
+use Rattle.wat_print.specs.Parts.{spell_option, if_some, each}
+use Rattle.wat_print_instr.specs.InstructionForm.{passes, spell_instruction, fit_instruction}
+
+-- an instruction, and the hint that stands before it
+pub record HintedInstr : Type 0 where
+  pub hint : Option ℕ
+  pub instr : Instr
+
+abbrev pub step_of : Option ℕ → Instr → HintedInstr
+step_of h i = record { hint = h; instr = i }
+
+-- ( @metadata.code.branch_hint "v" )
+abbrev pub spell_hint : ℕ → List Tok
+spell_hint v = in_parens (hint_name ∷ String (v ∷ []) ∷ [])
+
+-- 0 or 1, before a `br_if` or an `if`
+abbrev pub fit_hint : Instr → ℕ → Bool
+fit_hint i v = is_branch i && nat_lt v 2
+
+abbrev pub spell_step : HintedInstr → List Tok
+spell_step x = spell_option spell_hint x.hint ++ spell_instruction x.instr
+
+abbrev pub fit_step : HintedInstr → Bool
+fit_step x = if_some (fit_hint x.instr) x.hint && fit_instruction x.instr
+
+-- the instructions from the index b on, each with its hint; None, where a hint has none of their
+-- indices, or a lower one than a hint before it
+abbrev pub steps_from : ℕ → List Instr → List (ℕ × ℕ) → Option (List HintedInstr)
+steps_from b [] [] = Some []
+steps_from b [] (h ∷ hs) = None
+steps_from b (i ∷ is) [] = option_map (λ xs. step_of None i ∷ xs) (steps_from (b + 1) is [])
+steps_from b (i ∷ is) (h ∷ hs) =
+    if h.0 == b then option_map (λ xs. step_of (Some h.1) i ∷ xs) (steps_from (b + 1) is hs)
+    else option_map (λ xs. step_of None i ∷ xs) (steps_from (b + 1) is (h ∷ hs))
+
+abbrev pub spell_expression : Expr → List Tok
+spell_expression e = spell_option (flat_map spell_step) (steps_from 0 e.instrs e.hints)
+
+abbrev pub fit_expression : Expr → Bool
+fit_expression e = passes (each fit_step) (steps_from 0 e.instrs e.hints)
+
+-- the hint of the instruction at the index b, where the first of the hints is its
+abbrev pub hint_for : ℕ → List (ℕ × ℕ) → Option ℕ
+hint_for b [] = None
+hint_for b (h ∷ hs) = if h.0 == b then Some h.1 else None
+
+-- the hints of those behind it
+abbrev pub hints_after : ℕ → List (ℕ × ℕ) → List (ℕ × ℕ)
+hints_after b [] = []
+hints_after b (h ∷ hs) = if h.0 == b then hs else h ∷ hs
