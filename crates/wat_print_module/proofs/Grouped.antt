@@ -1,0 +1,48 @@
+-- Tokens that are written on lines, one behind the other and in groups.
+use Rattle.std.specs.Prelude.{◌≡◌, ℕ, ◌+◌, ◌<◌, Bool, true, List, [], ◌∷◌, ◌++◌, length, take}
+use Rattle.std.proofs.Common.{subst, get_or}
+use Rattle.wat_lexer.specs.Token.{Tok, LParen, RParen, Keyword}
+use Rattle.wat_tokens.specs.Spelled.{in_parens}
+use Rattle.wat_print.specs.Layout.{Writes, broken}
+use Rattle.wat_print.specs.Parts.{grouped, Wrote}
+use Rattle.wat_print.specs.Text.{Page, put}
+use Rattle.wat_print.specs.Laws.Written.{puts_put, puts_both, puts_line, wrote_more}
+
+-- first these on one line, and then those
+pub puts_first : (ts us : List Tok) (a b c : Page) → b ≡ put a ts → Writes us b c
+    → Writes (ts ++ us) a c
+puts_first ts us a b c e w = puts_both ts us a b c (puts_put ts a b e) w
+
+-- first these, and then those on one line
+pub puts_last : (ts us : List Tok) (a b c : Page) → Writes ts a b → c ≡ put b us
+    → Writes (ts ++ us) a c
+puts_last ts us a b c w e = puts_both ts us a b c w (puts_put us b c e)
+
+-- in parentheses
+pub puts_parens : (ts : List Tok) (a b c d : Page) → b ≡ put a (LParen ∷ []) → Writes ts b c
+    → d ≡ put c (RParen ∷ []) → Writes (in_parens ts) a d
+puts_parens ts a b c d e w f =
+    puts_first (LParen ∷ []) (ts ++ RParen ∷ []) a b d e
+    (puts_last ts (RParen ∷ []) b c d w f)
+
+-- a word and more in parentheses
+pub puts_grouped : (w : List ℕ) (ts : List Tok) (a b c d e : Page) → b ≡ put a (LParen ∷ [])
+    → c ≡ put b (Keyword w ∷ []) → Writes ts c d → e ≡ put d (RParen ∷ [])
+    → Writes (grouped w ts) a e
+puts_grouped w ts a b c d e f g k h =
+    puts_parens (Keyword w ∷ ts) a b d e f (puts_first (Keyword w ∷ []) ts b c d g k) h
+
+-- behind a line break
+pub puts_broken : (n : ℕ) (ts : List Tok) (a b c : Page) → b ≡ broken n a → Writes ts b c
+    → Writes ts a c
+puts_broken n ts a b c e w = puts_both [] ts a b c (puts_line n a b e) w
+
+-- one value more, of those in which it stands
+pub wrote_next : {X A : Type 0} (view : X → A) (spell : A → List Tok) (fit : A → Bool)
+    (xs : List X) (i : ℕ) (x : X) (a b c : Page) → i < length xs → x ≡ get_or xs i x
+    → Wrote view spell fit (take i xs) a b → c ≡ put b (spell (view x)) → fit (view x) ≡ true
+    → Wrote view spell fit (take (i + 1) xs) a c
+wrote_next {X = X} view spell fit xs i x a b c lt s w e f =
+    wrote_more view spell fit xs i x a b c lt w
+    (subst (λ (y : X). c ≡ put b (spell (view y))) s e)
+    (subst (λ (y : X). fit (view y) ≡ true) s f)

@@ -1,0 +1,6 @@
+mod Bytes
+pub mod Grouped
+mod OnLines
+mod Produced
+mod Unfit
+mod Written

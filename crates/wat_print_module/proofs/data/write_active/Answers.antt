@@ -1,0 +1,11 @@
+use Rattle.wat_expr.specs.Expression.{expression_view}
+use Rattle.wat_print_module.specs.Segments.{spell_offset, spell_data_memory}
+use Rattle.wat_print_module.proofs.Grouped.{puts_first}
+use Rattle.wat_print_module.proofs.data.write_active.Goals as goal
+use Rattle.wat_tokens.specs.Index.{index_view}
+
+pub returns-clause-written : goal.returns-clause-written
+returns-clause-written c =
+    puts_first (spell_data_memory (index_view c.args.memory.now))
+    (spell_offset (expression_view c.args.offset.now)) _ _ _
+    c.in_ok-write_memory.ensures.written c.in_ok-write_offset.ensures.written

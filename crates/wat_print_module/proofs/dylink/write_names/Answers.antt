@@ -1,0 +1,10 @@
+use Rattle.std.specs.Prelude.{flat_map, map}
+use Rattle.wat_print.specs.Laws.Written.{enclosed}
+use Rattle.wat_print_module.specs.Strings.{spell_string}
+use Rattle.wat_print_module.proofs.dylink.write_names.Goals as goal
+
+pub returns-clause-written : goal.returns-clause-written
+returns-clause-written c =
+    enclosed c.args.word.now (flat_map spell_string (map (λ n. n.now) c.args.names.now)) _ _ _ _ _
+    c.in_ok-open.ensures c.in_ok-word.ensures c.in_ok-write_strings.ensures.written
+    c.in_ok-close.ensures

@@ -1,0 +1,9 @@
+use Rattle.std.proofs.Common.{take}
+use Rattle.std.specs.Str.{is_utf8}
+use Rattle.wat_print.specs.Parts.{Wrote}
+use Rattle.wat_print_module.specs.FieldHead.{spell_inline_name}
+use Rattle.wat_print_module.proofs.field_head.write_inline_names.Given as goal
+
+abbrev pub invariant-loop-name : goal.invariant-loop-name
+invariant-loop-name l =
+    Wrote (λ n. n.now) spell_inline_name is_utf8 (take l.name-index l.names) l.fn.out l.out

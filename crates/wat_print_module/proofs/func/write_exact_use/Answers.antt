@@ -1,0 +1,12 @@
+use Rattle.std.specs.Prelude.{codes}
+use Rattle.wat_fields.specs.Func.{func_use_view}
+use Rattle.wat_print.specs.Laws.Written.{enclosed}
+use Rattle.wat_print.specs.Use.{spell_use}
+use Rattle.wat_print_module.proofs.func.write_exact_use.Goals as goal
+
+pub returns-clause-written : goal.returns-clause-written
+returns-clause-written c =
+    rw c.if-not-is_exact.false
+    (enclosed (codes "exact") (spell_use (func_use_view c.args.ty.now)) _ _ _ _ _
+    c.in_ok-open.ensures c.in_ok-word.ensures c.in_ok-write_use-2.ensures.written
+    c.in_ok-close.ensures)

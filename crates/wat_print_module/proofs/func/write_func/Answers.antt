@@ -1,0 +1,17 @@
+use Rattle.std.specs.Prelude.{[], ◌∷◌, ◌++◌, codes}
+use Rattle.wat_lexer.specs.Token.{Keyword}
+use Rattle.wat_fields.specs.Func.{func_view}
+use Rattle.wat_print.specs.Laws.Written.{puts_put, puts_both}
+use Rattle.wat_print_module.specs.FieldHead.{spell_head}
+use Rattle.wat_print_module.specs.Func.{spell_defined_func}
+use Rattle.wat_print_module.proofs.func.write_func.Goals as goal
+
+pub returns-clause-written : goal.returns-clause-written
+returns-clause-written c =
+    let f = func_view c.args.func.now in
+    let w = Keyword (codes "func") ∷ [] in
+    let h = spell_head f.head in
+    let d = spell_defined_func (f.ty, f.kind) in
+    puts_both w (h ++ d) c.args.out.now _ _ (puts_put w _ _ c.in_ok-word.ensures)
+    (puts_both h d _ _ _ (puts_put h _ _ c.in_ok-write_head.ensures.written)
+    c.in_ok-write_defined.ensures.written)

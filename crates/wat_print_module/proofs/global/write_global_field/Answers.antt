@@ -1,0 +1,17 @@
+use Rattle.std.specs.Prelude.{[], ◌∷◌, ◌++◌, codes}
+use Rattle.wat_lexer.specs.Token.{Keyword}
+use Rattle.wat_fields.specs.Global.{global_view}
+use Rattle.wat_print.specs.Laws.Written.{puts_put, puts_both}
+use Rattle.wat_print_module.specs.FieldHead.{spell_head}
+use Rattle.wat_print_module.specs.Global.{spell_defined_global}
+use Rattle.wat_print_module.proofs.global.write_global_field.Goals as goal
+
+pub returns-clause-written : goal.returns-clause-written
+returns-clause-written c =
+    let g = global_view c.args.global.now in
+    let w = Keyword (codes "global") ∷ [] in
+    let h = spell_head g.head in
+    let d = spell_defined_global (g.ty, g.kind) in
+    puts_both w (h ++ d) c.args.out.now _ _ (puts_put w _ _ c.in_ok-word.ensures)
+    (puts_both h d _ _ _ (puts_put h _ _ c.in_ok-write_head.ensures.written)
+    c.in_ok-write_defined.ensures.written)

@@ -1,0 +1,10 @@
+use Rattle.std.proofs.Common.{arith}
+use Rattle.wat_print_module.proofs.Bytes.{bytes_fit}
+use Rattle.wat_print_module.proofs.strings.write_string.Goals as goal
+
+pub returns-in_err-string-clause-fit : goal.returns-in_err-string-clause-fit
+returns-in_err-string-clause-fit c =
+    bytes_fit c.args.content.now (λ i. omega (arith, c.type_inv.content i))
+
+pub returns-clause-fit : goal.returns-clause-fit
+returns-clause-fit c = bytes_fit c.args.content.now (λ i. omega (arith, c.type_inv.content i))

@@ -1,0 +1,14 @@
+use Rattle.wat_expr.specs.Expression.{expression_view}
+use Rattle.wat_print.specs.Limits.{spell_table_type}
+use Rattle.wat_print.specs.Parts.{spell_option}
+use Rattle.wat_print_instr.specs.ExpressionForm.{spell_expression}
+use Rattle.wat_print_module.proofs.Grouped.{puts_first}
+use Rattle.wat_print_module.proofs.table.write_normal.Goals as goal
+use Rattle.wat_tokens.specs.Views.{option_view}
+use Rattle.wat_types.specs.Limits.{table_type_view}
+
+pub returns-clause-written : goal.returns-clause-written
+returns-clause-written c =
+    puts_first (spell_table_type (table_type_view c.args.ty.now))
+    (spell_option spell_expression (option_view expression_view c.args.value.now)) _ _ _
+    c.in_ok-write_table_type.ensures.written c.in_ok-write_initial.ensures.written

@@ -1,0 +1,38 @@
+-- How exports and imports in line, and what is in front of a field's own part, are written.
+use Rattle.std.specs.Prelude.{ℕ, Bool, ◌&&◌, List, [], ◌∷◌, ◌++◌, codes, flat_map}
+use Rattle.std.specs.Str.{is_utf8}
+use Rattle.wat_lexer.specs.Token.{Tok, String}
+use Rattle.wat_links.specs.FieldHead.{FieldHeadTy}
+use Rattle.wat_print.specs.Label.{spell_label, fit_label}
+use Rattle.wat_print.specs.Parts.{grouped, each}
+
+-- ---- exports in line
+
+-- ( export name )
+abbrev pub spell_inline_name : List ℕ → List Tok
+spell_inline_name n = grouped (codes "export") (String n ∷ [])
+
+-- ( export name )*
+abbrev pub spell_inline_export : List (List ℕ) → List Tok
+spell_inline_export ns = flat_map spell_inline_name ns
+
+abbrev pub fit_inline_export : List (List ℕ) → Bool
+fit_inline_export ns = each is_utf8 ns
+
+-- ---- imports in line
+
+-- ( import name name )
+abbrev pub spell_inline_import : List ℕ × List ℕ → List Tok
+spell_inline_import i = grouped (codes "import") (String i.0 ∷ String i.1 ∷ [])
+
+abbrev pub fit_inline_import : List ℕ × List ℕ → Bool
+fit_inline_import i = is_utf8 i.0 && is_utf8 i.1
+
+-- ---- heads
+
+-- id? name? InlineExport
+abbrev pub spell_head : FieldHeadTy → List Tok
+spell_head h = spell_label h.label ++ spell_inline_export h.exports
+
+abbrev pub fit_head : FieldHeadTy → Bool
+fit_head h = fit_label h.label && fit_inline_export h.exports

@@ -1,0 +1,46 @@
+-- How signatures of items that are imported or exported are written.
+use Rattle.std.specs.Prelude.{ℕ, Bool, ◌&&◌, List, ◌∷◌, ◌++◌, codes}
+use Rattle.wat_lexer.specs.Token.{Tok, Keyword}
+use Rattle.wat_tokens.specs.Spelled.{in_parens}
+use Rattle.wat_links.specs.Item.{ItemKindTy, func, table, memory, global, tag, exact_func, SigTy}
+use Rattle.wat_print.specs.Label.{spell_label, fit_label}
+use Rattle.wat_print.specs.Limits.{spell_memory_type, fit_memory_type, spell_table_type}
+use Rattle.wat_print.specs.Limits.{fit_table_type}
+use Rattle.wat_print.specs.Parts.{grouped}
+use Rattle.wat_print.specs.Storage.{spell_global, fit_global}
+use Rattle.wat_print.specs.Use.{spell_use, fit_use}
+
+abbrev pub item_word : ItemKindTy → List ℕ
+item_word (func u) = codes "func"
+item_word (table t) = codes "table"
+item_word (memory m) = codes "memory"
+item_word (global g) = codes "global"
+item_word (tag u) = codes "tag"
+item_word (exact_func u) = codes "func"
+
+-- the type; that of a function which has to be of exactly its type in ( exact .. )
+abbrev pub spell_item : ItemKindTy → List Tok
+spell_item (func u) = spell_use u
+spell_item (table t) = spell_table_type t
+spell_item (memory m) = spell_memory_type m
+spell_item (global g) = spell_global g
+spell_item (tag u) = spell_use u
+spell_item (exact_func u) = grouped (codes "exact") (spell_use u)
+
+abbrev pub fit_item : ItemKindTy → Bool
+fit_item (func u) = fit_use u
+fit_item (table t) = fit_table_type t
+fit_item (memory m) = fit_memory_type m
+fit_item (global g) = fit_global g
+fit_item (tag u) = fit_use u
+fit_item (exact_func u) = fit_use u
+
+-- the word, id? name? and the type
+abbrev pub spell_sig : SigTy → List Tok
+spell_sig s = Keyword (item_word s.kind) ∷ (spell_label s.label ++ spell_item s.kind)
+
+abbrev pub fit_sig : SigTy → Bool
+fit_sig s = fit_label s.label && fit_item s.kind
+
+abbrev pub spell_sig_group : SigTy → List Tok
+spell_sig_group s = in_parens (spell_sig s)

@@ -1,0 +1,26 @@
+-- Laws of the definitions: lemmas that other crates rest on.
+pub mod Body
+pub mod Custom
+pub mod Data
+pub mod DataVal
+pub mod Dylink
+pub mod Elem
+pub mod Export
+pub mod Field
+pub mod FieldHead
+pub mod Folded
+pub mod Fronts
+pub mod Func
+pub mod Global
+pub mod Import
+pub mod Item
+pub mod Local
+pub mod Memory
+pub mod Module
+pub mod OperandFront
+pub mod Place
+pub mod Producers
+pub mod Strings
+pub mod Table
+pub mod TableOnly
+pub mod Tag

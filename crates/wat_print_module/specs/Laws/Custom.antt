@@ -1,0 +1,111 @@
+-- Laws: custom sections are read again.
+use Rattle.std.specs.Prelude.{◌≡◌, ℕ, true, false, ◌&&◌, List, [], ◌∷◌, ◌++◌, codes, flat_map}
+use Rattle.std.specs.Str.{is_utf8}
+use Rattle.std.proofs.Common.{refl, inl, inr, lit≤}
+use Rattle.std.proofs.lemmas.Bool.{and_parts}
+use Rattle.wat_lexer.specs.Token.{Tok, String}
+use Rattle.wat_tokens.specs.Parts.{seq, made}
+use Rattle.wat_tokens.specs.Strings.{string, text}
+use Rattle.wat_tokens.specs.Tests.{more, begins_lparen}
+use Rattle.wat_links.specs.Custom.{CustomTy, raw, produced, linked, begins_annotated, custom}
+use Rattle.wat_links.specs.Raw.{RawTy, raw_of, raw_place, raw_data, raw_custom}
+use Rattle.wat_links.specs.declared.place.CustomPlace.{CustomPlace}
+use Rattle.wat_print.specs.Neat.{Neat}
+use Rattle.wat_print.specs.Parts.{each}
+use Rattle.wat_print.specs.Laws.Only.{OnlyFit, only_any, only_where, only_many, only_seq}
+use Rattle.wat_print.specs.Laws.Only.{only_made, only_weaker}
+use Rattle.wat_print.specs.Laws.Parts.{many_here, neat_both, neat_each}
+use Rattle.wat_print_instr.specs.Laws.Places.{both_here}
+use Rattle.wat_print_module.specs.Custom.{spell_raw, fit_raw, spell_custom, fit_custom}
+use Rattle.wat_print_module.specs.Custom.{spell_raw_group, spell_custom_group}
+use Rattle.wat_print_module.specs.Place.{spell_place_group}
+use Rattle.wat_print_module.specs.Strings.{spell_string, fit_string}
+use Rattle.wat_print_module.specs.Laws.Dylink.{dylink_here, dylink_neat, dylink_only}
+use Rattle.wat_print_module.specs.Laws.Place.{place_group_here, place_group_neat}
+use Rattle.wat_print_module.specs.Laws.Producers.{producers_here, producers_neat, producers_only}
+use Rattle.wat_print_module.specs.Laws.FieldHead.{text_here, text_neat, text_only}
+use Rattle.wat_print_module.specs.Laws.Strings.{string_here, string_neat, string_only}
+use Rattle.wat_print_module.specs.Laws.Strings.{annotated_here, only_annotated, neat_annotated}
+use Rattle.wat_print_module.specs.Laws.Strings.{custom_annotation, no_more_opens}
+
+-- ---- raw sections
+
+data_opens : (ss : List (List ℕ)) (r : List Tok) → more r ≡ false
+    → begins_lparen (flat_map spell_string ss ++ r) ≡ false
+data_opens [] r e = no_more_opens r e
+data_opens (s ∷ ss) r e = refl
+
+data_here : (ss : List (List ℕ)) (r : List Tok) → each fit_string ss ≡ true → more r ≡ false
+    → raw_data.spells ss (flat_map spell_string ss) r
+unfolding raw_data
+data_here ss r f e = many_here more string spell_string fit_string string_here (λ v x o. refl) ss r
+    f e
+
+-- up to the end of the group
+pub raw_here : (v : RawTy) (r : List Tok) → fit_raw v ≡ true → more r ≡ false
+    → raw_custom.spells v (spell_raw v) r
+unfolding raw_custom
+raw_here v r f e =
+    let a = and_parts (is_utf8 v.name) (each fit_string v.data) f in
+    let p = spell_place_group v.place in
+    let d = flat_map spell_string v.data in
+    let g = seq raw_place raw_data in
+    annotated_here (codes "custom") (made (λ v. raw_of v.0 v.1.0 v.1.1) (seq text g)) v
+    (String v.name ∷ (p ++ d)) r refl (
+      (v.name, (v.place, v.data)),
+      both_here text g v.name (v.place, v.data) (spell_string v.name) (p ++ d) r
+          (text_here v.name a.0 ((p ++ d) ++ r))
+          (both_here raw_place raw_data v.place v.data p d r
+          (place_group_here v.place (d ++ r) (data_opens v.data r e)) (data_here v.data r a.1 e)),
+      refl,
+      refl,
+    )
+
+pub raw_neat : (v : RawTy) → fit_raw v ≡ true → Neat (spell_raw_group v)
+raw_neat v f =
+    let a = and_parts (is_utf8 v.name) (each fit_string v.data) f in
+    let p = spell_place_group v.place in
+    let d = flat_map spell_string v.data in
+    neat_annotated (codes "custom") (String v.name ∷ (p ++ d)) custom_annotation refl
+    (neat_both (spell_string v.name) (p ++ d) (text_neat v.name a.0)
+    (neat_both p d (place_group_neat v.place)
+    (neat_each spell_string fit_string string_neat v.data a.1)))
+
+-- any place
+place_fit : (v : List ℕ × (CustomPlace × List (List ℕ)))
+    → is_utf8 v.0 && (true && each fit_string v.1.1) ≡ true
+    → fit_raw (raw_of v.0 v.1.0 v.1.1) ≡ true
+place_fit v h = h
+
+pub raw_only : OnlyFit raw_custom fit_raw
+unfolding raw_custom raw_data
+raw_only =
+    only_annotated (codes "custom")
+    (only_made (λ _. true) (λ v. raw_of v.0 v.1.0 v.1.1) fit_raw
+    (only_weaker (λ v. fit_raw (raw_of v.0 v.1.0 v.1.1)) place_fit
+    (only_seq text_only (only_seq (only_any raw_place) (only_many more (lit≤ tt) string_only)))))
+
+-- ---- custom sections
+
+-- up to the end of the group
+pub custom_here : (v : CustomTy) (r : List Tok) → fit_custom v ≡ true → more r ≡ false
+    → custom.spells v (spell_custom v) r
+unfolding custom
+custom_here (produced fs) r f e = inl (refl, (fs, producers_here fs r f e, refl, refl))
+custom_here (linked ss) r f e =
+    inr (refl, inl (refl, (ss, dylink_here ss r f e, refl, refl)))
+custom_here (raw v) r f e = inr (refl, inr (refl, (v, raw_here v r f e, refl, refl)))
+
+pub custom_neat : (v : CustomTy) → fit_custom v ≡ true → Neat (spell_custom_group v)
+custom_neat (raw v) f = raw_neat v f
+custom_neat (produced fs) f = producers_neat fs f
+custom_neat (linked ss) f = dylink_neat ss f
+
+pub custom_only : OnlyFit custom fit_custom
+unfolding custom
+custom_only =
+    only_where (begins_annotated (codes "producers"))
+    (only_made (λ _. true) produced fit_custom producers_only)
+    (only_where (begins_annotated (codes "dylink.0"))
+    (only_made (λ _. true) linked fit_custom dylink_only)
+    (only_made (λ _. true) raw fit_custom raw_only))

@@ -1,0 +1,433 @@
+-- Laws: element segments, and what they hold, are read again.
+use Rattle.std.specs.Prelude.{◌≡◌, ℕ, Bool, true, false, ◌&&◌, List, [], ◌∷◌, ◌++◌, codes}
+use Rattle.std.specs.Prelude.{flat_map, Option, Some, None}
+use Rattle.std.specs.Str.{bytes_eq}
+use Rattle.std.proofs.Common.{refl, subst, sym, append_assoc, inl, inr, lit≤}
+use Rattle.std.proofs.lemmas.Bool.{and_parts}
+use Rattle.wat_lexer.specs.Token.{Tok, LParen, RParen, Keyword}
+use Rattle.wat_tokens.specs.Groups.{group}
+use Rattle.wat_tokens.specs.Index.{Idx, number, name, index}
+use Rattle.wat_tokens.specs.NameAnnotation.{begins_name}
+use Rattle.wat_tokens.specs.Parts.{seq, made, after_word}
+use Rattle.wat_tokens.specs.Tests.{begins_word, begins_group, begins_integer, begins_id}
+use Rattle.wat_tokens.specs.Tests.{more, ends, second}
+use Rattle.wat_types.specs.Heap.{HeapTy}
+use Rattle.wat_types.specs.Label.{label}
+use Rattle.wat_types.specs.Reference.{RefTy, ref_type, begins_ref, begins_shorthand}
+use Rattle.wat_types.specs.declared.heap.AbstractHeapType.{AbstractHeapType}
+use Rattle.wat_types.specs.declared.heap.AbstractHeapType.TheVariants as word
+use Rattle.wat_expr.specs.Expression.{Expr}
+use Rattle.wat_fields.specs.Elem.{ElemKindTy, passive, declared, active, Segment, ElemTy, elem_of}
+use Rattle.wat_fields.specs.Elem.{elem_offset, active_of, in_table, table_number, in_some_table}
+use Rattle.wat_fields.specs.Elem.{declared_segment, passive_segment, begins_active}
+use Rattle.wat_fields.specs.Elem.{active_segment, segment, elem}
+use Rattle.wat_fields.specs.Item.{written_or_folded, item}
+use Rattle.wat_fields.specs.Laws.Payload.{item_consumes}
+use Rattle.wat_fields.specs.Payload.{PayloadTy, indices, exprs, item_list, index_list}
+use Rattle.wat_fields.specs.Payload.{typed_elems, payload, payload_or_indices}
+use Rattle.wat_print.specs.Index.{spell_index, fit_index}
+use Rattle.wat_print.specs.Label.{spell_label, fit_label}
+use Rattle.wat_print.specs.Neat.{Neat, nothing}
+use Rattle.wat_print.specs.Parts.{grouped, each, if_some, spell_option}
+use Rattle.wat_print.specs.Reference.{short_word, spell_long, spell_ref, fit_ref}
+use Rattle.wat_print.specs.Laws.Label.{label_here, label_neat, label_only}
+use Rattle.wat_print.specs.Laws.Only.{OnlyFit, only_where, only_opt, only_seq, only_made, only_many}
+use Rattle.wat_print.specs.Laws.Only.{only_after, only_group, only_weaker}
+use Rattle.wat_print.specs.Laws.Parts.{group_here, many_here, many_told, neat_word, neat_both}
+use Rattle.wat_print.specs.Laws.Parts.{neat_group, neat_each, neat_option, neat_one}
+use Rattle.wat_print.specs.Laws.Reference.{index_here, index_neat, index_only, ref_here, ref_neat}
+use Rattle.wat_print.specs.Laws.Reference.{ref_only, of_refs}
+use Rattle.wat_print.specs.Laws.Define.{after_here}
+use Rattle.wat_print_instr.specs.ExpressionForm.{spell_expression, fit_expression}
+use Rattle.wat_print_instr.specs.Laws.Expression.{expression_neat}
+use Rattle.wat_print_instr.specs.Laws.ExpressionOnly.{expression_only}
+use Rattle.wat_print_instr.specs.Laws.Numbers.{unsigned_only}
+use Rattle.wat_print_instr.specs.Laws.Places.{both_here}
+use Rattle.wat_print_module.specs.Segments.{spell_offset, spell_item, spell_payload, fit_payload}
+use Rattle.wat_print_module.specs.Segments.{spell_elem_table, spell_elem_kind, fit_elem_kind}
+use Rattle.wat_print_module.specs.Segments.{spell_elem, fit_elem}
+use Rattle.wat_print_module.specs.Laws.Data.{offset_neat}
+use Rattle.wat_print_module.specs.Laws.Folded.{no_word, NoTypeFirst, no_type_first, end_no_word}
+use Rattle.wat_print_module.specs.Laws.Folded.{expression_grouped, folded_only}
+use Rattle.wat_print_module.specs.Laws.OperandFront.{type_apart, param_apart, result_apart}
+
+-- ---- what a reference type begins with
+
+-- neither of the words is a shorthand
+short_apart : (t : AbstractHeapType)
+    → (bytes_eq (short_word t) (codes "func") ≡ false)
+    × (bytes_eq (short_word t) (codes "declare") ≡ false)
+short_apart word.Func = (refl, refl)
+short_apart _ = (refl, refl)
+
+-- the test says of what begins with a reference type
+pub of_ref : (test : List Tok → Bool) (b : Bool)
+    → ((t : AbstractHeapType) (x : List Tok) → test (Keyword (short_word t) ∷ x) ≡ b)
+    → ((n : Bool) (h : HeapTy) (x : List Tok) → test (spell_long n h ++ x) ≡ b) → (t : RefTy)
+    (c r : List Tok) → test ((spell_ref t ++ c) ++ r) ≡ b
+of_ref test b f g t c r =
+    subst (λ (l : List Tok). test l ≡ b) (sym (append_assoc (spell_ref t) c r))
+    (of_refs test b f g t.nullable t.heap (c ++ r))
+
+short_begins : (t : AbstractHeapType) (x : List Tok)
+    → begins_ref (Keyword (short_word t) ∷ x) ≡ true
+unfolding begins_shorthand
+short_begins word.Func x = refl
+short_begins _ x = refl
+
+long_begins : (n : Bool) (h : HeapTy) (x : List Tok) → begins_ref (spell_long n h ++ x) ≡ true
+unfolding begins_shorthand
+long_begins n h x = refl
+
+pub ref_begins : (t : RefTy) (c r : List Tok) → begins_ref ((spell_ref t ++ c) ++ r) ≡ true
+ref_begins t c r = of_ref begins_ref true short_begins long_begins t c r
+
+-- the word isn't what begins a reference type, where it is no shorthand
+pub ref_not_word : (w : List ℕ) → ((t : AbstractHeapType) → bytes_eq (short_word t) w ≡ false)
+    → (t : RefTy) (c r : List Tok) → begins_word w ((spell_ref t ++ c) ++ r) ≡ false
+ref_not_word w f t c r = of_ref (begins_word w) false (λ s x. (f s)) (λ n h x. refl) t c r
+
+ref_no_func : (t : RefTy) (c r : List Tok)
+    → begins_word (codes "func") ((spell_ref t ++ c) ++ r) ≡ false
+ref_no_func t c r = ref_not_word (codes "func") (λ s. (short_apart s).0) t c r
+
+ref_no_declare : (t : RefTy) (c r : List Tok)
+    → begins_word (codes "declare") ((spell_ref t ++ c) ++ r) ≡ false
+ref_no_declare t c r = ref_not_word (codes "declare") (λ s. (short_apart s).1) t c r
+
+ref_no_type : (t : RefTy) (c r : List Tok) → NoTypeFirst ((spell_ref t ++ c) ++ r)
+ref_no_type t c r = (
+  ref_not_word (codes "type") type_apart.no_short t c r,
+  ref_not_word (codes "param") param_apart.no_short t c r,
+  ref_not_word (codes "result") result_apart.no_short t c r,
+)
+
+-- ---- items and indices
+
+written_here : (w : List ℕ) (e : Expr) (r : List Tok) → bytes_eq w w ≡ true
+    → fit_expression e ≡ true → NoTypeFirst r
+    → (written_or_folded w).spells e (grouped w (spell_expression e)) r
+unfolding written_or_folded
+written_here w e r b f n = inl (b, expression_grouped w e r b f n)
+
+item_here : (e : Expr) (r : List Tok) → fit_expression e ≡ true → no_word r ≡ true
+    → item.spells e (spell_item e) r
+unfolding item
+item_here e r f n = written_here (codes "item") e r refl f (no_type_first r n)
+
+pub items_here : (es : List Expr) (r : List Tok) → each fit_expression es ≡ true
+    → ends r ≡ true → item_list.spells es (flat_map spell_item es) r
+unfolding item_list
+items_here es r f e =
+    many_told more no_word item spell_item fit_expression item_here (λ v x h. refl)
+    (λ v x h. refl) es r f (end_no_word r e) (rw e refl)
+
+index_more : (i : Idx) (x : List Tok) → fit_index i ≡ true → more (spell_index i ++ x) ≡ true
+index_more (number n) x f = refl
+index_more (name n) x f = refl
+
+pub indices_here : (is : List Idx) (r : List Tok) → each fit_index is ≡ true → ends r ≡ true
+    → index_list.spells is (flat_map spell_index is) r
+unfolding index_list
+indices_here is r f e =
+    many_here more index spell_index fit_index index_here index_more is r f (rw e refl)
+
+-- ---- payloads
+
+typed_here : (t : RefTy) (es : List Expr) (r : List Tok) → fit_payload (exprs t es) ≡ true
+    → ends r ≡ true → typed_elems.spells (exprs t es) (spell_payload (exprs t es)) r
+unfolding typed_elems
+typed_here t es r f e =
+    let a = and_parts (fit_ref t) (each fit_expression es) f in
+    let x = flat_map spell_item es in (
+      (t, es),
+      both_here ref_type item_list t es (spell_ref t) x r (ref_here t a.0 (x ++ r))
+          (items_here es r a.1 e),
+      refl,
+      refl,
+    )
+
+payload_here : (p : PayloadTy) (r : List Tok) → fit_payload p ≡ true → ends r ≡ true
+    → payload.spells p (spell_payload p) r
+unfolding payload
+payload_here (indices is) r f e =
+    inl (
+      refl,
+      (
+        is,
+        after_here (codes "func") index_list is (flat_map spell_index is) r refl
+            (indices_here is r f e),
+        refl,
+        refl,
+      ),
+    )
+payload_here (exprs t es) r f e =
+    inr (ref_no_func t (flat_map spell_item es) r, typed_here t es r f e)
+
+any_payload_here : (p : PayloadTy) (r : List Tok) → fit_payload p ≡ true → ends r ≡ true
+    → payload_or_indices.spells p (spell_payload p) r
+unfolding payload_or_indices
+any_payload_here (indices is) r f e =
+    inl (
+      refl,
+      (
+        is,
+        after_here (codes "func") index_list is (flat_map spell_index is) r refl
+            (indices_here is r f e),
+        refl,
+        refl,
+      ),
+    )
+any_payload_here (exprs t es) r f e =
+    let x = flat_map spell_item es in
+    inr (ref_no_func t x r, inl (ref_begins t x r, typed_here t es r f e))
+
+-- ---- kinds
+
+payload_no_type : (p : PayloadTy) (r : List Tok) → NoTypeFirst (spell_payload p ++ r)
+payload_no_type (indices is) r = (refl, refl, refl)
+payload_no_type (exprs t es) r = ref_no_type t (flat_map spell_item es) r
+
+payload_no_declare : (p : PayloadTy) (r : List Tok)
+    → begins_word (codes "declare") (spell_payload p ++ r) ≡ false
+payload_no_declare (indices is) r = refl
+payload_no_declare (exprs t es) r = ref_no_declare t (flat_map spell_item es) r
+
+ref_no_active : (t : RefTy) (c r : List Tok) → begins_active ((spell_ref t ++ c) ++ r) ≡ false
+ref_no_active t c r =
+    of_ref begins_active false (λ s x. refl) (λ n h x. (rw (long_begins n h x) refl)) t c r
+
+payload_no_active : (p : PayloadTy) (r : List Tok) → begins_active (spell_payload p ++ r) ≡ false
+payload_no_active (indices is) r = refl
+payload_no_active (exprs t es) r = ref_no_active t (flat_map spell_item es) r
+
+elem_offset_here : (e : Expr) (r : List Tok) → fit_expression e ≡ true → NoTypeFirst r
+    → elem_offset.spells e (spell_offset e) r
+unfolding elem_offset
+elem_offset_here e r f n = written_here (codes "offset") e r refl f n
+
+some_table : (i : Idx) (e : Expr) (p : PayloadTy) (r : List Tok) → fit_index i ≡ true
+    → fit_expression e ≡ true → fit_payload p ≡ true → ends r ≡ true
+    → in_table.spells (active (Some i) e, p)
+    (spell_elem_table i ++ (spell_offset e ++ spell_payload p)) r
+unfolding in_table
+some_table i e p r f g h k =
+    let t = made (λ j. Some j) (group (codes "table") index) in
+    let o = spell_offset e in
+    let x = spell_payload p in (
+      (Some i, (e, p)),
+      both_here t (seq elem_offset payload) (Some i) (e, p) (spell_elem_table i) (o ++ x) r (
+        i,
+        group_here (codes "table") index i (spell_index i) ((o ++ x) ++ r) refl
+            (index_here i f (RParen ∷ ((o ++ x) ++ r))),
+        refl,
+        refl,
+      )
+          (both_here elem_offset payload e p o x r
+          (elem_offset_here e (x ++ r) g (payload_no_type p r)) (payload_here p r h k)),
+      refl,
+      refl,
+    )
+
+no_table : (e : Expr) (p : PayloadTy) (r : List Tok) → fit_expression e ≡ true
+    → fit_payload p ≡ true → ends r ≡ true
+    → in_some_table.spells (active None e, p) (spell_offset e ++ spell_payload p) r
+unfolding in_some_table table_number
+no_table e p r g h k =
+    let o = spell_offset e in
+    let x = spell_payload p in (
+      (None, (e, p)),
+      both_here table_number (seq elem_offset payload_or_indices) None (e, p) [] (o ++ x) r
+          (refl, refl)
+          (both_here elem_offset payload_or_indices e p o x r
+          (elem_offset_here e (x ++ r) g (payload_no_type p r)) (any_payload_here p r h k)),
+      refl,
+      refl,
+    )
+
+segment_here : (k : ElemKindTy) (p : PayloadTy) (r : List Tok) → fit_elem_kind k ≡ true
+    → fit_payload p ≡ true → ends r ≡ true
+    → segment.spells (k, p) (spell_elem_kind k ++ spell_payload p) r
+unfolding segment declared_segment active_segment passive_segment begins_shorthand
+segment_here declared p r f g e =
+    inl (
+      refl,
+      (
+        p,
+        after_here (codes "declare") payload p (spell_payload p) r refl
+            (payload_here p r g e),
+        refl,
+        refl,
+      ),
+    )
+segment_here passive p r f g e =
+    inr (
+      payload_no_declare p r,
+      inr (payload_no_active p r, (p, payload_here p r g e, refl, refl)),
+    )
+segment_here (active (Some i) o) p r f g e =
+    let a = and_parts (fit_index i) (fit_expression o) f in
+    subst (λ (c : List Tok). segment.spells (active (Some i) o, p) c r)
+    (sym (append_assoc (spell_elem_table i) (spell_offset o) (spell_payload p)))
+    (inr (refl, inl (refl, inl (refl, some_table i o p r a.0 a.1 g e))))
+segment_here (active None o) p r f g e =
+    inr (refl, inl (refl, inr (refl, no_table o p r f g e)))
+
+-- ---- segments
+
+-- what is behind a label
+segment_first : (test : List Tok → Bool) → ((w : List ℕ) (x : List Tok)
+    → test (Keyword w ∷ x) ≡ false) → ((w : List ℕ) (x : List Tok)
+    → test (LParen ∷ Keyword w ∷ x) ≡ false) → (k : ElemKindTy) (p : PayloadTy) (r : List Tok)
+    → test ((spell_elem_kind k ++ spell_payload p) ++ r) ≡ false
+segment_first test f g declared p r = f (codes "declare") _
+segment_first test f g passive (indices is) r = f (codes "func") _
+segment_first test f g passive (exprs t es) r =
+    of_ref test false (λ s x. (f (short_word s) x)) (λ n h x. (g (codes "ref") _)) t
+    (flat_map spell_item es) r
+segment_first test f g (active (Some i) o) p r = g (codes "table") _
+segment_first test f g (active None o) p r = g (codes "offset") _
+
+-- in front of an end
+pub elem_here : (e : ElemTy) (r : List Tok) → fit_elem e ≡ true → ends r ≡ true
+    → elem.spells e (spell_elem e) r
+unfolding elem
+elem_here e r f k =
+    let a = and_parts (fit_label e.label) _ f in
+    let b = and_parts (fit_elem_kind e.segment.0) (fit_payload e.segment.1) a.1 in
+    let s = spell_elem_kind e.segment.0 ++ spell_payload e.segment.1 in
+    after_here (codes "elem") (made (λ v. elem_of v.0 v.1) (seq label segment)) e
+    (spell_label e.label ++ s) r refl (
+      (e.label, e.segment),
+      both_here label segment e.label e.segment (spell_label e.label) s r
+          (label_here e.label (s ++ r) a.0
+          (segment_first begins_id (λ w x. refl) (λ w x. refl) e.segment.0 e.segment.1 r)
+          (segment_first begins_name (λ w x. refl) (λ w x. refl) e.segment.0 e.segment.1 r))
+          (segment_here e.segment.0 e.segment.1 r b.0 b.1 k),
+      refl,
+      refl,
+    )
+
+-- ---- they can be written
+
+pub items_neat : (es : List Expr) → each fit_expression es ≡ true
+    → Neat (flat_map spell_item es)
+items_neat es f =
+    neat_each spell_item fit_expression
+    (λ e h. (neat_group (codes "item") (spell_expression e) refl (expression_neat e h))) es f
+
+pub indices_neat : (is : List Idx) → each fit_index is ≡ true → Neat (flat_map spell_index is)
+indices_neat is f = neat_each spell_index fit_index index_neat is f
+
+payload_neat : (p : PayloadTy) → fit_payload p ≡ true → Neat (spell_payload p)
+payload_neat (indices is) f =
+    neat_word (codes "func") (flat_map spell_index is) refl (indices_neat is f)
+payload_neat (exprs t es) f =
+    let a = and_parts (fit_ref t) (each fit_expression es) f in
+    neat_both (spell_ref t) (flat_map spell_item es) (ref_neat t a.0) (items_neat es a.1)
+
+table_neat : (i : Idx) → fit_index i ≡ true → Neat (spell_elem_table i)
+table_neat i f = neat_group (codes "table") (spell_index i) refl (index_neat i f)
+
+kind_neat : (k : ElemKindTy) → fit_elem_kind k ≡ true → Neat (spell_elem_kind k)
+kind_neat passive f = nothing
+kind_neat declared f = neat_one (Keyword (codes "declare")) refl
+kind_neat (active t e) f =
+    let a = and_parts (if_some fit_index t) (fit_expression e) f in
+    neat_both (spell_option spell_elem_table t) (spell_offset e)
+    (neat_option spell_elem_table fit_index t table_neat a.0) (offset_neat e a.1)
+
+pub elem_neat : (e : ElemTy) → fit_elem e ≡ true → Neat (spell_elem e)
+elem_neat e f =
+    let a = and_parts (fit_label e.label) _ f in
+    let b = and_parts (fit_elem_kind e.segment.0) (fit_payload e.segment.1) a.1 in
+    let k = spell_elem_kind e.segment.0 in
+    let p = spell_payload e.segment.1 in
+    neat_word (codes "elem") (spell_label e.label ++ (k ++ p)) refl
+    (neat_both (spell_label e.label) (k ++ p) (label_neat e.label a.0)
+    (neat_both k p (kind_neat e.segment.0 b.0) (payload_neat e.segment.1 b.1)))
+
+-- ---- what a text spells can be written
+
+written_only : (w : List ℕ) → OnlyFit (written_or_folded w) fit_expression
+unfolding written_or_folded
+written_only w =
+    only_where (second (begins_word w)) (only_group w expression_only) folded_only
+
+pub items_only : OnlyFit item_list (each fit_expression)
+unfolding item_list item
+items_only = only_many more item_consumes (written_only (codes "item"))
+
+pub indices_only : OnlyFit index_list (each fit_index)
+unfolding index_list
+indices_only = only_many more (lit≤ tt) index_only
+
+func_only : OnlyFit (made indices (after_word (codes "func") index_list)) fit_payload
+func_only = only_made (λ _. true) indices fit_payload (only_after (codes "func") indices_only)
+
+typed_only : OnlyFit typed_elems fit_payload
+unfolding typed_elems
+typed_only =
+    only_made (λ _. true) (λ v. exprs v.0 v.1) fit_payload (only_seq ref_only items_only)
+
+payload_only : OnlyFit payload fit_payload
+unfolding payload
+payload_only = only_where (begins_word (codes "func")) func_only typed_only
+
+any_payload_only : OnlyFit payload_or_indices fit_payload
+unfolding payload_or_indices
+any_payload_only =
+    only_where (begins_word (codes "func")) func_only
+    (only_where begins_ref typed_only (only_made (λ _. true) indices fit_payload indices_only))
+
+abbrev fit_segment : Segment → Bool
+fit_segment s = fit_elem_kind s.0 && fit_payload s.1
+
+-- a table, an offset and what the segment holds
+active_fit : (t : Option Idx) (e : Expr) (p : PayloadTy)
+    → if_some fit_index t && (fit_expression e && fit_payload p) ≡ true
+    → fit_segment (active_of (t, (e, p))) ≡ true
+active_fit t e p f =
+    let a = and_parts (if_some fit_index t) _ f in
+    let b = and_parts (fit_expression e) (fit_payload p) a.1 in
+    rw (a.0, b.0, b.1) refl
+
+offset_only : OnlyFit elem_offset fit_expression
+unfolding elem_offset
+offset_only = written_only (codes "offset")
+
+table_only : OnlyFit (made (λ i. Some i) (group (codes "table") index)) (if_some fit_index)
+table_only =
+    only_made (λ _. true) (λ i. Some i) (if_some fit_index) (only_group (codes "table") index_only)
+
+number_only : OnlyFit table_number (if_some fit_index)
+unfolding table_number
+number_only =
+    only_opt begins_integer
+    (only_made (λ _. true) number fit_index (unsigned_only 32 (lit≤ tt)))
+
+active_only : OnlyFit active_segment fit_segment
+unfolding active_segment in_table in_some_table
+active_only =
+    only_where (begins_group (codes "table"))
+    (only_made (λ _. true) active_of fit_segment
+    (only_weaker (λ v. fit_segment (active_of v)) (λ v f. (active_fit v.0 v.1.0 v.1.1 f))
+    (only_seq table_only (only_seq offset_only payload_only))))
+    (only_made (λ _. true) active_of fit_segment
+    (only_weaker (λ v. fit_segment (active_of v)) (λ v f. (active_fit v.0 v.1.0 v.1.1 f))
+    (only_seq number_only (only_seq offset_only any_payload_only))))
+
+segment_only : OnlyFit segment fit_segment
+unfolding segment declared_segment passive_segment
+segment_only =
+    only_where (begins_word (codes "declare"))
+    (only_made (λ _. true) (λ p. (declared, p)) fit_segment
+    (only_after (codes "declare") payload_only))
+    (only_where begins_active active_only
+    (only_made (λ _. true) (λ p. (passive, p)) fit_segment payload_only))
+
+pub elem_only : OnlyFit elem fit_elem
+unfolding elem
+elem_only =
+    only_after (codes "elem") (only_made (λ _. true) (λ v. elem_of v.0 v.1) fit_elem
+    (only_seq label_only segment_only))

@@ -1,0 +1,154 @@
+-- Laws: exports and imports in line, and what is in front of a field's own part, are read again.
+use Rattle.std.specs.Prelude.{◌≡◌, ℕ, true, false, List, [], ◌∷◌, ◌++◌, codes, Option, Some}
+use Rattle.std.specs.Prelude.{None}
+use Rattle.std.specs.Str.{is_utf8}
+use Rattle.std.proofs.Common.{refl, subst}
+use Rattle.std.proofs.lemmas.Bool.{and_parts, cond_both}
+use Rattle.std.proofs.lemmas.Str.{IsUtf8-from_is_utf8}
+use Rattle.wat_lexer.specs.Token.{Tok, LParen, RParen, String}
+use Rattle.wat_tokens.specs.NameAnnotation.{begins_name}
+use Rattle.wat_tokens.specs.Parts.{seq}
+use Rattle.wat_tokens.specs.Strings.{text, text_in}
+use Rattle.wat_tokens.specs.Tests.{begins_id, begins_word, ends, second}
+use Rattle.wat_links.specs.Export.{begins_inline_export, inline_export}
+use Rattle.wat_links.specs.FieldHead.{FieldHeadTy, field_head, head}
+use Rattle.wat_links.specs.Import.{inline_import}
+use Rattle.wat_links.specs.InlineName.{inline_name}
+use Rattle.wat_links.specs.Laws.Export.{inline_name_consumes}
+use Rattle.wat_print.specs.Label.{spell_label, fit_label}
+use Rattle.wat_print.specs.Neat.{Neat, is_given}
+use Rattle.wat_print.specs.Laws.Bytes.{utf8_bytes}
+use Rattle.wat_print.specs.Laws.Label.{label_here, label_neat, label_only}
+use Rattle.wat_print.specs.Laws.Only.{OnlyFit, only_one, only_many, only_seq, only_made, only_group}
+use Rattle.wat_print.specs.Laws.Parts.{Spells, group_here, many_here, neat_one, neat_both}
+use Rattle.wat_print.specs.Laws.Parts.{neat_group, neat_each}
+use Rattle.wat_print_module.specs.FieldHead.{spell_inline_name, spell_inline_export}
+use Rattle.wat_print_module.specs.FieldHead.{fit_inline_export, spell_inline_import}
+use Rattle.wat_print_module.specs.FieldHead.{fit_inline_import, spell_head, fit_head}
+
+-- ---- names
+
+pub text_here : (n : List ℕ) → is_utf8 n ≡ true → Spells text n (String n ∷ [])
+text_here n h r = (String n, refl, rw h refl)
+
+pub text_neat : (n : List ℕ) → is_utf8 n ≡ true → Neat (String n ∷ [])
+text_neat n h = neat_one (String n) (utf8_bytes n (IsUtf8-from_is_utf8 n h))
+
+given_text : (t : Tok) (n : List ℕ) → is_given t ≡ true → text_in t ≡ Some n → is_utf8 n ≡ true
+given_text (String s) n a e =
+    cond_both (is_utf8 s) (Some s) None (λ (o : Option (List ℕ)). o ≡ Some n → is_utf8 n ≡ true)
+    (λ k f. (let same : s ≡ n = cc in subst (λ (x : List ℕ). is_utf8 x ≡ true) same k))
+    (λ k f. absurd cc) e
+given_text LParen n a e = absurd cc
+given_text _ n a e = absurd cc
+
+pub text_only : OnlyFit text is_utf8
+text_only = only_one text_in (refl, refl) is_utf8 given_text
+
+-- ---- exports in line
+
+inline_name_here : (n : List ℕ) → is_utf8 n ≡ true → Spells inline_name n (spell_inline_name n)
+unfolding inline_name
+inline_name_here n h r =
+    group_here (codes "export") text n (String n ∷ []) r refl (text_here n h (RParen ∷ r))
+
+pub inline_export_here : (ns : List (List ℕ)) (r : List Tok) → fit_inline_export ns ≡ true
+    → begins_inline_export r ≡ false → inline_export.spells ns (spell_inline_export ns) r
+unfolding inline_export
+inline_export_here ns r f e =
+    many_here begins_inline_export inline_name spell_inline_name is_utf8 inline_name_here
+    (λ n x h. refl) ns r f e
+
+pub inline_export_neat : (ns : List (List ℕ)) → fit_inline_export ns ≡ true
+    → Neat (spell_inline_export ns)
+inline_export_neat ns f =
+    neat_each spell_inline_name is_utf8
+    (λ n h. (neat_group (codes "export") (String n ∷ []) refl (text_neat n h))) ns f
+
+pub inline_export_only : OnlyFit inline_export fit_inline_export
+unfolding inline_export inline_name
+inline_export_only =
+    only_many begins_inline_export inline_name_consumes (only_group (codes "export") text_only)
+
+-- ---- imports in line
+
+pub inline_import_here : (i : List ℕ × List ℕ) → fit_inline_import i ≡ true
+    → Spells inline_import i (spell_inline_import i)
+unfolding inline_import
+inline_import_here i f r =
+    let a = and_parts (is_utf8 i.0) (is_utf8 i.1) f in
+    group_here (codes "import") (seq text text) i (String i.0 ∷ String i.1 ∷ []) r refl (
+      String i.0 ∷ [],
+      String i.1 ∷ [],
+      refl,
+      text_here i.0 a.0 (String i.1 ∷ RParen ∷ r),
+      text_here i.1 a.1 (RParen ∷ r),
+    )
+
+pub inline_import_neat : (i : List ℕ × List ℕ) → fit_inline_import i ≡ true
+    → Neat (spell_inline_import i)
+inline_import_neat i f =
+    let a = and_parts (is_utf8 i.0) (is_utf8 i.1) f in
+    neat_group (codes "import") (String i.0 ∷ String i.1 ∷ []) refl
+    (neat_both (String i.0 ∷ []) (String i.1 ∷ []) (text_neat i.0 a.0) (text_neat i.1 a.1))
+
+pub inline_import_only : OnlyFit inline_import fit_inline_import
+unfolding inline_import
+inline_import_only = only_group (codes "import") (only_seq text_only text_only)
+
+-- ---- heads
+
+-- what may follow a head without taking part in it
+abbrev pub EndsHead : List Tok → Type 0
+EndsHead r =
+    (begins_id r ≡ false) × (begins_name r ≡ false) × (begins_inline_export r ≡ false)
+
+exports_no_id : (ns : List (List ℕ)) (r : List Tok) → begins_id r ≡ false
+    → begins_id (spell_inline_export ns ++ r) ≡ false
+exports_no_id [] r e = e
+exports_no_id (n ∷ ns) r e = refl
+
+exports_no_name : (ns : List (List ℕ)) (r : List Tok) → begins_name r ≡ false
+    → begins_name (spell_inline_export ns ++ r) ≡ false
+exports_no_name [] r e = e
+exports_no_name (n ∷ ns) r e = refl
+
+pub head_here : (h : FieldHeadTy) (r : List Tok) → fit_head h ≡ true → EndsHead r
+    → head.spells h (spell_head h) r
+unfolding head
+head_here h r f e =
+    let a = and_parts (fit_label h.label) (fit_inline_export h.exports) f in
+    let x = spell_inline_export h.exports in (
+      (h.label, h.exports),
+      (
+        spell_label h.label,
+        x,
+        refl,
+        label_here h.label (x ++ r) a.0 (exports_no_id h.exports r e.0)
+            (exports_no_name h.exports r e.1),
+        inline_export_here h.exports r a.1 e.2,
+      ),
+      refl,
+      refl,
+    )
+
+pub head_neat : (h : FieldHeadTy) → fit_head h ≡ true → Neat (spell_head h)
+head_neat h f =
+    let a = and_parts (fit_label h.label) (fit_inline_export h.exports) f in
+    neat_both (spell_label h.label) (spell_inline_export h.exports) (label_neat h.label a.0)
+    (inline_export_neat h.exports a.1)
+
+pub head_only : OnlyFit head fit_head
+unfolding head
+head_only =
+    only_made (λ _. true) (λ v. field_head v.0 v.1) fit_head
+    (only_seq label_only inline_export_only)
+
+-- ---- what may follow a field
+
+-- nothing, or the `)` of its group, with no word behind it
+abbrev pub EndsField : List Tok → Type 0
+EndsField r = (ends r ≡ true) × ((w : List ℕ) → second (begins_word w) r ≡ false)
+
+pub field_ends : EndsField []
+field_ends = (refl, λ w. refl)

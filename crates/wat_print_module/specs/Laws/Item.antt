@@ -1,0 +1,316 @@
+-- Laws: signatures of items that are imported or exported are read again.
+use Rattle.std.specs.Prelude.{◌≡◌, ℕ, Bool, true, false, List, [], ◌∷◌, ◌++◌, codes}
+use Rattle.std.specs.Str.{bytes_eq}
+use Rattle.std.proofs.Common.{refl, inl, inr}
+use Rattle.std.proofs.lemmas.Bool.{and_parts}
+use Rattle.wat_lexer.specs.Token.{Tok, LParen, RParen, Keyword, Integer}
+use Rattle.wat_tokens.specs.NameAnnotation.{begins_name}
+use Rattle.wat_tokens.specs.Parts.{seq, made}
+use Rattle.wat_tokens.specs.Production.{Production}
+use Rattle.wat_tokens.specs.Tests.{begins_word, begins_id, second}
+use Rattle.wat_types.specs.Group.{FuncTy}
+use Rattle.wat_types.specs.Label.{Label, label}
+use Rattle.wat_types.specs.Limits.{TableTy, table_type, memory_type}
+use Rattle.wat_types.specs.Storage.{GlobalTy, global_type}
+use Rattle.wat_types.specs.Tag.{tag_type}
+use Rattle.wat_types.specs.Use.{UseTy}
+use Rattle.wat_types.specs.declared.limits.MemoryType.{MemoryType}
+use Rattle.wat_links.specs.ImportItem.{sig_group}
+use Rattle.wat_links.specs.Item.{ItemKindTy, func, table, memory, global, tag, exact_func, SigTy}
+use Rattle.wat_links.specs.Item.{sig_of, func_use, func_kind, item_of, global_or_tag, item_sig}
+use Rattle.wat_print.specs.Label.{spell_label, fit_label}
+use Rattle.wat_print.specs.Limits.{spell_memory_type}
+use Rattle.wat_print.specs.Limits.{spell_table_type}
+use Rattle.wat_print.specs.Neat.{is_keyword, Neat}
+use Rattle.wat_print.specs.Parts.{spell_flag}
+use Rattle.wat_print.specs.Storage.{spell_global}
+use Rattle.wat_print.specs.Use.{spell_use, fit_use}
+use Rattle.wat_print.specs.Laws.Label.{label_here, label_neat, label_only}
+use Rattle.wat_print.specs.Laws.Limits.{EndsMemory, memory_type_here, memory_type_neat}
+use Rattle.wat_print.specs.Laws.Limits.{memory_type_only, table_type_here, table_type_neat}
+use Rattle.wat_print.specs.Laws.Limits.{table_type_only}
+use Rattle.wat_print.specs.Laws.Only.{OnlyFit, only_where, only_paren, only_seq, only_made}
+use Rattle.wat_print.specs.Laws.Only.{only_weaker}
+use Rattle.wat_print.specs.Laws.Only.{only_after, only_group}
+use Rattle.wat_print.specs.Laws.Parts.{paren_here, group_here, neat_word, neat_group, neat_paren}
+use Rattle.wat_print.specs.Laws.Parts.{neat_both}
+use Rattle.wat_print.specs.Laws.Storage.{EndsGlobal, global_here, global_neat, global_only}
+use Rattle.wat_print.specs.Laws.Use.{EndsUse, use_here, use_neat, use_only}
+use Rattle.wat_print.specs.Laws.Define.{after_here}
+use Rattle.wat_print_instr.specs.Laws.Places.{both_here}
+use Rattle.wat_print_module.specs.Item.{item_word, spell_item, fit_item, spell_sig, fit_sig}
+use Rattle.wat_print_module.specs.Item.{spell_sig_group}
+use Rattle.wat_print_module.specs.Laws.Folded.{no_word, not_a_word}
+use Rattle.wat_print_module.specs.Laws.Fronts.{use_alone_first, global_first}
+use Rattle.wat_print_module.specs.Laws.Strings.{is_shut}
+
+-- ---- what may follow
+
+-- what may follow a signature without taking part in it
+record EndsSig (r : List Tok) : Type 0 where
+  of_use : EndsUse r
+  of_exact : EndsUse (RParen ∷ r)
+  of_memory : EndsMemory r
+  of_global : EndsGlobal r
+  no_id : begins_id r ≡ false
+  no_name : begins_name r ≡ false
+  no_exact : second (begins_word (codes "exact")) r ≡ false
+
+shut_ends : (r : List Tok) → is_shut r ≡ true → EndsSig r
+shut_ends [] h =
+    record {
+      of_use = (refl, refl, refl);
+      of_exact = (refl, refl, refl);
+      of_memory = (refl, refl, refl);
+      of_global = (refl, refl);
+      no_id = refl;
+      no_name = refl;
+      no_exact = refl;
+    }
+shut_ends (RParen ∷ r) h =
+    let p = not_a_word (codes "param") r h in
+    let s = not_a_word (codes "result") r h in
+    record {
+      of_use = (not_a_word (codes "type") r h, refl, rw (p, s) refl);
+      of_exact = (refl, refl, refl);
+      of_memory = (refl, refl, refl);
+      of_global = (refl, refl);
+      no_id = refl;
+      no_name = refl;
+      no_exact = not_a_word (codes "exact") r h;
+    }
+shut_ends (LParen ∷ r) h = absurd cc
+shut_ends (_ ∷ r) h = absurd cc
+
+-- ---- what a type begins with
+
+use_no_id : (u : UseTy FuncTy) (r : List Tok) → begins_id r ≡ false
+    → begins_id (spell_use u ++ r) ≡ false
+use_no_id u r e = use_alone_first begins_id (λ y. refl, λ y. refl, λ y. refl) u r e
+
+use_no_name : (u : UseTy FuncTy) (r : List Tok) → begins_name r ≡ false
+    → begins_name (spell_use u ++ r) ≡ false
+use_no_name u r e = use_alone_first begins_name (λ y. refl, λ y. refl, λ y. refl) u r e
+
+use_no_exact : (u : UseTy FuncTy) (r : List Tok) → second (begins_word (codes "exact")) r ≡ false
+    → second (begins_word (codes "exact")) (spell_use u ++ r) ≡ false
+use_no_exact u r e =
+    use_alone_first (second (begins_word (codes "exact"))) (λ y. refl, λ y. refl, λ y. refl) u r e
+
+-- the test says so of words and numbers
+record OfLimits (test : List Tok → Bool) (b : Bool) : Type 0 where
+  of_word : (w : List ℕ) (x : List Tok) → test (Keyword w ∷ x) ≡ b
+  of_number : (n : List ℕ) (x : List Tok) → test (Integer n ∷ x) ≡ b
+
+limits_front : (test : List Tok → Bool) (b : Bool) → OfLimits test b → (is64 : Bool) (n : List ℕ)
+    (x y r : List Tok)
+    → test (((spell_flag (codes "i64") is64 ++ Integer n ∷ x) ++ y) ++ r) ≡ b
+limits_front test b h true n x y r = h.of_word _ _
+limits_front test b h false n x y r = h.of_number _ _
+
+table_front : (test : List Tok → Bool) (b : Bool) → OfLimits test b → (shared is64 : Bool)
+    (n : List ℕ) (x y r : List Tok)
+    → test ((spell_flag (codes "shared") shared
+    ++ ((spell_flag (codes "i64") is64 ++ Integer n ∷ x) ++ y)) ++ r) ≡ b
+table_front test b h true is64 n x y r = h.of_word _ _
+table_front test b h false is64 n x y r = limits_front test b h is64 n x y r
+
+limits_no_id : OfLimits begins_id false
+limits_no_id = record { of_word = λ w x. refl; of_number = λ n x. refl }
+
+limits_no_name : OfLimits begins_name false
+limits_no_name = record { of_word = λ w x. refl; of_number = λ n x. refl }
+
+table_no_id : (t : TableTy) (r : List Tok) → begins_id (spell_table_type t ++ r) ≡ false
+table_no_id t r = table_front begins_id false limits_no_id t.shared t.limits.is64 _ _ _ r
+
+table_no_name : (t : TableTy) (r : List Tok) → begins_name (spell_table_type t ++ r) ≡ false
+table_no_name t r = table_front begins_name false limits_no_name t.shared t.limits.is64 _ _ _ r
+
+memory_no_id : (m : MemoryType) (r : List Tok) → begins_id (spell_memory_type m ++ r) ≡ false
+memory_no_id m r = limits_front begins_id false limits_no_id m.limits.is64 _ _ _ r
+
+memory_no_name : (m : MemoryType) (r : List Tok) → begins_name (spell_memory_type m ++ r) ≡ false
+memory_no_name m r = limits_front begins_name false limits_no_name m.limits.is64 _ _ _ r
+
+global_no_id : (g : GlobalTy) (r : List Tok) → begins_id (spell_global g ++ r) ≡ false
+global_no_id g r =
+    global_first begins_id (λ k y. refl, λ y. refl, λ y. refl, λ y. refl) g r
+
+global_no_name : (g : GlobalTy) (r : List Tok) → begins_name (spell_global g ++ r) ≡ false
+global_no_name g r =
+    global_first begins_name (λ k y. refl, λ y. refl, λ y. refl, λ y. refl) g r
+
+-- ---- signatures
+
+item_here : (w : List ℕ) (k : Production ItemKindTy) (l : Label) (v : ItemKindTy) (d r : List Tok)
+    → bytes_eq w w ≡ true → fit_label l ≡ true → begins_id (d ++ r) ≡ false
+    → begins_name (d ++ r) ≡ false → k.spells v d r
+    → (item_of w k).spells (sig_of l v) (Keyword w ∷ (spell_label l ++ d)) r
+item_here w k l v d r e f i n s = (
+  (l, v),
+  after_here w (seq label k) (l, v) (spell_label l ++ d) r e
+      (both_here label k l v (spell_label l) d r (label_here l (d ++ r) f i n) s),
+  refl,
+  refl,
+)
+
+func_here : (l : Label) (u : UseTy FuncTy) (r : List Tok) → fit_label l ≡ true → fit_use u ≡ true
+    → EndsSig r → item_sig.spells (sig_of l (func u)) (spell_sig (sig_of l (func u))) r
+unfolding item_sig func_kind
+func_here l u r f g e =
+    inl (
+      refl,
+      item_here (codes "func") func_kind l (func u) (spell_use u) r refl f (use_no_id u r e.no_id)
+          (use_no_name u r e.no_name)
+          (inr (use_no_exact u r e.no_exact, (u, use_here u r g e.of_use, refl, refl))),
+    )
+
+exact_here : (l : Label) (u : UseTy FuncTy) (r : List Tok) → fit_label l ≡ true → fit_use u ≡ true
+    → EndsSig r → item_sig.spells (sig_of l (exact_func u)) (spell_sig (sig_of l (exact_func u))) r
+unfolding item_sig func_kind
+exact_here l u r f g e =
+    inl (
+      refl,
+      item_here (codes "func") func_kind l (exact_func u) (spell_item (exact_func u)) r refl f refl
+          refl
+          (inl (
+            refl,
+            (
+              u,
+              group_here (codes "exact") func_use u (spell_use u) r refl
+                  (use_here u (RParen ∷ r) g e.of_exact),
+              refl,
+              refl,
+            ),
+          )),
+    )
+
+sig_by : (l : Label) (k : ItemKindTy) (r : List Tok) → fit_label l ≡ true → fit_item k ≡ true
+    → EndsSig r → item_sig.spells (sig_of l k) (spell_sig (sig_of l k)) r
+unfolding item_sig global_or_tag
+sig_by l (func u) r f g e = func_here l u r f g e
+sig_by l (exact_func u) r f g e = exact_here l u r f g e
+sig_by l (table t) r f g e =
+    inr (
+      refl,
+      inl (
+        refl,
+        item_here (codes "table") (made table table_type) l (table t) (spell_table_type t) r refl f
+            (table_no_id t r) (table_no_name t r) (t, table_type_here t g r, refl, refl),
+      ),
+    )
+sig_by l (memory m) r f g e =
+    inr (
+      refl,
+      inr (
+        refl,
+        inl (
+          refl,
+          item_here (codes "memory") (made memory memory_type) l (memory m) (spell_memory_type m) r
+              refl f (memory_no_id m r) (memory_no_name m r)
+              (m, memory_type_here m r g e.of_memory, refl, refl),
+        ),
+      ),
+    )
+sig_by l (global t) r f g e =
+    inr (
+      refl,
+      inr (
+        refl,
+        inr (
+          refl,
+          inl (
+            refl,
+            item_here (codes "global") (made global global_type) l (global t) (spell_global t) r
+                refl f (global_no_id t r) (global_no_name t r)
+                (t, global_here t r g e.of_global, refl, refl),
+          ),
+        ),
+      ),
+    )
+sig_by l (tag u) r f g e =
+    inr (
+      refl,
+      inr (
+        refl,
+        inr (
+          refl,
+          inr (
+            refl,
+            item_here (codes "tag") (made tag tag_type) l (tag u) (spell_use u) r refl f
+                (use_no_id u r e.no_id) (use_no_name u r e.no_name)
+                (u, use_here u r g e.of_use, refl, refl),
+          ),
+        ),
+      ),
+    )
+
+-- in front of the end of its group, behind which there is no word
+pub sig_here : (s : SigTy) (r : List Tok) → fit_sig s ≡ true → is_shut r ≡ true
+    → item_sig.spells s (spell_sig s) r
+sig_here s r f e =
+    let a = and_parts (fit_label s.label) (fit_item s.kind) f in
+    sig_by s.label s.kind r a.0 a.1 (shut_ends r e)
+
+pub sig_group_here : (s : SigTy) (r : List Tok) → fit_sig s ≡ true → no_word r ≡ true
+    → sig_group.spells s (spell_sig_group s) r
+sig_group_here s r f e =
+    paren_here item_sig s (spell_sig s) r (sig_here s (RParen ∷ r) f e)
+
+-- ---- they can be written
+
+item_neat : (k : ItemKindTy) → fit_item k ≡ true → Neat (spell_item k)
+item_neat (func u) f = use_neat u f
+item_neat (table t) f = table_type_neat t f
+item_neat (memory m) f = memory_type_neat m f
+item_neat (global g) f = global_neat g f
+item_neat (tag u) f = use_neat u f
+item_neat (exact_func u) f = neat_group (codes "exact") (spell_use u) refl (use_neat u f)
+
+item_word_fit : (k : ItemKindTy) → is_keyword (item_word k) ≡ true
+item_word_fit (func u) = refl
+item_word_fit _ = refl
+
+pub sig_neat : (s : SigTy) → fit_sig s ≡ true → Neat (spell_sig s)
+sig_neat s f =
+    let a = and_parts (fit_label s.label) (fit_item s.kind) f in
+    neat_word (item_word s.kind) (spell_label s.label ++ spell_item s.kind) (item_word_fit s.kind)
+    (neat_both (spell_label s.label) (spell_item s.kind) (label_neat s.label a.0)
+    (item_neat s.kind a.1))
+
+pub sig_group_neat : (s : SigTy) → fit_sig s ≡ true → Neat (spell_sig_group s)
+sig_group_neat s f = neat_paren (spell_sig s) (sig_neat s f)
+
+-- ---- what a text spells can be written
+
+item_only : (w : List ℕ) (k : Production ItemKindTy) → OnlyFit k fit_item → OnlyFit (item_of w k) fit_sig
+item_only w k m =
+    only_made (λ _. true) (λ v. sig_of v.0 v.1) fit_sig
+    (only_weaker (λ v. fit_sig (sig_of v.0 v.1)) (λ v h. h) (only_after w (only_seq label_only m)))
+
+func_kind_only : OnlyFit func_kind fit_item
+unfolding func_kind
+func_kind_only =
+    only_where (second (begins_word (codes "exact")))
+    (only_made (λ _. true) exact_func fit_item (only_group (codes "exact") use_only))
+    (only_made (λ _. true) func fit_item use_only)
+
+pub sig_only : OnlyFit item_sig fit_sig
+unfolding item_sig global_or_tag
+sig_only =
+    only_where (begins_word (codes "func")) (item_only (codes "func") func_kind func_kind_only)
+    (only_where (begins_word (codes "table"))
+    (item_only (codes "table") (made table table_type)
+    (only_made (λ _. true) table fit_item table_type_only))
+    (only_where (begins_word (codes "memory"))
+    (item_only (codes "memory") (made memory memory_type)
+    (only_made (λ _. true) memory fit_item memory_type_only))
+    (only_where (begins_word (codes "global"))
+    (item_only (codes "global") (made global global_type)
+    (only_made (λ _. true) global fit_item global_only))
+    (item_only (codes "tag") (made tag tag_type)
+    (only_made (λ _. true) tag fit_item use_only)))))
+
+pub sig_group_only : OnlyFit sig_group fit_sig
+sig_group_only = only_paren sig_only

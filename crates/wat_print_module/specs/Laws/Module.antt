@@ -1,0 +1,206 @@
+-- Laws: modules are read again.
+use Rattle.std.specs.Prelude.{◌≡◌, ℕ, Bool, true, false, ◌&&◌, List, [], ◌∷◌, ◌++◌, codes, flat_map}
+use Rattle.std.specs.Prelude.{Option, Some, None, zero, suc, slice_get}
+use Rattle.std.proofs.Common.{refl, inl, inr, lit≤, append_assoc, subst, sym}
+use Rattle.std.proofs.lemmas.Bool.{and_parts}
+use Rattle.wat_lexer.specs.Token.{Tok, LParen, RParen}
+use Rattle.wat_tokens.specs.Groups.{paren}
+use Rattle.wat_tokens.specs.NameAnnotation.{begins_name}
+use Rattle.wat_tokens.specs.Parts.{seq, made}
+use Rattle.wat_tokens.specs.Strings.{string}
+use Rattle.wat_tokens.specs.Tests.{begins_word, begins_id, more}
+use Rattle.wat_types.specs.Label.{label}
+use Rattle.wat_links.specs.Custom.{raw, produced, linked}
+use Rattle.wat_core.specs.Field.{ModuleFieldTy, a_custom}
+use Rattle.wat_core.specs.FieldGroup.{field_group}
+use Rattle.wat_core.specs.Laws.Module.{field_group_consumes}
+use Rattle.wat_core.specs.Module.{ModuleKindTy, text, binary, ModuleTy, module_with, fields, pieces}
+use Rattle.wat_core.specs.Module.{module_kind, module_}
+use Rattle.wat_print.specs.Label.{spell_label, fit_label}
+use Rattle.wat_print.specs.Neat.{Neat}
+use Rattle.wat_print.specs.Parts.{each}
+use Rattle.wat_print.specs.Laws.Label.{label_here, label_neat, label_only}
+use Rattle.wat_print.specs.Laws.Only.{OnlyFit, only_where, only_many, only_seq, only_made}
+use Rattle.wat_print.specs.Laws.Only.{only_after}
+use Rattle.wat_print.specs.Laws.Only.{only_weaker, only_paren}
+use Rattle.wat_print.specs.Laws.Parts.{Spells, paren_here, many_here, neat_word, neat_both}
+use Rattle.wat_print.specs.Laws.Parts.{neat_each, neat_paren}
+use Rattle.wat_print.specs.Laws.Printed.{unspelled}
+use Rattle.wat_print.specs.Laws.Define.{after_here}
+use Rattle.wat_print_instr.specs.Laws.Places.{both_here}
+use Rattle.wat_print_module.specs.Field.{spell_module_field, fit_module_field, spell_field_group}
+use Rattle.wat_print_module.specs.Module.{spell_module_kind, fit_module_kind, spell_module}
+use Rattle.wat_print_module.specs.Module.{fit_module, spell_module_group, fields_of_kind}
+use Rattle.wat_print_module.specs.Module.{UnfitField, UnfitPart, NonePart}
+use Rattle.wat_print_module.specs.Strings.{spell_string, fit_string}
+use Rattle.wat_print_module.specs.Laws.Field.{fields_here, field_group_neat, field_group_only}
+use Rattle.wat_print_module.specs.Laws.Folded.{no_word}
+use Rattle.wat_print_module.specs.Laws.Strings.{string_here, string_neat, string_only}
+
+after_false : (a b : Bool) → b ≡ false → a && b ≡ false
+after_false true b e = e
+after_false false b e = refl
+
+-- ---- what is in front
+
+-- no annotation of a name stands in a field's group
+field_no_name : (f : ModuleFieldTy) (x : List Tok)
+    → begins_name (LParen ∷ (spell_module_field f ++ x)) ≡ false
+field_no_name (a_custom (raw v)) x = refl
+field_no_name (a_custom (produced fs)) x = refl
+field_no_name (a_custom (linked ss)) x = refl
+field_no_name _ x = refl
+
+-- nothing follows, or what closes the group
+record EndsThere (r : List Tok) : Type 0 where
+  no_id : begins_id r ≡ false
+  no_name : begins_name r ≡ false
+  no_more : more r ≡ false
+  no_binary : begins_word (codes "binary") r ≡ false
+  wordless : no_word r ≡ true
+
+ends_there : (r : List Tok) → more r ≡ false → EndsThere r
+ends_there [] e =
+    record { no_id = refl; no_name = refl; no_more = refl; no_binary = refl; wordless = refl }
+ends_there (RParen ∷ r) e =
+    record { no_id = refl; no_name = refl; no_more = refl; no_binary = refl; wordless = refl }
+ends_there (LParen ∷ r) e = absurd cc
+ends_there (_ ∷ r) e = absurd cc
+
+kind_no_id : (k : ModuleKindTy) (r : List Tok) → begins_id r ≡ false
+    → begins_id (spell_module_kind k ++ r) ≡ false
+kind_no_id (text []) r e = e
+kind_no_id (text (f ∷ fs)) r e = refl
+kind_no_id (binary ss) r e = refl
+
+kind_no_name : (k : ModuleKindTy) (r : List Tok) → begins_name r ≡ false
+    → begins_name (spell_module_kind k ++ r) ≡ false
+kind_no_name (text []) r e = e
+kind_no_name (text (f ∷ fs)) r e =
+    rw (
+      append_assoc (spell_field_group f) (flat_map spell_field_group fs) r,
+      append_assoc (spell_module_field f) (RParen ∷ []) (flat_map spell_field_group fs ++ r),
+    )
+    (field_no_name f (RParen ∷ (flat_map spell_field_group fs ++ r)))
+kind_no_name (binary ss) r e = refl
+
+fields_front : (fs : List ModuleFieldTy) (r : List Tok)
+    → begins_word (codes "binary") r ≡ false
+    → begins_word (codes "binary") (flat_map spell_field_group fs ++ r) ≡ false
+fields_front [] r e = e
+fields_front (f ∷ fs) r e = refl
+
+-- ---- modules
+
+kind_here : (k : ModuleKindTy) (r : List Tok) → fit_module_kind k ≡ true → EndsThere r
+    → module_kind.spells k (spell_module_kind k) r
+unfolding module_kind fields pieces
+kind_here (text fs) r f e =
+    inr (
+      fields_front fs r e.no_binary,
+      (fs, fields_here fs r f e.wordless e.no_more, refl, refl),
+    )
+kind_here (binary ss) r f e =
+    inl (
+      refl,
+      (
+        ss,
+        after_here (codes "binary") pieces ss (flat_map spell_string ss) r refl
+            (many_here more string spell_string fit_string string_here (λ v x o. refl) ss r f
+            e.no_more),
+        refl,
+        refl,
+      ),
+    )
+
+-- up to the end of its group
+pub module_here : (m : ModuleTy) (r : List Tok) → fit_module m ≡ true → more r ≡ false
+    → module_.spells m (spell_module m) r
+unfolding module_
+module_here m r f e =
+    let a = and_parts (fit_label m.label) (fit_module_kind m.kind) f in
+    let t = ends_there r e in
+    let k = spell_module_kind m.kind in
+    after_here (codes "module") (made (λ v. module_with v.0 v.1) (seq label module_kind)) m
+    (spell_label m.label ++ k) r refl (
+      (m.label, m.kind),
+      both_here label module_kind m.label m.kind (spell_label m.label) k r
+          (label_here m.label (k ++ r) a.0 (kind_no_id m.kind r t.no_id)
+          (kind_no_name m.kind r t.no_name)) (kind_here m.kind r a.1 t),
+      refl,
+      refl,
+    )
+
+pub module_group_here : (m : ModuleTy) → fit_module m ≡ true
+    → Spells (paren module_) m (spell_module_group m)
+module_group_here m f r =
+    paren_here module_ m (spell_module m) r (module_here m (RParen ∷ r) f refl)
+
+-- ---- they can be written
+
+kind_neat : (k : ModuleKindTy) → fit_module_kind k ≡ true → Neat (spell_module_kind k)
+kind_neat (text fs) f = neat_each spell_field_group fit_module_field field_group_neat fs f
+kind_neat (binary ss) f =
+    neat_word (codes "binary") (flat_map spell_string ss) refl
+    (neat_each spell_string fit_string string_neat ss f)
+
+pub module_neat : (m : ModuleTy) → fit_module m ≡ true → Neat (spell_module m)
+module_neat m f =
+    let a = and_parts (fit_label m.label) (fit_module_kind m.kind) f in
+    neat_word (codes "module") (spell_label m.label ++ spell_module_kind m.kind) refl
+    (neat_both (spell_label m.label) (spell_module_kind m.kind) (label_neat m.label a.0)
+    (kind_neat m.kind a.1))
+
+pub module_group_neat : (m : ModuleTy) → fit_module m ≡ true → Neat (spell_module_group m)
+module_group_neat m f = neat_paren (spell_module m) (module_neat m f)
+
+-- ---- what a text spells can be written
+
+kind_only : OnlyFit module_kind fit_module_kind
+unfolding module_kind fields pieces
+kind_only =
+    only_where (begins_word (codes "binary"))
+    (only_made (λ _. true) binary fit_module_kind
+    (only_after (codes "binary") (only_many more (lit≤ tt) string_only)))
+    (only_made (λ _. true) text fit_module_kind
+    (only_many more field_group_consumes field_group_only))
+
+pub module_only : OnlyFit module_ fit_module
+unfolding module_
+module_only =
+    only_after (codes "module")
+    (only_made (λ _. true) (λ v. module_with v.0 v.1) fit_module
+    (only_weaker (λ v. fit_module (module_with v.0 v.1)) (λ v h. h)
+    (only_seq label_only kind_only)))
+
+pub module_group_only : OnlyFit (paren module_) fit_module
+module_group_only = only_paren module_only
+
+-- ---- what is refused
+
+get_unfit : (fs : List ModuleFieldTy) (i : ℕ) (f : ModuleFieldTy) → slice_get fs i ≡ Some f
+    → fit_module_field f ≡ false → each fit_module_field fs ≡ false
+get_unfit [] i f e h = absurd cc
+get_unfit (g ∷ fs) zero f e h =
+    let same : g ≡ f = cc in
+    let k : fit_module_field g ≡ false =
+    subst (λ (v : ModuleFieldTy). fit_module_field v ≡ false) (sym same) h in rw k refl
+get_unfit (g ∷ fs) (suc i) f e h =
+    after_false (fit_module_field g) (each fit_module_field fs) (get_unfit fs i f e h)
+
+kind_unfit : (k : ModuleKindTy) (i : ℕ) → UnfitField (fields_of_kind k) (Some i)
+    → fit_module_kind k ≡ false
+kind_unfit (text fs) i u = get_unfit fs i u.0 u.1 u.2
+kind_unfit (binary ss) i u = absurd cc
+
+-- where a part can't be written, the module can't
+pub part_unfit : (m : ModuleTy) (o : Option ℕ) → UnfitPart m o → fit_module m ≡ false
+part_unfit m (Some i) u =
+    after_false (fit_label m.label) (fit_module_kind m.kind) (kind_unfit m.kind i u)
+part_unfit m None u = rw u refl
+
+-- no text spells it then
+pub part_none : (m : ModuleTy) (o : Option ℕ) → UnfitPart m o → NonePart m o
+part_none m (Some i) u =
+    (u.0, u.1, unspelled field_group u.0 (fit_module_field u.0) u.2 (field_group_only.holds u.0))
+part_none m None u = unspelled label m.label (fit_label m.label) u (label_only.holds m.label)

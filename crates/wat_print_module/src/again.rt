@@ -1,0 +1,37 @@
+//! A module that is printed and read again.
+
+ghost use Rattle.std.specs.Prelude.{◌≡◌, ◌≢◌, IfOk, IfErr};
+ghost use Rattle.wat_core.specs.Module.{module_view, module_};
+ghost use Rattle.wat_print.specs.Printed.{NoneSpells};
+ghost use Rattle.wat_print.specs.declared.fault.Refused.TheVariants.{Memory};
+ghost use Rattle.wat_tokens.specs.Groups.{paren};
+
+use crate::module::{ModuleRefused, print_module};
+use bumpalo::Bump;
+use std::alloc::Global;
+use wat_core::{Module, read_module};
+use wat_print::{Layout, Refused};
+
+/// The module, printed in the layout and read again: a copy that names nothing but the arena.
+///
+/// A module that no text spells is refused as by [`print_module`]. Memory that is refused is
+/// answered by Memory.
+pub fn read_again<'a>(
+    alloc: Global,
+    module: &Module,
+    layout: Layout,
+    arena: &'a Bump,
+) -> Result<Module<'a>, ModuleRefused>
+    // It is the same module, places aside.
+    ensures same { IfOk result (λ again. module_view again ≡ module_view «module».now) }
+    ensures refused { IfErr result (λ e. e.reason ≢ Memory
+        → NoneSpells (paren module_) (module_view «module».now)) }
+{
+    let text = print_module(alloc, module, layout)?;
+    let kept = arena.try_alloc_str(text.as_str())?;
+    match read_module(alloc, kept, arena) {
+        Ok(again) => Ok(again),
+        // (a text that was printed is refused for want of memory alone)
+        Err(_) => Err(ModuleRefused::from(Refused::Memory)),
+    }
+}

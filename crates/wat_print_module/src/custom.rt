@@ -1,0 +1,51 @@
+//! How custom sections are printed.
+
+ghost use Rattle.std.specs.Prelude.{◌≡◌, ◌≢◌, OnOk, IfErr, true, false};
+ghost use Rattle.wat_tokens.specs.Groups.{paren};
+ghost use Rattle.wat_links.specs.Custom.{CustomTy, custom_view, custom};
+ghost use Rattle.wat_print.specs.Text.{put};
+ghost use Rattle.wat_print.specs.declared.fault.Refused.TheVariants.{Memory};
+ghost use Rattle.wat_print_module.specs.Custom.{spell_custom, fit_custom, spell_custom_group};
+ghost use Rattle.wat_print_module.specs.LinkPrintings.{custom_printing};
+
+use crate::dylink::write_dylink;
+use crate::producers::write_producers;
+use crate::raw::write_raw;
+use crate::traits::PrintPart;
+use wat_links::Custom;
+use wat_print::{Output, Refused};
+
+/// Writes a custom section, without its parentheses (Text Format, "Custom Annotation").
+pub fn write_custom(out: &mut Output, section: &Custom) -> Result<(), Refused>
+    ensures written { OnOk result (out.new ≡ put out.old (spell_custom (custom_view section.now))) }
+    ensures fit { OnOk result (fit_custom (custom_view section.now) ≡ true) }
+    ensures refused { IfErr result (λ e. e ≢ Memory
+        → fit_custom (custom_view section.now) ≡ false) }
+{
+    match section {
+        Custom::Raw(section) => {
+            write_raw(out, section)?;
+            Ok(())
+        }
+        Custom::Producers(section) => write_producers(out, section),
+        Custom::Dylink0(section) => write_dylink(out, section),
+    }
+}
+
+/// It is printed in its parentheses, since an annotation stands behind a `(`.
+impl PrintPart for Custom<'_> {
+    ghost View = { CustomTy };
+
+    ghost view = { custom_view };
+
+    ghost grammar = { paren custom };
+
+    ghost printing = { custom_printing };
+
+    fn write(&self, out: &mut Output) -> Result<(), Refused> {
+        out.open()?;
+        write_custom(out, self)?;
+        out.close()?;
+        Ok(())
+    }
+}

@@ -1,0 +1,112 @@
+//! How values of data segments are printed.
+
+ghost use Rattle.std.specs.Prelude.{◌≡◌, OnOk, IfErr, true};
+ghost use Rattle.wat_fields.specs.DataVal.{DataValTy, written, numbers, data_val_view, data_val};
+ghost use Rattle.wat_print.specs.Limits.{spell_number};
+ghost use Rattle.wat_print.specs.Neat.{is_byte};
+ghost use Rattle.wat_print.specs.Parts.{Wrote};
+ghost use Rattle.wat_print.specs.Text.{all_are, put};
+ghost use Rattle.wat_print.specs.declared.fault.Refused.TheVariants.{Memory};
+ghost use Rattle.wat_print_module.specs.SegmentPrintings.{data_val_printing};
+ghost use Rattle.wat_print_module.specs.Segments.{spell_data_val, fit_data_val};
+
+use crate::traits::PrintPart;
+use wat_fields::DataVal;
+use wat_print::{Output, Refused};
+
+/// Looks at each byte: so each is known to be one.
+fn look_at_each(bytes: &[u8])
+    ensures { all_are is_byte bytes.now ≡ true }
+{
+    for byte in bytes {
+        let _byte = *byte;
+    }
+}
+
+/// Writes the bytes of a string.
+fn write_string(out: &mut Output, bytes: &[u8]) -> Result<(), Refused>
+    ensures written { OnOk result (out.new ≡ put out.old (spell_data_val (written bytes.now))) }
+    ensures fit { OnOk result (fit_data_val (written bytes.now) ≡ true) }
+    ensures refused { IfErr result (λ e. e ≡ Memory) }
+{
+    look_at_each(bytes);
+    out.string(bytes)?;
+    Ok(())
+}
+
+/// Writes a byte as a number.
+fn write_byte(out: &mut Output, byte: u8) -> Result<(), Refused>
+    ensures written { OnOk result (out.new ≡ put out.old (spell_number byte)) }
+    ensures fit { OnOk result (is_byte byte ≡ true) }
+    ensures refused { IfErr result (λ e. e ≡ Memory) }
+{
+    out.number(u64::from(byte))?;
+    Ok(())
+}
+
+/// Writes each byte as a number.
+fn write_bytes(out: &mut Output, bytes: &[u8]) -> Result<(), Refused>
+    ensures wrote { OnOk result (Wrote (λ b. b) spell_number is_byte bytes.now out.old out.new) }
+    ensures refused { IfErr result (λ e. e ≡ Memory) }
+{
+    for byte in bytes {
+        write_byte(out, *byte)?;
+    }
+    Ok(())
+}
+
+/// Writes the bytes of numbers: as numbers of 8 bits.
+fn write_numbers(out: &mut Output, bytes: &[u8]) -> Result<(), Refused>
+    ensures written { OnOk result (out.new ≡ put out.old (spell_data_val (numbers bytes.now))) }
+    ensures fit { OnOk result (fit_data_val (numbers bytes.now) ≡ true) }
+    ensures refused { IfErr result (λ e. e ≡ Memory) }
+{
+    out.open()?;
+    out.word("i8")?;
+    write_bytes(out, bytes)?;
+    out.close()?;
+    Ok(())
+}
+
+/// Writes a value of a data segment (Text Format, Modules, "Data Segments", with the numbers of the
+/// proposal "Numeric Values in WAT Data Segments"): a string, or `( i8 number* )` with each byte of
+/// the numbers in decimal digits.
+pub fn write_data_val(out: &mut Output, value: &DataVal) -> Result<(), Refused>
+    ensures written { OnOk result (out.new ≡ put out.old
+        (spell_data_val (data_val_view value.now))) }
+    ensures fit { OnOk result (fit_data_val (data_val_view value.now) ≡ true) }
+    ensures refused { IfErr result (λ e. e ≡ Memory) }
+{
+    match value {
+        DataVal::String(bytes) => write_string(out, bytes),
+        DataVal::Integral(bytes) => write_numbers(out, bytes),
+    }
+}
+
+/// Writes values of a data segment, one behind the other.
+pub fn write_data_vals(out: &mut Output, values: &[DataVal]) -> Result<(), Refused>
+    ensures wrote { OnOk result (Wrote data_val_view spell_data_val fit_data_val values.now out.old
+        out.new) }
+    ensures refused { IfErr result (λ e. e ≡ Memory) }
+{
+    for value in values {
+        write_data_val(out, value)?;
+    }
+    Ok(())
+}
+
+impl PrintPart for DataVal<'_> {
+    ghost View = { DataValTy };
+
+    ghost view = { data_val_view };
+
+    ghost grammar = { data_val };
+
+    ghost printing = { data_val_printing };
+
+    #[tactic(auto, using(wat_print::specs::Laws::Written::puts_put))]
+    fn write(&self, out: &mut Output) -> Result<(), Refused> {
+        write_data_val(out, self)?;
+        Ok(())
+    }
+}

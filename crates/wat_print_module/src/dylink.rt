@@ -1,0 +1,223 @@
+//! How the `dylink.0` section is printed.
+
+ghost use Rattle.std.specs.Prelude.{◌≡◌, ◌≢◌, List, OnOk, IfErr, true, false, map, flat_map};
+ghost use Rattle.std.specs.Str.{is_utf8};
+ghost use Rattle.wat_tokens.specs.Groups.{paren};
+ghost use Rattle.wat_links.specs.Cutting.{dylink};
+ghost use Rattle.wat_links.specs.Dylink.{SubsectionTy, dylink_export_view, dylink_import_view};
+ghost use Rattle.wat_links.specs.Dylink.{subsection_view, dylink_view};
+ghost use Rattle.wat_print.specs.Parts.{each, Wrote};
+ghost use Rattle.wat_print.specs.Text.{put};
+ghost use Rattle.wat_print.specs.declared.fault.Refused.TheVariants.{Memory};
+ghost use Rattle.wat_print_module.specs.Dylink.{spell_sizes, spell_names, spell_export_flags};
+ghost use Rattle.wat_print_module.specs.Dylink.{spell_import_flags, spell_subsection, spell_dylink};
+ghost use Rattle.wat_print_module.specs.Dylink.{fit_sizes, fit_export_flags, fit_import_flags};
+ghost use Rattle.wat_print_module.specs.Dylink.{fit_subsection, is_filled, is_apart, are_cut};
+ghost use Rattle.wat_print_module.specs.Dylink.{fit_dylink};
+ghost use Rattle.wat_print_module.specs.LinkPrintings.{dylink_printing};
+ghost use Rattle.wat_print_module.specs.Strings.{spell_string};
+
+use crate::traits::PrintPart;
+use std::alloc::AllocError;
+use wat_links::{Dylink0, Dylink0Subsection};
+use wat_print::{Output, Refused};
+
+/// Writes `( word size alignment )`.
+fn write_sizes(out: &mut Output, word: &str, size: u32, align: u32) -> Result<(), AllocError>
+    ensures written { OnOk result (out.new ≡ put out.old (spell_sizes word.now size align)) }
+    ensures fit { fit_sizes size align ≡ true }
+{
+    out.open()?;
+    out.word(word)?;
+    out.number(u64::from(size))?;
+    out.number(u64::from(align))?;
+    out.close()
+}
+
+/// Writes names, one behind the other.
+fn write_strings(out: &mut Output, names: &[&str]) -> Result<(), AllocError>
+    ensures { OnOk result (Wrote (λ n. n.now) spell_string is_utf8 names.now out.old out.new) }
+{
+    for name in names {
+        out.text(name)?;
+    }
+    Ok(())
+}
+
+/// Writes `( word name* )`.
+fn write_names(out: &mut Output, word: &str, names: &[&str]) -> Result<(), AllocError>
+    ensures written { OnOk result (out.new ≡ put out.old
+        (spell_names word.now (map (λ n. n.now) names.now))) }
+    ensures fit { OnOk result (each is_utf8 (map (λ n. n.now) names.now) ≡ true) }
+{
+    out.open()?;
+    out.word(word)?;
+    write_strings(out, names)?;
+    out.close()?;
+    Ok(())
+}
+
+/// Writes `( export-info name flags )`, the flags as one number.
+fn write_export(out: &mut Output, entry: &(&str, u32)) -> Result<(), AllocError>
+    ensures written { OnOk result (out.new ≡ put out.old
+        (spell_export_flags (dylink_export_view entry.now))) }
+    ensures fit { OnOk result (fit_export_flags (dylink_export_view entry.now) ≡ true) }
+{
+    out.open()?;
+    out.word("export-info")?;
+    out.text(entry.0)?;
+    out.number(u64::from(entry.1))?;
+    out.close()
+}
+
+/// Writes the entries of exports, one behind the other.
+fn write_exports(out: &mut Output, entries: &[(&str, u32)]) -> Result<(), AllocError>
+    ensures { OnOk result (Wrote dylink_export_view spell_export_flags fit_export_flags entries.now
+        out.old out.new) }
+{
+    for entry in entries {
+        write_export(out, entry)?;
+    }
+    Ok(())
+}
+
+/// Writes `( import-info module name flags )`, the flags as one number.
+fn write_import(out: &mut Output, entry: &(&str, &str, u32)) -> Result<(), AllocError>
+    ensures written { OnOk result (out.new ≡ put out.old
+        (spell_import_flags (dylink_import_view entry.now))) }
+    ensures fit { OnOk result (fit_import_flags (dylink_import_view entry.now) ≡ true) }
+{
+    out.open()?;
+    out.word("import-info")?;
+    out.text(entry.0)?;
+    out.text(entry.1)?;
+    out.number(u64::from(entry.2))?;
+    out.close()
+}
+
+/// Writes the entries of imports, one behind the other.
+fn write_imports(out: &mut Output, entries: &[(&str, &str, u32)]) -> Result<(), AllocError>
+    ensures { OnOk result (Wrote dylink_import_view spell_import_flags fit_import_flags entries.now
+        out.old out.new) }
+{
+    for entry in entries {
+        write_import(out, entry)?;
+    }
+    Ok(())
+}
+
+/// Writes a subsection: the numbers of `mem-info` all, and the flags of a symbol as one number.
+fn write_subsection(out: &mut Output, subsection: &Dylink0Subsection) -> Result<(), AllocError>
+    ensures written { OnOk result (out.new ≡ put out.old
+        (spell_subsection (subsection_view subsection.now))) }
+    ensures fit { OnOk result (fit_subsection (subsection_view subsection.now) ≡ true) }
+{
+    match subsection {
+        Dylink0Subsection::MemInfo {
+            memory_size,
+            memory_align,
+            table_size,
+            table_align,
+        } => {
+            out.open()?;
+            out.word("mem-info")?;
+            write_sizes(out, "memory", *memory_size, *memory_align)?;
+            write_sizes(out, "table", *table_size, *table_align)?;
+            out.close()
+        }
+        Dylink0Subsection::Needed(names) => write_names(out, "needed", names),
+        Dylink0Subsection::ExportInfo(entries) => write_exports(out, entries),
+        Dylink0Subsection::ImportInfo(entries) => write_imports(out, entries),
+        Dylink0Subsection::RuntimePath(paths) => write_names(out, "runtime-path", paths),
+        Dylink0Subsection::TargetArch(name) => {
+            out.open()?;
+            out.word("target-arch")?;
+            out.text(name)?;
+            out.close()
+        }
+    }
+}
+
+/// Writes subsections, one behind the other.
+fn write_subsections(out: &mut Output, subsections: &[Dylink0Subsection]) -> Result<(), AllocError>
+    ensures { OnOk result (Wrote subsection_view spell_subsection fit_subsection subsections.now
+        out.old out.new) }
+{
+    for subsection in subsections {
+        write_subsection(out, subsection)?;
+    }
+    Ok(())
+}
+
+/// Whether the subsection has an entry, where it is of exports or of imports.
+fn is_filled(subsection: &Dylink0Subsection) -> bool
+    ensures { result ≡ is_filled (subsection_view subsection.now) }
+{
+    match subsection {
+        Dylink0Subsection::ExportInfo(entries) => !entries.is_empty(),
+        Dylink0Subsection::ImportInfo(entries) => !entries.is_empty(),
+        _ => true,
+    }
+}
+
+/// Whether the subsection isn't of exports as the first of the others, nor of imports as that.
+fn is_apart(subsection: &Dylink0Subsection, others: &[Dylink0Subsection]) -> bool
+    ensures { result ≡ is_apart (subsection_view subsection.now)
+        (map subsection_view others.now) }
+{
+    if others.is_empty() {
+        return true;
+    }
+    match (subsection, &others[0]) {
+        (Dylink0Subsection::ExportInfo(_), Dylink0Subsection::ExportInfo(_)) => false,
+        (Dylink0Subsection::ImportInfo(_), Dylink0Subsection::ImportInfo(_)) => false,
+        _ => true,
+    }
+}
+
+/// Whether the subsections are cut as a text cuts its entries.
+fn are_cut(subsections: &[Dylink0Subsection]) -> bool
+    ensures { result ≡ are_cut (map subsection_view subsections.now) }
+{
+    for i in 0..subsections.len() {
+        if !is_filled(&subsections[i]) || !is_apart(&subsections[i], &subsections[i + 1..]) {
+            return false;
+        }
+    }
+    true
+}
+
+/// Writes the `dylink.0` section, without its parentheses (Text Format, "Custom Annotation"). It is
+/// refused where a subsection of exports or of imports has no entry, or is behind another of its
+/// kind.
+pub fn write_dylink(out: &mut Output, section: &Dylink0) -> Result<(), Refused>
+    ensures written { OnOk result (out.new ≡ put out.old (spell_dylink (dylink_view section.now))) }
+    ensures fit { OnOk result (fit_dylink (dylink_view section.now) ≡ true) }
+    ensures refused { IfErr result (λ e. e ≢ Memory
+        → fit_dylink (dylink_view section.now) ≡ false) }
+{
+    if !are_cut(&section.subsections) {
+        return Err(Refused::Section);
+    }
+    out.annotation("dylink.0")?;
+    write_subsections(out, &section.subsections)?;
+    Ok(())
+}
+
+/// It is printed in its parentheses, since an annotation stands behind a `(`.
+impl PrintPart for Dylink0<'_> {
+    ghost View = { List SubsectionTy };
+
+    ghost view = { dylink_view };
+
+    ghost grammar = { paren dylink };
+
+    ghost printing = { dylink_printing };
+
+    fn write(&self, out: &mut Output) -> Result<(), Refused> {
+        out.open()?;
+        write_dylink(out, self)?;
+        out.close()?;
+        Ok(())
+    }
+}

@@ -1,0 +1,110 @@
+//! How exports and their types are printed.
+
+ghost use Rattle.std.specs.Prelude.{◌≡◌, ◌≢◌, OnOk, IfErr, true, false};
+ghost use Rattle.wat_links.specs.Export.{export_kind, ExportTy, export_view, export_};
+ghost use Rattle.wat_links.specs.Export.{ExportTypeTy, export_type_view, export_type};
+ghost use Rattle.wat_print.specs.Text.{put};
+ghost use Rattle.wat_print.specs.declared.fault.Refused.TheVariants.{Memory};
+ghost use Rattle.wat_print_module.specs.Export.{export_kind_word, spell_export, fit_export};
+ghost use Rattle.wat_print_module.specs.Export.{spell_export_type, fit_export_type};
+ghost use Rattle.wat_print_module.specs.LinkPrintings.{export_kind_printing, export_printing};
+ghost use Rattle.wat_print_module.specs.LinkPrintings.{export_type_printing};
+
+use crate::item::write_sig_group;
+use crate::traits::PrintPart;
+use wat_links::{Export, ExportKind, ExportType};
+use wat_print::reference::write_index;
+use wat_print::{Output, Refused};
+
+/// The word of a kind.
+fn word_of(kind: ExportKind) -> &'static str
+    ensures { result.now ≡ export_kind_word kind }
+{
+    match kind {
+        ExportKind::Func => "func",
+        ExportKind::Table => "table",
+        ExportKind::Memory => "memory",
+        ExportKind::Global => "global",
+        ExportKind::Tag => "tag",
+    }
+}
+
+/// Writes an export, without its parentheses (Text Format, Modules, "Exports").
+pub fn write_export(out: &mut Output, export: &Export) -> Result<(), Refused>
+    ensures written { OnOk result (out.new ≡ put out.old (spell_export (export_view export.now))) }
+    ensures fit { OnOk result (fit_export (export_view export.now) ≡ true) }
+    ensures refused { IfErr result (λ e. e ≢ Memory
+        → fit_export (export_view export.now) ≡ false) }
+{
+    out.word("export")?;
+    out.text(export.name)?;
+    out.open()?;
+    out.word(word_of(export.kind))?;
+    write_index(out, &export.item)?;
+    out.close()?;
+    Ok(())
+}
+
+/// Writes the type of an export: `export`, its name, and the signature in parentheses.
+pub fn write_export_type(out: &mut Output, export: &ExportType) -> Result<(), Refused>
+    ensures written { OnOk result (out.new ≡ put out.old
+        (spell_export_type (export_type_view export.now))) }
+    ensures fit { OnOk result (fit_export_type (export_type_view export.now) ≡ true) }
+    ensures refused { IfErr result (λ e. e ≢ Memory
+        → fit_export_type (export_type_view export.now) ≡ false) }
+{
+    out.word("export")?;
+    out.text(export.name)?;
+    write_sig_group(out, &export.item)?;
+    Ok(())
+}
+
+impl PrintPart for ExportKind {
+    ghost use Rattle.wat_links.specs.declared.export.ExportKind.{ExportKind};
+
+    ghost View = { ExportKind };
+
+    ghost view = { λ k. k };
+
+    ghost grammar = { export_kind };
+
+    ghost printing = { export_kind_printing };
+
+    #[tactic(auto, using(wat_print::specs::Laws::Written::puts_put))]
+    fn write(&self, out: &mut Output) -> Result<(), Refused> {
+        out.word(word_of(*self))?;
+        Ok(())
+    }
+}
+
+impl PrintPart for Export<'_> {
+    ghost View = { ExportTy };
+
+    ghost view = { export_view };
+
+    ghost grammar = { export_ };
+
+    ghost printing = { export_printing };
+
+    #[tactic(auto, using(wat_print::specs::Laws::Written::puts_put))]
+    fn write(&self, out: &mut Output) -> Result<(), Refused> {
+        write_export(out, self)?;
+        Ok(())
+    }
+}
+
+impl PrintPart for ExportType<'_> {
+    ghost View = { ExportTypeTy };
+
+    ghost view = { export_type_view };
+
+    ghost grammar = { export_type };
+
+    ghost printing = { export_type_printing };
+
+    #[tactic(auto, using(wat_print::specs::Laws::Written::puts_put))]
+    fn write(&self, out: &mut Output) -> Result<(), Refused> {
+        write_export_type(out, self)?;
+        Ok(())
+    }
+}

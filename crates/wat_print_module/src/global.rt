@@ -1,0 +1,101 @@
+//! How globals are printed.
+
+ghost use Rattle.std.specs.Prelude.{◌≡◌, ◌≢◌, OnOk, IfErr, true, false};
+ghost use Rattle.wat_expr.specs.Expression.{expression_view};
+ghost use Rattle.wat_fields.specs.Global.{GlobalFieldTy, imported, inline, global_kind_view};
+ghost use Rattle.wat_fields.specs.Global.{global_view, global};
+ghost use Rattle.wat_links.specs.Import.{inline_import_view};
+ghost use Rattle.wat_print.specs.Layout.{Writes};
+ghost use Rattle.wat_print.specs.Text.{put};
+ghost use Rattle.wat_print.specs.declared.fault.Refused.TheVariants.{Memory};
+ghost use Rattle.wat_print_module.specs.FieldPrintings.{global_field_printing};
+ghost use Rattle.wat_print_module.specs.Global.{spell_defined_global, fit_defined_global};
+ghost use Rattle.wat_print_module.specs.Global.{spell_global_field, fit_global_field};
+ghost use Rattle.wat_types.specs.Storage.{global_type_view};
+
+use crate::field_head::{write_head, write_inline_import};
+use crate::traits::PrintPart;
+use wat_expr::Expression;
+use wat_fields::{Global, GlobalKind};
+use wat_links::InlineImport;
+use wat_print::storage::write_global;
+use wat_print::{Output, Refused};
+use wat_print_instr::expression::write_expression;
+use wat_types::GlobalType;
+
+/// Writes an import in line, and the type of the global.
+fn write_imported(out: &mut Output, ty: &GlobalType, import: &InlineImport) -> Result<(), Refused>
+    ensures written { OnOk result (out.new ≡ put out.old (spell_defined_global
+        (global_type_view ty.now, imported (inline_import_view import.now)))) }
+    ensures fit { OnOk result (fit_defined_global
+        (global_type_view ty.now, imported (inline_import_view import.now)) ≡ true) }
+    ensures refused { IfErr result (λ e. e ≢ Memory → fit_defined_global
+        (global_type_view ty.now, imported (inline_import_view import.now)) ≡ false) }
+{
+    write_inline_import(out, import)?;
+    write_global(out, ty)?;
+    Ok(())
+}
+
+/// Writes the type of a global, and its first value.
+fn write_inline(out: &mut Output, ty: &GlobalType, value: &Expression) -> Result<(), Refused>
+    ensures written { OnOk result (Writes (spell_defined_global
+        (global_type_view ty.now, inline (expression_view value.now))) out.old out.new) }
+    ensures fit { OnOk result (fit_defined_global
+        (global_type_view ty.now, inline (expression_view value.now)) ≡ true) }
+    ensures refused { IfErr result (λ e. e ≢ Memory → fit_defined_global
+        (global_type_view ty.now, inline (expression_view value.now)) ≡ false) }
+{
+    write_global(out, ty)?;
+    write_expression(out, value)?;
+    Ok(())
+}
+
+/// Writes the type of a global, and how it is defined.
+#[tactic(auto, using(wat_print::specs::Laws::Written::puts_put))]
+fn write_defined(out: &mut Output, ty: &GlobalType, kind: &GlobalKind) -> Result<(), Refused>
+    ensures written { OnOk result (Writes (spell_defined_global
+        (global_type_view ty.now, global_kind_view kind.now)) out.old out.new) }
+    ensures fit { OnOk result (fit_defined_global
+        (global_type_view ty.now, global_kind_view kind.now) ≡ true) }
+    ensures refused { IfErr result (λ e. e ≢ Memory → fit_defined_global
+        (global_type_view ty.now, global_kind_view kind.now) ≡ false) }
+{
+    match kind {
+        GlobalKind::Import(import) => {
+            write_imported(out, ty, import)?;
+            Ok(())
+        }
+        GlobalKind::Inline(value) => write_inline(out, ty, value),
+    }
+}
+
+/// Writes a global, without its parentheses (Text Format, Modules, "Globals"): its exports and its
+/// import in line, and the instructions that give its first value, each on a line of its own.
+pub fn write_global_field(out: &mut Output, global: &Global) -> Result<(), Refused>
+    ensures written { OnOk result
+        (Writes (spell_global_field (global_view global.now)) out.old out.new) }
+    ensures fit { OnOk result (fit_global_field (global_view global.now) ≡ true) }
+    ensures refused { IfErr result (λ e. e ≢ Memory
+        → fit_global_field (global_view global.now) ≡ false) }
+{
+    out.word("global")?;
+    write_head(out, &global.id, &global.name, &global.exports)?;
+    write_defined(out, &global.ty, &global.kind)?;
+    Ok(())
+}
+
+impl PrintPart for Global<'_> {
+    ghost View = { GlobalFieldTy };
+
+    ghost view = { global_view };
+
+    ghost grammar = { global };
+
+    ghost printing = { global_field_printing };
+
+    fn write(&self, out: &mut Output) -> Result<(), Refused> {
+        write_global_field(out, self)?;
+        Ok(())
+    }
+}

@@ -1,0 +1,35 @@
+//! Fields and modules as text (WebAssembly Core Specification, Text Format, "Modules").
+//!
+//! [`print_module`] makes a text of a module. A type of its parts, which has [`PrintPart`], is
+//! printed by [`wat_print::print`] as [`ModulePart`]. What is printed is read again as the same
+//! value, of a module by [`read_again`] in one call.
+#![tactic(auto)]
+
+pub mod again;
+pub mod custom;
+pub mod data;
+pub mod data_val;
+pub mod dylink;
+pub mod elem;
+pub mod export;
+pub mod expression;
+pub mod field;
+pub mod field_head;
+pub mod func;
+pub mod global;
+pub mod import;
+pub mod item;
+pub mod local;
+pub mod memory;
+pub mod module;
+pub mod place;
+pub mod producers;
+pub mod raw;
+pub mod strings;
+pub mod table;
+pub mod tag;
+pub mod traits;
+
+pub use again::read_again;
+pub use module::{ModuleRefused, print_module};
+pub use traits::{ModulePart, PrintPart};

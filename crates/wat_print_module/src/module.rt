@@ -1,0 +1,197 @@
+//! How modules are printed.
+
+ghost use Rattle.std.specs.Prelude.{◌≡◌, ◌≢◌, ◌++◌, List, ℕ, OnOk, IfOk, IfErr, true, false, map};
+ghost use Rattle.std.specs.Prelude.{string_bytes, slice_get, Some, None};
+ghost use Rattle.wat_tokens.specs.Groups.{paren};
+ghost use Rattle.wat_core.specs.Field.{ModuleFieldTy, field_view};
+ghost use Rattle.wat_core.specs.Module.{binary, ModuleTy, module_kind_view, module_view, module_};
+ghost use Rattle.wat_core.specs.Text.{SpellsModule};
+ghost use Rattle.wat_print.specs.Layout.{Writes};
+ghost use Rattle.wat_print.specs.Parts.{each, Wrote, WroteLines};
+ghost use Rattle.wat_print.specs.Printed.{NoneSpells};
+ghost use Rattle.wat_print.specs.Text.{put, printed_text};
+ghost use Rattle.wat_print.specs.declared.fault.Refused.TheVariants.{Memory};
+ghost use Rattle.wat_print.specs.declared.output.Layout.TheVariants.{Line};
+ghost use Rattle.wat_print_module.specs.Field.{fit_module_field, spell_field_group};
+ghost use Rattle.wat_print_module.specs.Module.{spell_module_kind, fit_module_kind, spell_module};
+ghost use Rattle.wat_print_module.specs.Module.{fit_module, spell_module_group, UnfitPart};
+ghost use Rattle.wat_print_module.specs.Module.{UnfitField, NonePart, fields_of_kind};
+ghost use Rattle.wat_print_module.specs.ModulePrintings.{module_printing};
+ghost use Rattle.wat_print_module.specs.Strings.{spell_string, fit_string};
+
+use crate::field::write_field;
+use crate::raw::write_pieces;
+use crate::traits::PrintPart;
+use std::alloc::{AllocError, Global};
+use wat_core::{Module, ModuleField, ModuleKind, ModuleKindOf, VisibleModule};
+use wat_print::label::write_label;
+use wat_print::{Layout, Output, Refused};
+
+/// Why a module isn't printed, and where.
+#[derive(Clone, Copy, Debug, PartialEq, Eq)]
+pub struct ModuleRefused {
+    /// The reason.
+    pub reason: Refused,
+    /// The number of the field that can't be written, from 0 on; None where it is what names the
+    /// module. Where memory ran out, it is the field that was being written, or None.
+    pub field: Option<usize>,
+}
+
+impl From<AllocError> for ModuleRefused {
+    ghost use Rattle.std.specs.Prelude.{◌≡◌};
+    ghost use Rattle.wat_print.specs.declared.fault.Refused.TheVariants.{Memory};
+
+    ghost from_gives = { λ _ e. e.reason ≡ Memory };
+
+    fn from(_e: AllocError) -> ModuleRefused {
+        ModuleRefused {
+            reason: Refused::Memory,
+            field: None,
+        }
+    }
+}
+
+/// The reason alone: no field is being written.
+impl From<Refused> for ModuleRefused {
+    ghost use Rattle.std.specs.Prelude.{◌≡◌, None};
+
+    ghost from_gives = { λ r e. e ≡ record { reason = r; field = None } };
+
+    fn from(reason: Refused) -> ModuleRefused {
+        ModuleRefused {
+            reason,
+            field: None,
+        }
+    }
+}
+
+/// Writes the field of the number, on a line of its own where the layout has lines.
+fn write_numbered(out: &mut Output, field: &ModuleField, number: usize) -> Result<(), ModuleRefused>
+    ensures written { OnOk result (Writes (spell_field_group (field_view field.now)) out.old
+        out.new) }
+    ensures fit { OnOk result (fit_module_field (field_view field.now) ≡ true) }
+    ensures refused { IfErr result (λ e. e.reason ≢ Memory
+        → fit_module_field (field_view field.now) ≡ false) }
+    ensures number { IfErr result (λ e. e.field ≡ Some number) }
+{
+    match write_field(out, field) {
+        Ok(()) => Ok(()),
+        Err(reason) => Err(ModuleRefused {
+            reason,
+            field: Some(number),
+        }),
+    }
+}
+
+/// Writes fields, each on a line of its own where the layout has lines.
+fn write_fields(out: &mut Output, fields: &[ModuleField]) -> Result<(), ModuleRefused>
+    ensures wrote { OnOk result (WroteLines field_view spell_field_group fit_module_field fields.now
+        out.old out.new) }
+    ensures refused { IfErr result (λ e. e.reason ≢ Memory
+        → UnfitField (map field_view fields.now) e.field) }
+{
+    for number in 0..fields.len() {
+        write_numbered(out, &fields[number], number)?;
+    }
+    Ok(())
+}
+
+/// Writes `binary`, and the pieces of the binary form.
+fn write_binary(out: &mut Output, pieces: &[&[u8]]) -> Result<(), AllocError>
+    ensures written { OnOk result (out.new ≡ put out.old
+        (spell_module_kind (binary (map (λ s. s.now) pieces.now)))) }
+    ensures fit { OnOk result (each fit_string (map (λ s. s.now) pieces.now) ≡ true) }
+{
+    out.word("binary")?;
+    write_pieces(out, pieces)
+}
+
+/// Writes what is in a module.
+fn write_kind(out: &mut Output, kind: &ModuleKind) -> Result<(), ModuleRefused>
+    ensures written { OnOk result (Writes (spell_module_kind (module_kind_view kind.now)) out.old
+        out.new) }
+    ensures fit { OnOk result (fit_module_kind (module_kind_view kind.now) ≡ true) }
+    ensures refused { IfErr result (λ e. e.reason ≢ Memory
+        → UnfitField (fields_of_kind (module_kind_view kind.now)) e.field) }
+{
+    match kind {
+        ModuleKindOf::Text(fields) => {
+            write_fields(out, fields)?;
+            Ok(())
+        }
+        ModuleKindOf::Binary(pieces) => {
+            write_binary(out, pieces)?;
+            Ok(())
+        }
+    }
+}
+
+/// Writes a module without its parentheses.
+fn write_content(out: &mut Output, value: &Module) -> Result<(), ModuleRefused>
+    ensures written { OnOk result (Writes (spell_module (module_view value.now)) out.old out.new) }
+    ensures fit { OnOk result (fit_module (module_view value.now) ≡ true) }
+    ensures refused { IfErr result (λ e. e.reason ≢ Memory
+        → UnfitPart (module_view value.now) e.field) }
+{
+    out.word("module")?;
+    write_label(out, &value.id, &value.name)?;
+    write_kind(out, &value.kind)?;
+    Ok(())
+}
+
+/// Writes a module in its parentheses (Text Format, "Modules"): each field on a line of its own,
+/// where the layout has lines. One that can't be written is refused with the first reason that is
+/// met.
+pub fn write_module(out: &mut Output, value: &Module) -> Result<(), ModuleRefused>
+    ensures written { OnOk result (Writes (spell_module_group (module_view value.now)) out.old
+        out.new) }
+    ensures fit { OnOk result (fit_module (module_view value.now) ≡ true) }
+    ensures refused { IfErr result (λ e. e.reason ≢ Memory
+        → UnfitPart (module_view value.now) e.field) }
+{
+    out.open()?;
+    write_content(out, value)?;
+    out.close()?;
+    Ok(())
+}
+
+/// The text of a module, laid out as said: the whole text is its group `( module .. )`.
+///
+/// The text is cut into tokens that spell the module, so [`read_module`](wat_core::read_module)
+/// reads it again. A module that no text spells is refused with the first reason that is met, and
+/// with the number of the field that no text spells. Memory that is refused is answered by Memory.
+pub fn print_module(alloc: Global, value: &Module, layout: Layout) -> Result<String, ModuleRefused>
+    ensures reads_back { IfOk result (λ s. SpellsModule (string_bytes s)
+        (module_view value.now)) }
+    // On one line, it is the text of tokens that what contracts see of the module decides.
+    ensures line { IfOk result (λ s. layout ≡ Line
+        → string_bytes s ≡ printed_text (spell_module_group (module_view value.now))) }
+    ensures refused { IfErr result (λ e. e.reason ≢ Memory
+        → NoneSpells (paren module_) (module_view value.now)) }
+    // No text spells the field of the number, or, where there is none, what names the module.
+    ensures field { IfErr result (λ e. e.reason ≢ Memory
+        → NonePart (module_view value.now) e.field) }
+{
+    let mut out = Output::new(alloc, layout);
+    write_module(&mut out, value)?;
+    Ok(out.into_text())
+}
+
+/// It is printed without its parentheses, as it is read.
+impl PrintPart for VisibleModule<'_> {
+    ghost View = { ModuleTy };
+
+    ghost view = { λ m. module_view m.0 };
+
+    ghost grammar = { module_ };
+
+    ghost printing = { module_printing };
+
+    #[tactic(auto, using(crate::specs::Laws::Module::part_unfit))]
+    fn write(&self, out: &mut Output) -> Result<(), Refused> {
+        match write_content(out, &self.0) {
+            Ok(()) => Ok(()),
+            Err(refused) => Err(refused.reason),
+        }
+    }
+}

@@ -1,0 +1,125 @@
+//! How the `producers` section is printed.
+
+ghost use Rattle.std.specs.Prelude.{◌≡◌, ◌≢◌, ◌&&◌, ◌++◌, ◌∷◌, [], List, ℕ, OnOk, IfOk, IfErr};
+ghost use Rattle.std.specs.Prelude.{true};
+ghost use Rattle.std.specs.Prelude.{false, map, flat_map, codes};
+ghost use Rattle.wat_tokens.specs.Groups.{paren};
+ghost use Rattle.wat_links.specs.ProducerEntry.{Versioned};
+ghost use Rattle.wat_links.specs.Producers.{names_view, producers_view, producers};
+ghost use Rattle.wat_print.specs.Parts.{each, Wrote};
+ghost use Rattle.wat_print.specs.Text.{put};
+ghost use Rattle.wat_print.specs.declared.fault.Refused.TheVariants.{Memory};
+ghost use Rattle.wat_print_module.specs.LinkPrintings.{producers_printing};
+ghost use Rattle.wat_print_module.specs.Producers.{ProducedTy, spell_produced, fit_versioned};
+ghost use Rattle.wat_print_module.specs.Producers.{spell_produced_field, fit_produced_field};
+ghost use Rattle.wat_print_module.specs.Producers.{field_of_word, fields_behind, spell_producers};
+ghost use Rattle.wat_print_module.specs.Producers.{fit_producers, produced_view};
+
+use crate::traits::PrintPart;
+use std::alloc::AllocError;
+use wat_links::Producers;
+use wat_print::{Output, Refused};
+
+/// Writes an entry: `( word name version )`.
+fn write_produced(out: &mut Output, word: &str, name: &str, version: &str) -> Result<(), AllocError>
+    ensures written { OnOk result (out.new ≡ put out.old
+        (spell_produced word.now (name.now, version.now))) }
+    ensures fit { OnOk result (fit_versioned (name.now, version.now) ≡ true) }
+{
+    out.open()?;
+    out.word(word)?;
+    out.text(name)?;
+    out.text(version)?;
+    out.close()
+}
+
+/// Writes the entries of a field.
+fn write_entries(out: &mut Output, word: &str, entries: &[(&str, &str)]) -> Result<(), AllocError>
+    ensures { OnOk result (Wrote (λ e. (e.0.now, e.1.now)) (spell_produced word.now) fit_versioned
+        entries.now out.old out.new) }
+{
+    for entry in entries {
+        write_produced(out, word, entry.0, entry.1)?;
+    }
+    Ok(())
+}
+
+/// Writes the first of the fields, where it is of the word, and answers those behind it. One
+/// without an entry is refused.
+fn write_field<'f, 'a>(
+    out: &mut Output,
+    word: &str,
+    fields: &'f [(&'a str, Vec<(&'a str, &'a str)>)],
+) -> Result<&'f [(&'a str, Vec<(&'a str, &'a str)>)], Refused>
+    ensures written { OnOk result (out.new ≡ put out.old (flat_map spell_produced_field
+        (field_of_word word.now (map produced_view fields.now)))) }
+    ensures fit { OnOk result (each fit_produced_field
+        (field_of_word word.now (map produced_view fields.now)) ≡ true) }
+    ensures behind { IfOk result (λ rest. map produced_view rest.now
+        ≡ fields_behind word.now (map produced_view fields.now)) }
+    ensures refused { IfErr result (λ e. e ≢ Memory → each fit_produced_field
+        (field_of_word word.now (map produced_view fields.now)) ≡ false) }
+{
+    if fields.is_empty() || fields[0].0 != word {
+        return Ok(fields);
+    }
+    if fields[0].1.is_empty() {
+        return Err(Refused::Section);
+    }
+    write_entries(out, word, &fields[0].1)?;
+    Ok(&fields[1..])
+}
+
+/// Writes fields: `language`, `sdk` and `processed-by`, in this order, each once or not at all and
+/// with an entry. Others are refused.
+fn write_fields<'a>(
+    out: &mut Output,
+    fields: &[(&'a str, Vec<(&'a str, &'a str)>)],
+) -> Result<(), Refused>
+    ensures written { OnOk result (out.new ≡ put out.old
+        (flat_map spell_produced_field (map produced_view fields.now))) }
+    ensures fit { OnOk result (fit_producers (map produced_view fields.now) ≡ true) }
+    ensures refused { IfErr result (λ e. e ≢ Memory
+        → fit_producers (map produced_view fields.now) ≡ false) }
+{
+    let behind_languages = write_field(out, "language", fields)?;
+    let behind_sdks = write_field(out, "sdk", behind_languages)?;
+    let behind_all = write_field(out, "processed-by", behind_sdks)?;
+    if !behind_all.is_empty() {
+        return Err(Refused::Section);
+    }
+    Ok(())
+}
+
+/// Writes the `producers` section, without its parentheses (Text Format, "Custom Annotation"). It
+/// is refused where its fields aren't `language`, `sdk` and `processed-by`, in this order, each
+/// once or not at all and with an entry.
+pub fn write_producers(out: &mut Output, section: &Producers) -> Result<(), Refused>
+    ensures written { OnOk result (out.new ≡ put out.old
+        (spell_producers (producers_view section.now))) }
+    ensures fit { OnOk result (fit_producers (producers_view section.now) ≡ true) }
+    ensures refused { IfErr result (λ e. e ≢ Memory
+        → fit_producers (producers_view section.now) ≡ false) }
+{
+    out.annotation("producers")?;
+    write_fields(out, &section.fields)?;
+    Ok(())
+}
+
+/// It is printed in its parentheses, since an annotation stands behind a `(`.
+impl PrintPart for Producers<'_> {
+    ghost View = { List ProducedTy };
+
+    ghost view = { producers_view };
+
+    ghost grammar = { paren producers };
+
+    ghost printing = { producers_printing };
+
+    fn write(&self, out: &mut Output) -> Result<(), Refused> {
+        out.open()?;
+        write_producers(out, self)?;
+        out.close()?;
+        Ok(())
+    }
+}

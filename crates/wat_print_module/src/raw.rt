@@ -1,0 +1,58 @@
+//! How custom sections of any name are printed.
+
+ghost use Rattle.std.specs.Prelude.{◌≡◌, OnOk, IfErr, true};
+ghost use Rattle.wat_tokens.specs.Groups.{paren};
+ghost use Rattle.wat_links.specs.Raw.{RawTy, raw_view, raw_custom};
+ghost use Rattle.wat_print.specs.Parts.{Wrote};
+ghost use Rattle.wat_print.specs.Text.{put};
+ghost use Rattle.wat_print.specs.declared.fault.Refused.TheVariants.{Memory};
+ghost use Rattle.wat_print_module.specs.Custom.{spell_raw, fit_raw};
+ghost use Rattle.wat_print_module.specs.LinkPrintings.{raw_printing};
+ghost use Rattle.wat_print_module.specs.Strings.{spell_string, fit_string};
+
+use crate::place::write_place_group;
+use crate::strings::write_string;
+use crate::traits::PrintPart;
+use std::alloc::AllocError;
+use wat_links::RawCustomSection;
+use wat_print::{Output, Refused};
+
+/// Writes strings of bytes, one behind the other.
+pub fn write_pieces(out: &mut Output, pieces: &[&[u8]]) -> Result<(), AllocError>
+    ensures { OnOk result (Wrote (λ s. s.now) spell_string fit_string pieces.now out.old out.new) }
+{
+    for piece in pieces {
+        write_string(out, piece)?;
+    }
+    Ok(())
+}
+
+/// Writes a custom section of any name, without its parentheses (Text Format, "Custom Annotation").
+/// Its place is left out where it is behind the last section.
+pub fn write_raw(out: &mut Output, section: &RawCustomSection) -> Result<(), AllocError>
+    ensures written { OnOk result (out.new ≡ put out.old (spell_raw (raw_view section.now))) }
+    ensures fit { OnOk result (fit_raw (raw_view section.now) ≡ true) }
+{
+    out.annotation("custom")?;
+    out.text(section.name)?;
+    write_place_group(out, section.place)?;
+    write_pieces(out, &section.data)
+}
+
+/// It is printed in its parentheses, since an annotation stands behind a `(`.
+impl PrintPart for RawCustomSection<'_> {
+    ghost View = { RawTy };
+
+    ghost view = { raw_view };
+
+    ghost grammar = { paren raw_custom };
+
+    ghost printing = { raw_printing };
+
+    fn write(&self, out: &mut Output) -> Result<(), Refused> {
+        out.open()?;
+        write_raw(out, self)?;
+        out.close()?;
+        Ok(())
+    }
+}

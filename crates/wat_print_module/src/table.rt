@@ -1,0 +1,301 @@
+//! How tables are printed.
+
+ghost use Rattle.std.specs.Prelude.{◌≡◌, ◌≢◌, ◌&&◌, OnOk, IfErr, true, false, codes, map};
+ghost use Rattle.wat_expr.specs.Expression.{expression_view};
+ghost use Rattle.wat_fields.specs.Payload.{payload_view, indices, exprs, is_funcref};
+ghost use Rattle.wat_fields.specs.Table.{imported, inline, normal, table_kind_view, TableFieldTy};
+ghost use Rattle.wat_fields.specs.Table.{table_view, table};
+ghost use Rattle.wat_links.specs.Import.{inline_import_view};
+ghost use Rattle.wat_print.specs.Layout.{Writes};
+ghost use Rattle.wat_print.specs.Parts.{grouped, spell_flag, spell_option, if_some};
+ghost use Rattle.wat_print.specs.Reference.{spell_ref, fit_ref};
+ghost use Rattle.wat_print.specs.Text.{put};
+ghost use Rattle.wat_print.specs.declared.fault.Refused.TheVariants.{Memory};
+ghost use Rattle.wat_print_instr.specs.ExpressionForm.{spell_expression};
+ghost use Rattle.wat_print_module.specs.SegmentPrintings.{table_printing};
+ghost use Rattle.wat_print_module.specs.Table.{heap_number, same_flag, same_heap, same_ref};
+ghost use Rattle.wat_print_module.specs.Table.{spell_elements, fit_elements, fit_initial};
+ghost use Rattle.wat_print_module.specs.Table.{spell_table_kind, fit_table_kind, spell_table};
+ghost use Rattle.wat_print_module.specs.Table.{fit_table};
+ghost use Rattle.wat_tokens.specs.Index.{index_view};
+ghost use Rattle.wat_tokens.specs.Views.{option_view, no_items};
+ghost use Rattle.wat_types.specs.Heap.{heap_view};
+ghost use Rattle.wat_types.specs.Limits.{table_type_view};
+ghost use Rattle.wat_types.specs.Reference.{ref_view};
+
+use crate::elem::{write_indices, write_items};
+use crate::field_head::{write_head, write_inline_import};
+use crate::traits::PrintPart;
+use wat_expr::Expression;
+use wat_fields::{ElemPayload, Table, TableKind};
+use wat_links::InlineImport;
+use wat_print::limits::{write_flag, write_table_type};
+use wat_print::reference::write_ref;
+use wat_print::{Output, Refused};
+use wat_print_instr::expression::write_expression;
+use wat_tokens::Index;
+use wat_types::{AbstractHeapType, HeapType, RefType, TableType};
+
+/// The number of an abstract heap type.
+fn number_of(ty: AbstractHeapType) -> u8
+    ensures { result ≡ heap_number ty }
+{
+    ty as u8
+}
+
+/// Whether both hold, or neither.
+fn same_flag(a: bool, b: bool) -> bool
+    ensures { result ≡ same_flag a b }
+{
+    a == b
+}
+
+/// Whether two heap types are the same, places aside.
+fn same_heap(a: &HeapType, b: &HeapType) -> bool
+    ensures { result ≡ same_heap (heap_view a.now) (heap_view b.now) }
+{
+    match (a, b) {
+        (HeapType::Concrete(i), HeapType::Concrete(j)) => i == j,
+        (HeapType::Exact(i), HeapType::Exact(j)) => i == j,
+        (HeapType::Abstract { shared: s, ty: t }, HeapType::Abstract { shared: r, ty: u }) => {
+            same_flag(*s, *r) && number_of(*t) == number_of(*u)
+        }
+        _ => false,
+    }
+}
+
+/// Whether two reference types are the same, places aside.
+fn same_type(a: &RefType, b: &RefType) -> bool
+    ensures { result ≡ same_ref (ref_view a.now) (ref_view b.now) }
+{
+    same_flag(a.nullable, b.nullable) && same_heap(&a.heap, &b.heap)
+}
+
+/// Whether it is the type that `funcref` is.
+fn is_funcref(ty: &RefType) -> bool
+    ensures { result ≡ is_funcref (ref_view ty.now) }
+{
+    match ty.heap {
+        HeapType::Abstract {
+            shared: false,
+            ty: AbstractHeapType::Func,
+        } => ty.nullable,
+        _ => false,
+    }
+}
+
+/// Writes indices in a table whose elements have the type. They are refused where it isn't
+/// `funcref`.
+fn write_functions(out: &mut Output, ty: &RefType, list: &[Index]) -> Result<(), Refused>
+    ensures written { OnOk result (out.new ≡ put out.old
+        (spell_elements (indices (map index_view list.now)))) }
+    ensures fit { OnOk result (fit_elements (ref_view ty.now)
+        (indices (map index_view list.now)) ≡ true) }
+    ensures refused { IfErr result (λ e. e ≢ Memory → fit_elements (ref_view ty.now)
+        (indices (map index_view list.now)) ≡ false) }
+{
+    if !is_funcref(ty) {
+        return Err(Refused::Table);
+    }
+    write_indices(out, list)?;
+    Ok(())
+}
+
+/// Whether the type is `funcref`, and there is no expression.
+fn is_bare_funcref(ty: &RefType, list: &[Expression]) -> bool
+    ensures { result ≡ is_funcref (ref_view ty.now) && no_items
+        (map expression_view list.now) }
+{
+    is_funcref(ty) && list.is_empty()
+}
+
+/// Writes expressions in a table whose elements have the type. They are refused where they are of
+/// another type, or where it is `funcref` and there is none.
+fn write_listed_items(
+    out: &mut Output,
+    ty: &RefType,
+    own: &RefType,
+    list: &[Expression],
+) -> Result<(), Refused>
+    ensures written { OnOk result (Writes (spell_elements
+        (exprs (ref_view own.now) (map expression_view list.now))) out.old out.new) }
+    ensures fit { OnOk result (fit_elements (ref_view ty.now)
+        (exprs (ref_view own.now) (map expression_view list.now)) ≡ true) }
+    ensures refused { IfErr result (λ e. e ≢ Memory → fit_elements (ref_view ty.now)
+        (exprs (ref_view own.now) (map expression_view list.now)) ≡ false) }
+{
+    if !same_type(ty, own) {
+        return Err(Refused::Table);
+    }
+    if is_bare_funcref(ty, list) {
+        return Err(Refused::Table);
+    }
+    write_items(out, list)?;
+    Ok(())
+}
+
+/// Writes what a table holds, whose elements have the type: indices, or items.
+#[tactic(auto, using(wat_print::specs::Laws::Written::puts_put))]
+fn write_elements(out: &mut Output, ty: &RefType, payload: &ElemPayload) -> Result<(), Refused>
+    ensures written { OnOk result
+        (Writes (spell_elements (payload_view payload.now)) out.old out.new) }
+    ensures fit { OnOk result (fit_elements (ref_view ty.now) (payload_view payload.now) ≡ true) }
+    ensures refused { IfErr result (λ e. e ≢ Memory
+        → fit_elements (ref_view ty.now) (payload_view payload.now) ≡ false) }
+{
+    match payload {
+        ElemPayload::Indices(list) => {
+            write_functions(out, ty, list)?;
+            Ok(())
+        }
+        ElemPayload::Exprs { ty: own, exprs } => write_listed_items(out, ty, own, exprs),
+    }
+}
+
+/// Writes `( elem elements )`.
+fn write_elem_group(out: &mut Output, ty: &RefType, payload: &ElemPayload) -> Result<(), Refused>
+    ensures written { OnOk result (Writes (grouped (codes "elem")
+        (spell_elements (payload_view payload.now))) out.old out.new) }
+    ensures fit { OnOk result (fit_elements (ref_view ty.now) (payload_view payload.now) ≡ true) }
+    ensures refused { IfErr result (λ e. e ≢ Memory
+        → fit_elements (ref_view ty.now) (payload_view payload.now) ≡ false) }
+{
+    out.open()?;
+    out.word("elem")?;
+    write_elements(out, ty, payload)?;
+    out.close()?;
+    Ok(())
+}
+
+/// Writes what a table holds, behind the type of its elements. One that is both shared and of 64
+/// bits is refused.
+fn write_inline(
+    out: &mut Output,
+    elem: &RefType,
+    is64: bool,
+    shared: bool,
+    payload: &ElemPayload,
+) -> Result<(), Refused>
+    ensures written { OnOk result (Writes (spell_table_kind
+        (inline (ref_view elem.now) is64 shared (payload_view payload.now))) out.old out.new) }
+    ensures fit { OnOk result (fit_table_kind
+        (inline (ref_view elem.now) is64 shared (payload_view payload.now)) ≡ true) }
+    ensures refused { IfErr result (λ e. e ≢ Memory → fit_table_kind
+        (inline (ref_view elem.now) is64 shared (payload_view payload.now)) ≡ false) }
+{
+    if shared && is64 {
+        return Err(Refused::Table);
+    }
+    write_flag(out, "shared", shared)?;
+    write_flag(out, "i64", is64)?;
+    write_ref(out, elem)?;
+    write_elem_group(out, elem, payload)?;
+    Ok(())
+}
+
+/// Writes what each element is at first, where that is given. One without an instruction is
+/// refused.
+fn write_initial(out: &mut Output, value: &Option<Expression>) -> Result<(), Refused>
+    ensures written { OnOk result (Writes
+        (spell_option spell_expression (option_view expression_view value.now)) out.old out.new) }
+    ensures fit { OnOk result
+        (if_some fit_initial (option_view expression_view value.now) ≡ true) }
+    ensures refused { IfErr result (λ e. e ≢ Memory
+        → if_some fit_initial (option_view expression_view value.now) ≡ false) }
+{
+    match value {
+        Some(value) => {
+            if value.instrs.is_empty() {
+                return Err(Refused::Table);
+            }
+            write_expression(out, value)?;
+            Ok(())
+        }
+        None => Ok(()),
+    }
+}
+
+/// Writes a table type, and what each element is at first.
+fn write_normal(out: &mut Output, ty: &TableType, value: &Option<Expression>) -> Result<(), Refused>
+    ensures written { OnOk result (Writes (spell_table_kind
+        (normal (table_type_view ty.now) (option_view expression_view value.now))) out.old
+        out.new) }
+    ensures fit { OnOk result (fit_table_kind
+        (normal (table_type_view ty.now) (option_view expression_view value.now)) ≡ true) }
+    ensures refused { IfErr result (λ e. e ≢ Memory → fit_table_kind
+        (normal (table_type_view ty.now) (option_view expression_view value.now)) ≡ false) }
+{
+    write_table_type(out, ty)?;
+    write_initial(out, value)?;
+    Ok(())
+}
+
+/// Writes an import in line, and the type of the table.
+fn write_imported(out: &mut Output, import: &InlineImport, ty: &TableType) -> Result<(), Refused>
+    ensures written { OnOk result (out.new ≡ put out.old (spell_table_kind
+        (imported (inline_import_view import.now) (table_type_view ty.now)))) }
+    ensures fit { OnOk result (fit_table_kind
+        (imported (inline_import_view import.now) (table_type_view ty.now)) ≡ true) }
+    ensures refused { IfErr result (λ e. e ≢ Memory → fit_table_kind
+        (imported (inline_import_view import.now) (table_type_view ty.now)) ≡ false) }
+{
+    write_inline_import(out, import)?;
+    write_table_type(out, ty)?;
+    Ok(())
+}
+
+/// Writes how a table is defined, behind its head.
+#[tactic(auto, using(wat_print::specs::Laws::Written::puts_put))]
+fn write_table_kind(out: &mut Output, kind: &TableKind) -> Result<(), Refused>
+    ensures written { OnOk result
+        (Writes (spell_table_kind (table_kind_view kind.now)) out.old out.new) }
+    ensures fit { OnOk result (fit_table_kind (table_kind_view kind.now) ≡ true) }
+    ensures refused { IfErr result (λ e. e ≢ Memory
+        → fit_table_kind (table_kind_view kind.now) ≡ false) }
+{
+    match kind {
+        TableKind::Import { import, ty } => {
+            write_imported(out, import, ty)?;
+            Ok(())
+        }
+        TableKind::Normal { ty, init_expr } => write_normal(out, ty, init_expr),
+        TableKind::Inline {
+            elem,
+            is64,
+            shared,
+            payload,
+        } => write_inline(out, elem, *is64, *shared, payload),
+    }
+}
+
+/// Writes a table, without its parentheses (Text Format, Modules, "Tables"): its exports, its
+/// import and its elements in line, as it has them.
+///
+/// Elements in line are refused where they are of another type than the table's, or indices in a
+/// table of another type than `funcref`, or no expressions in one of `funcref`; or where the table
+/// is both shared and of 64 bits. So is a first value without an instruction.
+pub fn write_table(out: &mut Output, table: &Table) -> Result<(), Refused>
+    ensures written { OnOk result (Writes (spell_table (table_view table.now)) out.old out.new) }
+    ensures fit { OnOk result (fit_table (table_view table.now) ≡ true) }
+    ensures refused { IfErr result (λ e. e ≢ Memory → fit_table (table_view table.now) ≡ false) }
+{
+    out.word("table")?;
+    write_head(out, &table.id, &table.name, &table.exports)?;
+    write_table_kind(out, &table.kind)?;
+    Ok(())
+}
+
+impl PrintPart for Table<'_> {
+    ghost View = { TableFieldTy };
+
+    ghost view = { table_view };
+
+    ghost grammar = { table };
+
+    ghost printing = { table_printing };
+
+    fn write(&self, out: &mut Output) -> Result<(), Refused> {
+        write_table(out, self)?;
+        Ok(())
+    }
+}
