@@ -1,0 +1,2 @@
+(module
+  (data "café au lait"))

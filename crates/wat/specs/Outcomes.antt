@@ -1,0 +1,57 @@
+-- What is said of texts.
+use Rattle.std.specs.Prelude.{◌≡◌, ◌≢◌, ◌⊎◌, ◌∷◌, ◌++◌, ℕ, List, []}
+use Rattle.std.specs.Str.{IsUtf8, IsValidUpTo}
+use Rattle.wat.specs.declared.command.Task.{Task}
+use Rattle.wat.specs.declared.command.Task.TheVariants.{Check, Show, Print}
+use Rattle.wat_core.specs.Error.{Fault, Memory}
+use Rattle.wat_core.specs.Module.{ModuleTy}
+use Rattle.wat_core.specs.Text.{SpellsModule}
+use Rattle.wat_print.specs.Text.{printed_text}
+use Rattle.wat_print.specs.declared.output.Layout.TheVariants.{Line}
+use Rattle.wat_print_module.specs.Module.{spell_module_group}
+use Rattle.wat_report.specs.Report.{report_text}
+use Rattle.wat_report.specs.WrongBytes.{wrong_byte_report}
+use Rattle.wat_show.specs.Modules.{module_text}
+use Rattle.wat_show.specs.Shown.{refusal}
+
+-- Of a module: nothing; what `watshow module` lists of it; or a text that spells it, on one line the
+-- text of its tokens, and a line break.
+unfoldable pub SaysOf : Task → ModuleTy → List ℕ → Type 0
+SaysOf Check m said = said ≡ []
+SaysOf Show m said = said ≡ module_text m
+SaysOf (Print layout) m said =
+    (text : List ℕ) × SpellsModule text m
+    × (layout ≡ Line → text ≡ printed_text (spell_module_group m)) × (said ≡ text ++ 10 ∷ [])
+
+-- the text spells a module, of which that is said, with status 0
+abbrev pub SaysOfModule : Task → List ℕ → List ℕ → ℕ → Type 0
+SaysOfModule task text said status =
+    (m : ModuleTy) × SpellsModule text m × SaysOf task m said × (status ≡ 0)
+
+-- of a fault: where the module was to be printed the line of `watshow`, else its report
+unfoldable pub said_of_fault : Task → List ℕ → List ℕ → ℕ → Fault → List ℕ
+said_of_fault (Print layout) name text offset f = refusal f offset
+said_of_fault _ name text offset f = report_text name text offset f
+
+-- the text spells no module, and a fault other than Memory is said, with status 1
+abbrev pub SaysOfFault : Task → List ℕ → List ℕ → List ℕ → ℕ → Type 0
+SaysOfFault task name text said status =
+    ((m : ModuleTy) → SpellsModule text m → ⊥)
+    × ((f : Fault) × (offset : ℕ) × (f ≢ Memory) × (said ≡ said_of_fault task name text offset f))
+    × (status ≡ 1)
+
+-- the one or the other
+unfoldable pub SaysOfText : Task → List ℕ → List ℕ → List ℕ → ℕ → Type 0
+SaysOfText task name text said status =
+    SaysOfModule task text said status ⊎ SaysOfFault task name text said status
+
+-- the first byte that isn't UTF-8 is reported, with status 1
+abbrev pub SaysOfWrongByte : List ℕ → List ℕ → List ℕ → ℕ → Type 0
+SaysOfWrongByte name bytes said status =
+    (n : ℕ) × IsValidUpTo bytes n × (said ≡ wrong_byte_report name bytes n) × (status ≡ 1)
+
+-- of bytes that are UTF-8 what is said of their text, of others the first that is wrong
+unfoldable pub SaysOfBytes : Task → List ℕ → List ℕ → List ℕ → ℕ → Type 0
+SaysOfBytes task name bytes said status =
+    (IsUtf8 bytes × SaysOfText task name bytes said status)
+    ⊎ SaysOfWrongByte name bytes said status

@@ -1,0 +1,47 @@
+-- What a run over several names says.
+use Rattle.std.specs.Prelude.{◌≡◌, ◌⊎◌, ℕ, ◌≤◌, ◌==◌, if◌then◌else◌, List, [], ◌∷◌, ◌++◌, length}
+use Rattle.std.specs.Prelude.{max, take, Option}
+use Rattle.std.specs.Io.KnownBytes.{Appends}
+use Rattle.wat.specs.Outcomes.{SaysOfBytes}
+use Rattle.wat.specs.declared.command.Task.{Task}
+use Rattle.wat.specs.declared.command.Task.TheVariants.{Print}
+use Rattle.wat_show.specs.Streams.{AppendsBeginning}
+
+-- Of a name that stands for bytes what is said of them. If they can't be read, or memory runs out,
+-- nothing is said, and the status is 2.
+unfoldable pub SaysOfName : (List ℕ → List ℕ → Type 0) → Task → List ℕ → List ℕ → ℕ → Type 0
+SaysOfName gives task name said status =
+    ((bytes : List ℕ) × gives name bytes × SaysOfBytes task name bytes said status)
+    ⊎ ((said ≡ []) × (status ≡ 2))
+
+-- what goes to the writer of what is said: why a module isn't printed doesn't
+unfoldable pub written_of : Task → ℕ → List ℕ → List ℕ
+written_of (Print layout) status said = if status == 0 then said else []
+written_of _ status said = said
+
+-- what is written of a name
+unfoldable pub ShowsOfName : (List ℕ → List ℕ → Type 0) → Task → List ℕ → List ℕ → ℕ → Type 0
+ShowsOfName gives task name shown status =
+    (said : List ℕ) × SaysOfName gives task name said status × (shown ≡ written_of task status said)
+
+-- What is said of names, one after another. The status is the greatest of theirs, and 0 where there
+-- are none.
+pub data SaysOfNames (says : List ℕ → List ℕ → ℕ → Type 0)
+    : List (List ℕ) → List ℕ → ℕ → Type 0 where
+  none : SaysOfNames says [] [] 0
+  more : (names : List (List ℕ)) (name out said : List ℕ) (status own : ℕ)
+      → SaysOfNames says names out status → says name said own
+      → SaysOfNames says (names ++ name ∷ []) (out ++ said) (max own status)
+
+-- all that is said of the names was written
+abbrev pub WritesOfNames : (List ℕ → List ℕ → ℕ → Type 0) → List (List ℕ) → Option (List ℕ)
+    → Option (List ℕ) → ℕ → Type 0
+WritesOfNames says names old new status =
+    (out : List ℕ) × SaysOfNames says names out status × Appends old new out
+
+-- a beginning of what is said of the first so many names was written
+abbrev pub WritesPartOfNames : (List ℕ → List ℕ → ℕ → Type 0) → List (List ℕ) → Option (List ℕ)
+    → Option (List ℕ) → Type 0
+WritesPartOfNames says names old new =
+    (n : ℕ) × (out : List ℕ) × (status : ℕ) × (n ≤ length names)
+    × SaysOfNames says (take n names) out status × AppendsBeginning old new out

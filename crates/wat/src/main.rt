@@ -1,0 +1,113 @@
+//! The program `wat`: says of files whether each is a module in the text format, and where not why.
+#![tactic(auto)]
+
+mod command;
+mod outcome;
+mod run;
+mod source;
+mod terminal;
+
+use crate::command::{Command, Task, command_of};
+use crate::run::run;
+use crate::source::{Sources, StandardInput, SystemFiles};
+use crate::terminal::Terminal;
+use std::alloc::{AllocError, Global};
+use std::process::ExitCode;
+use std::rt::Env;
+use std::{env, io};
+use wat_show::Watched;
+
+/// How the program is called.
+const USAGE: &str = "\
+usage: wat check [FILE..]
+       wat list FILE
+       wat print [--line] [FILE]
+       wat --help
+       wat --version
+";
+
+/// What `--help` says behind that.
+const HELP: &str = "
+wat check reads each file, or standard input if none is named, as one module of the
+WebAssembly text format in its parentheses, `(module ..)`. For a text that isn't one
+it says where and why. Nothing is validated.
+wat list lists what is in the module of a file.
+wat print writes the module of a file, or of standard input, as a text that is read
+as the same module: its instructions flat, one a line, or all on one line. Comments
+are lost.
+
+A file whose name begins with - is named with its folder, as ./-name.
+What is said of texts goes to standard output, all else to standard error; so does
+why a text can't be printed.
+The status is 0 if each text is a module, 1 if one isn't, and 2 if a file can't be
+read, standard output can't be written, memory runs out or the words are others.
+";
+
+const VERSION: &str = "wat of Dilgorza, a port of wast 263.0.0\n";
+
+const NO_MEMORY: &str = "wat: memory ran out\n";
+
+/// The words behind the program's name.
+fn arguments<R: Env + AllocGlobal>(rt: &R) -> io::Result<Vec<String>> {
+    let mut words = Vec::new(rt.alloc());
+    for word in env::args(rt)?.skip(1) {
+        words.push(word)?;
+    }
+    Ok(words)
+}
+
+/// Says a thing on standard error.
+fn say(rt: &HostRuntime, words: &str) -> ExitCode {
+    let _ = eprint!(rt; "{words}");
+    ExitCode::from(2)
+}
+
+/// Writes words to standard output, and more behind them.
+fn tell(rt: &HostRuntime, words: &str, more: &str) -> ExitCode {
+    match print!(rt; "{words}{more}") {
+        Ok(()) => ExitCode::SUCCESS,
+        Err(_) => say(rt, "wat: cannot write\n"),
+    }
+}
+
+/// Reads what the names stand for, and writes what is said of them to standard output.
+fn read_named<S: Sources>(rt: &HostRuntime, task: Task, sources: &S, names: &[String]) -> ExitCode {
+    let mut writer = Watched::new(rt.stdout());
+    let mut watcher = Terminal::new(rt);
+    match run(rt.alloc(), task, sources, names, &mut writer, &mut watcher) {
+        Ok(status) => ExitCode::from(status),
+        Err(_) => say(rt, "wat: cannot write\n"),
+    }
+}
+
+/// The name by which standard input is called.
+fn standard_input(alloc: Global) -> Result<Vec<String>, AllocError> {
+    let mut names = Vec::new(alloc);
+    names.push(String::from_str(alloc, "<stdin>")?)?;
+    Ok(names)
+}
+
+/// Reads the files, or standard input if there are none.
+fn read(rt: &HostRuntime, task: Task, files: &[String]) -> ExitCode {
+    if !files.is_empty() {
+        return read_named(rt, task, &SystemFiles { rt }, files);
+    }
+    match standard_input(rt.alloc()) {
+        Ok(names) => read_named(rt, task, &StandardInput { rt }, &names),
+        Err(AllocError) => say(rt, NO_MEMORY),
+    }
+}
+
+fn main(rt: HostRuntime) -> ExitCode {
+    let words = match arguments(&rt) {
+        Ok(words) => words,
+        Err(error) if error.kind() == io::ErrorKind::OutOfMemory => return say(&rt, NO_MEMORY),
+        Err(_) => return say(&rt, "wat: an argument isn't UTF-8\n"),
+    };
+    match command_of(&words) {
+        Some(Command::Read(task, before)) => read(&rt, task, words.get(before..).unwrap_or(&[])),
+        Some(Command::Help) => tell(&rt, USAGE, HELP),
+        Some(Command::Version) => tell(&rt, VERSION, ""),
+        None => say(&rt, USAGE),
+    }
+}

@@ -1,0 +1,58 @@
+//! Where texts come from.
+
+ghost use Rattle.std.specs.Prelude.{◌≡◌, ⊤, ℕ, List, IfOk, IfSome};
+
+use std::alloc::Global;
+use std::fs::File;
+use std::io;
+use std::io::{Input, Read};
+use std::rt::Files;
+
+/// What a name stands for: bytes that can be read.
+pub trait Sources {
+    /// A read of what the name stands for can give these bytes.
+    ghost gives: { Self → List ℕ → List ℕ → Type 0 };
+
+    /// Reads all bytes that the name stands for.
+    fn read(&self, alloc: Global, name: &str) -> io::Result<Vec<u8>>
+        ensures { IfOk result (λ bytes. gives self.now name.now bytes.items) };
+}
+
+/// All bytes that a reader has left.
+fn all_of<R: Read + Drop>(alloc: Global, reader: R) -> io::Result<Vec<u8>>
+    ensures { IfOk result (λ bytes. IfSome (R.remaining reader) (λ left. bytes.items ≡ left)) }
+{
+    let mut reader = reader;
+    let mut bytes = Vec::new(alloc);
+    reader.read_to_end(&mut bytes)?;
+    Ok(bytes)
+}
+
+/// The files of the system, by their paths.
+#[derive(Drop)]
+pub struct SystemFiles<'a, R> {
+    pub rt: &'a R,
+}
+
+impl<'a, R: Files> Sources for SystemFiles<'a, R> {
+    // No contract can say what a file holds.
+    ghost gives = { λ _ _ _. ⊤ };
+
+    fn read(&self, alloc: Global, name: &str) -> io::Result<Vec<u8>> {
+        all_of(alloc, File::open(self.rt, name)?)
+    }
+}
+
+/// Standard input, whatever its name.
+#[derive(Drop)]
+pub struct StandardInput<'a, R> {
+    pub rt: &'a R,
+}
+
+impl<'a, R: Input> Sources for StandardInput<'a, R> {
+    ghost gives = { λ _ _ _. ⊤ };
+
+    fn read(&self, alloc: Global, _name: &str) -> io::Result<Vec<u8>> {
+        all_of(alloc, self.rt.reader())
+    }
+}

@@ -1,0 +1,4 @@
+(module
+  (; what follows is out of use
+  (func)
+)

@@ -1,0 +1,5 @@
+(module
+  (func (param i32)
+    block $out
+      local.get 0
+      br_if $out))

@@ -1,0 +1,3 @@
+;; no module round it
+(func (export "f"))
+(memory 1)

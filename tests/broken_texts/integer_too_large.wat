@@ -1,0 +1,2 @@
+(module
+  (func (drop (i32.const 4294967296))))

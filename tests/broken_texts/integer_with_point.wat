@@ -1,0 +1,2 @@
+(module
+  (global $half i32 (i32.const 1.5)))

@@ -1,0 +1,3 @@
+(module
+  // the entry
+  (func (export "main")))

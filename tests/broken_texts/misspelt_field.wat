@@ -1,0 +1,2 @@
+(module
+  (fucn (export "f")))

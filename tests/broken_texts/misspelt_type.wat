@@ -1,0 +1,3 @@
+(module
+  (func (param int) (result i32)
+    local.get 0))

@@ -1,0 +1,2 @@
+(module
+  (func add (param i32)))

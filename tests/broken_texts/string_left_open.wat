@@ -1,0 +1,3 @@
+(module
+  (import "env" "log (func $log (param i32)))
+  (func))

@@ -1,0 +1,3 @@
+(module
+  (data "first
+second"))
