@@ -5,8 +5,8 @@ use crate::reading::{HEAPS, SHORTHANDS, parser_of, repeated};
 use bumpalo::Bump;
 use std::alloc::{AllocError, Global};
 use std::test::Fail;
-use wat_print::{Layout, Output, Print, Refused, print};
-use wat_tokens::{Error, Id, Index, NameAnnotation, Parse, Span};
+use wat_print::{Layout, Output, Print, Refused, print, read_value};
+use wat_tokens::{Error, Fault, Id, Index, NameAnnotation, Parse, Span};
 use wat_types::{
     AbstractHeapType, ArrayType, ContType, FunctionType, FunctionTypeNoNames, GlobalType, HeapType,
     InnerTypeKind, Limits, MemoryType, Rec, RefType, StorageType, StructType, TableType, TagType,
@@ -168,6 +168,74 @@ fn strings_of_all_bytes(rt: HostRuntime) -> Result<(), Fail> {
     let found = parser.parse::<&[u8]>()?;
     assert!(rt; found == bytes.as_slice());
     assert!(rt; text.ends_with(" \"a\\22\\5c\\7f\""));
+    Ok(())
+}
+
+#[test]
+fn numbers_and_words_that_end_in_one(rt: HostRuntime) -> Result<(), Fail> {
+    let mut out = Output::new(rt.alloc(), Layout::Line);
+    for number in [0, 10, u64::MAX] {
+        out.number(number)?;
+        out.numbered("offset=", number)?;
+    }
+    for number in [i64::MIN, -1, 0, i64::MAX] {
+        out.signed(number)?;
+    }
+    assert_eq!(rt;
+        out.into_text().as_str(),
+        "0 offset=0 10 offset=10 18446744073709551615 offset=18446744073709551615 \
+        -9223372036854775808 -1 0 9223372036854775807"
+    );
+    Ok(())
+}
+
+#[test]
+fn lines_inside_of_blocks(rt: HostRuntime) -> Result<(), Fail> {
+    let alloc = rt.alloc();
+    let mut out = Output::new(alloc, Layout::Indented);
+    out.leave();
+    out.open()?;
+    out.word("a")?;
+    for _ in 0..2 {
+        out.enter();
+        out.line()?;
+        out.word("b")?;
+    }
+    out.leave();
+    out.line()?;
+    out.word("c")?;
+    out.enter();
+    out.leave_all();
+    out.line()?;
+    out.word("d")?;
+    out.close()?;
+    assert_eq!(rt; out.into_text().as_str(), "(a\n    b\n      b\n    c\n  d)");
+    let mut out = Output::new(alloc, Layout::Indented);
+    for _ in 0..60 {
+        out.enter();
+    }
+    out.word("a")?;
+    out.line()?;
+    assert_eq!(rt; out.into_text().len(), 102);
+    Ok(())
+}
+
+#[test]
+fn whole_texts_read(rt: HostRuntime) -> Result<(), Fail> {
+    let alloc = rt.alloc();
+    let arena = Bump::new(alloc);
+    let text = "(param (@name \"a b\") i32)";
+    let found = read_value::<FunctionType>(alloc, text, &arena)?;
+    let printed = print(alloc, &found, Layout::Line).ok();
+    assert_eq!(rt; printed.as_deref(), Some(text));
+    for (text, fault) in [
+        ("(param i32) 1", Fault::Unexpected),
+        ("(param", Fault::Unexpected),
+        ("(param \"", Fault::LexString),
+    ] {
+        let found = read_value::<FunctionType>(alloc, text, &arena);
+        assert_eq!(rt; found.err().map(|error| error.fault), Some(fault));
+    }
     Ok(())
 }
 
