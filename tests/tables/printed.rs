@@ -52,15 +52,13 @@ fn reprinted<'a, T: Parse<'a> + Print + Drop>(
 }
 
 /// Adds what is printed of the text, where it isn't what is wanted.
-fn add_otherwise<'a, T: Parse<'a> + Print + Drop>(
+pub(crate) fn add_unless_wanted(
     wrong: &mut String,
-    arena: &'a Bump,
-    layout: Layout,
-    text: &'a str,
+    text: &str,
     wanted: &str,
+    found: Result<String, Unprinted>,
 ) -> Result<(), AllocError> {
-    let alloc = *wrong.allocator();
-    match reprinted::<T>(alloc, text, arena, layout) {
+    match found {
         Ok(printed) => {
             if printed.as_str() != wanted {
                 write!(wrong, "{text} printed as {printed}\n")?;
@@ -69,6 +67,18 @@ fn add_otherwise<'a, T: Parse<'a> + Print + Drop>(
         Err(error) => write!(wrong, "{text}: {error:?}\n")?,
     }
     Ok(())
+}
+
+/// Adds what is printed of the text, where it isn't what is wanted.
+fn add_otherwise<'a, T: Parse<'a> + Print + Drop>(
+    wrong: &mut String,
+    arena: &'a Bump,
+    layout: Layout,
+    text: &'a str,
+    wanted: &str,
+) -> Result<(), AllocError> {
+    let alloc = *wrong.allocator();
+    add_unless_wanted(wrong, text, wanted, reprinted::<T>(alloc, text, arena, layout))
 }
 
 /// Adds each text of which something else is printed than what stands beside it, and each of the

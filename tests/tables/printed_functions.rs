@@ -1,7 +1,7 @@
 //! Each choice of the rows of functions, locals, globals and tags, and of what is in front of a
 //! field, is printed, and what was printed is read again, and printed as the same text.
 
-use crate::printed::{Unprinted, text_of_times};
+use crate::printed::{Unprinted, add_unless_wanted, text_of_times};
 use crate::reading::{parser_of, repeated};
 use bumpalo::Bump;
 use std::alloc::{AllocError, Global};
@@ -37,15 +37,7 @@ fn add_otherwise<'a, T: Parse<'a> + PrintPart + Drop>(
     wanted: &str,
 ) -> Result<(), AllocError> {
     let alloc = *wrong.allocator();
-    match reprinted::<T>(alloc, text, arena, Layout::Line) {
-        Ok(printed) => {
-            if printed.as_str() != wanted {
-                write!(wrong, "{text} printed as {printed}\n")?;
-            }
-        }
-        Err(error) => write!(wrong, "{text}: {error:?}\n")?,
-    }
-    Ok(())
+    add_unless_wanted(wrong, text, wanted, reprinted::<T>(alloc, text, arena, Layout::Line))
 }
 
 /// Adds each text of which something else is printed than what stands beside it, and each of the

@@ -1,7 +1,7 @@
 //! Each choice of each row of imports, exports and custom sections is printed, and what was printed
 //! is read again, and printed as the same text.
 
-use crate::printed::Unprinted;
+use crate::printed::{Unprinted, add_unless_wanted};
 use crate::printed_functions::{add_changed_parts, add_misprinted_parts};
 use crate::reading::{parser_of, read};
 use bumpalo::Bump;
@@ -31,24 +31,6 @@ fn reprinted<'a, T: Parse<'a> + PrintPart + Drop>(
     Ok(print(alloc, &ModulePart(&found), layout)?)
 }
 
-/// Adds what is printed of the text, where it isn't what is wanted.
-fn add_otherwise(
-    wrong: &mut String,
-    text: &str,
-    wanted: &str,
-    found: Result<String, Unprinted>,
-) -> Result<(), AllocError> {
-    match found {
-        Ok(printed) => {
-            if printed.as_str() != wanted {
-                write!(wrong, "{text} printed as {printed}\n")?;
-            }
-        }
-        Err(error) => write!(wrong, "{text}: {error:?}\n")?,
-    }
-    Ok(())
-}
-
 /// Adds each text in parentheses of which something else is printed than what stands beside it, and
 /// each of the latter that isn't printed as itself, in either layout.
 fn add_misprinted_groups<'a, T: Parse<'a> + PrintPart + Drop>(
@@ -60,9 +42,9 @@ fn add_misprinted_groups<'a, T: Parse<'a> + PrintPart + Drop>(
     for &(text, wanted) in rows {
         for layout in [Layout::Line, Layout::Indented] {
             let found = reprinted::<T>(alloc, text, arena, layout);
-            add_otherwise(wrong, text, wanted, found)?;
+            add_unless_wanted(wrong, text, wanted, found)?;
             let found = reprinted::<T>(alloc, wanted, arena, layout);
-            add_otherwise(wrong, wanted, wanted, found)?;
+            add_unless_wanted(wrong, wanted, wanted, found)?;
         }
     }
     Ok(())

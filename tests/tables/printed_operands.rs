@@ -1,7 +1,7 @@
 //! Each choice of each operand's row is printed, and what was printed is read again, and printed as
 //! the same text.
 
-use crate::printed::{Unprinted, text_of_times};
+use crate::printed::{Unprinted, add_unless_wanted, text_of_times};
 use crate::reading::parser_of;
 use bumpalo::Bump;
 use std::alloc::{AllocError, Global};
@@ -35,24 +35,6 @@ fn reprinted<'a, T: Parse<'a> + PrintCode + Drop>(
     Ok(print(alloc, &Code(&found), layout)?)
 }
 
-/// Adds what is printed of the text, where it isn't what is wanted.
-fn add_otherwise(
-    wrong: &mut String,
-    text: &str,
-    wanted: &str,
-    found: Result<String, Unprinted>,
-) -> Result<(), AllocError> {
-    match found {
-        Ok(printed) => {
-            if printed.as_str() != wanted {
-                write!(wrong, "{text} printed as {printed}\n")?;
-            }
-        }
-        Err(error) => write!(wrong, "{text}: {error:?}\n")?,
-    }
-    Ok(())
-}
-
 /// Adds each text of which something else is printed than what stands beside it, and each of the
 /// latter that isn't printed as itself, in either layout.
 pub(crate) fn add_misprinted<'a, T: Parse<'a> + PrintCode + Drop>(
@@ -64,9 +46,9 @@ pub(crate) fn add_misprinted<'a, T: Parse<'a> + PrintCode + Drop>(
     for &(text, wanted) in rows {
         for layout in [Layout::Line, Layout::Indented] {
             let found = reprinted::<T>(alloc, text, arena, layout);
-            add_otherwise(wrong, text, wanted, found)?;
+            add_unless_wanted(wrong, text, wanted, found)?;
             let found = reprinted::<T>(alloc, wanted, arena, layout);
-            add_otherwise(wrong, wanted, wanted, found)?;
+            add_unless_wanted(wrong, wanted, wanted, found)?;
         }
     }
     Ok(())
@@ -222,7 +204,7 @@ fn accesses(rt: HostRuntime) -> Result<(), Fail> {
         for kind in [Kind::Plain, Kind::Atomic, Kind::Rmw] {
             for from in [text, wanted] {
                 let found = access_reprinted(alloc, from, &arena, kind);
-                add_otherwise(&mut wrong, from, wanted, found)?;
+                add_unless_wanted(&mut wrong, from, wanted, found)?;
             }
         }
         for order in [" seqcst", " acqrel"] {
@@ -231,7 +213,7 @@ fn accesses(rt: HostRuntime) -> Result<(), Fail> {
             let printed = format!(in alloc; "{wanted}{order}")?;
             for kind in [Kind::Atomic, Kind::Rmw] {
                 let found = access_reprinted(alloc, ordered, &arena, kind);
-                add_otherwise(&mut wrong, ordered, printed.trim_start(), found)?;
+                add_unless_wanted(&mut wrong, ordered, printed.trim_start(), found)?;
             }
         }
     }
@@ -259,7 +241,7 @@ fn accesses_to_lanes(rt: HostRuntime) -> Result<(), Fail> {
     ] {
         for from in [text, wanted] {
             let found = access_reprinted(alloc, from, &arena, Kind::Lane);
-            add_otherwise(&mut wrong, from, wanted, found)?;
+            add_unless_wanted(&mut wrong, from, wanted, found)?;
         }
     }
     assert_eq!(rt; wrong.as_str(), "");
