@@ -1,5 +1,6 @@
 -- Laws of the definitions: lemmas that other crates rest on.
 pub mod Bytes
+pub mod Characters
 pub mod Cutting
 pub mod Define
 pub mod Fitting
@@ -15,6 +16,7 @@ pub mod Printed
 pub mod Quoted
 pub mod Reference
 pub mod Storage
+pub mod Strings
 pub mod Struct
 pub mod Use
 pub mod Written

@@ -26,6 +26,7 @@ pub mod Printings
 pub mod Reference
 pub mod Refusal
 pub mod Storage
+pub mod Strings
 pub mod Struct
 pub mod Text
 pub mod Use

@@ -1,8 +1,11 @@
 -- How the values of each type are printed.
-use Rattle.std.specs.Prelude.{[], true, refl}
-use Rattle.std.specs.Str.{is_utf8}
+use Rattle.std.specs.Prelude.{◌≡◌, ℕ, List, [], ◌∷◌, true, refl}
+use Rattle.std.specs.Str.{is_utf8, bytes_eq}
+use Rattle.wat_lexer.specs.Token.{Keyword}
 use Rattle.wat_tokens.specs.Index.{identifier, index}
 use Rattle.wat_tokens.specs.NameAnnotation.{name_annotation}
+use Rattle.wat_tokens.specs.Parts.{word}
+use Rattle.wat_tokens.specs.Strings.{string, text}
 use Rattle.wat_types.specs.Function.{function_type}
 use Rattle.wat_types.specs.FunctionNoNames.{function_type_no_names}
 use Rattle.wat_types.specs.Group.{begins_func}
@@ -22,12 +25,13 @@ use Rattle.wat_print.specs.Index.{spell_index, fit_index}
 use Rattle.wat_print.specs.Label.{spell_id, spell_name}
 use Rattle.wat_print.specs.Limits.{spell_limits, fit_limits, spell_memory_type, fit_memory_type}
 use Rattle.wat_print.specs.Limits.{spell_table_type, fit_table_type}
-use Rattle.wat_print.specs.Neat.{is_name}
+use Rattle.wat_print.specs.Neat.{is_name, is_keyword, nothing}
 use Rattle.wat_print.specs.Printed.{Printing}
 use Rattle.wat_print.specs.Reference.{spell_abstract, spell_heap, fit_heap, spell_ref, fit_ref}
 use Rattle.wat_print.specs.Reference.{spell_val, fit_val}
 use Rattle.wat_print.specs.Storage.{spell_storage, fit_storage, spell_field, fit_field}
 use Rattle.wat_print.specs.Storage.{spell_global, fit_global}
+use Rattle.wat_print.specs.Strings.{spell_string, fit_string}
 use Rattle.wat_print.specs.Struct.{spell_struct, fit_struct}
 use Rattle.wat_print.specs.Use.{spell_use, fit_use, fit_unnamed, fit_unnamed_use}
 use Rattle.wat_print.specs.Laws.Define.{kind_here, kind_neat, kind_only, type_here, type_neat}
@@ -38,15 +42,48 @@ use Rattle.wat_print.specs.Laws.Label.{id_here, id_neat, id_only, name_here, nam
 use Rattle.wat_print.specs.Laws.Limits.{limits_here, limits_neat, limits_only, memory_type_here}
 use Rattle.wat_print.specs.Laws.Limits.{memory_type_neat, memory_type_only, table_type_here}
 use Rattle.wat_print.specs.Laws.Limits.{table_type_neat, table_type_only}
+use Rattle.wat_print.specs.Laws.Parts.{word_here, neat_word}
 use Rattle.wat_print.specs.Laws.Reference.{abstract_here, abstract_neat, heap_here, heap_neat}
 use Rattle.wat_print.specs.Laws.Reference.{heap_only, ref_here, ref_neat, ref_only, val_here}
 use Rattle.wat_print.specs.Laws.Reference.{val_neat, val_only, index_here, index_neat, index_only}
 use Rattle.wat_print.specs.Laws.Storage.{storage_here, storage_neat, storage_only, field_here}
 use Rattle.wat_print.specs.Laws.Storage.{field_neat, field_only, global_here, global_neat}
 use Rattle.wat_print.specs.Laws.Storage.{global_only}
+use Rattle.wat_print.specs.Laws.Strings.{string_here, string_neat, string_only, text_here, text_neat}
+use Rattle.wat_print.specs.Laws.Strings.{text_only}
 use Rattle.wat_print.specs.Laws.Struct.{struct_here, struct_neat, struct_only}
 use Rattle.wat_print.specs.Laws.Use.{use_here, use_neat, use_only, unnamed_use_here}
 use Rattle.wat_print.specs.Laws.Use.{unnamed_use_neat, unnamed_use_only}
+
+-- ---- words and strings
+
+abbrev pub word_printing : (w : List ℕ) → is_keyword w ≡ true → bytes_eq w w ≡ true
+    → Printing (word w)
+word_printing w k e = record {
+  spell = λ _. Keyword w ∷ [];
+  fit = λ _. true;
+  neat = λ v h. neat_word w [] k nothing;
+  spells = λ v h. word_here w e [];
+  only = λ v c r a s. refl;
+}
+
+abbrev pub string_printing : Printing string
+string_printing = record {
+  spell = spell_string;
+  fit = fit_string;
+  neat = string_neat;
+  spells = λ v h. string_here v h [];
+  only = string_only.holds;
+}
+
+abbrev pub text_printing : Printing text
+text_printing = record {
+  spell = spell_string;
+  fit = is_utf8;
+  neat = text_neat;
+  spells = λ v h. text_here v h [];
+  only = text_only.holds;
+}
 
 -- ---- names and indices
 

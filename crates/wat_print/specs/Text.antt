@@ -2,6 +2,7 @@
 use Rattle.std.specs.Prelude.{ℕ, ◌/◌, ◌%◌, Bool, true, false, ◌&&◌, ◌||◌, if◌then◌else◌, nat_lt}
 use Rattle.std.specs.Prelude.{List, [], ◌∷◌, ◌++◌}
 use Rattle.std.specs.Char.{digit_char}
+use Rattle.std.specs.Str.{is_utf8}
 use Rattle.wat_lexer.specs.Bytes.{is_idchar}
 use Rattle.wat_lexer.specs.Cut.{is_raw}
 use Rattle.wat_lexer.specs.Token.{Tok, LParen, RParen, Keyword, Id, Annotation, Integer, String}
@@ -9,17 +10,22 @@ use Rattle.wat_lexer.specs.Token.{Reserved, is_open, is_close}
 
 -- ---- one token
 
--- a byte in a string: itself where that is a character of ASCII which may stand so, else its two
--- hex
--- digits
-abbrev pub escape : ℕ → List ℕ
-escape b =
-    if is_raw b && nat_lt b 128 then b ∷ [] else 92 ∷ digit_char (b / 16) ∷ digit_char (b % 16) ∷ []
+-- a byte in a string: itself, if it may stand so, and the string is UTF-8 or the byte is ASCII; else
+-- its two hex digits
+abbrev pub escape : Bool → ℕ → List ℕ
+escape utf8 b =
+    if is_raw b && (utf8 || nat_lt b 128) then b ∷ []
+    else 92 ∷ digit_char (b / 16) ∷ digit_char (b % 16) ∷ []
 
--- the content of a string, and the closing quote
+-- the content of a string, and the closing quote; whether the string is UTF-8
+abbrev pub quoted_as : Bool → List ℕ → List ℕ
+quoted_as utf8 [] = 34 ∷ []
+quoted_as utf8 (b ∷ s) = escape utf8 b ++ quoted_as utf8 s
+
+-- the content of a string, and the closing quote: a string that is UTF-8 as a whole keeps its
+-- characters past ASCII, and in another each byte past ASCII is its two hex digits
 abbrev pub quoted : List ℕ → List ℕ
-quoted [] = 34 ∷ []
-quoted (b ∷ s) = escape b ++ quoted s
+quoted s = quoted_as (is_utf8 s) s
 
 -- the test passes of each byte
 abbrev pub all_are : (ℕ → Bool) → List ℕ → Bool

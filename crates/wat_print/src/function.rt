@@ -1,6 +1,6 @@
 //! How function types are printed.
 
-ghost use Rattle.std.specs.Prelude.{◌≡◌, ◌≢◌, ◌++◌, OnOk, IfErr, true, false, map, flat_map};
+ghost use Rattle.std.specs.Prelude.{◌≡◌, ◌≢◌, OnOk, IfErr, true, false, map, flat_map};
 ghost use Rattle.wat_types.specs.Function.{function_view, params_view, param_view, function_type};
 ghost use Rattle.wat_types.specs.Group.{FuncTy};
 ghost use Rattle.wat_types.specs.Value.{val_view};

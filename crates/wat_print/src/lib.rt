@@ -8,12 +8,14 @@
 pub mod define;
 pub mod fault;
 pub mod function;
+pub mod keyword;
 pub mod label;
 pub mod laws;
 pub mod limits;
 pub mod output;
 pub mod reference;
 pub mod storage;
+pub mod string;
 pub mod structure;
 pub mod text;
 pub mod traits;

@@ -1,9 +1,9 @@
 //! How limits, memory types and table types are printed.
 
-ghost use Rattle.std.specs.Prelude.{◌≡◌, ◌≢◌, ◌^◌, OnOk, IfErr, true, false, codes};
+ghost use Rattle.std.specs.Prelude.{◌≡◌, ◌≢◌, OnOk, IfErr, true, false};
 ghost use Rattle.wat_types.specs.Limits.{limits_type, memory_type, table_type, TableTy};
 ghost use Rattle.wat_types.specs.Limits.{table_type_view};
-ghost use Rattle.wat_print.specs.Limits.{spell_number, spell_limits, fit_limits, spell_page_size};
+ghost use Rattle.wat_print.specs.Limits.{spell_limits, fit_limits, spell_page_size};
 ghost use Rattle.wat_print.specs.Limits.{is_exponent, spell_memory_type, fit_memory_type};
 ghost use Rattle.wat_print.specs.Limits.{spell_table_type, fit_table_type};
 ghost use Rattle.wat_print.specs.Parts.{spell_flag, spell_option, if_some};

@@ -2,6 +2,7 @@
 
 ghost use Rattle.std.specs.Prelude.{◌≡◌, ◌≢◌, ◌∷◌, ◌++◌, ◌*◌, [], ◌<◌, ℕ, true, false};
 ghost use Rattle.std.specs.Prelude.{if◌then◌else◌, OnOk, IfOk, IfErr, decimal, string_bytes};
+ghost use Rattle.std.specs.Prelude.{encode_utf8, flat_map};
 ghost use Rattle.std.specs.Char.{digit_char};
 ghost use Rattle.std.specs.Fmt.{signed_decimal};
 ghost use Rattle.std.specs.Str.{is_utf8};
@@ -10,7 +11,8 @@ ghost use Rattle.wat_lexer.specs.Token.{LParen, RParen, Keyword, Id, Annotation,
 ghost use Rattle.wat_lexer.specs.Token.{String as Text};
 ghost use Rattle.wat_print.specs.Layout.{broken, blanks};
 ghost use Rattle.wat_print.specs.Neat.{is_name};
-ghost use Rattle.wat_print.specs.Text.{put, blank_page, escape, quoted, name_text, all_are};
+ghost use Rattle.wat_print.specs.Text.{put, blank_page, escape, quoted, quoted_as};
+ghost use Rattle.wat_print.specs.Text.{name_text, all_are};
 ghost use Rattle.wat_print.specs.declared.fault.Refused.TheVariants.{Memory};
 ghost use Rattle.wat_print.specs.Printed.{may_break};
 
@@ -193,24 +195,71 @@ impl Output {
         Ok(())
     }
 
-    /// The bytes in a string, and the closing quote.
-    #[tactic(auto, using(std::proofs::lemmas::List::drop_more))]
+    /// A string's content, and the closing quote. One that is UTF-8 is written by its characters.
+    #[tactic(auto, using(crate::specs::Laws::Characters::no_text))]
     fn push_quoted(&mut self, bytes: &[u8]) -> Result<(), AllocError>
         ensures { OnOk result (self.new ≡ record self.old {
           bytes = self.old.bytes ++ quoted bytes.now;
         }) }
     {
+        match str::from_utf8(bytes) {
+            Ok(text) => self.push_characters(text),
+            Err(_) => self.push_bytes(bytes),
+        }
+    }
+
+    /// A text in a string, and the closing quote. Characters past ASCII stay as they are.
+    fn push_characters(&mut self, text: &str) -> Result<(), AllocError>
+        ensures { OnOk result (self.new ≡ record self.old {
+          bytes = self.old.bytes ++ quoted text.now;
+        }) }
+    {
+        for c in text.chars() {
+            self.push_character(c)?;
+        }
+        self.push_quote()
+    }
+
+    /// Bytes that aren't UTF-8 in a string, and the closing quote. Each one past ASCII is `\hh`.
+    #[tactic(auto, using(std::proofs::lemmas::List::drop_more))]
+    fn push_bytes(&mut self, bytes: &[u8]) -> Result<(), AllocError>
+        ensures { OnOk result (self.new ≡ record self.old {
+          bytes = self.old.bytes ++ quoted_as false bytes.now;
+        }) }
+    {
         for b in bytes {
             self.push_escaped(*b)?;
         }
+        self.push_quote()
+    }
+
+    /// The closing quote.
+    fn push_quote(&mut self) -> Result<(), AllocError>
+        ensures { OnOk result (self.new ≡ record self.old {
+          bytes = self.old.bytes ++ 34 ∷ [];
+        }) }
+    {
         let closing = "\"";
         self.text.push_str(closing)
     }
 
-    /// A byte in a string.
+    /// A character of a text in a string.
+    #[tactic(auto, using(crate::specs::Laws::Characters::character_ascii, crate::specs::Laws::Characters::character_whole))]
+    fn push_character(&mut self, c: char) -> Result<(), AllocError>
+        ensures { OnOk result (self.new ≡ record self.old {
+          bytes = self.old.bytes ++ flat_map (escape true) (encode_utf8 c);
+        }) }
+    {
+        if c.is_ascii() {
+            return self.push_escaped(c as u8);
+        }
+        self.text.push(c)
+    }
+
+    /// A byte in a string that isn't UTF-8. One of ASCII is written so in a text too.
     fn push_escaped(&mut self, byte: u8) -> Result<(), AllocError>
         ensures { OnOk result (self.new ≡ record self.old {
-          bytes = self.old.bytes ++ escape byte;
+          bytes = self.old.bytes ++ escape false byte;
         }) }
     {
         if byte >= 32 && byte < 127 && byte != b'"' && byte != b'\\' {
@@ -233,7 +282,7 @@ impl Output {
             return self.text.push_str(name);
         }
         self.text.push_str("\"")?;
-        self.push_quoted(name.as_bytes())
+        self.push_characters(name)
     }
 
     /// Writes an identifier, given without its `$`. One that is empty is refused.
@@ -268,10 +317,15 @@ impl Output {
         ensures written { OnOk result (self.new ≡ put self.old (Text content.now ∷ [])) }
         ensures fit { is_utf8 content.now ≡ true }
     {
-        self.string(content.as_bytes())
+        self.space()?;
+        self.text.push_str("\"")?;
+        self.push_characters(content)?;
+        self.tight = false;
+        Ok(())
     }
 
-    /// Writes a string.
+    /// Writes a string. One that is UTF-8 keeps its characters past ASCII, and in any other each byte
+    /// past ASCII is `\hh`.
     pub fn string(&mut self, content: &[u8]) -> Result<(), AllocError>
         ensures { OnOk result (self.new ≡ put self.old (Text content.now ∷ [])) }
     {

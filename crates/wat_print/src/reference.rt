@@ -1,7 +1,6 @@
 //! How indices, heap types, reference types and value types are printed.
 
-ghost use Rattle.std.specs.Prelude.{◌≡◌, ◌∷◌, [], ◌++◌, OnOk, true, codes, ◌≢◌, IfErr, false};
-ghost use Rattle.wat_lexer.specs.Token.{Keyword};
+ghost use Rattle.std.specs.Prelude.{◌≡◌, OnOk, true, ◌≢◌, IfErr, false};
 ghost use Rattle.wat_tokens.specs.Index.{Idx, index_view, index};
 ghost use Rattle.wat_types.specs.Heap.{HeapTy, heap_view, abstract_, heap_type, abstract_heap_type};
 ghost use Rattle.wat_types.specs.Reference.{RefTy, ref_view, ref_type};

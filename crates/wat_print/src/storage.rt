@@ -5,7 +5,6 @@ ghost use Rattle.wat_types.specs.FieldType.{FieldTy, field_of, field_type};
 ghost use Rattle.wat_types.specs.Storage.{StorageTy, storage_view, storage_type, GlobalTy};
 ghost use Rattle.wat_types.specs.Storage.{global_type_view, global_type};
 ghost use Rattle.wat_types.specs.Struct.{array_view};
-ghost use Rattle.wat_types.specs.Value.{val_view};
 ghost use Rattle.wat_print.specs.Printings.{storage_printing, field_printing, global_printing};
 ghost use Rattle.wat_print.specs.Storage.{spell_storage, fit_storage, spell_field, fit_field};
 ghost use Rattle.wat_print.specs.Storage.{spell_global, fit_global};

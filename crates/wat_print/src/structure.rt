@@ -1,6 +1,6 @@
 //! How structure types are printed.
 
-ghost use Rattle.std.specs.Prelude.{◌≡◌, ◌≢◌, List, OnOk, IfErr, true, false, map};
+ghost use Rattle.std.specs.Prelude.{◌≡◌, ◌≢◌, List, OnOk, IfErr, true, false};
 ghost use Rattle.wat_types.specs.Struct.{MemberTy, member_view, members_view, struct_view};
 ghost use Rattle.wat_types.specs.StructType.{struct_type};
 ghost use Rattle.wat_print.specs.Label.{none_labelled};

@@ -3,6 +3,7 @@ pub mod Expression
 pub mod ExpressionOnly
 pub mod Instruction
 pub mod Numbers
+pub mod OperandFront
 pub mod Places
 pub mod Access
 pub mod Vectors

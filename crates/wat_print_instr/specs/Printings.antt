@@ -1,5 +1,5 @@
 -- How the values of each operand are printed.
-use Rattle.std.specs.Prelude.{ℕ, Bool, true, [], refl, false}
+use Rattle.std.specs.Prelude.{ℕ, ◌^◌, ◌≤◌, Bool, true, [], refl, false}
 use Rattle.std.proofs.Common.{lit≤}
 use Rattle.wat_tokens.specs.Floats.{none}
 use Rattle.wat_tokens.specs.Followed.{blank}
@@ -93,14 +93,27 @@ i32_printing = signed_printing 32 halves_32
 abbrev pub i64_printing : Printing (signed 64)
 i64_printing = signed_printing 64 halves_64
 
-abbrev pub u8_printing : Printing (unsigned 8)
-u8_printing = record {
+abbrev pub unsigned_printing : (bits : ℕ) → 2 ^ bits ≤ 2 ^ 64 → 1 ≤ 2 ^ bits
+    → Printing (unsigned bits)
+unsigned_printing bits l m = record {
   spell = spell_number;
-  fit = is_unsigned 8;
-  neat = λ n h. unsigned_neat 8 n (lit≤ tt) h;
-  spells = λ n h. unsigned_here 8 n (lit≤ tt) h [];
-  only = (unsigned_only 8 (lit≤ tt)).holds;
+  fit = is_unsigned bits;
+  neat = λ n h. unsigned_neat bits n l h;
+  spells = λ n h. unsigned_here bits n l h [];
+  only = (unsigned_only bits m).holds;
 }
+
+abbrev pub u8_printing : Printing (unsigned 8)
+u8_printing = unsigned_printing 8 (lit≤ tt) (lit≤ tt)
+
+abbrev pub u16_printing : Printing (unsigned 16)
+u16_printing = unsigned_printing 16 (lit≤ tt) (lit≤ tt)
+
+abbrev pub u32_printing : Printing (unsigned 32)
+u32_printing = unsigned_printing 32 (lit≤ tt) (lit≤ tt)
+
+abbrev pub u64_printing : Printing (unsigned 64)
+u64_printing = unsigned_printing 64 (lit≤ tt) (lit≤ tt)
 
 -- ---- indices
 

@@ -1,9 +1,7 @@
 //! How the types of blocks, calls, selects and casts are printed.
 
 ghost use Rattle.std.specs.Prelude.{◌≡◌, ◌≢◌, List, Option, OnOk, IfErr, true, false, map};
-ghost use Rattle.wat_tokens.specs.Index.{index_view};
-ghost use Rattle.wat_types.specs.Function.{function_view};
-ghost use Rattle.wat_types.specs.Reference.{RefTy, ref_view, ref_type};
+ghost use Rattle.wat_types.specs.Reference.{RefTy, ref_type};
 ghost use Rattle.wat_types.specs.Value.{ValTy, val_view};
 ghost use Rattle.wat_operands.specs.Block.{BlockTy, signature_view, block_view, block_type};
 ghost use Rattle.wat_operands.specs.Call.{CallTy, call_view, call_indirect};

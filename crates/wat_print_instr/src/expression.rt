@@ -1,13 +1,12 @@
 //! How expressions are printed.
 
-ghost use Rattle.std.specs.Prelude.{◌≡◌, ◌≢◌, ◌&&◌, ◌∷◌, [], OnOk, IfOk, IfErr, true, false, map};
-ghost use Rattle.std.specs.Prelude.{nat_lt, option_map, drop, string_bytes, ℕ};
-ghost use Rattle.wat_lexer.specs.Token.{String as Text, LParen, RParen};
+ghost use Rattle.std.specs.Prelude.{◌≡◌, ◌≢◌, ◌&&◌, [], OnOk, IfOk, IfErr, true, false, map};
+ghost use Rattle.std.specs.Prelude.{string_bytes};
 ghost use Rattle.wat_instr.specs.Instruction.{instruction_view};
 ghost use Rattle.wat_expr.specs.Expression.{expression_view, hint_view};
 ghost use Rattle.wat_expr.specs.ExpressionProduction.{expression};
-ghost use Rattle.wat_expr.specs.Items.{is_branch, hint_name};
-ghost use Rattle.wat_print.specs.Layout.{Writes, broken};
+ghost use Rattle.wat_expr.specs.Items.{is_branch};
+ghost use Rattle.wat_print.specs.Layout.{Writes};
 ghost use Rattle.wat_print.specs.Parts.{spell_option, if_some};
 ghost use Rattle.wat_print.specs.Printed.{ReadsBack, NoneSpells};
 ghost use Rattle.wat_print.specs.Text.{put, printed_text};
@@ -22,7 +21,6 @@ use bumpalo::Bump;
 use std::alloc::{AllocError, Global};
 use wat_expr::{BranchHint, Expression};
 use wat_instr::Instruction;
-use wat_instr::laws::stands_before_what_may_follow;
 use wat_mnemonics::{IndexedOp, LabelOp, Mnemonic, ScalarOp};
 use wat_print::{Layout, Output, Refused, read_value};
 use wat_tokens::Fault;
@@ -87,11 +85,15 @@ fn begins_part(head: Mnemonic) -> bool {
     }
 }
 
-/// Breaks the line in front of an instruction. One that ends a part of a block stands as far to the
-/// left as the block.
-fn begin_step(out: &mut Output, head: Mnemonic) -> Result<(), AllocError>
-    ensures { OnOk result ((n : ℕ) × (out.new ≡ broken n out.old)) }
+/// Breaks the line in front of an instruction, if it is to stand on a line of its own. One that
+/// ends a part of a block stands as far to the left as the block.
+#[tactic(auto, using(wat_print::specs::Laws::Written::puts_line, wat_print::specs::Laws::Written::puts_put))]
+fn begin_step(out: &mut Output, head: Mnemonic, on_lines: bool) -> Result<(), AllocError>
+    ensures { OnOk result (Writes [] out.old out.new) }
 {
+    if !on_lines {
+        return Ok(());
+    }
     if ends_part(head) {
         out.leave();
     }
@@ -107,9 +109,14 @@ fn end_step(out: &mut Output, head: Mnemonic)
     }
 }
 
-/// Writes an instruction on a line of its own, behind its hint where it has one. What is inside of
-/// a block is indented by two spaces more than the block.
-fn write_step(out: &mut Output, hint: Option<u32>, instr: &Instruction) -> Result<(), Refused>
+/// Writes an instruction, on a line of its own if that is wanted, behind its hint where it has one.
+/// What is inside of a block is indented by two spaces more than the block.
+fn write_step(
+    out: &mut Output,
+    hint: Option<u32>,
+    instr: &Instruction,
+    on_lines: bool,
+) -> Result<(), Refused>
     ensures written { OnOk result
         (Writes (spell_step (step_of hint (instruction_view instr.now))) out.old out.new) }
     ensures fit { OnOk result (fit_step (step_of hint (instruction_view instr.now)) ≡ true) }
@@ -117,7 +124,7 @@ fn write_step(out: &mut Output, hint: Option<u32>, instr: &Instruction) -> Resul
         → fit_step (step_of hint (instruction_view instr.now)) ≡ false) }
 {
     let head = instr.head();
-    begin_step(out, head)?;
+    begin_step(out, head, on_lines)?;
     write_hint(out, hint, instr)?;
     instr.write(out)?;
     end_step(out, head);
@@ -136,11 +143,13 @@ fn first_hint<'b>(hints: &'b [BranchHint], index: usize) -> (Option<u32>, &'b [B
     (Some(hints[0].value), &hints[1..])
 }
 
-/// Writes instructions, each on a line of its own, behind its hint where it has one.
+/// Writes instructions, each on a line of its own if that is wanted, behind its hint where it has
+/// one.
 fn write_steps(
     out: &mut Output,
     instrs: &[Instruction],
     hints: &[BranchHint],
+    on_lines: bool,
 ) -> Result<(), Refused>
     ensures written { OnOk result (Writes (spell_expression (record {
       instrs = map instruction_view instrs.now;
@@ -158,7 +167,7 @@ fn write_steps(
     let mut left = hints;
     for index in 0..instrs.len() {
         let (hint, behind) = first_hint(left, index);
-        write_step(out, hint, &instrs[index])?;
+        write_step(out, hint, &instrs[index], on_lines)?;
         left = behind;
     }
     if !left.is_empty() {
@@ -178,7 +187,22 @@ pub fn write_expression(out: &mut Output, value: &Expression) -> Result<(), Refu
     ensures refused { IfErr result (λ e. e ≢ Memory
         → fit_expression (expression_view value.now) ≡ false) }
 {
-    write_steps(out, &value.instrs, &value.branch_hints)?;
+    write_steps(out, &value.instrs, &value.branch_hints, true)?;
+    out.leave_all();
+    Ok(())
+}
+
+/// Writes an expression as [`write_expression`] does. One of a single instruction, as most that
+/// give a constant, stays on the line that it begins on.
+pub fn write_constant(out: &mut Output, value: &Expression) -> Result<(), Refused>
+    ensures written { OnOk result
+        (Writes (spell_expression (expression_view value.now)) out.old out.new) }
+    ensures fit { OnOk result (fit_expression (expression_view value.now) ≡ true) }
+    ensures refused { IfErr result (λ e. e ≢ Memory
+        → fit_expression (expression_view value.now) ≡ false) }
+{
+    let on_lines = value.instrs.len() != 1;
+    write_steps(out, &value.instrs, &value.branch_hints, on_lines)?;
     out.leave_all();
     Ok(())
 }
@@ -199,7 +223,6 @@ pub fn print_expression(
     ensures refused { IfErr result (λ e. e ≢ Memory
         → NoneSpells expression (expression_view value.now)) }
 {
-    stands_before_what_may_follow();
     let mut out = Output::new(alloc, layout);
     write_expression(&mut out, value)?;
     Ok(out.into_text())

@@ -8,6 +8,7 @@ ghost use Rattle.wat_print_instr.specs.Numbers.{spell_signed};
 
 use crate::traits::PrintCode;
 use wat_print::{Output, Refused};
+use wat_tokens::{F32, F64};
 
 /// Writes a number with a sign.
 pub fn write_signed(out: &mut Output, number: i64) -> Result<(), Refused>
@@ -125,7 +126,105 @@ impl PrintCode for u8 {
     ghost printing = { u8_printing };
 
     fn write(&self, out: &mut Output) -> Result<(), Refused> {
+        let number = u64::from(*self);
+        out.number(number)?;
+        Ok(())
+    }
+}
+
+impl PrintCode for u16 {
+    ghost use Rattle.std.specs.Prelude.{ℕ};
+    ghost use Rattle.wat_tokens.specs.Integers.{unsigned};
+    ghost use Rattle.wat_print_instr.specs.Printings.{u16_printing};
+
+    ghost View = { ℕ };
+
+    ghost view = { λ n. n };
+
+    ghost grammar = { unsigned 16 };
+
+    ghost printing = { u16_printing };
+
+    fn write(&self, out: &mut Output) -> Result<(), Refused> {
         out.number(u64::from(*self))?;
         Ok(())
+    }
+}
+
+impl PrintCode for u32 {
+    ghost use Rattle.std.specs.Prelude.{ℕ};
+    ghost use Rattle.wat_tokens.specs.Integers.{unsigned};
+    ghost use Rattle.wat_print_instr.specs.Printings.{u32_printing};
+
+    ghost View = { ℕ };
+
+    ghost view = { λ n. n };
+
+    ghost grammar = { unsigned 32 };
+
+    ghost printing = { u32_printing };
+
+    fn write(&self, out: &mut Output) -> Result<(), Refused> {
+        out.number(u64::from(*self))?;
+        Ok(())
+    }
+}
+
+impl PrintCode for u64 {
+    ghost use Rattle.std.specs.Prelude.{ℕ};
+    ghost use Rattle.wat_tokens.specs.Integers.{unsigned};
+    ghost use Rattle.wat_print_instr.specs.Printings.{u64_printing};
+
+    ghost View = { ℕ };
+
+    ghost view = { λ n. n };
+
+    ghost grammar = { unsigned 64 };
+
+    ghost printing = { u64_printing };
+
+    fn write(&self, out: &mut Output) -> Result<(), Refused> {
+        out.number(*self)?;
+        Ok(())
+    }
+}
+
+/// No text has one: it is refused with Float.
+impl PrintCode for F32 {
+    ghost use Rattle.std.specs.Prelude.{ℕ};
+    ghost use Rattle.wat_tokens.specs.Floats.{none};
+    ghost use Rattle.wat_print_instr.specs.Printings.{number_printing};
+
+    ghost View = { ℕ };
+
+    ghost view = { λ x. x.bits };
+
+    ghost grammar = { none };
+
+    ghost printing = { number_printing };
+
+    fn write(&self, out: &mut Output) -> Result<(), Refused> {
+        let _ = out;
+        Err(Refused::Float)
+    }
+}
+
+/// No text has one: it is refused with Float.
+impl PrintCode for F64 {
+    ghost use Rattle.std.specs.Prelude.{ℕ};
+    ghost use Rattle.wat_tokens.specs.Floats.{none};
+    ghost use Rattle.wat_print_instr.specs.Printings.{number_printing};
+
+    ghost View = { ℕ };
+
+    ghost view = { λ x. x.bits };
+
+    ghost grammar = { none };
+
+    ghost printing = { number_printing };
+
+    fn write(&self, out: &mut Output) -> Result<(), Refused> {
+        let _ = out;
+        Err(Refused::Float)
     }
 }

@@ -1,9 +1,6 @@
 //! How constants of 128 bits, and lanes that are shuffled, are printed.
 
-ghost use Rattle.std.specs.Prelude.{◌≡◌, ◌≢◌, OnOk, IfErr, true, false};
 ghost use Rattle.wat_operands.specs.Vector.{v128_const, shuffle};
-ghost use Rattle.wat_print.specs.Text.{put};
-ghost use Rattle.wat_print.specs.declared.fault.Refused.TheVariants.{Memory};
 ghost use Rattle.wat_print_instr.specs.Printings.{vector_printing, shuffle_printing};
 
 use crate::traits::{PrintCode, write_each};

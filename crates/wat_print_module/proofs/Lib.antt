@@ -1,4 +1,3 @@
-mod Bytes
 pub mod Grouped
 mod OnLines
 mod Produced

@@ -10,7 +10,7 @@ use Rattle.wat_print.specs.Parts.{each}
 use Rattle.wat_print_module.specs.Dylink.{spell_dylink, fit_dylink}
 use Rattle.wat_print_module.specs.Place.{spell_place_group}
 use Rattle.wat_print_module.specs.Producers.{ProducedTy, spell_producers, fit_producers}
-use Rattle.wat_print_module.specs.Strings.{spell_string, fit_string}
+use Rattle.wat_print.specs.Strings.{spell_string, fit_string}
 
 -- @custom name ( place )? bytes*
 abbrev pub spell_raw : RawTy → List Tok

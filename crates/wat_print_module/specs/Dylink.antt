@@ -7,7 +7,7 @@ use Rattle.wat_links.specs.Dylink.{runtime_path, target_arch}
 use Rattle.wat_print.specs.Limits.{spell_number}
 use Rattle.wat_print.specs.Parts.{grouped, each}
 use Rattle.wat_print_instr.specs.Numbers.{is_unsigned}
-use Rattle.wat_print_module.specs.Strings.{spell_string}
+use Rattle.wat_print.specs.Strings.{spell_string}
 
 -- ---- what is written
 

@@ -10,7 +10,7 @@ use Rattle.wat_fields.specs.Tag.{tag}
 use Rattle.wat_expr.specs.ExpressionProduction.{expression}
 use Rattle.wat_print.specs.Printed.{Printing}
 use Rattle.wat_print_instr.specs.ExpressionForm.{spell_expression, fit_expression}
-use Rattle.wat_print_instr.specs.Laws.Expression.{expression_neat}
+use Rattle.wat_print_instr.specs.Laws.Expression.{expression_neat, expression_closed}
 use Rattle.wat_print_instr.specs.Laws.ExpressionOnly.{expression_only}
 use Rattle.wat_print_module.specs.FieldHead.{spell_inline_export, fit_inline_export}
 use Rattle.wat_print_module.specs.FieldHead.{spell_inline_import, fit_inline_import}
@@ -19,7 +19,6 @@ use Rattle.wat_print_module.specs.Func.{spell_func, fit_func}
 use Rattle.wat_print_module.specs.Global.{spell_global_field, fit_global_field}
 use Rattle.wat_print_module.specs.Local.{spell_local_parser, fit_local_parser}
 use Rattle.wat_print_module.specs.Tag.{spell_tag, fit_tag}
-use Rattle.wat_print_module.specs.Laws.Body.{expression_closed}
 use Rattle.wat_print_module.specs.Laws.FieldHead.{inline_export_here, inline_export_neat}
 use Rattle.wat_print_module.specs.Laws.FieldHead.{inline_export_only, inline_import_here}
 use Rattle.wat_print_module.specs.Laws.FieldHead.{inline_import_neat, inline_import_only}

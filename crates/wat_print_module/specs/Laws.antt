@@ -17,7 +17,6 @@ pub mod Item
 pub mod Local
 pub mod Memory
 pub mod Module
-pub mod OperandFront
 pub mod Place
 pub mod Producers
 pub mod Strings

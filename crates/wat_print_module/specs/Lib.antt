@@ -43,6 +43,5 @@ pub mod Place
 pub mod Producers
 pub mod SegmentPrintings
 pub mod Segments
-pub mod Strings
 pub mod Table
 pub mod Tag

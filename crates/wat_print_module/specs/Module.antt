@@ -12,7 +12,7 @@ use Rattle.wat_print.specs.Label.{spell_label, fit_label}
 use Rattle.wat_print.specs.Parts.{each}
 use Rattle.wat_print.specs.Printed.{NoneSpells}
 use Rattle.wat_print_module.specs.Field.{fit_module_field, spell_field_group}
-use Rattle.wat_print_module.specs.Strings.{spell_string, fit_string}
+use Rattle.wat_print.specs.Strings.{spell_string, fit_string}
 
 -- ( ModuleField )*, or `binary` bytes*
 abbrev pub spell_module_kind : ModuleKindTy → List Tok

@@ -9,13 +9,13 @@ ghost use Rattle.wat_tokens.specs.Groups.{paren};
 use crate::module::{ModuleRefused, print_module};
 use bumpalo::Bump;
 use std::alloc::Global;
-use wat_core::{Module, read_module};
+use wat_core::{Fault, Module, read_module};
 use wat_print::{Layout, Refused};
 
 /// The module, printed in the layout and read again: a copy that names nothing but the arena.
 ///
 /// A module that no text spells is refused as by [`print_module`]. Memory that is refused is
-/// answered by Memory.
+/// answered by Memory, and what was printed is never refused by the reader for another reason.
 pub fn read_again<'a>(
     alloc: Global,
     module: &Module,
@@ -31,7 +31,10 @@ pub fn read_again<'a>(
     let kept = arena.try_alloc_str(text.as_str())?;
     match read_module(alloc, kept, arena) {
         Ok(again) => Ok(again),
-        // (a text that was printed is refused for want of memory alone)
-        Err(_) => Err(ModuleRefused::from(Refused::Memory)),
+        Err(error) => match error.fault {
+            Fault::Memory => Err(ModuleRefused::from(Refused::Memory)),
+            // (the text spells the module, so there is no other fault)
+            _ => unreachable!(),
+        },
     }
 }

@@ -5,7 +5,7 @@ ghost use Rattle.wat_tokens.specs.Groups.{paren};
 ghost use Rattle.wat_links.specs.Custom.{CustomTy, custom_view, custom};
 ghost use Rattle.wat_print.specs.Text.{put};
 ghost use Rattle.wat_print.specs.declared.fault.Refused.TheVariants.{Memory};
-ghost use Rattle.wat_print_module.specs.Custom.{spell_custom, fit_custom, spell_custom_group};
+ghost use Rattle.wat_print_module.specs.Custom.{spell_custom, fit_custom};
 ghost use Rattle.wat_print_module.specs.LinkPrintings.{custom_printing};
 
 use crate::dylink::write_dylink;

@@ -22,7 +22,7 @@ use wat_fields::{Data, DataKind};
 use wat_print::label::write_label;
 use wat_print::reference::write_index;
 use wat_print::{Output, Refused};
-use wat_print_instr::expression::write_expression;
+use wat_print_instr::expression::write_constant;
 use wat_print_instr::places::is_zero;
 use wat_tokens::Index;
 
@@ -36,7 +36,7 @@ pub(crate) fn write_offset(out: &mut Output, offset: &Expression) -> Result<(), 
 {
     out.open()?;
     out.word("offset")?;
-    write_expression(out, offset)?;
+    write_constant(out, offset)?;
     out.close()?;
     Ok(())
 }

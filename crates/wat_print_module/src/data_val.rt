@@ -5,34 +5,15 @@ ghost use Rattle.wat_fields.specs.DataVal.{DataValTy, written, numbers, data_val
 ghost use Rattle.wat_print.specs.Limits.{spell_number};
 ghost use Rattle.wat_print.specs.Neat.{is_byte};
 ghost use Rattle.wat_print.specs.Parts.{Wrote};
-ghost use Rattle.wat_print.specs.Text.{all_are, put};
+ghost use Rattle.wat_print.specs.Text.{put};
 ghost use Rattle.wat_print.specs.declared.fault.Refused.TheVariants.{Memory};
 ghost use Rattle.wat_print_module.specs.SegmentPrintings.{data_val_printing};
 ghost use Rattle.wat_print_module.specs.Segments.{spell_data_val, fit_data_val};
 
 use crate::traits::PrintPart;
 use wat_fields::DataVal;
+use wat_print::string::write_string;
 use wat_print::{Output, Refused};
-
-/// Looks at each byte: so each is known to be one.
-fn look_at_each(bytes: &[u8])
-    ensures { all_are is_byte bytes.now ≡ true }
-{
-    for byte in bytes {
-        let _byte = *byte;
-    }
-}
-
-/// Writes the bytes of a string.
-fn write_string(out: &mut Output, bytes: &[u8]) -> Result<(), Refused>
-    ensures written { OnOk result (out.new ≡ put out.old (spell_data_val (written bytes.now))) }
-    ensures fit { OnOk result (fit_data_val (written bytes.now) ≡ true) }
-    ensures refused { IfErr result (λ e. e ≡ Memory) }
-{
-    look_at_each(bytes);
-    out.string(bytes)?;
-    Ok(())
-}
 
 /// Writes a byte as a number.
 fn write_byte(out: &mut Output, byte: u8) -> Result<(), Refused>
@@ -78,7 +59,10 @@ pub fn write_data_val(out: &mut Output, value: &DataVal) -> Result<(), Refused>
     ensures refused { IfErr result (λ e. e ≡ Memory) }
 {
     match value {
-        DataVal::String(bytes) => write_string(out, bytes),
+        DataVal::String(bytes) => {
+            write_string(out, bytes)?;
+            Ok(())
+        }
         DataVal::Integral(bytes) => write_numbers(out, bytes),
     }
 }

@@ -1,6 +1,6 @@
 //! How the `dylink.0` section is printed.
 
-ghost use Rattle.std.specs.Prelude.{◌≡◌, ◌≢◌, List, OnOk, IfErr, true, false, map, flat_map};
+ghost use Rattle.std.specs.Prelude.{◌≡◌, ◌≢◌, List, OnOk, IfErr, true, false, map};
 ghost use Rattle.std.specs.Str.{is_utf8};
 ghost use Rattle.wat_tokens.specs.Groups.{paren};
 ghost use Rattle.wat_links.specs.Cutting.{dylink};
@@ -15,7 +15,7 @@ ghost use Rattle.wat_print_module.specs.Dylink.{fit_sizes, fit_export_flags, fit
 ghost use Rattle.wat_print_module.specs.Dylink.{fit_subsection, is_filled, is_apart, are_cut};
 ghost use Rattle.wat_print_module.specs.Dylink.{fit_dylink};
 ghost use Rattle.wat_print_module.specs.LinkPrintings.{dylink_printing};
-ghost use Rattle.wat_print_module.specs.Strings.{spell_string};
+ghost use Rattle.wat_print.specs.Strings.{spell_string};
 
 use crate::traits::PrintPart;
 use std::alloc::AllocError;

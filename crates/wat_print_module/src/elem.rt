@@ -25,7 +25,7 @@ use wat_fields::{Elem, ElemKind, ElemPayload};
 use wat_print::label::write_label;
 use wat_print::reference::{write_index, write_ref};
 use wat_print::{Output, Refused};
-use wat_print_instr::expression::write_expression;
+use wat_print_instr::expression::write_constant;
 use wat_print_instr::traits::write_each;
 use wat_tokens::Index;
 use wat_types::RefType;
@@ -40,7 +40,7 @@ fn write_item(out: &mut Output, item: &Expression) -> Result<(), Refused>
     out.line()?;
     out.open()?;
     out.word("item")?;
-    write_expression(out, item)?;
+    write_constant(out, item)?;
     out.close()?;
     Ok(())
 }

@@ -20,7 +20,7 @@ use wat_fields::{Global, GlobalKind};
 use wat_links::InlineImport;
 use wat_print::storage::write_global;
 use wat_print::{Output, Refused};
-use wat_print_instr::expression::write_expression;
+use wat_print_instr::expression::write_constant;
 use wat_types::GlobalType;
 
 /// Writes an import in line, and the type of the global.
@@ -47,7 +47,7 @@ fn write_inline(out: &mut Output, ty: &GlobalType, value: &Expression) -> Result
         (global_type_view ty.now, inline (expression_view value.now)) ≡ false) }
 {
     write_global(out, ty)?;
-    write_expression(out, value)?;
+    write_constant(out, value)?;
     Ok(())
 }
 

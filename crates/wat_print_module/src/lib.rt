@@ -25,7 +25,6 @@ pub mod module;
 pub mod place;
 pub mod producers;
 pub mod raw;
-pub mod strings;
 pub mod table;
 pub mod tag;
 pub mod traits;

@@ -1,6 +1,6 @@
 //! How memories are printed.
 
-ghost use Rattle.std.specs.Prelude.{◌≡◌, ◌≢◌, ◌&&◌, ◌++◌, OnOk, IfErr, true, false, codes};
+ghost use Rattle.std.specs.Prelude.{◌≡◌, ◌≢◌, OnOk, IfErr, true, false, codes};
 ghost use Rattle.wat_fields.specs.DataVal.{data_vals_view};
 ghost use Rattle.wat_fields.specs.Memory.{imported, inline, memory_kind_view, MemoryTy};
 ghost use Rattle.wat_fields.specs.Memory.{memory_view, memory};

@@ -1,13 +1,13 @@
 //! How modules are printed.
 
-ghost use Rattle.std.specs.Prelude.{◌≡◌, ◌≢◌, ◌++◌, List, ℕ, OnOk, IfOk, IfErr, true, false, map};
-ghost use Rattle.std.specs.Prelude.{string_bytes, slice_get, Some, None};
+ghost use Rattle.std.specs.Prelude.{◌≡◌, ◌≢◌, OnOk, IfOk, IfErr, true, false, map};
+ghost use Rattle.std.specs.Prelude.{string_bytes, Some, None};
 ghost use Rattle.wat_tokens.specs.Groups.{paren};
-ghost use Rattle.wat_core.specs.Field.{ModuleFieldTy, field_view};
+ghost use Rattle.wat_core.specs.Field.{field_view};
 ghost use Rattle.wat_core.specs.Module.{binary, ModuleTy, module_kind_view, module_view, module_};
 ghost use Rattle.wat_core.specs.Text.{SpellsModule};
 ghost use Rattle.wat_print.specs.Layout.{Writes};
-ghost use Rattle.wat_print.specs.Parts.{each, Wrote, WroteLines};
+ghost use Rattle.wat_print.specs.Parts.{each, WroteLines};
 ghost use Rattle.wat_print.specs.Printed.{NoneSpells};
 ghost use Rattle.wat_print.specs.Text.{put, printed_text};
 ghost use Rattle.wat_print.specs.declared.fault.Refused.TheVariants.{Memory};
@@ -17,7 +17,7 @@ ghost use Rattle.wat_print_module.specs.Module.{spell_module_kind, fit_module_ki
 ghost use Rattle.wat_print_module.specs.Module.{fit_module, spell_module_group, UnfitPart};
 ghost use Rattle.wat_print_module.specs.Module.{UnfitField, NonePart, fields_of_kind};
 ghost use Rattle.wat_print_module.specs.ModulePrintings.{module_printing};
-ghost use Rattle.wat_print_module.specs.Strings.{spell_string, fit_string};
+ghost use Rattle.wat_print.specs.Strings.{fit_string};
 
 use crate::field::write_field;
 use crate::raw::write_pieces;

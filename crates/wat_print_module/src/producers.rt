@@ -1,11 +1,10 @@
 //! How the `producers` section is printed.
 
-ghost use Rattle.std.specs.Prelude.{◌≡◌, ◌≢◌, ◌&&◌, ◌++◌, ◌∷◌, [], List, ℕ, OnOk, IfOk, IfErr};
+ghost use Rattle.std.specs.Prelude.{◌≡◌, ◌≢◌, List, OnOk, IfOk, IfErr};
 ghost use Rattle.std.specs.Prelude.{true};
-ghost use Rattle.std.specs.Prelude.{false, map, flat_map, codes};
+ghost use Rattle.std.specs.Prelude.{false, map, flat_map};
 ghost use Rattle.wat_tokens.specs.Groups.{paren};
-ghost use Rattle.wat_links.specs.ProducerEntry.{Versioned};
-ghost use Rattle.wat_links.specs.Producers.{names_view, producers_view, producers};
+ghost use Rattle.wat_links.specs.Producers.{producers_view, producers};
 ghost use Rattle.wat_print.specs.Parts.{each, Wrote};
 ghost use Rattle.wat_print.specs.Text.{put};
 ghost use Rattle.wat_print.specs.declared.fault.Refused.TheVariants.{Memory};

@@ -1,20 +1,19 @@
 //! How custom sections of any name are printed.
 
-ghost use Rattle.std.specs.Prelude.{◌≡◌, OnOk, IfErr, true};
+ghost use Rattle.std.specs.Prelude.{◌≡◌, OnOk, true};
 ghost use Rattle.wat_tokens.specs.Groups.{paren};
 ghost use Rattle.wat_links.specs.Raw.{RawTy, raw_view, raw_custom};
 ghost use Rattle.wat_print.specs.Parts.{Wrote};
 ghost use Rattle.wat_print.specs.Text.{put};
-ghost use Rattle.wat_print.specs.declared.fault.Refused.TheVariants.{Memory};
 ghost use Rattle.wat_print_module.specs.Custom.{spell_raw, fit_raw};
 ghost use Rattle.wat_print_module.specs.LinkPrintings.{raw_printing};
-ghost use Rattle.wat_print_module.specs.Strings.{spell_string, fit_string};
+ghost use Rattle.wat_print.specs.Strings.{spell_string, fit_string};
 
 use crate::place::write_place_group;
-use crate::strings::write_string;
 use crate::traits::PrintPart;
 use std::alloc::AllocError;
 use wat_links::RawCustomSection;
+use wat_print::string::write_string;
 use wat_print::{Output, Refused};
 
 /// Writes strings of bytes, one behind the other.

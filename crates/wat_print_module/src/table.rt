@@ -7,8 +7,7 @@ ghost use Rattle.wat_fields.specs.Table.{imported, inline, normal, table_kind_vi
 ghost use Rattle.wat_fields.specs.Table.{table_view, table};
 ghost use Rattle.wat_links.specs.Import.{inline_import_view};
 ghost use Rattle.wat_print.specs.Layout.{Writes};
-ghost use Rattle.wat_print.specs.Parts.{grouped, spell_flag, spell_option, if_some};
-ghost use Rattle.wat_print.specs.Reference.{spell_ref, fit_ref};
+ghost use Rattle.wat_print.specs.Parts.{grouped, spell_option, if_some};
 ghost use Rattle.wat_print.specs.Text.{put};
 ghost use Rattle.wat_print.specs.declared.fault.Refused.TheVariants.{Memory};
 ghost use Rattle.wat_print_instr.specs.ExpressionForm.{spell_expression};
@@ -32,7 +31,7 @@ use wat_links::InlineImport;
 use wat_print::limits::{write_flag, write_table_type};
 use wat_print::reference::write_ref;
 use wat_print::{Output, Refused};
-use wat_print_instr::expression::write_expression;
+use wat_print_instr::expression::write_constant;
 use wat_tokens::Index;
 use wat_types::{AbstractHeapType, HeapType, RefType, TableType};
 
@@ -208,7 +207,7 @@ fn write_initial(out: &mut Output, value: &Option<Expression>) -> Result<(), Ref
             if value.instrs.is_empty() {
                 return Err(Refused::Table);
             }
-            write_expression(out, value)?;
+            write_constant(out, value)?;
             Ok(())
         }
         None => Ok(()),

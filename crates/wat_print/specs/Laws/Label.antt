@@ -3,7 +3,7 @@ use Rattle.std.specs.Prelude.{◌≡◌, ℕ, Bool, true, false, not, ◌&&◌, 
 use Rattle.std.specs.Prelude.{Option, Some, None, codes, flat_map, map, slice_index, ◌<◌, ◌⊎◌}
 use Rattle.std.specs.Str.{is_utf8}
 use Rattle.std.proofs.Common.{refl, ap, subst, sym, ◌∙◌, append_assoc, append-nil, inl, inr, rules}
-use Rattle.std.proofs.lemmas.Bool.{and_parts, cond_both}
+use Rattle.std.proofs.lemmas.Bool.{and_parts}
 use Rattle.std.proofs.lemmas.Str.{is_utf8-from_IsUtf8, IsUtf8-from_is_utf8, IsUtf8-from_ascii}
 use Rattle.wat_lexer.specs.Token.{Tok, LParen, RParen, Id, Annotation, String}
 use Rattle.wat_tokens.specs.Index.{identifier}
@@ -13,7 +13,6 @@ use Rattle.wat_tokens.specs.NameAnnotation.{name_annotation, begins_name}
 use Rattle.wat_tokens.specs.Parts.{made, seq, annotation_token}
 use Rattle.wat_tokens.specs.PartSpells.{opt_spells}
 use Rattle.wat_tokens.specs.Production.{Production}
-use Rattle.wat_tokens.specs.Strings.{text_in}
 use Rattle.wat_tokens.specs.Tests.{as_id, begins_id, more}
 use Rattle.wat_types.specs.Label.{Label, label_of, no_label, labelled, label, begins_label}
 use Rattle.wat_print.specs.Label.{spell_id, spell_name, spell_label, fit_label, none_labelled}
@@ -25,6 +24,7 @@ use Rattle.wat_print.specs.Laws.Only.{OnlyFit, only_any, only_one, only_opt, onl
 use Rattle.wat_print.specs.Laws.Only.{only_made}
 use Rattle.wat_print.specs.Laws.Parts.{Spells, many_told, neat_one, neat_both, neat_option}
 use Rattle.wat_print.specs.Laws.Quoted.{if_cases}
+use Rattle.wat_print.specs.Laws.Strings.{text_only}
 
 -- ---- labels
 
@@ -300,20 +300,12 @@ id_given _ n a e = absurd cc
 pub id_only : OnlyFit identifier is_name
 id_only = only_one as_id (refl, refl) is_name id_given
 
-text_given : (t : Tok) (n : List ℕ) → is_given t ≡ true → text_in t ≡ Some n → is_utf8 n ≡ true
-text_given (String s) n a e =
-    cond_both (is_utf8 s) (Some s) None (λ (o : Option (List ℕ)). o ≡ Some n → is_utf8 n ≡ true)
-    (λ k f. (let same : s ≡ n = cc in subst (λ (x : List ℕ). is_utf8 x ≡ true) same k))
-    (λ k f. absurd cc) e
-text_given LParen n a e = absurd cc
-text_given _ n a e = absurd cc
-
 pub name_only : OnlyFit name_annotation is_utf8
 unfolding name_annotation
 name_only =
     only_paren (only_made (λ _. true) (λ v. v.1) is_utf8
     (only_seq (only_any (annotation_token (codes "name")))
-    (only_one text_in (refl, refl) is_utf8 text_given)))
+    text_only))
 
 pub label_only : OnlyFit label fit_label
 unfolding label

@@ -1,8 +1,8 @@
 -- Laws: what is written of a string or a name is one.
-use Rattle.std.specs.Prelude.{◌≡◌, ℕ, ◌+◌, ◌*◌, ◌/◌, ◌%◌, ◌<◌, Bool, true, false, ◌&&◌}
+use Rattle.std.specs.Prelude.{◌≡◌, ℕ, ◌+◌, ◌*◌, ◌/◌, ◌%◌, ◌<◌, Bool, true, false, ◌&&◌, ◌||◌}
 use Rattle.std.specs.Prelude.{if◌then◌else◌, nat_lt, List, [], ◌∷◌, ◌++◌, length, ◌⊎◌}
 use Rattle.std.specs.Char.{digit_char, digit_value}
-use Rattle.std.specs.Str.{IsUtf8}
+use Rattle.std.specs.Str.{IsUtf8, is_utf8}
 use Rattle.std.proofs.Common.{refl, ap, subst, arith, inl, inr}
 use Rattle.std.proofs.lemmas.Bool.{and_parts}
 use Rattle.std.proofs.lemmas.Bool.Decides.{nat_tests}
@@ -10,7 +10,7 @@ use Rattle.std.proofs.lemmas.Str.{digit_value-digit_char, IsUtf8-from_is_utf8}
 use Rattle.wat_lexer.specs.Bytes.{is_idchar}
 use Rattle.wat_lexer.specs.Cut.{is_raw, is_hex, Element, raw_byte, hex_byte, Str, close, more, Run}
 use Rattle.wat_lexer.specs.Cut.{none, idchar, string, Idchars, IsString, Name}
-use Rattle.wat_print.specs.Text.{escape, quoted, all_are, name_text}
+use Rattle.wat_print.specs.Text.{escape, quoted_as, quoted, all_are, name_text}
 use Rattle.wat_print.specs.Neat.{is_byte, is_name}
 use Rattle.wat_print.specs.Laws.Bytes.{utf8_bytes}
 
@@ -31,22 +31,26 @@ byte_is b lt =
     let f = digit_value-digit_char (b % 16) (omega arith) in
     rw (e, f) (omega arith)
 
-escape_is : (b : ℕ) → is_byte b ≡ true → Element (escape b) (b ∷ [])
-escape_is b small =
+escape_is : (utf8 : Bool) (b : ℕ) → is_byte b ≡ true → Element (escape utf8 b) (b ∷ [])
+escape_is utf8 b small =
     let lt : b < 256 = grind (arith, nat_tests) in
-    if_cases (λ (x : List ℕ). Element x (b ∷ [])) (is_raw b && nat_lt b 128) (b ∷ [])
+    if_cases (λ (x : List ℕ). Element x (b ∷ [])) (is_raw b && (utf8 || nat_lt b 128)) (b ∷ [])
     (92 ∷ digit_char (b / 16) ∷ digit_char (b % 16) ∷ [])
-    (λ e. (raw_byte b (and_parts (is_raw b) (nat_lt b 128) e).0))
+    (λ e. (raw_byte b (and_parts (is_raw b) (utf8 || nat_lt b 128) e).0))
     (λ e. (subst (λ (v : ℕ). Element (92 ∷ digit_char (b / 16) ∷ digit_char (b % 16) ∷ []) (v ∷ []))
     (byte_is b lt)
     (hex_byte (digit_char (b / 16)) (digit_char (b % 16)) (hex_is (b / 16) (omega arith))
     (hex_is (b % 16) (omega arith)))))
 
-pub quoted_is : (s : List ℕ) → all_are is_byte s ≡ true → Str (quoted s) s
-quoted_is [] h = close
-quoted_is (b ∷ s) h =
+quoted_as_is : (utf8 : Bool) (s : List ℕ) → all_are is_byte s ≡ true → Str (quoted_as utf8 s) s
+quoted_as_is utf8 [] h = close
+quoted_as_is utf8 (b ∷ s) h =
     let p = and_parts (is_byte b) (all_are is_byte s) h in
-    more (escape b) (b ∷ []) (quoted s) s (escape_is b p.0) (quoted_is s p.1)
+    more (escape utf8 b) (b ∷ []) (quoted_as utf8 s) s (escape_is utf8 b p.0)
+    (quoted_as_is utf8 s p.1)
+
+pub quoted_is : (s : List ℕ) → all_are is_byte s ≡ true → Str (quoted s) s
+quoted_is s h = quoted_as_is (is_utf8 s) s h
 
 pub idchars_are : (x : List ℕ) → all_are is_idchar x ≡ true → Idchars x
 idchars_are [] h = tt

@@ -1,83 +1,259 @@
--- Laws: expressions are read again.
-use Rattle.std.specs.Prelude.{◌≡◌, ℕ, suc, ◌+◌, ◌<◌, true, false, ◌&&◌, ◌==◌}
-use Rattle.std.specs.Prelude.{nat_lt}
-use Rattle.std.specs.Prelude.{List, [], ◌∷◌, ◌++◌, flat_map, map, Option, Some, None, codes}
-use Rattle.std.specs.Prelude.{option_map, ◌⊎◌}
-use Rattle.std.proofs.Common.{refl, ap, subst, sym, ◌∙◌, append_assoc, inl, inr, arith}
-use Rattle.std.proofs.lemmas.Bool.{and_parts, cond_both}
+-- Laws: an expression is read again where its group ends, what it begins with, and that it can be
+-- written.
+use Rattle.std.specs.Prelude.{◌≡◌, ℕ, zero, suc, ◌+◌, ◌<◌, Bool, true, false, ◌&&◌, ◌||◌, ◌==◌}
+use Rattle.std.specs.Prelude.{nat_lt, List, [], ◌∷◌, ◌++◌, flat_map, length, slice_index, Option}
+use Rattle.std.specs.Prelude.{Some, None, codes, option_map, is_some}
+use Rattle.std.specs.Str.{bytes_eq}
+use Rattle.std.proofs.Common.{refl, ap, subst, sym, ◌∙◌, append_assoc, get_or, arith, rules}
+use Rattle.std.proofs.lemmas.Bool.{and_parts, or_parts, cond_both}
 use Rattle.std.proofs.lemmas.Bool.Decides.{nat_tests}
-use Rattle.wat_lexer.specs.Token.{Tok, LParen, Keyword, String}
-use Rattle.wat_tokens.specs.Tests.{begins_word, second}
-use Rattle.wat_instr.specs.Follows.{MayFollow}
-use Rattle.wat_instr.specs.Instruction.{Instr, instruction}
+use Rattle.std.proofs.lemmas.Str.{is_utf8-from_IsUtf8, IsUtf8-from_ascii}
+use Rattle.wat_lexer.specs.Token.{Tok, LParen, RParen, Keyword, String}
+use Rattle.wat_tokens.specs.Tests.{begins_word, ends, second}
+use Rattle.wat_operands.specs.Align.{past_front}
+use Rattle.wat_mnemonics.specs.Heads.{mnemonic_word}
+use Rattle.wat_mnemonics.specs.Laws.Places.{there, place_below, table_length}
+use Rattle.wat_mnemonics.specs.Order.{first}
+use Rattle.wat_mnemonics.specs.Places.{mnemonic_of_row, place}
+use Rattle.wat_mnemonics.specs.Table.{all_mnemonics}
+use Rattle.wat_mnemonics.specs.declared.mnemonic.Mnemonic.{Mnemonic}
+use Rattle.wat_instr.specs.Follows.{NoTypeSecond}
+use Rattle.wat_instr.specs.Instruction.{Instr}
+use Rattle.wat_instr.specs.Laws.Sees.{fails_at_end}
 use Rattle.wat_expr.specs.Expression.{Expr}
 use Rattle.wat_expr.specs.ExpressionProduction.{expression}
 use Rattle.wat_expr.specs.Items.{Items, Nil, Plain, Hinted, lists, unfolded, hints_behind}
-use Rattle.wat_expr.specs.Items.{is_branch}
-use Rattle.wat_expr.specs.Items.{hint_name, mark}
-use Rattle.std.specs.Prelude.{slice_index, zero}
-use Rattle.wat_print.specs.Text.{all_are}
-use Rattle.std.proofs.Common.{rules}
-use Rattle.std.proofs.lemmas.Str.{is_utf8-from_IsUtf8, IsUtf8-from_ascii}
-use Rattle.wat_mnemonics.specs.Heads.{mnemonic_word}
-use Rattle.wat_mnemonics.specs.Places.{mnemonic_of_row}
-use Rattle.wat_print_instr.specs.InstructionForm.{operand_form}
+use Rattle.wat_expr.specs.Items.{is_branch, hint_name, mark}
 use Rattle.wat_print.specs.Neat.{Neat, nothing, noted, is_name, is_fit, is_byte}
 use Rattle.wat_print.specs.Parts.{each, if_some, spell_option}
+use Rattle.wat_print.specs.Text.{all_are}
 use Rattle.wat_print.specs.Laws.Parts.{neat_both, neat_each, neat_one}
 use Rattle.wat_print_instr.specs.ExpressionForm.{HintedInstr, step_of, spell_hint, fit_hint}
-use Rattle.wat_print_instr.specs.ExpressionForm.{spell_step}
-use Rattle.wat_print_instr.specs.ExpressionForm.{fit_step, steps_from, spell_expression}
-use Rattle.wat_print_instr.specs.ExpressionForm.{fit_expression}
-use Rattle.wat_print_instr.specs.InstructionForm.{passes, spell_instruction, fit_instruction}
+use Rattle.wat_print_instr.specs.ExpressionForm.{spell_step, fit_step, steps_from}
+use Rattle.wat_print_instr.specs.ExpressionForm.{spell_expression, fit_expression}
+use Rattle.wat_print_instr.specs.InstructionForm.{passes, operand_form, spell_instruction}
+use Rattle.wat_print_instr.specs.InstructionForm.{fit_instruction}
+use Rattle.wat_print_instr.specs.Laws.Instruction.{EndsOperand, ends_nothing, ends_annotation}
 use Rattle.wat_print_instr.specs.Laws.Instruction.{instruction_here, instruction_neat}
-use Rattle.wat_print_instr.specs.Laws.Instruction.{ends_nothing, ends_annotation}
 use Rattle.wat_print_instr.specs.Laws.Numbers.{equal_by, less_by}
+use Rattle.wat_print_instr.specs.Laws.OperandFront.{NoOperandWord, clear_both, operand_clear}
+use Rattle.wat_print_instr.specs.Laws.OperandFront.{type_apart, param_apart, result_apart}
 
--- ---- steps, and what they are made of
+-- ---- no instruction's word is looked for
 
-abbrev pub instr_in : HintedInstr → Instr
-instr_in x = x.instr
+-- the word is looked for in front of an instruction, or as the first behind its operand
+abbrev is_sought : List ℕ → Bool
+is_sought u =
+    bytes_eq u (codes "type") || (bytes_eq u (codes "param") || (bytes_eq u (codes "result")
+    || (bytes_eq u (codes "local") || (bytes_eq u (codes "shared") || (bytes_eq u (codes "mut")
+    || (bytes_eq u (codes "seqcst") || (bytes_eq u (codes "acqrel")
+    || (is_some (past_front (codes "offset=") u) || is_some (past_front (codes "align=") u)))))))))
 
--- the hints of steps from the index b on
-abbrev pub hints_from : ℕ → List HintedInstr → List (ℕ × ℕ)
-hints_from b [] = []
-hints_from b (x ∷ xs) = mark x.hint b ++ hints_from (b + 1) xs
+pub record Unsought (u : List ℕ) : Type 0 where
+  pub no_type : bytes_eq u (codes "type") ≡ false
+  pub no_param : bytes_eq u (codes "param") ≡ false
+  pub no_result : bytes_eq u (codes "result") ≡ false
+  pub no_local : bytes_eq u (codes "local") ≡ false
+  pub no_shared : bytes_eq u (codes "shared") ≡ false
+  pub no_mut : bytes_eq u (codes "mut") ≡ false
+  pub no_seqcst : bytes_eq u (codes "seqcst") ≡ false
+  pub no_acqrel : bytes_eq u (codes "acqrel") ≡ false
+  pub no_offset : is_some (past_front (codes "offset=") u) ≡ false
+  pub no_align : is_some (past_front (codes "align=") u) ≡ false
 
--- what steps are made of gives them back
-abbrev Back : ℕ → List Instr → List (ℕ × ℕ) → Option (List HintedInstr) → Type 0
-Back b is hs (Some xs) = (is ≡ map instr_in xs) × (hs ≡ hints_from b xs)
-Back b is hs None = Unit {0}
+not_sought : (u : List ℕ) → is_sought u ≡ false → Unsought u
+not_sought u e =
+    let a = or_parts _ _ e in
+    let b = or_parts _ _ a.1 in
+    let c = or_parts _ _ b.1 in
+    let d = or_parts _ _ c.1 in
+    let f = or_parts _ _ d.1 in
+    let g = or_parts _ _ f.1 in
+    let h = or_parts _ _ g.1 in
+    let i = or_parts _ _ h.1 in
+    let j = or_parts _ _ i.1 in record {
+      no_type = a.0;
+      no_param = b.0;
+      no_result = c.0;
+      no_local = d.0;
+      no_shared = f.0;
+      no_mut = g.0;
+      no_seqcst = h.0;
+      no_acqrel = i.0;
+      no_offset = j.0;
+      no_align = j.1;
+    }
 
-back_more : (b : ℕ) (i : Instr) (is : List Instr) (h : Option ℕ) (hs : List (ℕ × ℕ))
-    (o : Option (List HintedInstr)) → Back (b + 1) is hs o
-    → Back b (i ∷ is) (mark h b ++ hs) (option_map (λ xs. step_of h i ∷ xs) o)
-back_more b i is h hs (Some xs) e = (
-  ap (λ (l : List Instr). i ∷ l) e.0,
-  ap (λ (l : List (ℕ × ℕ)). mark h b ++ l) e.1,
+abbrev any_sought : List Mnemonic → Bool
+any_sought [] = false
+any_sought (x ∷ xs) = is_sought (mnemonic_word x) || any_sought xs
+
+none_sought : any_sought all_mnemonics ≡ false
+unfolding past_front
+none_sought = refl
+
+sought_at : (xs : List Mnemonic) (k : ℕ) → any_sought xs ≡ false → k < length xs
+    → is_sought (mnemonic_word (get_or xs k first)) ≡ false
+sought_at [] k e l = absurd (omega (arith, l))
+sought_at (x ∷ xs) zero e l = (or_parts (is_sought (mnemonic_word x)) (any_sought xs) e).0
+sought_at (x ∷ xs) (suc k) e l =
+    sought_at xs k ((or_parts (is_sought (mnemonic_word x)) (any_sought xs) e).1)
+    (omega (arith, l))
+
+pub word_unsought : (h : Mnemonic) → Unsought (mnemonic_word h)
+word_unsought h =
+    let e = sought_at all_mnemonics (place h) none_sought
+    (let l = table_length in let b = place_below h in omega arith) in
+    not_sought (mnemonic_word h)
+    (subst (λ (x : Mnemonic). is_sought (mnemonic_word x) ≡ false) (there h) e)
+
+-- ---- what steps begin with
+
+-- what the test says of each instruction, and of each hint
+abbrev pub OnWords : (List Tok → Bool) → Type 0
+OnWords test = (h : Mnemonic) (y : List Tok) → test (Keyword (mnemonic_word h) ∷ y) ≡ false
+
+abbrev pub OnHints : (List Tok → Bool) → Type 0
+OnHints test = (y : List Tok) → test (LParen ∷ hint_name ∷ y) ≡ false
+
+step_first : (test : List Tok → Bool) → OnWords test → OnHints test → (h : Option ℕ) (i : Instr)
+    (s t : List Tok) → test ((spell_step (step_of h i) ++ s) ++ t) ≡ false
+step_first test f g (Some v) i s t = g _
+step_first test f g None i s t = f (mnemonic_of_row i.row) _
+
+steps_first : (test : List Tok → Bool) → OnWords test → OnHints test → (xs : List HintedInstr)
+    (r : List Tok) → test r ≡ false → test (flat_map spell_step xs ++ r) ≡ false
+steps_first test f g [] r e = e
+steps_first test f g (x ∷ xs) r e =
+    step_first test f g x.hint x.instr (flat_map spell_step xs) r
+
+-- the word is in front of no instruction
+abbrev pub NoMnemonic : List ℕ → Type 0
+NoMnemonic w = (h : Mnemonic) → bytes_eq (mnemonic_word h) w ≡ false
+
+step_word : (w : List ℕ) → NoMnemonic w → (h : Option ℕ) (i : Instr) (s : List Tok)
+    → begins_word w (spell_step (step_of h i) ++ s) ≡ false
+step_word w n (Some v) i s = refl
+step_word w n None i s = n (mnemonic_of_row i.row)
+
+steps_word : (w : List ℕ) → NoMnemonic w → (xs : List HintedInstr)
+    → begins_word w (flat_map spell_step xs) ≡ false
+steps_word w n [] = refl
+steps_word w n (x ∷ xs) = step_word w n x.hint x.instr (flat_map spell_step xs)
+
+-- the second token: none of what an operand begins with, and none of what is behind it
+step_second : (w : List ℕ) → NoOperandWord w → (h : Option ℕ) (i : Instr) (s t : List Tok)
+    → begins_word w s ≡ false → begins_word w t ≡ false
+    → second (begins_word w) ((spell_step (step_of h i) ++ s) ++ t) ≡ false
+step_second w a (Some v) i s t e f = refl
+step_second w a None i s t e f =
+    let m = mnemonic_of_row i.row in
+    let c = (operand_form m).spell i.operand in
+    clear_both w (c ++ s) t (clear_both w c s (operand_clear w a m i.operand) e) f
+
+pub no_word_at_end : (w : List ℕ) (r : List Tok) → ends r ≡ true → begins_word w r ≡ false
+no_word_at_end w r e = fails_at_end (begins_word w) refl (λ x. refl) r e
+
+steps_second : (w : List ℕ) → NoOperandWord w → NoMnemonic w → (xs : List HintedInstr) (r : List Tok)
+    → ends r ≡ true → second (begins_word w) r ≡ false
+    → second (begins_word w) (flat_map spell_step xs ++ r) ≡ false
+steps_second w a n [] r e f = f
+steps_second w a n (x ∷ xs) r e f =
+    step_second w a x.hint x.instr (flat_map spell_step xs) r (steps_word w n xs)
+    (no_word_at_end w r e)
+
+-- ---- what an expression begins with
+
+expression_of : (P : List Tok → Type 0) → P []
+    → ((xs : List HintedInstr) → P (flat_map spell_step xs))
+    → (o : Option (List HintedInstr)) → P (spell_option (flat_map spell_step) o)
+expression_of P e f (Some xs) = f xs
+expression_of P e f None = e
+
+-- what the test says of words and hints it says of expressions
+pub expression_first : (test : List Tok → Bool) → OnWords test → OnHints test → (e : Expr)
+    (r : List Tok) → test r ≡ false → test (spell_expression e ++ r) ≡ false
+expression_first test f g e r k =
+    expression_of (λ c. test (c ++ r) ≡ false) k (λ xs. (steps_first test f g xs r k))
+    (steps_from 0 e.instrs e.hints)
+
+-- an expression's second token isn't the word
+pub expression_second : (w : List ℕ) → NoOperandWord w → NoMnemonic w → (e : Expr) (r : List Tok)
+    → ends r ≡ true → second (begins_word w) r ≡ false
+    → second (begins_word w) (spell_expression e ++ r) ≡ false
+expression_second w a n e r k l =
+    expression_of (λ c. second (begins_word w) (c ++ r) ≡ false) l
+    (λ xs. (steps_second w a n xs r k l)) (steps_from 0 e.instrs e.hints)
+
+no_type : NoMnemonic (codes "type")
+no_type h = (word_unsought h).no_type
+
+no_param : NoMnemonic (codes "param")
+no_param h = (word_unsought h).no_param
+
+no_result : NoMnemonic (codes "result")
+no_result h = (word_unsought h).no_result
+
+-- what may follow an expression: nothing or a `)`, with none of the three words behind it
+abbrev pub EndsExpression : List Tok → Type 0
+EndsExpression r = (ends r ≡ true) × NoTypeSecond r
+
+pub expression_no_type : (e : Expr) (r : List Tok) → EndsExpression r
+    → NoTypeSecond (spell_expression e ++ r)
+expression_no_type e r k = (
+  expression_second (codes "type") type_apart no_type e r k.0 k.1.0,
+  expression_second (codes "param") param_apart no_param e r k.0 k.1.1,
+  expression_second (codes "result") result_apart no_result e r k.0 k.1.2,
 )
-back_more b i is h hs None e = tt
 
-steps_back : (b : ℕ) (is : List Instr) (hs : List (ℕ × ℕ)) → Back b is hs (steps_from b is hs)
-steps_back b [] [] = (refl, refl)
-steps_back b [] (h ∷ hs) = tt
-steps_back b (i ∷ is) [] =
-    back_more b i is None [] (steps_from (b + 1) is []) (steps_back (b + 1) is [])
-steps_back b (i ∷ is) (h ∷ hs) =
-    cond_both (h.0 == b)
-    (option_map (λ xs. step_of (Some h.1) i ∷ xs) (steps_from (b + 1) is hs))
-    (option_map (λ xs. step_of None i ∷ xs) (steps_from (b + 1) is (h ∷ hs)))
-    (λ (o : Option (List HintedInstr)). Back b (i ∷ is) (h ∷ hs) o)
-    (λ t.
-    (subst (λ (n : ℕ). Back b (i ∷ is) ((n, h.1) ∷ hs)
-    (option_map (λ xs. step_of (Some h.1) i ∷ xs) (steps_from (b + 1) is hs)))
-    (sym (equal_by h.0 b t))
-    (back_more b i is (Some h.1) hs (steps_from (b + 1) is hs) (steps_back (b + 1) is hs))))
-    (λ t.
-    (back_more b i is None (h ∷ hs) (steps_from (b + 1) is (h ∷ hs))
-    (steps_back (b + 1) is (h ∷ hs))))
+-- ---- what may follow an instruction
 
--- ---- as items
+word_ends : (h : Mnemonic) (y : List Tok) → NoTypeSecond (Keyword (mnemonic_word h) ∷ y)
+    → EndsOperand (Keyword (mnemonic_word h) ∷ y)
+word_ends h y n =
+    let p = word_unsought h in record {
+      no_index = refl;
+      no_lane = rw (p.no_offset, p.no_align) refl;
+      no_ordering = rw (p.no_seqcst, p.no_acqrel) refl;
+      no_result = n.2;
+      no_catch = refl;
+      no_handler = refl;
+      access = (p.no_offset, p.no_align, p.no_type, n.0);
+      block = ((n.0, refl, rw (n.1, n.2) refl), refl, refl);
+    }
+
+end_ends : (r : List Tok) → EndsExpression r → EndsOperand r
+end_ends [] e = ends_nothing
+end_ends (RParen ∷ x) e =
+    let n = e.1 in record {
+      no_index = refl;
+      no_lane = refl;
+      no_ordering = refl;
+      no_result = n.2;
+      no_catch = refl;
+      no_handler = refl;
+      access = (refl, refl, refl, n.0);
+      block = ((n.0, refl, rw (n.1, n.2) refl), refl, refl);
+    }
+end_ends (_ ∷ x) e = absurd cc
+
+step_ends : (h : Option ℕ) (i : Instr) (s t : List Tok)
+    → NoTypeSecond ((spell_step (step_of h i) ++ s) ++ t)
+    → EndsOperand ((spell_step (step_of h i) ++ s) ++ t)
+step_ends (Some v) i s t n = ends_annotation (codes "metadata.code.branch_hint") _ refl
+step_ends None i s t n = word_ends (mnemonic_of_row i.row) _ n
+
+steps_ends : (xs : List HintedInstr) (r : List Tok) → EndsExpression r
+    → EndsOperand (flat_map spell_step xs ++ r)
+steps_ends [] r e = end_ends r e
+steps_ends (x ∷ xs) r e =
+    step_ends x.hint x.instr (flat_map spell_step xs) r (
+      steps_second (codes "type") type_apart no_type (x ∷ xs) r e.0 e.1.0,
+      steps_second (codes "param") param_apart no_param (x ∷ xs) r e.0 e.1.1,
+      steps_second (codes "result") result_apart no_result (x ∷ xs) r e.0 e.1.2,
+    )
+
+-- ---- steps are items
 
 abbrev item : Option ℕ → Instr → Items → Items
 item (Some v) i xs = Hinted v (Plain i xs)
@@ -87,141 +263,90 @@ abbrev pub items_of : List HintedInstr → Items
 items_of [] = Nil
 items_of (x ∷ xs) = item x.hint x.instr (items_of xs)
 
-unfolds_one : (h : Option ℕ) (i : Instr) (xs : Items) (is : List Instr) → unfolded xs ≡ is
-    → unfolded (item h i xs) ≡ i ∷ is
-unfolds_one (Some v) i xs is e = ap (λ (l : List Instr). i ∷ l) e
-unfolds_one None i xs is e = ap (λ (l : List Instr). i ∷ l) e
-
-unfolds : (xs : List HintedInstr) → unfolded (items_of xs) ≡ map instr_in xs
-unfolds [] = refl
-unfolds (x ∷ xs) = unfolds_one x.hint x.instr (items_of xs) (map instr_in xs) (unfolds xs)
-
-hints_one : (h : Option ℕ) (b : ℕ) (i : Instr) (xs : Items)
-    → hints_behind None (item h i xs) b ≡ mark h b ++ hints_behind None xs (b + 1)
-hints_one (Some v) b i xs = refl
-hints_one None b i xs = refl
-
-hints_are : (b : ℕ) (xs : List HintedInstr) → hints_behind None (items_of xs) b ≡ hints_from b xs
-hints_are b [] = refl
-hints_are b (x ∷ xs) =
-    hints_one x.hint b x.instr (items_of xs)
-    ∙ ap (λ (l : List (ℕ × ℕ)). mark x.hint b ++ l) (hints_are (b + 1) xs)
-
--- ---- what may follow an instruction in a list: what may follow any, and a hint
-
-abbrev BeginsHint : List Tok → Type 0
-BeginsHint s = (x : List Tok) × (s ≡ LParen ∷ hint_name ∷ x)
-
-abbrev GoesOn : List Tok → Type 0
-GoesOn s = MayFollow s ⊎ BeginsHint s
-
--- the law of instructions
-abbrev pub Stand : Type 0
-Stand = (v : Instr) (c r s : List Tok) → instruction.spells v c r → MayFollow s
-    → instruction.spells v c s
-
-abbrev pub Follow : Type 0
-Follow = (v : Instr) (c r s : List Tok) → instruction.spells v c r → MayFollow s
-    → MayFollow (c ++ s)
-
-here_on : Stand → (i : Instr) (s : List Tok) → fit_instruction i ≡ true → GoesOn s
-    → instruction.spells i (spell_instruction i) s
-here_on stand i s f (inl m) =
-    stand i (spell_instruction i) [] s (instruction_here i [] f ends_nothing) m
-here_on stand i s f (inr h) =
-    subst (λ (l : List Tok). instruction.spells i (spell_instruction i) l) (sym h.1)
-    (instruction_here i (LParen ∷ hint_name ∷ h.0) f
-    (ends_annotation (codes "metadata.code.branch_hint") h.0 refl))
-
--- a word in front of a hint, or of what an instruction may begin with
-second_of : (w : List ℕ) (k : List ℕ) (c x : List Tok)
-    → second (begins_word w) (Keyword k ∷ (c ++ [])) ≡ false
-    → second (begins_word w) (Keyword k ∷ (c ++ LParen ∷ x)) ≡ false
-second_of w k [] x e = refl
-second_of w k (Keyword u ∷ c) x e = e
-second_of w k (LParen ∷ c) x e = refl
-second_of w k (_ ∷ c) x e = refl
-
-front_on : (i : Instr) (x : List Tok) → MayFollow (spell_instruction i ++ [])
-    → MayFollow (spell_instruction i ++ LParen ∷ x)
-front_on i x m =
-    let w = mnemonic_word (mnemonic_of_row i.row) in
-    let c = (operand_form (mnemonic_of_row i.row)).spell i.operand in (
-      inl (mnemonic_of_row i.row, c ++ LParen ∷ x, refl),
-      (
-        second_of (codes "type") w c x m.1.0,
-        second_of (codes "param") w c x m.1.1,
-        second_of (codes "result") w c x m.1.2,
-      ),
+one_listed : (h : Option ℕ) (i : Instr) (xs : List HintedInstr) (t s : List Tok)
+    → if_some (fit_hint i) h && fit_instruction i ≡ true → lists (items_of xs) t s
+    → EndsOperand t → lists (items_of (step_of h i ∷ xs)) (spell_step (step_of h i) ++ t) s
+one_listed None i xs t s f l e =
+    (t, (spell_instruction i, refl, instruction_here i t f e), l)
+one_listed (Some v) i xs t s f l e =
+    let a = and_parts (fit_hint i v) (fit_instruction i) f in
+    let b = and_parts (is_branch i) (nat_lt v 2) a.0 in
+    let c = spell_instruction i in (
+      c ++ t,
+      refl,
+      less_by v 2 b.1,
+      b.0,
+      (t, (c, refl, instruction_here i t a.1 e), l),
     )
 
-nothing_follows : MayFollow []
-nothing_follows = (inr refl, (refl, refl, refl))
+steps_listed : (xs : List HintedInstr) (s : List Tok) → each fit_step xs ≡ true
+    → EndsExpression s → lists (items_of xs) (flat_map spell_step xs ++ s) s
+steps_listed [] s f e = refl
+steps_listed (x ∷ xs) s f e =
+    let a = and_parts (fit_step x) (each fit_step xs) f in
+    subst (λ (u : List Tok). lists (items_of (x ∷ xs)) u s)
+    (sym (append_assoc (spell_step x) (flat_map spell_step xs) s))
+    (one_listed x.hint x.instr xs (flat_map spell_step xs ++ s) s a.0 (steps_listed xs s a.1 e)
+    (steps_ends xs s e))
 
-goes_on_with : Stand → Follow → (i : Instr) (s : List Tok) → fit_instruction i ≡ true → GoesOn s
-    → MayFollow (spell_instruction i ++ s)
-goes_on_with stand follow i s f (inl m) =
-    follow i (spell_instruction i) [] s (instruction_here i [] f ends_nothing) m
-goes_on_with stand follow i s f (inr h) =
-    subst (λ (l : List Tok). MayFollow (spell_instruction i ++ l)) (sym h.1)
-    (front_on i (hint_name ∷ h.0)
-    (follow i (spell_instruction i) [] [] (instruction_here i [] f ends_nothing) nothing_follows))
+-- what steps are made of is what their items unfold to
+abbrev Unfolds : ℕ → List Instr → List (ℕ × ℕ) → Option (List HintedInstr) → Type 0
+Unfolds b is hs (Some xs) =
+    (is ≡ unfolded (items_of xs)) × (hs ≡ hints_behind None (items_of xs) b)
+Unfolds b is hs None = Unit {0}
 
-module _ (stand : Stand) (follow : Follow) where
-  -- one step more
-  one_listed : (h : Option ℕ) (i : Instr) (xs : Items) (t s : List Tok)
-      → if_some (fit_hint i) h && fit_instruction i ≡ true → lists xs t s → GoesOn t
-      → lists (item h i xs) (spell_step (step_of h i) ++ t) s
-      × GoesOn (spell_step (step_of h i) ++ t)
-  one_listed None i xs t s f l g = (
-    (t, (spell_instruction i, refl, here_on stand i t f g), l),
-    inl (goes_on_with stand follow i t f g),
-  )
-  one_listed (Some v) i xs t s f l g =
-      let a = and_parts (fit_hint i v) (fit_instruction i) f in
-      let b = and_parts (is_branch i) (nat_lt v 2) a.0 in
-      let c = spell_instruction i in (
-        (
-          c ++ t,
-          refl,
-          less_by v 2 b.1,
-          b.0,
-          (t, (c, refl, here_on stand i t a.1 g), l),
-        ),
-        inr (_, refl),
-      )
+unfolds_more : (b : ℕ) (i : Instr) (is : List Instr) (h : Option ℕ) (hs : List (ℕ × ℕ))
+    (o : Option (List HintedInstr)) → Unfolds (b + 1) is hs o
+    → Unfolds b (i ∷ is) (mark h b ++ hs) (option_map (λ xs. step_of h i ∷ xs) o)
+unfolds_more b i is (Some v) hs (Some xs) e = (
+  ap (λ (l : List Instr). i ∷ l) e.0,
+  ap (λ (l : List (ℕ × ℕ)). mark (Some v) b ++ l) e.1,
+)
+unfolds_more b i is None hs (Some xs) e = (
+  ap (λ (l : List Instr). i ∷ l) e.0,
+  ap (λ (l : List (ℕ × ℕ)). mark None b ++ l) e.1,
+)
+unfolds_more b i is h hs None e = tt
 
-  steps_listed : (xs : List HintedInstr) (s : List Tok) → each fit_step xs ≡ true → MayFollow s
-      → lists (items_of xs) (flat_map spell_step xs ++ s) s
-      × GoesOn (flat_map spell_step xs ++ s)
-  steps_listed [] s f m = (refl, inl m)
-  steps_listed (x ∷ xs) s f m =
-      let a = and_parts (fit_step x) (each fit_step xs) f in
-      let t = flat_map spell_step xs ++ s in
-      let rest = steps_listed xs s a.1 m in
-      subst (λ (u : List Tok). lists (items_of (x ∷ xs)) u s × GoesOn u)
-      (sym (append_assoc (spell_step x) (flat_map spell_step xs) s))
-      (one_listed x.hint x.instr (items_of xs) t s a.0 rest.0 rest.1)
+steps_unfold : (b : ℕ) (is : List Instr) (hs : List (ℕ × ℕ))
+    → Unfolds b is hs (steps_from b is hs)
+steps_unfold b [] [] = (refl, refl)
+steps_unfold b [] (h ∷ hs) = tt
+steps_unfold b (i ∷ is) [] =
+    unfolds_more b i is None [] (steps_from (b + 1) is []) (steps_unfold (b + 1) is [])
+steps_unfold b (i ∷ is) (h ∷ hs) =
+    cond_both (h.0 == b)
+    (option_map (λ xs. step_of (Some h.1) i ∷ xs) (steps_from (b + 1) is hs))
+    (option_map (λ xs. step_of None i ∷ xs) (steps_from (b + 1) is (h ∷ hs)))
+    (λ (o : Option (List HintedInstr)). Unfolds b (i ∷ is) (h ∷ hs) o)
+    (λ t.
+    (subst (λ (n : ℕ). Unfolds b (i ∷ is) ((n, h.1) ∷ hs)
+    (option_map (λ xs. step_of (Some h.1) i ∷ xs) (steps_from (b + 1) is hs)))
+    (sym (equal_by h.0 b t))
+    (unfolds_more b i is (Some h.1) hs (steps_from (b + 1) is hs)
+    (steps_unfold (b + 1) is hs))))
+    (λ t.
+    (unfolds_more b i is None (h ∷ hs) (steps_from (b + 1) is (h ∷ hs))
+    (steps_unfold (b + 1) is (h ∷ hs))))
 
-  steps_spelled : (e : Expr) (o : Option (List HintedInstr)) → Back 0 e.instrs e.hints o
-      → passes (each fit_step) o ≡ true
-      → expression.spells e (spell_option (flat_map spell_step) o) []
-  unfolding expression
-  steps_spelled e None b f = absurd cc
-  steps_spelled e (Some xs) b f = (
-    items_of xs,
-    (steps_listed xs [] f nothing_follows).0,
-    refl,
-    ap (λ (l : List Instr). record { instrs = l; hints = e.hints }) (b.0 ∙ sym (unfolds xs))
-        ∙ ap (λ (l : List (ℕ × ℕ)). record { instrs = unfolded (items_of xs); hints = l })
-        (b.1 ∙ sym (hints_are 0 xs)),
-  )
+steps_closed : (e : Expr) (o : Option (List HintedInstr)) (r : List Tok)
+    → Unfolds 0 e.instrs e.hints o → passes (each fit_step) o ≡ true → EndsExpression r
+    → expression.spells e (spell_option (flat_map spell_step) o) r
+unfolding expression
+steps_closed e None r b f k = absurd cc
+steps_closed e (Some xs) r b f k = (
+  items_of xs,
+  steps_listed xs r f k,
+  k.0,
+  ap (λ (l : List Instr). record { instrs = l; hints = e.hints }) b.0
+      ∙ ap (λ (l : List (ℕ × ℕ)). record { instrs = unfolded (items_of xs); hints = l }) b.1,
+)
 
-  -- in front of nothing
-  pub expression_here : (e : Expr) → fit_expression e ≡ true
-      → expression.spells e (spell_expression e) []
-  expression_here e f =
-      steps_spelled e (steps_from 0 e.instrs e.hints) (steps_back 0 e.instrs e.hints) f
+-- where its group ends
+pub expression_closed : (e : Expr) (r : List Tok) → fit_expression e ≡ true → EndsExpression r
+    → expression.spells e (spell_expression e) r
+expression_closed e r f k =
+    steps_closed e (steps_from 0 e.instrs e.hints) r (steps_unfold 0 e.instrs e.hints) f k
 
 -- ---- they can be written
 

@@ -22,7 +22,6 @@ use Rattle.wat_print_instr.specs.ExpressionForm.{HintedInstr, step_of, fit_step}
 use Rattle.wat_print_instr.specs.ExpressionForm.{steps_from}
 use Rattle.wat_print_instr.specs.ExpressionForm.{fit_expression}
 use Rattle.wat_print_instr.specs.InstructionForm.{passes, fit_instruction}
-use Rattle.wat_print_instr.specs.Laws.Expression.{instr_in, hints_from}
 use Rattle.wat_print_instr.specs.Laws.Instruction.{instruction_only}
 use Rattle.wat_print_instr.specs.Laws.Numbers.{same_number, less_tested, equal_by}
 
@@ -68,6 +67,16 @@ front_through b k d r f h = (
 
 front_of : (xs : Items) (ts r : List Tok) → lists xs ts r → FrontOf ts r
 front_of xs ts r l = let b = lists_between xs ts r l in (b.front, b.is)
+
+-- ---- steps, and what they are made of
+
+abbrev instr_in : HintedInstr → Instr
+instr_in x = x.instr
+
+-- the hints of steps from the index b on
+abbrev hints_from : ℕ → List HintedInstr → List (ℕ × ℕ)
+hints_from b [] = []
+hints_from b (x ∷ xs) = mark x.hint b ++ hints_from (b + 1) xs
 
 -- ---- the steps that items unfold to
 

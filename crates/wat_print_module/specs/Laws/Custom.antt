@@ -19,12 +19,12 @@ use Rattle.wat_print_instr.specs.Laws.Places.{both_here}
 use Rattle.wat_print_module.specs.Custom.{spell_raw, fit_raw, spell_custom, fit_custom}
 use Rattle.wat_print_module.specs.Custom.{spell_raw_group, spell_custom_group}
 use Rattle.wat_print_module.specs.Place.{spell_place_group}
-use Rattle.wat_print_module.specs.Strings.{spell_string, fit_string}
+use Rattle.wat_print.specs.Strings.{spell_string, fit_string}
 use Rattle.wat_print_module.specs.Laws.Dylink.{dylink_here, dylink_neat, dylink_only}
 use Rattle.wat_print_module.specs.Laws.Place.{place_group_here, place_group_neat}
 use Rattle.wat_print_module.specs.Laws.Producers.{producers_here, producers_neat, producers_only}
-use Rattle.wat_print_module.specs.Laws.FieldHead.{text_here, text_neat, text_only}
-use Rattle.wat_print_module.specs.Laws.Strings.{string_here, string_neat, string_only}
+use Rattle.wat_print.specs.Laws.Strings.{text_here, text_neat, text_only}
+use Rattle.wat_print.specs.Laws.Strings.{string_here, string_neat, string_only}
 use Rattle.wat_print_module.specs.Laws.Strings.{annotated_here, only_annotated, neat_annotated}
 use Rattle.wat_print_module.specs.Laws.Strings.{custom_annotation, no_more_opens}
 

@@ -30,7 +30,7 @@ use Rattle.wat_print.specs.Laws.Parts.{neat_group}
 use Rattle.wat_print.specs.Laws.Reference.{index_here, index_neat, index_only}
 use Rattle.wat_print.specs.Laws.Define.{after_here}
 use Rattle.wat_print_instr.specs.ExpressionForm.{spell_expression, fit_expression}
-use Rattle.wat_print_instr.specs.Laws.Expression.{expression_neat}
+use Rattle.wat_print_instr.specs.Laws.Expression.{expression_closed, expression_neat}
 use Rattle.wat_print_instr.specs.Laws.ExpressionOnly.{expression_only}
 use Rattle.wat_print_instr.specs.Laws.Instruction.{instruction_only}
 use Rattle.wat_print_instr.specs.Laws.Numbers.{unsigned_only}
@@ -38,7 +38,6 @@ use Rattle.wat_print_instr.specs.Laws.Places.{both_here}
 use Rattle.wat_print_module.specs.Segments.{spell_offset, spell_data_memory, spell_data_kind}
 use Rattle.wat_print_module.specs.Segments.{fit_data_kind, fit_data_val, spell_data_vals}
 use Rattle.wat_print_module.specs.Segments.{spell_data, fit_data}
-use Rattle.wat_print_module.specs.Laws.Body.{expression_closed}
 use Rattle.wat_print_module.specs.Laws.DataVal.{data_vals_here, data_vals_neat}
 use Rattle.wat_print_module.specs.Laws.DataVal.{data_vals_only}
 use Rattle.wat_print_module.specs.Laws.Folded.{NoTypeFirst, no_word, no_type_first, behind_fit}

@@ -45,8 +45,8 @@ use Rattle.wat_print_module.specs.Dylink.{spell_sizes, spell_names, spell_export
 use Rattle.wat_print_module.specs.Dylink.{spell_import_flags, spell_subsection, spell_dylink}
 use Rattle.wat_print_module.specs.Dylink.{fit_sizes, fit_export_flags, fit_import_flags}
 use Rattle.wat_print_module.specs.Dylink.{fit_subsection, is_filled, is_apart, are_cut, fit_dylink}
-use Rattle.wat_print_module.specs.Strings.{spell_string}
-use Rattle.wat_print_module.specs.Laws.FieldHead.{text_here, text_neat, text_only}
+use Rattle.wat_print.specs.Strings.{spell_string}
+use Rattle.wat_print.specs.Laws.Strings.{text_here, text_neat, text_only}
 use Rattle.wat_print_module.specs.Laws.Strings.{annotated_here, only_annotated, neat_annotated}
 use Rattle.wat_print_module.specs.Laws.Strings.{dylink_annotation}
 

@@ -49,7 +49,7 @@ use Rattle.wat_print_module.specs.Segments.{spell_elem, fit_elem}
 use Rattle.wat_print_module.specs.Laws.Data.{offset_neat}
 use Rattle.wat_print_module.specs.Laws.Folded.{no_word, NoTypeFirst, no_type_first, end_no_word}
 use Rattle.wat_print_module.specs.Laws.Folded.{expression_grouped, folded_only}
-use Rattle.wat_print_module.specs.Laws.OperandFront.{type_apart, param_apart, result_apart}
+use Rattle.wat_print_instr.specs.Laws.OperandFront.{type_apart, param_apart, result_apart}
 
 -- ---- what a reference type begins with
 

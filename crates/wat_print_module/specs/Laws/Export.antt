@@ -28,9 +28,9 @@ use Rattle.wat_print_module.specs.Export.{export_kind_word, spell_export_kind, s
 use Rattle.wat_print_module.specs.Export.{fit_export}
 use Rattle.wat_print_module.specs.Export.{spell_export_type, fit_export_type}
 use Rattle.wat_print_module.specs.Item.{fit_sig, spell_sig_group}
-use Rattle.wat_print_module.specs.Strings.{spell_string}
+use Rattle.wat_print.specs.Strings.{spell_string}
 use Rattle.wat_print_module.specs.Laws.Item.{sig_group_here, sig_group_neat, sig_group_only}
-use Rattle.wat_print_module.specs.Laws.FieldHead.{text_here, text_neat, text_only}
+use Rattle.wat_print.specs.Laws.Strings.{text_here, text_neat, text_only}
 use Rattle.wat_print_module.specs.Laws.Folded.{no_word}
 
 -- ---- kinds

@@ -1,14 +1,12 @@
 -- Laws: exports and imports in line, and what is in front of a field's own part, are read again.
-use Rattle.std.specs.Prelude.{◌≡◌, ℕ, true, false, List, [], ◌∷◌, ◌++◌, codes, Option, Some}
-use Rattle.std.specs.Prelude.{None}
+use Rattle.std.specs.Prelude.{◌≡◌, ℕ, true, false, List, [], ◌∷◌, ◌++◌, codes}
 use Rattle.std.specs.Str.{is_utf8}
-use Rattle.std.proofs.Common.{refl, subst}
-use Rattle.std.proofs.lemmas.Bool.{and_parts, cond_both}
-use Rattle.std.proofs.lemmas.Str.{IsUtf8-from_is_utf8}
-use Rattle.wat_lexer.specs.Token.{Tok, LParen, RParen, String}
+use Rattle.std.proofs.Common.{refl}
+use Rattle.std.proofs.lemmas.Bool.{and_parts}
+use Rattle.wat_lexer.specs.Token.{Tok, RParen, String}
 use Rattle.wat_tokens.specs.NameAnnotation.{begins_name}
 use Rattle.wat_tokens.specs.Parts.{seq}
-use Rattle.wat_tokens.specs.Strings.{text, text_in}
+use Rattle.wat_tokens.specs.Strings.{text}
 use Rattle.wat_tokens.specs.Tests.{begins_id, begins_word, ends, second}
 use Rattle.wat_links.specs.Export.{begins_inline_export, inline_export}
 use Rattle.wat_links.specs.FieldHead.{FieldHeadTy, field_head, head}
@@ -16,34 +14,15 @@ use Rattle.wat_links.specs.Import.{inline_import}
 use Rattle.wat_links.specs.InlineName.{inline_name}
 use Rattle.wat_links.specs.Laws.Export.{inline_name_consumes}
 use Rattle.wat_print.specs.Label.{spell_label, fit_label}
-use Rattle.wat_print.specs.Neat.{Neat, is_given}
-use Rattle.wat_print.specs.Laws.Bytes.{utf8_bytes}
+use Rattle.wat_print.specs.Neat.{Neat}
 use Rattle.wat_print.specs.Laws.Label.{label_here, label_neat, label_only}
-use Rattle.wat_print.specs.Laws.Only.{OnlyFit, only_one, only_many, only_seq, only_made, only_group}
-use Rattle.wat_print.specs.Laws.Parts.{Spells, group_here, many_here, neat_one, neat_both}
+use Rattle.wat_print.specs.Laws.Only.{OnlyFit, only_many, only_seq, only_made, only_group}
+use Rattle.wat_print.specs.Laws.Parts.{Spells, group_here, many_here, neat_both}
 use Rattle.wat_print.specs.Laws.Parts.{neat_group, neat_each}
+use Rattle.wat_print.specs.Laws.Strings.{text_here, text_neat, text_only}
 use Rattle.wat_print_module.specs.FieldHead.{spell_inline_name, spell_inline_export}
 use Rattle.wat_print_module.specs.FieldHead.{fit_inline_export, spell_inline_import}
 use Rattle.wat_print_module.specs.FieldHead.{fit_inline_import, spell_head, fit_head}
-
--- ---- names
-
-pub text_here : (n : List ℕ) → is_utf8 n ≡ true → Spells text n (String n ∷ [])
-text_here n h r = (String n, refl, rw h refl)
-
-pub text_neat : (n : List ℕ) → is_utf8 n ≡ true → Neat (String n ∷ [])
-text_neat n h = neat_one (String n) (utf8_bytes n (IsUtf8-from_is_utf8 n h))
-
-given_text : (t : Tok) (n : List ℕ) → is_given t ≡ true → text_in t ≡ Some n → is_utf8 n ≡ true
-given_text (String s) n a e =
-    cond_both (is_utf8 s) (Some s) None (λ (o : Option (List ℕ)). o ≡ Some n → is_utf8 n ≡ true)
-    (λ k f. (let same : s ≡ n = cc in subst (λ (x : List ℕ). is_utf8 x ≡ true) same k))
-    (λ k f. absurd cc) e
-given_text LParen n a e = absurd cc
-given_text _ n a e = absurd cc
-
-pub text_only : OnlyFit text is_utf8
-text_only = only_one text_in (refl, refl) is_utf8 given_text
 
 -- ---- exports in line
 

@@ -27,7 +27,7 @@ use Rattle.wat_print_instr.specs.ExpressionForm.{fit_expression}
 use Rattle.wat_print_instr.specs.InstructionForm.{passes, fit_instruction}
 use Rattle.wat_print_instr.specs.Laws.Instruction.{instruction_only}
 use Rattle.wat_print_instr.specs.Laws.Places.{each_front}
-use Rattle.wat_print_module.specs.Laws.Body.{expression_closed}
+use Rattle.wat_print_instr.specs.Laws.Expression.{expression_closed}
 
 -- ---- in a group of a word
 

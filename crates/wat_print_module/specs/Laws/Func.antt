@@ -27,7 +27,8 @@ use Rattle.wat_print.specs.Laws.Parts.{group_here, neat_word, neat_group, neat_b
 use Rattle.wat_print.specs.Laws.Use.{EndsUse, use_here, use_neat, use_only}
 use Rattle.wat_print.specs.Laws.Define.{after_here}
 use Rattle.wat_print_instr.specs.ExpressionForm.{spell_expression, fit_expression}
-use Rattle.wat_print_instr.specs.Laws.Expression.{expression_neat}
+use Rattle.wat_print_instr.specs.Laws.Expression.{OnWords, OnHints, expression_first}
+use Rattle.wat_print_instr.specs.Laws.Expression.{expression_no_type, expression_closed, expression_neat}
 use Rattle.wat_print_instr.specs.Laws.ExpressionOnly.{expression_only}
 use Rattle.wat_print_instr.specs.Laws.Places.{both_here}
 use Rattle.wat_print_module.specs.FieldHead.{spell_inline_import, fit_inline_import, spell_head}
@@ -35,9 +36,7 @@ use Rattle.wat_print_module.specs.FieldHead.{fit_head}
 use Rattle.wat_print_module.specs.Func.{spell_exact_use, spell_defined_func, fit_func_kind}
 use Rattle.wat_print_module.specs.Func.{fit_defined_func, spell_func, fit_func}
 use Rattle.wat_print_module.specs.Local.{spell_locals, fit_locals}
-use Rattle.wat_print_module.specs.Laws.Body.{OnWords, OnHints, expression_first}
-use Rattle.wat_print_module.specs.Laws.Body.{field_ends_expression, expression_no_type}
-use Rattle.wat_print_module.specs.Laws.Body.{expression_no_local, expression_closed}
+use Rattle.wat_print_module.specs.Laws.Body.{field_ends_expression, expression_no_local}
 use Rattle.wat_print_module.specs.Laws.FieldHead.{EndsField, EndsHead, head_here, head_neat}
 use Rattle.wat_print_module.specs.Laws.FieldHead.{head_only, inline_import_here}
 use Rattle.wat_print_module.specs.Laws.FieldHead.{inline_import_neat, inline_import_only}

@@ -22,15 +22,15 @@ use Rattle.wat_print.specs.Laws.Parts.{neat_word, neat_both}
 use Rattle.wat_print.specs.Laws.Storage.{EndsGlobal, global_here, global_neat, global_only}
 use Rattle.wat_print.specs.Laws.Define.{after_here}
 use Rattle.wat_print_instr.specs.ExpressionForm.{spell_expression, fit_expression}
-use Rattle.wat_print_instr.specs.Laws.Expression.{expression_neat}
+use Rattle.wat_print_instr.specs.Laws.Expression.{expression_first, expression_closed, expression_neat}
+use Rattle.wat_print_instr.specs.Laws.Expression.{no_word_at_end, word_unsought}
 use Rattle.wat_print_instr.specs.Laws.ExpressionOnly.{expression_only}
 use Rattle.wat_print_instr.specs.Laws.Places.{both_here}
 use Rattle.wat_print_module.specs.FieldHead.{spell_inline_import, fit_inline_import, spell_head}
 use Rattle.wat_print_module.specs.FieldHead.{fit_head}
 use Rattle.wat_print_module.specs.Global.{spell_defined_global, fit_defined_global}
 use Rattle.wat_print_module.specs.Global.{spell_global_field, fit_global_field}
-use Rattle.wat_print_module.specs.Laws.Body.{expression_first, field_ends_expression}
-use Rattle.wat_print_module.specs.Laws.Body.{expression_closed, no_word_at_end, word_unsought}
+use Rattle.wat_print_module.specs.Laws.Body.{field_ends_expression}
 use Rattle.wat_print_module.specs.Laws.FieldHead.{EndsField, EndsHead, head_here, head_neat}
 use Rattle.wat_print_module.specs.Laws.FieldHead.{head_only, inline_import_here}
 use Rattle.wat_print_module.specs.Laws.FieldHead.{inline_import_neat, inline_import_only}

@@ -31,10 +31,10 @@ use Rattle.wat_print_module.specs.Import.{spell_items, fit_items, spell_imports,
 use Rattle.wat_print.specs.Label.{spell_label}
 use Rattle.wat_print.specs.Laws.Define.{after_here}
 use Rattle.wat_print_module.specs.Item.{item_word, spell_item, spell_sig, fit_sig, spell_sig_group}
-use Rattle.wat_print_module.specs.Strings.{spell_string}
+use Rattle.wat_print.specs.Strings.{spell_string}
 use Rattle.wat_print_module.specs.Laws.Item.{sig_here, sig_group_here, sig_group_neat, sig_only}
 use Rattle.wat_print_module.specs.Laws.Item.{sig_group_only}
-use Rattle.wat_print_module.specs.Laws.FieldHead.{text_here, text_neat, text_only}
+use Rattle.wat_print.specs.Laws.Strings.{text_here, text_neat, text_only}
 use Rattle.wat_print_module.specs.Laws.Folded.{no_word, not_a_word}
 use Rattle.wat_print_module.specs.Laws.Strings.{is_shut, shut_no_word}
 

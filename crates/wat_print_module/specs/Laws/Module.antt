@@ -32,10 +32,10 @@ use Rattle.wat_print_module.specs.Field.{spell_module_field, fit_module_field, s
 use Rattle.wat_print_module.specs.Module.{spell_module_kind, fit_module_kind, spell_module}
 use Rattle.wat_print_module.specs.Module.{fit_module, spell_module_group, fields_of_kind}
 use Rattle.wat_print_module.specs.Module.{UnfitField, UnfitPart, NonePart}
-use Rattle.wat_print_module.specs.Strings.{spell_string, fit_string}
+use Rattle.wat_print.specs.Strings.{spell_string, fit_string}
 use Rattle.wat_print_module.specs.Laws.Field.{fields_here, field_group_neat, field_group_only}
 use Rattle.wat_print_module.specs.Laws.Folded.{no_word}
-use Rattle.wat_print_module.specs.Laws.Strings.{string_here, string_neat, string_only}
+use Rattle.wat_print.specs.Laws.Strings.{string_here, string_neat, string_only}
 
 after_false : (a b : Bool) → b ≡ false → a && b ≡ false
 after_false true b e = e

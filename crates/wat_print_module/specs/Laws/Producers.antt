@@ -30,8 +30,8 @@ use Rattle.wat_print_module.specs.Producers.{ProducedTy, spell_produced, spell_p
 use Rattle.wat_print_module.specs.Producers.{spell_producers, fit_versioned, fit_produced_field}
 use Rattle.wat_print_module.specs.Producers.{field_of_word, fields_behind, fit_in_turn}
 use Rattle.wat_print_module.specs.Producers.{fit_producers}
-use Rattle.wat_print_module.specs.Strings.{spell_string}
-use Rattle.wat_print_module.specs.Laws.FieldHead.{text_here, text_neat, text_only}
+use Rattle.wat_print.specs.Strings.{spell_string}
+use Rattle.wat_print.specs.Laws.Strings.{text_here, text_neat, text_only}
 use Rattle.wat_print_module.specs.Laws.Strings.{annotated_here, only_annotated, neat_annotated}
 use Rattle.wat_print_module.specs.Laws.Strings.{producers_annotation}
 

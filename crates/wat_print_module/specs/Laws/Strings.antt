@@ -1,40 +1,19 @@
 -- Laws: strings of bytes and annotations are read again, and what stands behind groups.
 use Rattle.std.specs.Prelude.{◌≡◌, ℕ, ◌<◌, Bool, true, false, List, [], ◌∷◌}
-use Rattle.std.specs.Prelude.{Some, codes, slice_index}
+use Rattle.std.specs.Prelude.{codes, slice_index}
 use Rattle.std.specs.Str.{is_utf8, bytes_eq}
-use Rattle.std.proofs.Common.{refl, subst, rules}
+use Rattle.std.proofs.Common.{refl, rules}
 use Rattle.std.proofs.lemmas.Str.{is_utf8-from_IsUtf8, IsUtf8-from_ascii}
 use Rattle.wat_lexer.specs.Sight.{is_standard}
-use Rattle.wat_lexer.specs.Token.{Tok, LParen, RParen, Keyword, Annotation, String}
+use Rattle.wat_lexer.specs.Token.{Tok, LParen, RParen, Keyword, Annotation}
 use Rattle.wat_tokens.specs.Parts.{annotation_token, annotation}
 use Rattle.wat_tokens.specs.Production.{Production}
 use Rattle.wat_tokens.specs.Spelled.{in_parens}
-use Rattle.wat_tokens.specs.Strings.{string}
-use Rattle.wat_tokens.specs.Tests.{as_string, begins_lparen, more}
-use Rattle.wat_print.specs.Neat.{is_given, is_name, Neat, nothing, noted}
-use Rattle.wat_print.specs.Laws.Only.{OnlyFit, only_any, only_one, only_seq, only_made}
-use Rattle.wat_print.specs.Laws.Parts.{Spells, neat_one}
+use Rattle.wat_tokens.specs.Tests.{begins_lparen, more}
+use Rattle.wat_print.specs.Neat.{is_name, Neat, nothing, noted}
+use Rattle.wat_print.specs.Laws.Only.{OnlyFit, only_any, only_seq, only_made}
 use Rattle.wat_print_instr.specs.Laws.Places.{both_here}
-use Rattle.wat_print_module.specs.Strings.{spell_string, fit_string}
 use Rattle.wat_print_module.specs.Laws.Folded.{no_word}
-
--- ---- strings
-
-pub string_here : (s : List ℕ) → fit_string s ≡ true → Spells string s (spell_string s)
-string_here s f r = (String s, refl, refl)
-
-pub string_neat : (s : List ℕ) → fit_string s ≡ true → Neat (spell_string s)
-string_neat s f = neat_one (String s) f
-
-string_given : (t : Tok) (n : List ℕ) → is_given t ≡ true → as_string t ≡ Some n
-    → fit_string n ≡ true
-string_given (String s) n a e =
-    let same : s ≡ n = cc in subst (λ (x : List ℕ). fit_string x ≡ true) same a
-string_given LParen n a e = absurd cc
-string_given _ n a e = absurd cc
-
-pub string_only : OnlyFit string fit_string
-string_only = only_one as_string (refl, refl) fit_string string_given
 
 -- ---- annotations
 

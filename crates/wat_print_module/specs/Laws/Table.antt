@@ -44,7 +44,7 @@ use Rattle.wat_print_instr.specs.ExpressionForm.{HintedInstr, step_of, spell_ste
 use Rattle.wat_print_instr.specs.ExpressionForm.{steps_from, hint_for, hints_after}
 use Rattle.wat_print_instr.specs.ExpressionForm.{spell_expression, fit_expression}
 use Rattle.wat_print_instr.specs.InstructionForm.{passes}
-use Rattle.wat_print_instr.specs.Laws.Expression.{expression_neat}
+use Rattle.wat_print_instr.specs.Laws.Expression.{EndsExpression, expression_closed, expression_neat}
 use Rattle.wat_print_instr.specs.Laws.Numbers.{equal_by, same_number}
 use Rattle.wat_print_instr.specs.Laws.Places.{both_here}
 use Rattle.wat_print_module.specs.FieldHead.{spell_inline_import, fit_inline_import, spell_head}
@@ -52,7 +52,6 @@ use Rattle.wat_print_module.specs.FieldHead.{fit_head}
 use Rattle.wat_print_module.specs.Table.{heap_number, same_flag, same_heap, same_ref}
 use Rattle.wat_print_module.specs.Table.{spell_elements, fit_elements, fit_initial}
 use Rattle.wat_print_module.specs.Table.{spell_table_kind, fit_table_kind, spell_table, fit_table}
-use Rattle.wat_print_module.specs.Laws.Body.{EndsExpression, expression_closed}
 use Rattle.wat_print_module.specs.Laws.Elem.{of_ref, ref_not_word, ref_begins, items_here}
 use Rattle.wat_print_module.specs.Laws.Elem.{indices_here, items_neat, indices_neat}
 use Rattle.wat_print_module.specs.Laws.FieldHead.{EndsHead, head_here, head_neat}

@@ -1,11 +1,12 @@
-use Rattle.std.proofs.Common.{rules, ◌≢◌}
+use Rattle.std.specs.Prelude.{[]}
+use Rattle.std.proofs.Common.{refl, rules, ◌≢◌}
 use Rattle.wat_expr.specs.Expression.{expression_view}
 use Rattle.wat_expr.specs.ExpressionProduction.{expression}
 use Rattle.wat_print.specs.Printed.{may_break, NoneSpells}
 use Rattle.wat_print.specs.declared.fault.Refused.TheVariants.{Memory}
 use Rattle.wat_print.specs.Laws.Printed.{on_one_line, reads_back, unspelled}
 use Rattle.wat_print_instr.specs.ExpressionForm.{spell_expression, fit_expression}
-use Rattle.wat_print_instr.specs.Laws.Expression.{expression_here, expression_neat}
+use Rattle.wat_print_instr.specs.Laws.Expression.{expression_closed, expression_neat}
 use Rattle.wat_print_instr.specs.Laws.ExpressionOnly.{expression_only}
 use Rattle.wat_print_instr.proofs.expression.print_expression.Goals as goal
 
@@ -13,10 +14,9 @@ pub returns-clause-reads_back : goal.returns-clause-reads_back
 returns-clause-reads_back c =
     let v = expression_view c.args.value.now in
     let fits = c.in_ok-write_expression.ensures.fit in
-    let law = c.stands_before_what_may_follow.ensures in
     reads_back expression v (spell_expression v) (may_break c.args.layout) c.new-out.result
     c.write_expression.new.out _ (expression_neat v fits)
-    (expression_here law.stands law.follow v fits) c.new-out.ensures
+    (expression_closed v [] fits (refl, (refl, refl, refl))) c.new-out.ensures
     c.in_ok-write_expression.ensures.written c.into_text.ensures
 
 pub returns-clause-line : goal.returns-clause-line

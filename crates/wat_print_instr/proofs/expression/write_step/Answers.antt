@@ -1,8 +1,8 @@
-use Rattle.std.specs.Prelude.{◌++◌}
+use Rattle.std.specs.Prelude.{◌++◌, []}
 use Rattle.std.proofs.Common.{◌∙◌}
 use Rattle.wat_instr.specs.Instruction.{instruction_view}
 use Rattle.wat_print.specs.Parts.{spell_option}
-use Rattle.wat_print.specs.Laws.Written.{put_then, puts_behind}
+use Rattle.wat_print.specs.Laws.Written.{puts_put, puts_both, put_then}
 use Rattle.wat_print_instr.specs.ExpressionForm.{spell_hint}
 use Rattle.wat_print_instr.specs.InstructionForm.{spell_instruction}
 use Rattle.wat_print_instr.proofs.expression.write_step.Goals as goal
@@ -11,7 +11,6 @@ pub returns-clause-written : goal.returns-clause-written
 returns-clause-written c =
     let h = spell_option spell_hint c.args.hint in
     let i = spell_instruction (instruction_view c.args.instr.now) in
-    let broken = c.in_ok-begin_step.ensures in
-    puts_behind broken.0 (h ++ i) _ _ _ broken.1
-    (put_then h i _ _ _ c.in_ok-write_hint.ensures.written
-    (c.end_step.ensures ∙ c.in_ok-write.ensures.written))
+    puts_both [] (h ++ i) _ _ _ c.in_ok-begin_step.ensures
+    (puts_put (h ++ i) _ _ (put_then h i _ _ _ c.in_ok-write_hint.ensures.written
+    (c.end_step.ensures ∙ c.in_ok-write.ensures.written)))

@@ -7,5 +7,5 @@ use Rattle.wat_print_module.proofs.data.write_offset.Goals as goal
 pub returns-clause-written : goal.returns-clause-written
 returns-clause-written c =
     puts_grouped (codes "offset") (spell_expression (expression_view c.args.offset.now)) _ _ _ _ _
-    c.in_ok-open.ensures c.in_ok-word.ensures c.in_ok-write_expression.ensures.written
+    c.in_ok-open.ensures c.in_ok-word.ensures c.in_ok-write_constant.ensures.written
     c.in_ok-close.ensures

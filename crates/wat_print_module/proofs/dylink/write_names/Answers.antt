@@ -1,6 +1,6 @@
 use Rattle.std.specs.Prelude.{flat_map, map}
 use Rattle.wat_print.specs.Laws.Written.{enclosed}
-use Rattle.wat_print_module.specs.Strings.{spell_string}
+use Rattle.wat_print.specs.Strings.{spell_string}
 use Rattle.wat_print_module.proofs.dylink.write_names.Goals as goal
 
 pub returns-clause-written : goal.returns-clause-written

@@ -1,5 +1,5 @@
 use Rattle.std.specs.Str.{is_utf8}
-use Rattle.wat_print_module.specs.Strings.{spell_string}
+use Rattle.wat_print.specs.Strings.{spell_string}
 use Rattle.wat_print.specs.Laws.Written.{wrote_more}
 use Rattle.wat_print_module.proofs.dylink.write_strings.Goals as goal
 

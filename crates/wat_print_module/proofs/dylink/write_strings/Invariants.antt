@@ -1,6 +1,6 @@
 use Rattle.std.proofs.Common.{take}
 use Rattle.std.specs.Str.{is_utf8}
-use Rattle.wat_print_module.specs.Strings.{spell_string}
+use Rattle.wat_print.specs.Strings.{spell_string}
 use Rattle.wat_print.specs.Parts.{Wrote}
 use Rattle.wat_print_module.proofs.dylink.write_strings.Given as goal
 

@@ -11,4 +11,4 @@ returns-clause-written c =
     let broken = c.in_ok-line.ensures in
     puts_broken broken.0 (spell_item e) _ _ _ broken.1
     (puts_grouped (codes "item") (spell_expression e) _ _ _ _ _ c.in_ok-open.ensures
-    c.in_ok-word.ensures c.in_ok-write_expression.ensures.written c.in_ok-close.ensures)
+    c.in_ok-word.ensures c.in_ok-write_constant.ensures.written c.in_ok-close.ensures)

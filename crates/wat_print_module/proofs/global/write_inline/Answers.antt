@@ -10,4 +10,4 @@ returns-clause-written c =
     let t = spell_global (global_type_view c.args.ty.now) in
     puts_both t (spell_expression (expression_view c.args.value.now)) c.args.out.now _ _
     (puts_put t _ _ c.in_ok-write_global.ensures.written)
-    c.in_ok-write_expression.ensures.written
+    c.in_ok-write_constant.ensures.written

@@ -1,4 +1,4 @@
-use Rattle.wat_print_module.specs.Strings.{spell_string, fit_string}
+use Rattle.wat_print.specs.Strings.{spell_string, fit_string}
 use Rattle.wat_print.specs.Laws.Written.{wrote_more}
 use Rattle.wat_print_module.proofs.raw.write_pieces.Goals as goal
 

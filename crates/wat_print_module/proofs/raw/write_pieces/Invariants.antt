@@ -1,5 +1,5 @@
 use Rattle.std.proofs.Common.{take}
-use Rattle.wat_print_module.specs.Strings.{spell_string, fit_string}
+use Rattle.wat_print.specs.Strings.{spell_string, fit_string}
 use Rattle.wat_print.specs.Parts.{Wrote}
 use Rattle.wat_print_module.proofs.raw.write_pieces.Given as goal
 

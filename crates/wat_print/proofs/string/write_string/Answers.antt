@@ -1,6 +1,6 @@
 use Rattle.std.proofs.Common.{arith}
-use Rattle.wat_print_module.proofs.Bytes.{bytes_fit}
-use Rattle.wat_print_module.proofs.strings.write_string.Goals as goal
+use Rattle.wat_print.proofs.Bytes.{bytes_fit}
+use Rattle.wat_print.proofs.string.write_string.Goals as goal
 
 pub returns-in_err-string-clause-fit : goal.returns-in_err-string-clause-fit
 returns-in_err-string-clause-fit c =

@@ -2,7 +2,7 @@
 use Rattle.std.specs.Prelude.{◌≡◌, ℕ, zero, suc, ◌<◌, true, List, [], ◌∷◌, slice_index}
 use Rattle.std.proofs.Common.{refl}
 use Rattle.wat_print.specs.Laws.Bytes.{byte_is}
-use Rattle.wat_print_module.specs.Strings.{fit_string}
+use Rattle.wat_print.specs.Strings.{fit_string}
 
 pub bytes_fit : (s : List ℕ) → ((i : ℕ) → slice_index s i < 256) → fit_string s ≡ true
 bytes_fit [] h = refl

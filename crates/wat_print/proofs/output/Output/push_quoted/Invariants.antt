@@ -1,9 +1,0 @@
-use Rattle.std.proofs.Common.{◌≡◌, ◌++◌, drop}
-use Rattle.wat_print.specs.Text.{quoted}
-use Rattle.wat_print.proofs.output.Output.push_quoted.Given as goal
-
--- with what is still to be written, the page is what it is to become
-abbrev pub invariant-loop-b : goal.invariant-loop-b
-invariant-loop-b l =
-    record l.self { bytes = l.self.bytes ++ quoted (drop l.b-index l.bytes) }
-    ≡ record l.fn.self { bytes = l.fn.self.bytes ++ quoted l.bytes }

@@ -1,0 +1,116 @@
+-- Laws: characters in a string that is UTF-8.
+use Rattle.std.specs.Prelude.{◌≡◌, ℕ, ◌+◌, ◌*◌, ◌/◌, ◌%◌, ◌≤◌, ◌<◌, Bool, true, false, List, [], ◌∷◌}
+use Rattle.std.specs.Prelude.{◌++◌, encode_utf8, flat_map, map}
+use Rattle.std.specs.Char.{is_ascii}
+use Rattle.std.specs.Str.{encode_utf8_all, IsUtf8, chars, is_utf8}
+use Rattle.std.proofs.Common.{refl, ap, sym, ◌∙◌, append_assoc, append-nil, map-id, arith, ltb}
+use Rattle.std.proofs.Math.Utf8.{encode}
+use Rattle.std.proofs.lemmas.Bool.{cond_both}
+use Rattle.std.proofs.lemmas.Bool.Decides.{nat_tests}
+use Rattle.std.proofs.lemmas.Grind.{flat_map-append}
+use Rattle.std.proofs.lemmas.Str.{encode_ascii, encodes-append, IsUtf8-from_is_utf8}
+use Rattle.std.proofs.lemmas.Str.{is_utf8-from_IsUtf8, encodes-chars}
+use Rattle.wat_lexer.specs.Cut.{is_raw}
+use Rattle.wat_tokens.specs.Laws.Production.{by_test}
+use Rattle.wat_print.specs.Text.{Page, escape, quoted_as, quoted}
+
+-- ---- one character
+
+-- a byte past ASCII stays as it is
+past_ascii : (b : ℕ) → 128 ≤ b → escape true b ≡ b ∷ []
+past_ascii b h = let r : is_raw b ≡ true = grind (arith, nat_tests) in rw r refl
+
+past_2 : (a b : ℕ) → 128 ≤ a → 128 ≤ b → flat_map (escape true) (a ∷ b ∷ []) ≡ a ∷ b ∷ []
+past_2 a b h k = rw (past_ascii a h, past_ascii b k) refl
+
+past_3 : (a b c : ℕ) → 128 ≤ a → 128 ≤ b → 128 ≤ c
+    → flat_map (escape true) (a ∷ b ∷ c ∷ []) ≡ a ∷ b ∷ c ∷ []
+past_3 a b c h k l = rw (past_ascii a h, past_2 b c k l) refl
+
+past_4 : (a b c d : ℕ) → 128 ≤ a → 128 ≤ b → 128 ≤ c → 128 ≤ d
+    → flat_map (escape true) (a ∷ b ∷ c ∷ d ∷ []) ≡ a ∷ b ∷ c ∷ d ∷ []
+past_4 a b c d h k l m = rw (past_ascii a h, past_3 b c d k l m) refl
+
+-- a character past ASCII stays whole
+pub character_whole : (c : ℕ) → is_ascii c ≡ false
+    → flat_map (escape true) (encode_utf8 c) ≡ encode_utf8 c
+unfolding encode
+character_whole c h =
+    cond_both (ltb c 128) _ _ (λ (x : List ℕ). flat_map (escape true) x ≡ x)
+    (λ e. absurd cc)
+    (λ e. (cond_both (ltb c 2048) _ _ (λ (x : List ℕ). flat_map (escape true) x ≡ x)
+    (λ f. (past_2 (192 + c / 64) (128 + c % 64) (omega arith) (omega arith)))
+    (λ f. (cond_both (ltb c 65536) _ _ (λ (x : List ℕ). flat_map (escape true) x ≡ x)
+    (λ g. (past_3 (224 + c / 4096) (128 + c / 64 % 64) (128 + c % 64) (omega arith) (omega arith)
+    (omega arith)))
+    (λ g. (past_4 (240 + c / 262144) (128 + c / 4096 % 64) (128 + c / 64 % 64) (128 + c % 64)
+    (omega arith) (omega arith) (omega arith) (omega arith)))))))
+
+-- a character of ASCII is written as in a string that isn't UTF-8
+pub character_ascii : (c : ℕ) → is_ascii c ≡ true
+    → flat_map (escape true) (encode_utf8 c) ≡ escape false c
+character_ascii c h =
+    let lt : c < 128 = grind (arith, nat_tests) in
+    rw (encode_ascii c lt, h) (append-nil (escape true c))
+
+-- ---- a text
+
+-- one character more
+characters_more : (ys : List ℕ) (c : ℕ)
+    → flat_map (escape true) (encode_utf8_all (ys ++ c ∷ []))
+    ≡ flat_map (escape true) (encode_utf8_all ys) ++ flat_map (escape true) (encode_utf8 c)
+characters_more ys c =
+    ap (λ (x : List ℕ). flat_map (escape true) x)
+    (encodes-append ys (c ∷ [])
+    ∙ ap (λ (x : List ℕ). encode_utf8_all ys ++ x) (append-nil (encode_utf8 c)))
+    ∙ flat_map-append (escape true) (encode_utf8_all ys) (encode_utf8 c)
+
+quoted_flat : (utf8 : Bool) (s : List ℕ)
+    → flat_map (escape utf8) s ++ 34 ∷ [] ≡ quoted_as utf8 s
+quoted_flat utf8 [] = refl
+quoted_flat utf8 (b ∷ s) =
+    append_assoc (escape utf8 b) (flat_map (escape utf8) s) (34 ∷ [])
+    ∙ ap (λ (l : List ℕ). escape utf8 b ++ l) (quoted_flat utf8 s)
+
+-- a text, and the closing quote
+text_quoted : (s : List ℕ) → IsUtf8 s → flat_map (escape true) s ++ 34 ∷ [] ≡ quoted s
+text_quoted s u = rw (is_utf8-from_IsUtf8 s u) (quoted_flat true s)
+
+-- ---- a text on a page
+
+-- the page, and behind it characters in a string
+abbrev pub with_characters : Page → List ℕ → Page
+with_characters p cs =
+    record p { bytes = p.bytes ++ flat_map (escape true) (encode_utf8_all cs) }
+
+pub page_more : (start p q : Page) (cs : List ℕ) (c : ℕ) → p ≡ with_characters start cs
+    → q ≡ record p { bytes = p.bytes ++ flat_map (escape true) (encode_utf8 c) }
+    → q ≡ with_characters start (cs ++ c ∷ [])
+page_more start p q cs c e f =
+    f ∙ ap (λ (x : Page). record x { bytes = x.bytes ++ flat_map (escape true) (encode_utf8 c) }) e
+    ∙ ap (λ (x : List ℕ). record start { bytes = x })
+    (append_assoc start.bytes (flat_map (escape true) (encode_utf8_all cs))
+    (flat_map (escape true) (encode_utf8 c))
+    ∙ ap (λ (x : List ℕ). start.bytes ++ x) (sym (characters_more cs c)))
+
+all_given : (s cs : List ℕ) → IsUtf8 s → map (λ c. c) cs ≡ chars s → encode_utf8_all cs ≡ s
+all_given s cs u e =
+    ap (λ (x : List ℕ). encode_utf8_all x) (sym (map-id cs) ∙ e) ∙ encodes-chars s u
+
+-- the closing quote behind all characters of a text
+pub page_closed : (start p q : Page) (s cs : List ℕ) → IsUtf8 s → map (λ c. c) cs ≡ chars s
+    → p ≡ with_characters start cs → q ≡ record p { bytes = p.bytes ++ 34 ∷ [] }
+    → q ≡ record start { bytes = start.bytes ++ quoted s }
+page_closed start p q s cs u all e f =
+    f ∙ ap (λ (x : Page). record x { bytes = x.bytes ++ 34 ∷ [] }) e
+    ∙ ap (λ (x : List ℕ). record start { bytes = x })
+    (append_assoc start.bytes (flat_map (escape true) (encode_utf8_all cs)) (34 ∷ [])
+    ∙ ap (λ (x : List ℕ). start.bytes ++ x)
+    (ap (λ (x : List ℕ). flat_map (escape true) x ++ 34 ∷ []) (all_given s cs u all)
+    ∙ text_quoted s u))
+
+-- ---- bytes
+
+-- bytes that are no text
+pub no_text : (s : List ℕ) → ¬ (IsUtf8 s) → is_utf8 s ≡ false
+no_text s not = by_test (is_utf8 s) (λ e. absurd (not (IsUtf8-from_is_utf8 s e))) (λ e. e)

@@ -1,0 +1,53 @@
+//! How strings are printed.
+
+ghost use Rattle.std.specs.Prelude.{◌≡◌, List, ℕ, OnOk, true};
+ghost use Rattle.wat_tokens.specs.Strings.{string, text};
+ghost use Rattle.wat_print.specs.Printings.{string_printing, text_printing};
+ghost use Rattle.wat_print.specs.Strings.{spell_string, fit_string};
+ghost use Rattle.wat_print.specs.Text.{put};
+
+use crate::fault::Refused;
+use crate::output::Output;
+use crate::traits::Print;
+use std::alloc::AllocError;
+
+/// Writes a string of bytes (Text Format, "Strings").
+pub fn write_string(out: &mut Output, content: &[u8]) -> Result<(), AllocError>
+    ensures written { OnOk result (out.new ≡ put out.old (spell_string content.now)) }
+    ensures fit { fit_string content.now ≡ true }
+{
+    out.string(content)?;
+    Ok(())
+}
+
+impl Print for &[u8] {
+    ghost View = { List ℕ };
+
+    ghost view = { λ s. s.now };
+
+    ghost grammar = { string };
+
+    ghost printing = { string_printing };
+
+    #[tactic(auto, using(crate::specs::Laws::Written::puts_put))]
+    fn write(&self, out: &mut Output) -> Result<(), Refused> {
+        write_string(out, self)?;
+        Ok(())
+    }
+}
+
+impl Print for &str {
+    ghost View = { List ℕ };
+
+    ghost view = { λ s. s.now };
+
+    ghost grammar = { text };
+
+    ghost printing = { text_printing };
+
+    #[tactic(auto, using(crate::specs::Laws::Written::puts_put))]
+    fn write(&self, out: &mut Output) -> Result<(), Refused> {
+        out.text(self)?;
+        Ok(())
+    }
+}
