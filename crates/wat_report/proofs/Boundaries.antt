@@ -48,3 +48,10 @@ char_at_boundary text k boundary =
 -- a place where the text may be cut is not behind the beginning of a later character
 pub char_start_behind : (text : List ℕ) (mark offset : ℕ) → IsCharBoundary text mark → mark ≤ offset → mark ≤ char_start text offset
 char_start_behind text mark offset boundary l = last_behind (begins_char text) mark (min offset (length text)) (omega (arith, boundary.0)) (char_at_boundary text mark boundary)
+
+-- behind a `(` the text may be cut
+pub boundary_behind : (text : List ℕ) (k : ℕ) → IsUtf8 text → 0 < k → k ≤ length text → get_or text (k - 1) 0 ≡ 40 → IsCharBoundary text k
+boundary_behind text k u l w h =
+    let back : k - 1 + 1 ≡ k = omega arith in
+    let ascii : get_or text (k - 1) 0 < 128 = omega (arith, h) in
+    subst (IsCharBoundary text) back (IsCharBoundary-after_ascii text (k - 1) u (omega arith) ascii)

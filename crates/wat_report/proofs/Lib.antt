@@ -1,7 +1,10 @@
 pub mod Added
+pub mod Backslashes
 pub mod Boundaries
 pub mod Counted
 pub mod Distances
 pub mod Fewest
+pub mod Fronts
 pub mod Nearby
+pub mod Openings
 pub mod Words

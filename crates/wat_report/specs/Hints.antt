@@ -1,18 +1,24 @@
 -- What may help whoever wrote the text.
 use Rattle.std.specs.Prelude.{ℕ, ◌+◌, ◌-◌, ◌==◌, ◌&&◌, ◌||◌, Bool, true, false, List, codes, count_by}
-use Rattle.std.specs.Prelude.{length, nat_le, nat_lt, take, slice_index, slice_range, Option, Some, None, is_some}
+use Rattle.std.specs.Prelude.{not, length, nat_le, nat_lt, take, slice_index, slice_range, Option, Some, None, is_some}
 use Rattle.std.specs.Prelude.{if◌then◌else◌}
 use Rattle.std.specs.Option.{option_or}
 use Rattle.std.specs.Str.{bytes_eq}
 use Rattle.wat_tokens.specs.Error.{Fault, LexChar, LexString, Unexpected, Operator}
-use Rattle.wat_report.specs.Found.{is_word_at, word_at}
+use Rattle.wat_lexer.specs.Bytes.{between}
+use Rattle.wat_report.specs.Around.{past_word, list_start, opened_word}
+use Rattle.wat_report.specs.Escapes.{escapes_end}
+use Rattle.wat_report.specs.Found.{is_word_at, word_at, word_end}
+use Rattle.wat_report.specs.Front.{front_of, is_just_opened}
 use Rattle.wat_report.specs.Places.{line_stop}
 use Rattle.wat_report.specs.Rules.{names_token}
 use Rattle.wat_report.specs.declared.hint.Hint.{Hint}
 use Rattle.wat_report.specs.declared.hint.Hint.TheVariants.{ByteOrderMark, SeqCst, ModuleGroup}
 use Rattle.wat_report.specs.declared.hint.Hint.TheVariants.{Nearest, OldWord, Semicolon}
 use Rattle.wat_report.specs.declared.hint.Hint.TheVariants.{SlashComment, Unclosed, OpenString}
-use Rattle.wat_report.specs.declared.hint.Hint.TheVariants.{Escapes}
+use Rattle.wat_report.specs.declared.hint.Hint.TheVariants.{Escapes, BehindModule, NoModule}
+use Rattle.wat_report.specs.declared.hint.Hint.TheVariants.{OtherQuote, Fraction, NearField, NearType}
+use Rattle.wat_report.specs.declared.hint.Hint.TheVariants.{BareName, WrongEscape}
 
 abbrev pub is_lex_char : Fault → Bool
 is_lex_char LexChar = true
@@ -86,11 +92,16 @@ is_unclosed text at =
 unfoldable pub count_in_line : List ℕ → ℕ → ℕ → ℕ
 count_in_line text at byte = count_by (λ b. b == byte) (slice_range text at (line_stop text at))
 
--- where a string is none: of one that no further quote follows in its line, and of one that a
--- backslash follows there
+-- before the next quote a backslash is in the string behind which no escape is
+unfoldable pub has_wrong_escape : List ℕ → ℕ → Bool
+has_wrong_escape text at = slice_index text (escapes_end text at) == 92
+
+-- where a string is none: of one that no further quote follows in its line, of one with a wrong
+-- escape, and of one that a backslash follows there
 unfoldable pub string_hint : List ℕ → ℕ → Option Hint
 string_hint text at =
     if nat_lt (count_in_line text at 34) 2 then Some OpenString
+    else if has_wrong_escape text at then Some WrongEscape
     else if nat_lt 0 (count_in_line text at 92) then Some Escapes
     else None
 
@@ -111,12 +122,101 @@ token_hint text at =
     else if is_unclosed text at then Some Unclosed
     else None
 
--- there too: of a module's first field where `module` was needed, and of a word that is no
+-- behind a group, and in none
+unfoldable pub is_behind_group : List ℕ → ℕ → Bool
+is_behind_group text at = ((front_of text at).groups == 0) && (front_of text at).closed
+
+-- the text ends at the offset, and there is no group in it
+unfoldable pub has_no_group : List ℕ → ℕ → Bool
+has_no_group text at =
+    nat_le (length text) at
+    && (((front_of text at).groups == 0) && not (front_of text at).closed)
+
+-- a string has to stand behind the word
+abbrev pub is_string_word : List ℕ → Bool
+is_string_word word = bytes_eq word (codes "export") || bytes_eq word (codes "import")
+
+-- a `'` is at the offset, or behind a word there that a string has to follow
+unfoldable pub is_other_quote : List ℕ → ℕ → Bool
+is_other_quote text at =
+    (slice_index text at == 39)
+    || (is_string_word (word_at text at) && (slice_index text (past_word text at) == 39))
+
+-- a digit, `+` or `-`
+abbrev pub begins_number : ℕ → Bool
+begins_number b = between 48 57 b || ((b == 43) || (b == 45))
+
+-- the word has a `.`, or an `e` and no `x`
+abbrev pub is_fraction : List ℕ → Bool
+is_fraction word =
+    nat_lt 0 (count_of word 46) || (nat_lt 0 (count_of word 101) && (count_of word 120 == 0))
+
+-- a number that is no integer is at the offset
+unfoldable pub is_fraction_at : List ℕ → ℕ → Bool
+is_fraction_at text at = begins_number (slice_index text at) && is_fraction (word_at text at)
+
+-- a word is at the offset, directly behind the `(` of a group that is in one other
+unfoldable pub is_field_place : List ℕ → ℕ → Bool
+is_field_place text at =
+    is_word_at text at
+    && (((front_of text at).groups == 2) && is_just_opened (front_of text at).within)
+
+-- types stand behind the word
+abbrev pub is_types_word : List ℕ → Bool
+is_types_word word =
+    bytes_eq word (codes "param")
+    || (bytes_eq word (codes "result") || bytes_eq word (codes "local"))
+
+-- A word is at the offset. The last paren before it is a `(`, and behind that is the word of a
+-- group of types.
+unfoldable pub is_type_place : List ℕ → ℕ → Bool
+is_type_place text at =
+    is_word_at text at
+    && (nat_lt (list_start text at) at && is_types_word (opened_word text (list_start text at)))
+
+-- a group of a function that begins with the word stands before its instructions
+abbrev pub is_head_word : List ℕ → Bool
+is_head_word word =
+    is_types_word word || (is_string_word word || bytes_eq word (codes "type"))
+
+-- A word of no more than 64 bytes is at the offset, between `(func` and a group that stands before
+-- the instructions of a function.
+unfoldable pub is_bare_name : List ℕ → ℕ → Bool
+is_bare_name text at =
+    is_word_at text at
+    && (bytes_eq (opened_word text (list_start text at)) (codes "func")
+    && ((past_word text (list_start text at) == at)
+    && (nat_le (word_end text at) (at + 64)
+    && is_head_word (opened_word text (past_word text at + 1)))))
+
+-- Where another token was needed: of a module's first field where `module` was, of what stands behind
+-- the module, of a text without one, of `'`, of a number that is no integer, and of words where one
+-- of a field or of a type was.
+unfoldable pub unexpected_hint : List ℕ → ℕ → Option Hint
+unexpected_hint text at =
+    if is_first_field text at then Some ModuleGroup
+    else if is_behind_group text at then Some BehindModule
+    else if has_no_group text at then Some NoModule
+    else if is_other_quote text at then Some OtherQuote
+    else if is_fraction_at text at then Some Fraction
+    else if is_field_place text at then Some NearField
+    else if is_type_place text at then Some NearType
+    else None
+
+-- where an instruction was needed: of `'`, of a name without its `$`, and of a word that is no
 -- instruction's
-unfoldable pub place_hint : List ℕ → ℕ → Fault → Option Hint
+unfoldable pub operator_hint : List ℕ → ℕ → Option Hint
+operator_hint text at =
+    if is_other_quote text at then Some OtherQuote
+    else if is_bare_name text at then Some BareName
+    else if is_word_at text at then Some Nearest
+    else None
+
+-- there too, by which of the two was needed
+abbrev pub place_hint : List ℕ → ℕ → Fault → Option Hint
 place_hint text at f =
-    if is_unexpected f && is_first_field text at then Some ModuleGroup
-    else if is_operator f && is_word_at text at then Some Nearest
+    if is_unexpected f then unexpected_hint text at
+    else if is_operator f then operator_hint text at
     else None
 
 -- the hint for a fault, if there is one

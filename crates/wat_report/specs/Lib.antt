@@ -1,9 +1,13 @@
 pub use Rattle.wat_tokens.specs.Error
 pub use Rattle.wat_tokens.specs.Place
+pub mod Around
 pub mod Edits
+pub mod Escapes
 pub mod Found
+pub mod Front
 pub mod HintLine
 pub mod Hints
+pub mod Meant
 pub mod Nearest
 pub mod Places
 pub mod Report

@@ -1,6 +1,6 @@
 //! What may help whoever wrote the text.
 
-ghost use Rattle.std.specs.Prelude.{◌≡◌, ◌≤◌, ◌==◌, length, count_by, option_map, take};
+ghost use Rattle.std.specs.Prelude.{◌≡◌, ◌≤◌, ◌==◌, ◌+◌, length, count_by, option_map, take};
 ghost use Rattle.std.specs.Str.{IsCharBoundary};
 ghost use Rattle.wat_report.specs.Found.{word_at};
 ghost use Rattle.wat_report.specs.Hints.{begins_with_mark, char_hint, count_in_line, count_of};
@@ -8,9 +8,19 @@ ghost use Rattle.wat_report.specs.Hints.{hint_of, is_lex_string, string_hint};
 ghost use Rattle.wat_report.specs.Hints.{is_field_word, is_unclosed};
 ghost use Rattle.wat_report.specs.Hints.{is_first_field, is_lex_char, is_operator, is_semicolon};
 ghost use Rattle.wat_report.specs.Hints.{is_slash_comment, is_unexpected, new_word, place_hint};
-ghost use Rattle.wat_report.specs.Hints.{token_hint};
+ghost use Rattle.wat_report.specs.Around.{past_word, opened_word};
+ghost use Rattle.wat_report.specs.Hints.{begins_number, has_no_group, has_wrong_escape};
+ghost use Rattle.wat_report.specs.Hints.{is_bare_name};
+ghost use Rattle.wat_report.specs.Hints.{is_behind_group, is_field_place, is_fraction};
+ghost use Rattle.wat_report.specs.Hints.{is_fraction_at, is_head_word, is_other_quote};
+ghost use Rattle.wat_report.specs.Hints.{is_string_word, is_type_place, is_types_word};
+ghost use Rattle.wat_report.specs.Hints.{operator_hint, token_hint, unexpected_hint};
 
-use crate::found::{is_word_at, word_at};
+use crate::around::{list_start, opened_word, past_word};
+use crate::escapes::escapes_end;
+use crate::found::{is_word_at, word_at, word_end};
+use crate::front::{front_of, is_just_opened};
+use crate::nearest::LONGEST;
 use crate::place::line_stop;
 use crate::rules::names_token;
 use wat_tokens::Fault;
@@ -34,10 +44,26 @@ pub enum Hint {
     OpenString,
     /// The string may have an escape that is none.
     Escapes,
+    /// The string has an escape that is none.
+    WrongEscape,
     /// The text ends too soon, and has more `(` than `)`.
     Unclosed,
     /// A word that is no instruction's may be meant for one that is.
     Nearest,
+    /// More stands behind the module.
+    BehindModule,
+    /// The text has blanks and comments alone.
+    NoModule,
+    /// A string is written between `'`.
+    OtherQuote,
+    /// A number has a point or an exponent.
+    Fraction,
+    /// A word may be meant for that of a field.
+    NearField,
+    /// A word may be meant for a type.
+    NearType,
+    /// A function's name is written without its `$`.
+    BareName,
 }
 
 /// Whether the fault is a character that begins no token.
@@ -170,6 +196,17 @@ fn count_in_line(text: &str, at: usize, byte: u8) -> usize
     rest.iter().filter(|b| **b == byte).count()
 }
 
+/// Whether before the next quote a backslash is in the string behind which no escape is.
+#[tactic(auto, unfolding(crate::specs::Hints::has_wrong_escape))]
+fn has_wrong_escape(text: &str, at: usize) -> bool
+    requires { at ≤ length text.now }
+    ensures { result ≡ has_wrong_escape text.now at }
+{
+    let bytes = text.as_bytes();
+    let end = escapes_end(text, at);
+    end < bytes.len() && bytes[end] == b'\\'
+}
+
 /// The hint for a string that is none.
 #[tactic(auto, unfolding(crate::specs::Hints::string_hint))]
 fn string_hint(text: &str, at: usize) -> Option<Hint>
@@ -178,6 +215,9 @@ fn string_hint(text: &str, at: usize) -> Option<Hint>
 {
     if count_in_line(text, at, b'"') < 2 {
         return Some(Hint::OpenString);
+    }
+    if has_wrong_escape(text, at) {
+        return Some(Hint::WrongEscape);
     }
     if count_in_line(text, at, b'\\') > 0 {
         return Some(Hint::Escapes);
@@ -221,18 +261,192 @@ fn token_hint(text: &str, at: usize) -> Option<Hint>
     None
 }
 
+/// Whether the offset is behind a group, and in none.
+#[tactic(auto, unfolding(crate::specs::Hints::is_behind_group))]
+fn is_behind_group(text: &str, at: usize) -> bool
+    requires { at ≤ length text.now }
+    ensures { result ≡ is_behind_group text.now at }
+{
+    let front = front_of(text, at);
+    front.groups == 0 && front.closed
+}
+
+/// Whether the text ends at the offset, and there is no group in it.
+#[tactic(auto, unfolding(crate::specs::Hints::has_no_group))]
+fn has_no_group(text: &str, at: usize) -> bool
+    requires { at ≤ length text.now }
+    ensures { result ≡ has_no_group text.now at }
+{
+    let front = front_of(text, at);
+    text.len() <= at && front.groups == 0 && !front.closed
+}
+
+/// Whether a string has to stand behind the word.
+fn is_string_word(word: &str) -> bool
+    ensures { result ≡ is_string_word word.now }
+{
+    matches!(word, "export" | "import")
+}
+
+/// Whether a `'` is at the offset, or behind a word there that a string has to follow.
+#[tactic(auto, unfolding(crate::specs::Hints::is_other_quote))]
+fn is_other_quote(text: &str, at: usize) -> bool
+    requires within { at ≤ length text.now }
+    requires boundary { IsCharBoundary text.now at }
+    ensures { result ≡ is_other_quote text.now at }
+{
+    let bytes = text.as_bytes();
+    if at < bytes.len() && bytes[at] == b'\'' {
+        return true;
+    }
+    let behind = past_word(text, at);
+    is_string_word(word_at(text, at)) && behind < bytes.len() && bytes[behind] == b'\''
+}
+
+/// Whether a number begins with the byte.
+fn begins_number(byte: u8) -> bool
+    ensures { result ≡ begins_number byte }
+{
+    b'0' <= byte && byte <= b'9' || byte == b'+' || byte == b'-'
+}
+
+/// Whether the word has a `.`, or an `e` and no `x`.
+fn is_fraction(word: &str) -> bool
+    ensures { result ≡ is_fraction word.now }
+{
+    count_of(word, b'.') > 0 || count_of(word, b'e') > 0 && count_of(word, b'x') == 0
+}
+
+/// Whether a number that is no integer is at the offset.
+#[tactic(auto, unfolding(crate::specs::Hints::is_fraction_at))]
+fn is_fraction_at(text: &str, at: usize) -> bool
+    requires within { at ≤ length text.now }
+    requires boundary { IsCharBoundary text.now at }
+    ensures { result ≡ is_fraction_at text.now at }
+{
+    let bytes = text.as_bytes();
+    at < bytes.len() && begins_number(bytes[at]) && is_fraction(word_at(text, at))
+}
+
+/// Whether a word is at the offset, directly behind the `(` of a group that is in one other.
+#[tactic(auto, unfolding(crate::specs::Hints::is_field_place))]
+fn is_field_place(text: &str, at: usize) -> bool
+    requires { at ≤ length text.now }
+    ensures { result ≡ is_field_place text.now at }
+{
+    let front = front_of(text, at);
+    is_word_at(text, at) && front.groups == 2 && is_just_opened(front.within)
+}
+
+/// Whether types stand behind the word.
+fn is_types_word(word: &str) -> bool
+    ensures { result ≡ is_types_word word.now }
+{
+    matches!(word, "param" | "result" | "local")
+}
+
+/// Whether a word is at the offset, in a group of types.
+#[tactic(auto, unfolding(crate::specs::Hints::is_type_place))]
+fn is_type_place(text: &str, at: usize) -> bool
+    requires { at ≤ length text.now }
+    ensures { result ≡ is_type_place text.now at }
+{
+    let start = list_start(text, at);
+    is_word_at(text, at) && start < at && is_types_word(opened_word(text, start))
+}
+
+/// Whether a group of a function that begins with the word stands before its instructions.
+fn is_head_word(word: &str) -> bool
+    ensures { result ≡ is_head_word word.now }
+{
+    is_types_word(word) || is_string_word(word) || word == "type"
+}
+
+/// Whether a group that stands before a function's instructions is behind the word at the offset.
+fn is_before_head(text: &str, at: usize) -> bool
+    requires { at ≤ length text.now }
+    ensures { result ≡ is_head_word (opened_word text.now (past_word text.now at + 1)) }
+{
+    let open = past_word(text, at);
+    open < text.len() && is_head_word(opened_word(text, open + 1))
+}
+
+/// Whether a word is at the offset, between `(func` and a group that stands before the instructions
+/// of a function.
+#[tactic(auto, unfolding(crate::specs::Hints::is_bare_name))]
+fn is_bare_name(text: &str, at: usize) -> bool
+    requires { at ≤ length text.now }
+    ensures { result ≡ is_bare_name text.now at }
+{
+    let start = list_start(text, at);
+    is_word_at(text, at)
+        && opened_word(text, start) == "func"
+        && past_word(text, start) == at
+        && word_end(text.as_bytes(), at) - at <= LONGEST
+        && is_before_head(text, at)
+}
+
+/// The hint where another token was needed.
+#[tactic(auto, unfolding(crate::specs::Hints::unexpected_hint))]
+fn unexpected_hint(text: &str, at: usize) -> Option<Hint>
+    requires within { at ≤ length text.now }
+    requires boundary { IsCharBoundary text.now at }
+    ensures { result ≡ unexpected_hint text.now at }
+{
+    if is_first_field(text, at) {
+        return Some(Hint::ModuleGroup);
+    }
+    if is_behind_group(text, at) {
+        return Some(Hint::BehindModule);
+    }
+    if has_no_group(text, at) {
+        return Some(Hint::NoModule);
+    }
+    if is_other_quote(text, at) {
+        return Some(Hint::OtherQuote);
+    }
+    if is_fraction_at(text, at) {
+        return Some(Hint::Fraction);
+    }
+    if is_field_place(text, at) {
+        return Some(Hint::NearField);
+    }
+    if is_type_place(text, at) {
+        return Some(Hint::NearType);
+    }
+    None
+}
+
+/// The hint where an instruction was needed.
+#[tactic(auto, unfolding(crate::specs::Hints::operator_hint))]
+fn operator_hint(text: &str, at: usize) -> Option<Hint>
+    requires within { at ≤ length text.now }
+    requires boundary { IsCharBoundary text.now at }
+    ensures { result ≡ operator_hint text.now at }
+{
+    if is_other_quote(text, at) {
+        return Some(Hint::OtherQuote);
+    }
+    if is_bare_name(text, at) {
+        return Some(Hint::BareName);
+    }
+    if is_word_at(text, at) {
+        return Some(Hint::Nearest);
+    }
+    None
+}
+
 /// The hint where another token was needed, or an instruction.
-#[tactic(auto, unfolding(crate::specs::Hints::place_hint))]
 fn place_hint(text: &str, at: usize, fault: Fault) -> Option<Hint>
     requires within { at ≤ length text.now }
     requires boundary { IsCharBoundary text.now at }
     ensures { result ≡ place_hint text.now at fault }
 {
-    if is_unexpected(fault) && is_first_field(text, at) {
-        return Some(Hint::ModuleGroup);
+    if is_unexpected(fault) {
+        return unexpected_hint(text, at);
     }
-    if is_operator(fault) && is_word_at(text, at) {
-        return Some(Hint::Nearest);
+    if is_operator(fault) {
+        return operator_hint(text, at);
     }
     None
 }

@@ -2,45 +2,56 @@
 
 ghost use Rattle.std.specs.Prelude.{◌≡◌, ◌++◌, ◌≤◌, OnOk, decimal, flat_map, length};
 ghost use Rattle.std.specs.Str.{IsCharBoundary};
+ghost use Rattle.wat_mnemonics.specs.Heads.{mnemonic_word};
 ghost use Rattle.wat_mnemonics.specs.declared.table.TheConstants.{MNEMONICS};
-ghost use Rattle.wat_report.specs.HintLine.{hint_line, nearest_line, new_word_line, next_quoted};
-ghost use Rattle.wat_report.specs.HintLine.{question_line, in_backquotes, unclosed_line};
+ghost use Rattle.wat_report.specs.HintLine.{bare_name_line, hint_line, in_backquotes, nearest_line};
+ghost use Rattle.wat_report.specs.HintLine.{new_word_line, next_quoted, question_line, same_line};
+ghost use Rattle.wat_report.specs.HintLine.{unclosed_line, wrong_escape_line};
+ghost use Rattle.wat_report.specs.Places.{place_of_offset};
+ghost use Rattle.wat_report.specs.Meant.{keyword_text};
+ghost use Rattle.wat_report.specs.Escapes.{escapes_end};
 ghost use Rattle.wat_report.specs.Hints.{count_of, hint_of, new_word};
 ghost use Rattle.wat_report.specs.Nearest.{nearest_among};
+ghost use Rattle.wat_report.specs.declared.meant.TheConstants.{FIELD_WORDS, TYPE_WORDS};
 
+use crate::escapes::escapes_end;
 use crate::found::word_at;
 use crate::hint::{Hint, count_of, hint_of, new_word};
-use crate::nearest::nearest_mnemonics;
+use crate::meant::{FIELD_WORDS, TYPE_WORDS};
+use crate::nearest::{Spelled, nearest_among};
+use crate::place::line_column;
 use crate::write::{add, add_number};
 use std::alloc::AllocError;
-use wat_mnemonics::Mnemonic;
+use wat_mnemonics::table::MNEMONICS;
 use wat_tokens::Fault;
 
-/// Adds a mnemonic between backquotes.
+/// Adds the word by which a value is spelled, between backquotes.
 #[tactic(auto, unfolding(crate::specs::HintLine::in_backquotes))]
-fn add_quoted(out: &mut Vec<u8>, mnemonic: Mnemonic) -> Result<(), AllocError>
-    ensures { OnOk result (out.new.items ≡ out.old.items ++ in_backquotes mnemonic) }
+fn add_quoted<T: Spelled>(out: &mut Vec<u8>, one: T) -> Result<(), AllocError>
+    ensures { OnOk result (out.new.items ≡ out.old.items ++ in_backquotes T.spelling one) }
 {
     add(out, "`")?;
-    add(out, mnemonic.mnemonic())?;
+    add(out, one.spelled())?;
     add(out, "`")
 }
 
-/// Adds further mnemonics, each behind a comma.
-fn add_further(out: &mut Vec<u8>, mnemonics: &[Mnemonic]) -> Result<(), AllocError>
-    ensures { OnOk result (out.new.items ≡ out.old.items ++ flat_map next_quoted mnemonics.now) }
+/// Adds further words, each behind a comma.
+fn add_further<T: Spelled>(out: &mut Vec<u8>, further: &[T]) -> Result<(), AllocError>
+    ensures { OnOk result (out.new.items ≡ out.old.items ++ flat_map (next_quoted T.spelling)
+        further.now) }
 {
-    for mnemonic in mnemonics {
+    for one in further {
         add(out, ", ")?;
-        add_quoted(out, *mnemonic)?;
+        add_quoted(out, *one)?;
     }
     Ok(())
 }
 
-/// Adds the line that asks whether one of the mnemonics was meant.
+/// Adds the line that asks whether one of the words was meant.
 #[tactic(auto, unfolding(crate::specs::HintLine::question_line))]
-fn add_question(out: &mut Vec<u8>, first: Mnemonic, further: &[Mnemonic]) -> Result<(), AllocError>
-    ensures { OnOk result (out.new.items ≡ out.old.items ++ question_line first further.now) }
+fn add_question<T: Spelled>(out: &mut Vec<u8>, first: T, further: &[T]) -> Result<(), AllocError>
+    ensures { OnOk result (out.new.items ≡ out.old.items ++ question_line T.spelling first
+        further.now) }
 {
     add(out, "hint: did you mean ")?;
     add_quoted(out, first)?;
@@ -48,10 +59,10 @@ fn add_question(out: &mut Vec<u8>, first: Mnemonic, further: &[Mnemonic]) -> Res
     add(out, "?\n")
 }
 
-/// Adds the line that asks whether one of the mnemonics was meant, if there are any.
+/// Adds the line that asks whether one of the words was meant, if there are any.
 #[tactic(auto, using(crate::proofs::Nearby::nearest_line_some))]
-fn add_nearest(out: &mut Vec<u8>, found: &[Mnemonic]) -> Result<(), AllocError>
-    ensures { OnOk result (out.new.items ≡ out.old.items ++ nearest_line found.now) }
+fn add_nearest<T: Spelled>(out: &mut Vec<u8>, found: &[T]) -> Result<(), AllocError>
+    ensures { OnOk result (out.new.items ≡ out.old.items ++ nearest_line T.spelling found.now) }
 {
     match found.split_first() {
         None => Ok(()),
@@ -59,13 +70,37 @@ fn add_nearest(out: &mut Vec<u8>, found: &[Mnemonic]) -> Result<(), AllocError>
     }
 }
 
-/// Adds the mnemonics that are nearest to the word, if there are any, on the line of a hint.
-fn add_nearest_to(out: &mut Vec<u8>, word: &str) -> Result<(), AllocError>
-    ensures { OnOk result (out.new.items ≡ out.old.items ++ nearest_line
-        (nearest_among word.now MNEMONICS)) }
+/// Adds those that are nearest to the word, if there are any, on the line of a hint.
+fn add_nearest_to<T: Spelled>(out: &mut Vec<u8>, all: &[T], word: &str) -> Result<(), AllocError>
+    ensures { OnOk result (out.new.items ≡ out.old.items ++ nearest_line T.spelling
+        (nearest_among T.spelling word.now all.now)) }
 {
-    let found = nearest_mnemonics(*out.allocator(), word)?;
+    let found = nearest_among(*out.allocator(), all, word.as_bytes())?;
     add_nearest(out, &found)
+}
+
+/// Adds the mnemonics that are nearest to the word.
+fn add_near_mnemonics(out: &mut Vec<u8>, word: &str) -> Result<(), AllocError>
+    ensures { OnOk result (out.new.items ≡ out.old.items ++ nearest_line mnemonic_word
+        (nearest_among mnemonic_word word.now MNEMONICS)) }
+{
+    add_nearest_to(out, &MNEMONICS, word)
+}
+
+/// Adds the words of fields that are nearest to the word.
+fn add_near_fields(out: &mut Vec<u8>, word: &str) -> Result<(), AllocError>
+    ensures { OnOk result (out.new.items ≡ out.old.items ++ nearest_line keyword_text
+        (nearest_among keyword_text word.now FIELD_WORDS)) }
+{
+    add_nearest_to(out, &FIELD_WORDS, word)
+}
+
+/// Adds the types that are nearest to the word.
+fn add_near_types(out: &mut Vec<u8>, word: &str) -> Result<(), AllocError>
+    ensures { OnOk result (out.new.items ≡ out.old.items ++ nearest_line keyword_text
+        (nearest_among keyword_text word.now TYPE_WORDS)) }
+{
+    add_nearest_to(out, &TYPE_WORDS, word)
 }
 
 /// Adds the line of a word of old, which has another today.
@@ -99,6 +134,66 @@ fn add_unclosed(out: &mut Vec<u8>, text: &str) -> Result<(), AllocError>
     add(out, " `)`\n")
 }
 
+/// Adds the line of a name without its `$`.
+#[tactic(auto, unfolding(crate::specs::HintLine::bare_name_line))]
+fn add_bare_name(out: &mut Vec<u8>, word: &str) -> Result<(), AllocError>
+    ensures { OnOk result (out.new.items ≡ out.old.items ++ bare_name_line word.now) }
+{
+    add(out, "hint: an identifier begins with `$`: `$")?;
+    add(out, word)?;
+    add(out, "`\n")
+}
+
+/// Adds the line of an escape that is none, by its column.
+#[tactic(auto, unfolding(crate::specs::HintLine::wrong_escape_line))]
+fn add_column(out: &mut Vec<u8>, column: usize) -> Result<(), AllocError>
+    ensures { OnOk result (out.new.items ≡ out.old.items ++ wrong_escape_line column) }
+{
+    add(out, "hint: no string has the escape in column ")?;
+    add_number(out, column)?;
+    add(
+        out,
+        ": a backslash is written `\\\\`, and a byte `\\` and two hexadecimal digits\n",
+    )
+}
+
+/// Adds the line of a string with an escape that is none.
+fn add_wrong_escape(out: &mut Vec<u8>, text: &str, at: usize) -> Result<(), AllocError>
+    requires { at ≤ length text.now }
+    ensures { OnOk result (out.new.items ≡ out.old.items ++ wrong_escape_line
+        ((place_of_offset text.now (escapes_end text.now at)).column)) }
+{
+    add_column(out, line_column(text, escapes_end(text, at)).column)
+}
+
+/// The line of a hint that is the same in every text, nothing for another.
+fn same_line(hint: Hint) -> &'static str
+    ensures { result.now ≡ same_line hint }
+{
+    match hint {
+        Hint::ByteOrderMark => "hint: the text begins with a byte order mark, which isn't read\n",
+        Hint::SeqCst => "hint: this ordering is written `seqcst`\n",
+        Hint::ModuleGroup => "hint: the fields of a module stand in `(module ..)`\n",
+        Hint::SlashComment => {
+            "hint: a comment is written `;; ..` to the line's end, or `(; .. ;)`\n"
+        }
+        Hint::Semicolon => "hint: `;;` begins a comment, and nothing ends an instruction\n",
+        Hint::OpenString => {
+            "hint: no `\"` closes it in this line, and no string has a line break\n"
+        }
+        Hint::Escapes => {
+            "hint: a backslash is written `\\\\`, and a byte `\\` and two hexadecimal digits\n"
+        }
+        Hint::BehindModule => "hint: one module is read, and this stands behind it\n",
+        Hint::NoModule => "hint: the text has no module, which is written `(module ..)`\n",
+        Hint::OtherQuote => "hint: a string stands between `\"`, and not between `'`\n",
+        Hint::Fraction => {
+            "hint: a number here has to be an integer, without a `.` or an exponent\n"
+        }
+        _ => "",
+    }
+}
+
 /// Adds the line of the hint, if there is one.
 pub(crate) fn add_hint(
     out: &mut Vec<u8>,
@@ -113,32 +208,13 @@ pub(crate) fn add_hint(
 {
     match hint_of(text, at, fault) {
         None => Ok(()),
-        Some(Hint::ByteOrderMark) => add(
-            out,
-            "hint: the text begins with a byte order mark, which isn't read\n",
-        ),
-        Some(Hint::SeqCst) => add(out, "hint: this ordering is written `seqcst`\n"),
-        Some(Hint::ModuleGroup) => {
-            add(out, "hint: the fields of a module stand in `(module ..)`\n")
-        }
         Some(Hint::OldWord) => add_new_word(out, word_at(text, at)),
-        Some(Hint::SlashComment) => add(
-            out,
-            "hint: a comment is written `;; ..` to the line's end, or `(; .. ;)`\n",
-        ),
-        Some(Hint::Semicolon) => add(
-            out,
-            "hint: `;;` begins a comment, and nothing ends an instruction\n",
-        ),
-        Some(Hint::OpenString) => add(
-            out,
-            "hint: no `\"` closes it in this line, and no string has a line break\n",
-        ),
-        Some(Hint::Escapes) => add(
-            out,
-            "hint: a backslash is written `\\\\`, and a byte `\\` and two hexadecimal digits\n",
-        ),
         Some(Hint::Unclosed) => add_unclosed(out, text),
-        Some(Hint::Nearest) => add_nearest_to(out, word_at(text, at)),
+        Some(Hint::Nearest) => add_near_mnemonics(out, word_at(text, at)),
+        Some(Hint::NearField) => add_near_fields(out, word_at(text, at)),
+        Some(Hint::NearType) => add_near_types(out, word_at(text, at)),
+        Some(Hint::BareName) => add_bare_name(out, word_at(text, at)),
+        Some(Hint::WrongEscape) => add_wrong_escape(out, text, at),
+        Some(hint) => add(out, same_line(hint)),
     }
 }

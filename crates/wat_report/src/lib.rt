@@ -7,11 +7,15 @@
 //! offset may be inside a character, or behind the text's end.
 #![tactic(auto)]
 
+mod around;
 pub mod bytes;
+mod escapes;
 mod found;
+mod front;
 mod hint;
 mod hint_line;
 pub mod laws;
+mod meant;
 pub mod nearest;
 pub mod place;
 pub mod report;

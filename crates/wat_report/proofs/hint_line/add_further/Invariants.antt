@@ -3,5 +3,5 @@ use Rattle.std.specs.Prelude.{flat_map}
 use Rattle.wat_report.specs.HintLine.{next_quoted}
 use Rattle.wat_report.proofs.hint_line.add_further.Given as goal
 
-abbrev pub invariant-loop-mnemonic : goal.invariant-loop-mnemonic
-invariant-loop-mnemonic l = l.out.items ≡ l.initial.out.items ++ flat_map next_quoted (take l.mnemonic-index l.mnemonics)
+abbrev pub invariant-loop-one : goal.invariant-loop-one
+invariant-loop-one g l = l.out.items ≡ l.initial.out.items ++ flat_map (next_quoted g.T.Spelled.spelling) (take l.one-index l.further)

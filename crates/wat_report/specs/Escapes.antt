@@ -1,0 +1,28 @@
+-- The escapes of a string.
+use Rattle.std.specs.Prelude.{ℕ, ◌+◌, ◌==◌, ◌&&◌, ◌||◌, Bool, List, [], ◌∷◌, drop}
+use Rattle.std.specs.Prelude.{slice_index, if◌then◌else◌}
+use Rattle.wat_lexer.specs.Cut.{is_hex}
+
+-- t n r u " ' \
+abbrev pub is_escape_letter : ℕ → Bool
+is_escape_letter c =
+    (c == 116) || ((c == 110) || ((c == 114) || ((c == 117) || ((c == 34) || ((c == 39)
+    || (c == 92))))))
+
+-- behind a backslash such a byte is an escape, or two hexadecimal digits
+abbrev pub is_escape : ℕ → ℕ → Bool
+is_escape c d = is_escape_letter c || (is_hex c && is_hex d)
+
+-- how many bytes of a string stand before a quote, or before a backslash behind which no escape is
+unfoldable pub escapes_len : List ℕ → ℕ
+escapes_len [] = 0
+escapes_len (b ∷ []) = 0
+escapes_len (b ∷ c ∷ t) =
+    if b == 92 then (if is_escape c (slice_index t 0) then escapes_len t + 2 else 0)
+    else if b == 34 then 0
+    else escapes_len (c ∷ t) + 1
+
+-- where in the string at the offset the first quote is, or the first backslash behind which no escape
+-- is
+unfoldable pub escapes_end : List ℕ → ℕ → ℕ
+escapes_end text at = at + 1 + escapes_len (drop (at + 1) text)
