@@ -6,7 +6,7 @@ use bumpalo::Bump;
 use std::alloc::{AllocError, Global};
 use std::test::Fail;
 use wat_print::{Layout, Output, Print, Refused, print, read_value};
-use wat_tokens::{Error, Fault, Id, Index, NameAnnotation, Parse, Span};
+use wat_tokens::{Error, Fault, Id, Index, NameAnnotation, Parse, Span, kw};
 use wat_types::{
     AbstractHeapType, ArrayType, ContType, FunctionType, FunctionTypeNoNames, GlobalType, HeapType,
     InnerTypeKind, Limits, MemoryType, Rec, RefType, StorageType, StructType, TableType, TagType,
@@ -134,8 +134,10 @@ fn names_and_indices(rt: HostRuntime) -> Result<(), Fail> {
             ("$0!#$%&'*+-./:<=>?@\\^_`|~z", "$0!#$%&'*+-./:<=>?@\\^_`|~z"),
             ("$\"a b\"", "$\"a b\""),
             ("$\"\\t\\n\\r\\\"\\'\\\\\"", "$\"\\09\\0a\\0d\\22'\\5c\""),
-            ("$\"\u{e9}\"", "$\"\\c3\\a9\""),
-            ("$\"\\u{1F600}(\"", "$\"\\f0\\9f\\98\\80(\""),
+            ("$\"\u{e9}\"", "$\"\u{e9}\""),
+            ("$\"\\c3\\a9a\"", "$\"\u{e9}a\""),
+            ("$\"\\u{1F600}(\"", "$\"\u{1f600}(\""),
+            ("$\"\u{20ac}\\01\\22\\7f\"", "$\"\u{20ac}\\01\\22\\7f\""),
         ],
     )?;
     add_misprinted::<Index>(
@@ -177,7 +179,48 @@ fn strings_of_all_bytes(rt: HostRuntime) -> Result<(), Fail> {
     let mut parser = parser_of(alloc, text, &arena)?;
     let found = parser.parse::<&[u8]>()?;
     assert!(rt; found == bytes.as_slice());
-    assert!(rt; text.ends_with(" \"a\\22\\5c\\7f\""));
+    assert!(rt; text.is_ascii());
+    assert!(rt; text.starts_with("\"\\00\\01\\02"));
+    assert!(rt; text.ends_with("\\fd\\fe\\ff\" \"a\\22\\5c\\7f\""));
+    Ok(())
+}
+
+#[test]
+fn strings_past_ascii(rt: HostRuntime) -> Result<(), Fail> {
+    let mut out = Output::new(rt.alloc(), Layout::Line);
+    out.text("\u{e9}\u{20ac}\u{1f600}")?;
+    out.string("\u{7ff}\u{800}\u{ffff}\u{10000}\u{10ffff}".as_bytes())?;
+    out.string(b"\xc3\xa9\n\x7f\xc2\x80")?;
+    out.string(b"\xc3\xa9\xff\xe2\x82\xac")?;
+    out.string(b"a\xc3")?;
+    out.string(b"\xed\xa0\x80")?;
+    assert_eq!(rt;
+        out.into_text().as_str(),
+        "\"\u{e9}\u{20ac}\u{1f600}\" \"\u{7ff}\u{800}\u{ffff}\u{10000}\u{10ffff}\" \
+        \"\u{e9}\\0a\\7f\u{80}\" \"\\c3\\a9\\ff\\e2\\82\\ac\" \"a\\c3\" \"\\ed\\a0\\80\""
+    );
+    Ok(())
+}
+
+#[test]
+fn keywords_and_strings(rt: HostRuntime) -> Result<(), Fail> {
+    let alloc = rt.alloc();
+    let arena = Bump::new(alloc);
+    let mut wrong = String::new(alloc);
+    add_changed::<kw::func>(&mut wrong, &arena, &["func"])?;
+    add_changed::<kw::table>(&mut wrong, &arena, &["table"])?;
+    add_changed::<kw::memory>(&mut wrong, &arena, &["memory"])?;
+    add_changed::<kw::global>(&mut wrong, &arena, &["global"])?;
+    add_changed::<kw::tag>(&mut wrong, &arena, &["tag"])?;
+    let texts = [
+        ("\"\"", "\"\""),
+        ("\"a b\"", "\"a b\""),
+        ("\"\\61\\u{0A}\\'\"", "\"a\\0a'\""),
+    ];
+    add_misprinted::<&str>(&mut wrong, &arena, &texts)?;
+    add_misprinted::<&[u8]>(&mut wrong, &arena, &texts)?;
+    add_misprinted::<&[u8]>(&mut wrong, &arena, &[("\"\\FF\\00\"", "\"\\ff\\00\"")])?;
+    assert_eq!(rt; wrong.as_str(), "");
     Ok(())
 }
 

@@ -82,14 +82,14 @@ fn heads_of_fields(rt: HostRuntime) -> Result<(), Fail> {
     add_changed_parts::<InlineExport>(
         &mut wrong,
         &arena,
-        &["", "(export \"a\")", "(export \"\") (export \"a\") (export \"\\00\\22\\c3\\a4\")"],
+        &["", "(export \"a\")", "(export \"\") (export \"a\") (export \"\\00\\22\u{e4}\")"],
     )?;
     add_misprinted_parts::<InlineImport>(
         &mut wrong,
         &arena,
         &[
             ("(import \"m\" \"n\")", "(import \"m\" \"n\")"),
-            ("(import \"\" \"\\u{e4}\")", "(import \"\" \"\\c3\\a4\")"),
+            ("(import \"\" \"\\u{e4}\")", "(import \"\" \"\u{e4}\")"),
         ],
     )?;
     add_changed_parts::<FieldHead>(

@@ -108,7 +108,7 @@ fn imports(rt: HostRuntime) -> Result<(), Fail> {
     add_misprinted_parts::<Imports>(
         &mut wrong,
         &arena,
-        &[("import \"\\6d\" \"\u{e9}\" (func)", "import \"m\" \"\\c3\\a9\" (func)")],
+        &[("import \"\\6d\" \"\u{e9}\" (func)", "import \"m\" \"\u{e9}\" (func)")],
     )?;
     assert_eq!(rt; wrong.as_str(), "");
     Ok(())

@@ -77,12 +77,38 @@ fn modules_on_lines(rt: HostRuntime) -> Result<(), Fail> {
             Err(error) => assert!(rt; false, "{text}: {error:?}"),
         }
     }
-    match reprinted(alloc, "(module (func nop) (start 0))", Layout::Indented) {
-        Ok(lines) => assert_eq!(rt;
-            lines.as_str(),
-            "(module\n  (func\n    nop)\n  (start 0))"
-        ),
-        Err(error) => assert!(rt; false, "{error:?}"),
+    Ok(())
+}
+
+/// Modules, and what is printed of them on lines.
+const LINES: &[(&str, &str)] = &[
+    ("(module (func nop) (start 0))", "(module\n  (func\n    nop)\n  (start 0))"),
+    (
+        "(module (global i32 (i32.const 1)) (global i32 (i32.add (i32.const 1) (i32.const 2))))",
+        "(module\n  (global i32 i32.const 1)\n  (global i32\n    i32.const 1\n    i32.const 2\n    \
+        i32.add))",
+    ),
+    (
+        "(module (table 1 funcref (ref.null func)) (table funcref (elem (item ref.func 0))))",
+        "(module\n  (table 1 funcref ref.null func)\n  (table funcref (elem\n      (item ref.func 0))))",
+    ),
+    (
+        "(module (elem (offset i32.const 0) func 0) (data (offset i32.const 0 nop) \"a\"))",
+        "(module\n  (elem (offset i32.const 0) func 0)\n  (data (offset\n      i32.const 0\n      nop) \
+        \"a\"))",
+    ),
+];
+
+#[test]
+fn lines_of_modules(rt: HostRuntime) -> Result<(), Fail> {
+    let alloc = rt.alloc();
+    for &(text, wanted) in LINES {
+        for from in [text, wanted] {
+            match reprinted(alloc, from, Layout::Indented) {
+                Ok(lines) => assert_eq!(rt; lines.as_str(), wanted),
+                Err(error) => assert!(rt; false, "{from}: {error:?}"),
+            }
+        }
     }
     Ok(())
 }

@@ -249,6 +249,23 @@ fn accesses_to_lanes(rt: HostRuntime) -> Result<(), Fail> {
 }
 
 #[test]
+fn numbers(rt: HostRuntime) -> Result<(), Fail> {
+    let alloc = rt.alloc();
+    let arena = Bump::new(alloc);
+    let mut wrong = String::new(alloc);
+    add_misprinted::<i8>(&mut wrong, &arena, &[("0xff", "-1"), ("-0x80", "-128"), ("+1_2", "12")])?;
+    add_misprinted::<i16>(&mut wrong, &arena, &[("65535", "-1"), ("32767", "32767")])?;
+    add_misprinted::<i32>(&mut wrong, &arena, &[("0x8000_0000", "-2147483648"), ("-0", "0")])?;
+    add_misprinted::<i64>(&mut wrong, &arena, &[("-0x8000000000000000", "-9223372036854775808")])?;
+    add_misprinted::<u8>(&mut wrong, &arena, &[("0xff", "255"), ("+0", "0")])?;
+    add_misprinted::<u16>(&mut wrong, &arena, &[("0xFF_FF", "65535"), ("00", "0")])?;
+    add_misprinted::<u32>(&mut wrong, &arena, &[("0xffffffff", "4294967295")])?;
+    add_misprinted::<u64>(&mut wrong, &arena, &[("0xffffffffffffffff", "18446744073709551615")])?;
+    assert_eq!(rt; wrong.as_str(), "");
+    Ok(())
+}
+
+#[test]
 fn vectors(rt: HostRuntime) -> Result<(), Fail> {
     let alloc = rt.alloc();
     let arena = Bump::new(alloc);
@@ -432,6 +449,8 @@ fn operands_without_a_text(rt: HostRuntime) -> Result<(), Fail> {
     let floats = V128Const::F64x2([F64 { bits: 0 }, F64 { bits: 0 }]);
     assert_eq!(rt; refusal(alloc, &floats), Some(8));
     let float = F32 { bits: 0 };
+    assert_eq!(rt; refusal(alloc, &float), Some(8));
+    assert_eq!(rt; refusal(alloc, &F64 { bits: 1 }), Some(8));
     assert_eq!(rt; refusal(alloc, &V128Const::F32x4([float, float, float, float])), Some(8));
     let mut out = Output::new(alloc, Layout::Line);
     let mut access = MemArg {

@@ -128,7 +128,7 @@ fn broken_texts_are_reported(rt: HostRuntime) -> Result<(), Fail> {
         ),
         (
             "",
-            "a.wat:1:1: error: not expected here: the end of the text\n\n^\n",
+            "a.wat:1:1: error: not expected here: the end of the text\n\n^\nhint: the text has no module, which is written `(module ..)`\n",
         ),
         (
             "(module (func get_local 0))",
@@ -148,7 +148,7 @@ fn broken_texts_are_reported(rt: HostRuntime) -> Result<(), Fail> {
         ),
         (
             "(module (func)))",
-            "a.wat:1:16: error: not expected here: `)`\n(module (func)))\n               ^\n",
+            "a.wat:1:16: error: not expected here: `)`\n(module (func)))\n               ^\nhint: one module is read, and this stands behind it\n",
         ),
         (
             "(module (func f32.const 1.5 drop))",
@@ -160,7 +160,7 @@ fn broken_texts_are_reported(rt: HostRuntime) -> Result<(), Fail> {
         ),
         (
             "(module (data \"\u{e9}\\q\"))",
-            "a.wat:1:15: error: this string isn't closed, or has what no string may have\n(module (data \"\u{e9}\\q\"))\n              ^\nhint: a backslash is written `\\\\`, and a byte `\\` and two hexadecimal digits\n",
+            "a.wat:1:15: error: this string isn't closed, or has what no string may have\n(module (data \"\u{e9}\\q\"))\n              ^\nhint: no string has the escape in column 17: a backslash is written `\\\\`, and a byte `\\` and two hexadecimal digits\n",
         ),
         (
             "(module (data \"a\nb\"))",
@@ -205,6 +205,70 @@ fn broken_texts_are_reported(rt: HostRuntime) -> Result<(), Fail> {
         (
             "(module (import \"a\" b))",
             "a.wat:1:21: error: not expected here: `b`\n(module (import \"a\" b))\n                    ^\n",
+        ),
+        (
+            "(module) (module)",
+            "a.wat:1:10: error: not expected here: `(`\n(module) (module)\n         ^\nhint: one module is read, and this stands behind it\n",
+        ),
+        (
+            "(module (; ) ;) (data \")\\\")\") ;; ) \n b)",
+            "a.wat:2:2: error: not expected here: `b`\n b)\n ^\n",
+        ),
+        (
+            "(module (;;) (;(;;);) (fucn))",
+            "a.wat:1:24: error: not expected here: `fucn`\n(module (;;) (;(;;);) (fucn))\n                       ^\nhint: did you mean `func`?\n",
+        ),
+        (
+            "(module (i32.const 1))",
+            "a.wat:1:10: error: not expected here: `i32.const`\n(module (i32.const 1))\n         ^\n",
+        ),
+        (
+            ";; none (\n(; none ) ;)",
+            "a.wat:2:13: error: not expected here: the end of the text\n(; none ) ;)\n            ^\nhint: the text has no module, which is written `(module ..)`\n",
+        ),
+        (
+            "(module (func (param i32 int)))",
+            "a.wat:1:26: error: not expected here: `int`\n(module (func (param i32 int)))\n                         ^\nhint: did you mean `i32`, `i64`?\n",
+        ),
+        (
+            "(module (func (local $x i31)))",
+            "a.wat:1:25: error: not expected here: `i31`\n(module (func (local $x i31)))\n                        ^\nhint: did you mean `i32`, `i64`, `f32`?\n",
+        ),
+        (
+            "(module (memory 1.5))",
+            "a.wat:1:17: error: not expected here: `1.5`\n(module (memory 1.5))\n                ^\nhint: a number here has to be an integer, without a `.` or an exponent\n",
+        ),
+        (
+            "(module (func i32.const 1e3 drop))",
+            "a.wat:1:25: error: not expected here: `1e3`\n(module (func i32.const 1e3 drop))\n                        ^\nhint: a number here has to be an integer, without a `.` or an exponent\n",
+        ),
+        (
+            "(module (func i32.const 0xeg drop))",
+            "a.wat:1:25: error: not expected here: `0xeg`\n(module (func i32.const 0xeg drop))\n                        ^\n",
+        ),
+        (
+            "(module (data 'a'))",
+            "a.wat:1:15: error: not expected here: `'a'`\n(module (data 'a'))\n              ^\nhint: a string stands between `\"`, and not between `'`\n",
+        ),
+        (
+            "(module (func (export 'f')))",
+            "a.wat:1:16: error: no instruction is called `export`\n(module (func (export 'f')))\n               ^\nhint: a string stands between `\"`, and not between `'`\n",
+        ),
+        (
+            "(module (func add (param i32)))",
+            "a.wat:1:15: error: no instruction is called `add`\n(module (func add (param i32)))\n              ^\nhint: an identifier begins with `$`: `$add`\n",
+        ),
+        (
+            "(module (func add))",
+            "a.wat:1:15: error: no instruction is called `add`\n(module (func add))\n              ^\nhint: did you mean `end`?\n",
+        ),
+        (
+            "(module (data \"\\\\\\\"\\4a\\u{7f}\\t\\\\w\\4g\"))",
+            "a.wat:1:15: error: this string isn't closed, or has what no string may have\n(module (data \"\\\\\\\"\\4a\\u{7f}\\t\\\\w\\4g\"))\n              ^\nhint: no string has the escape in column 34: a backslash is written `\\\\`, and a byte `\\` and two hexadecimal digits\n",
+        ),
+        (
+            "(module (data \"\\u{d800}\"))",
+            "a.wat:1:15: error: this string isn't closed, or has what no string may have\n(module (data \"\\u{d800}\"))\n              ^\nhint: a backslash is written `\\\\`, and a byte `\\` and two hexadecimal digits\n",
         ),
     ] {
         let found = said(rt.alloc(), text)?;
