@@ -147,6 +147,14 @@ fn broken_texts_are_reported(rt: HostRuntime) -> Result<(), Fail> {
             "a.wat:1:18: error: no token begins with this character\n(module (func nop; nop))\n                 ^\nhint: `;;` begins a comment, and nothing ends an instruction\n",
         ),
         (
+            "(module (func) ;; :)\n",
+            "a.wat:2:1: error: not expected here: the end of the text\n\n^\nhint: a `)` may be missing: the text has 2 `(` and 1 `)`\n",
+        ),
+        (
+            "(module (; ) ;) x",
+            "a.wat:1:17: error: not expected here: `x`\n(module (; ) ;) x\n                ^\n",
+        ),
+        (
             "(module (func)))",
             "a.wat:1:16: error: not expected here: `)`\n(module (func)))\n               ^\nhint: one module is read, and this stands behind it\n",
         ),

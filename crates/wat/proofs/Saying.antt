@@ -1,17 +1,20 @@
 -- One more name, one more word, and what a refusal means.
 use Rattle.std.proofs.Common.{◌≡◌, ℕ, ◌+◌, ◌<◌, ◌≤◌, List, [], ◌∷◌, ◌++◌, length, drop, take, map, get_or, refl, subst, sym, ap, ◌∙◌, append_assoc, arith, add-one, drop-cons, Ok, Err, inr}
+use Rattle.std.proofs.lemmas.List.{append-nil}
 use Rattle.std.specs.Prelude.{Bool, true, max, ◌≢◌, Option, Result, OnErr, IfOk, IfErr, MatchResult}
 use Rattle.std.specs.List.{list_all}
 use Rattle.std.specs.Io.KnownBytes.{Appends}
 use Rattle.std.proofs.KnownBytes.{Appends-trans}
 use Rattle.std.proofs.lemmas.List.{length-map, map-append, take_more, take-map}
-use Rattle.wat.specs.Outcomes.{SaysOf, SaysOfText, said_of_fault}
+use Rattle.wat.specs.Outcomes.{SaysOf, SaysOfText, SaysWhy, WasRead}
 use Rattle.wat.specs.Runs.{SaysOfNames, WritesPartOfNames, more}
 use Rattle.wat.specs.declared.command.Task.{Task}
 use Rattle.wat.specs.declared.command.Task.TheVariants.{Print}
 use Rattle.wat_core.specs.Error.{Fault, Memory}
-use Rattle.wat_core.specs.Module.{ModuleTy}
+use Rattle.wat_core.specs.Groups.{paren}
+use Rattle.wat_core.specs.Module.{ModuleTy, module_}
 use Rattle.wat_core.specs.Text.{SpellsModule}
+use Rattle.wat_print.specs.Printed.{NoneSpells}
 use Rattle.wat_print.specs.Text.{printed_text}
 use Rattle.wat_print.specs.declared.output.Layout.{Layout}
 use Rattle.wat_print.specs.declared.output.Layout.TheVariants.{Line}
@@ -47,7 +50,7 @@ none_spells S P Q (Ok x) only = tt
 none_spells S P Q (Err e) only = λ other v s. other (only v s)
 
 pub says_fault : {T E : Type 0} (task : Task) (name text : List ℕ) (f : Fault) (offset : ℕ) (said : T → List ℕ) (status : T → ℕ) (r : Result T E)
-    → (f ≢ Memory → (m : ModuleTy) → SpellsModule text m → ⊥) → IfOk r (λ x. f ≢ Memory) → IfOk r (λ x. said x ≡ said_of_fault task name text offset f) → IfOk r (λ x. status x ≡ 1)
+    → (f ≢ Memory → (m : ModuleTy) → SpellsModule text m → ⊥) → IfOk r (λ x. f ≢ Memory) → IfOk r (λ x. SaysWhy task name text offset f (said x)) → IfOk r (λ x. status x ≡ 1)
     → IfOk r (λ x. SaysOfText task name text (said x) (status x))
 unfolding SaysOfText
 says_fault task name text f offset said status (Ok x) none other is one = inr (none other, (f, offset, other, is), one)
@@ -56,3 +59,8 @@ says_fault task name text f offset said status (Err e) none other is one = tt
 pub says_print : (layout : Layout) (m : ModuleTy) (text new said : List ℕ) → SpellsModule text m → (layout ≡ Line → text ≡ printed_text (spell_module_group m)) → new ≡ text ++ 10 ∷ [] → said ≡ new → SaysOf (Print layout) m said
 unfolding SaysOf
 says_print layout m text new said spells line added is = (text, spells, line, is ∙ added)
+
+-- tokens of a text spell what was read
+pub some_spells : (m : ModuleTy) → WasRead m → NoneSpells (paren module_) m → ⊥
+some_spells m (text, u, (ts, cut, s)) none =
+    none text ts true [] _ [] u cut (sym (append-nil _)) s

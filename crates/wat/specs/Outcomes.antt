@@ -9,7 +9,7 @@ use Rattle.wat_core.specs.Text.{SpellsModule}
 use Rattle.wat_print.specs.Text.{printed_text}
 use Rattle.wat_print.specs.declared.output.Layout.TheVariants.{Line}
 use Rattle.wat_print_module.specs.Module.{spell_module_group}
-use Rattle.wat_report.specs.Report.{report_text}
+use Rattle.wat_report.specs.Report.{IsReport}
 use Rattle.wat_report.specs.WrongBytes.{wrong_byte_report}
 use Rattle.wat_show.specs.Modules.{module_text}
 use Rattle.wat_show.specs.Shown.{refusal}
@@ -23,21 +23,25 @@ SaysOf (Print layout) m said =
     (text : List ℕ) × SpellsModule text m
     × (layout ≡ Line → text ≡ printed_text (spell_module_group m)) × (said ≡ text ++ 10 ∷ [])
 
+-- a text spells the module
+abbrev pub WasRead : ModuleTy → Type 0
+WasRead m = (text : List ℕ) × IsUtf8 text × SpellsModule text m
+
 -- the text spells a module, of which that is said, with status 0
 abbrev pub SaysOfModule : Task → List ℕ → List ℕ → ℕ → Type 0
 SaysOfModule task text said status =
     (m : ModuleTy) × SpellsModule text m × SaysOf task m said × (status ≡ 0)
 
 -- of a fault: where the module was to be printed the line of `watshow`, else its report
-unfoldable pub said_of_fault : Task → List ℕ → List ℕ → ℕ → Fault → List ℕ
-said_of_fault (Print layout) name text offset f = refusal f offset
-said_of_fault _ name text offset f = report_text name text offset f
+unfoldable pub SaysWhy : Task → List ℕ → List ℕ → ℕ → Fault → List ℕ → Type 0
+SaysWhy (Print layout) name text offset f said = said ≡ refusal f offset
+SaysWhy _ name text offset f said = IsReport name text offset f said
 
 -- the text spells no module, and a fault other than Memory is said, with status 1
 abbrev pub SaysOfFault : Task → List ℕ → List ℕ → List ℕ → ℕ → Type 0
 SaysOfFault task name text said status =
     ((m : ModuleTy) → SpellsModule text m → ⊥)
-    × ((f : Fault) × (offset : ℕ) × (f ≢ Memory) × (said ≡ said_of_fault task name text offset f))
+    × ((f : Fault) × (offset : ℕ) × (f ≢ Memory) × SaysWhy task name text offset f said)
     × (status ≡ 1)
 
 -- the one or the other

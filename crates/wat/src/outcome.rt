@@ -1,7 +1,7 @@
 //! What is said of one text.
 
 ghost use Rattle.std.specs.Prelude.{◌≡◌, ◌≢◌, IfOk, IfErr};
-ghost use Rattle.wat.specs.Outcomes.{SaysOfBytes, SaysOfText, SaysOf, said_of_fault};
+ghost use Rattle.wat.specs.Outcomes.{SaysOfBytes, SaysOfText, SaysOf, SaysWhy, WasRead};
 ghost use Rattle.wat.specs.declared.command.Task.TheVariants.{Print};
 ghost use Rattle.wat_core.specs.Module.{ModuleTy, module_view};
 ghost use Rattle.wat_core.specs.Text.{SpellsModule};
@@ -12,13 +12,14 @@ use crate::command::Task;
 use bumpalo::Bump;
 use std::alloc::{AllocError, Global};
 use wat_core::{Error, Fault, Module, read_module};
-use wat_print::Layout;
+use wat_print::{Layout, Refused};
 use wat_print_module::print_module;
 use wat_report::{add_report, text_or_report};
 use wat_show::modules::add_module;
 
-/// A text of the module, and a line break.
+/// A text of a module that was read, and a line break.
 fn printed(alloc: Global, layout: Layout, module: &Module) -> Result<Vec<u8>, AllocError>
+    requires { WasRead (module_view «module».now) }
     ensures { IfOk result (λ said. SaysOf (Print layout) (module_view «module».now) said.items) }
 {
     match print_module(alloc, module, layout) {
@@ -26,14 +27,18 @@ fn printed(alloc: Global, layout: Layout, module: &Module) -> Result<Vec<u8>, Al
             text.push_str("\n")?;
             Ok(text.into_bytes())
         }
-        // (a module that was read is refused for want of memory alone)
-        Err(_) => Err(AllocError),
+        Err(refused) => match refused.reason {
+            Refused::Memory => Err(AllocError),
+            // (a text spells the module, so it is refused for no other reason)
+            _ => unreachable!(),
+        },
     }
 }
 
 /// What is said of a text that is a module.
 #[tactic(auto, unfolding(crate::specs::Outcomes::SaysOf))]
 fn said_of_module(alloc: Global, task: Task, module: &Module) -> Result<Vec<u8>, AllocError>
+    requires { WasRead (module_view «module».now) }
     ensures { IfOk result (λ said. SaysOf task (module_view «module».now) said.items) }
 {
     let mut listing = Vec::new(alloc);
@@ -46,7 +51,7 @@ fn said_of_module(alloc: Global, task: Task, module: &Module) -> Result<Vec<u8>,
 }
 
 /// What is said of why a text is refused, and its status. Want of memory has none.
-#[tactic(auto, unfolding(crate::specs::Outcomes::said_of_fault))]
+#[tactic(auto, unfolding(crate::specs::Outcomes::SaysWhy))]
 fn refused(
     alloc: Global,
     task: Task,
@@ -55,8 +60,8 @@ fn refused(
     error: Error,
 ) -> Result<(Vec<u8>, u8), AllocError>
     ensures fault { IfOk result (λ said. error.fault ≢ Memory) }
-    ensures report { IfOk result (λ said. said.0.items ≡ said_of_fault task name.now text.now
-        (offset_of error.span) error.fault) }
+    ensures report { IfOk result (λ said. SaysWhy task name.now text.now (offset_of error.span)
+        error.fault said.0.items) }
     ensures status { IfOk result (λ said. said.1 ≡ 1) }
 {
     if let Task::Print(_) = task {

@@ -4,7 +4,7 @@ pub mod Boundaries
 pub mod Counted
 pub mod Distances
 pub mod Fewest
-pub mod Fronts
+pub mod Groups
 pub mod Nearby
 pub mod Openings
 pub mod Words

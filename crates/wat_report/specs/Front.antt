@@ -1,89 +1,36 @@
--- What stands before a place of a text.
-use Rattle.std.specs.Prelude.{ℕ, ◌+◌, ◌-◌, ◌==◌, Bool, true, false, List, take, if◌then◌else◌}
-use Rattle.std.specs.List.{fold}
-use Rattle.wat_lexer.specs.Bytes.{is_line_end}
-use Rattle.wat_report.specs.declared.front.Front.{Front}
-use Rattle.wat_report.specs.declared.front.Within.{Within}
-use Rattle.wat_report.specs.declared.front.Within.TheVariants.{Code, Paren, Semicolon, Line}
-use Rattle.wat_report.specs.declared.front.Within.TheVariants.{Quoted, Escape, Comment, CommentParen}
-use Rattle.wat_report.specs.declared.front.Within.TheVariants.{CommentSemicolon}
+-- The groups that stand before a place of a text.
+use Rattle.std.specs.Prelude.{ℕ, ◌+◌, ◌==◌, ◌&&◌, Bool, false, List, count_by, nat_lt, Option, Some}
+use Rattle.std.specs.Prelude.{None}
+use Rattle.wat_lexer.specs.Cut.{IsCut}
+use Rattle.wat_lexer.specs.Token.{Placed, Tok, is_close, is_open, tokens_of}
+use Rattle.wat_report.specs.declared.front.Groups.{Groups}
 
--- directly behind a `(`
-abbrev pub is_just_opened : Within → Bool
-is_just_opened Paren = true
-is_just_opened _ = false
+-- how many of the tokens are `(`, and how many `)`
+unfoldable pub groups_in : List Tok → Groups
+groups_in ts = record { begun = count_by is_open ts; ended = count_by is_close ts }
 
--- At the beginning no group is open, and none was closed.
-abbrev pub nothing : Front
-nothing = record { within = Code; groups = 0; comments = 0; closed = false }
+-- the groups of the tokens into which the text is cut, or none if there is no cut
+pub data HasGroups : List ℕ → Option Groups → Type 0 where
+  cut : (text : List ℕ) (ts : List Placed) → IsCut text ts
+      → HasGroups text (Some (groups_in (tokens_of ts)))
+  uncut : (text : List ℕ) → ((ts : List Placed) → IsCut text ts → ⊥) → HasGroups text None
 
--- what a byte does between tokens and in words
-abbrev pub behind_code : Front → ℕ → Front
-behind_code f b =
-    if b == 40 then record f { within = Paren; groups = f.groups + 1 }
-    else if b == 41 then record f { within = Code; groups = f.groups - 1; closed = true }
-    else if b == 59 then record f { within = Semicolon }
-    else if b == 34 then record f { within = Quoted }
-    else record f { within = Code }
+-- behind a group, and in none
+abbrev pub is_behind_group : Option Groups → Bool
+is_behind_group None = false
+is_behind_group (Some g) = (g.begun == g.ended) && nat_lt 0 g.ended
 
--- behind a `(`: with a `;` it was no group that began
-abbrev pub behind_paren : Front → ℕ → Front
-behind_paren f b =
-    if b == 59 then record f { within = Comment; groups = f.groups - 1; comments = 1 }
-    else behind_code f b
+-- no group begins there, and none ends
+abbrev pub is_before_groups : Option Groups → Bool
+is_before_groups None = false
+is_before_groups (Some g) = (g.begun == 0) && (g.ended == 0)
 
--- behind a `;`
-abbrev pub behind_semicolon : Front → ℕ → Front
-behind_semicolon f b = if b == 59 then record f { within = Line } else behind_code f b
+-- in a group
+abbrev pub is_in_group : Option Groups → Bool
+is_in_group None = false
+is_in_group (Some g) = nat_lt g.ended g.begun
 
--- in a comment that its line ends
-abbrev pub behind_line_byte : Front → ℕ → Front
-behind_line_byte f b = if is_line_end b then record f { within = Code } else f
-
--- in a string
-abbrev pub behind_quoted : Front → ℕ → Front
-behind_quoted f b =
-    if b == 92 then record f { within = Escape }
-    else if b == 34 then record f { within = Code }
-    else f
-
--- in comments between `(;` and `;)`
-abbrev pub behind_comment_byte : Front → ℕ → Front
-behind_comment_byte f b =
-    if b == 40 then record f { within = CommentParen }
-    else if b == 59 then record f { within = CommentSemicolon }
-    else record f { within = Comment }
-
--- there behind a `(`
-abbrev pub behind_comment_paren : Front → ℕ → Front
-behind_comment_paren f b =
-    if b == 59 then record f { within = Comment; comments = f.comments + 1 }
-    else behind_comment_byte f b
-
--- there behind a `;`
-abbrev pub behind_comment_semicolon : Front → ℕ → Front
-behind_comment_semicolon f b =
-    if b == 41 then record f {
-      within = if f.comments == 1 then Code else Comment;
-      comments = f.comments - 1;
-    }
-    else behind_comment_byte f b
-
--- what a byte does, by what it is in
-abbrev pub behind_in : Within → Front → ℕ → Front
-behind_in Code f b = behind_code f b
-behind_in Paren f b = behind_paren f b
-behind_in Semicolon f b = behind_semicolon f b
-behind_in Line f b = behind_line_byte f b
-behind_in Quoted f b = behind_quoted f b
-behind_in Escape f b = record f { within = Quoted }
-behind_in Comment f b = behind_comment_byte f b
-behind_in CommentParen f b = behind_comment_paren f b
-behind_in CommentSemicolon f b = behind_comment_semicolon f b
-
-unfoldable pub behind_byte : Front → ℕ → Front
-behind_byte f b = behind_in f.within f b
-
--- what stands before the offset
-unfoldable pub front_of : List ℕ → ℕ → Front
-front_of text at = fold behind_byte nothing (take at text)
+-- in a group that is in one other
+abbrev pub is_in_two : Option Groups → Bool
+is_in_two None = false
+is_in_two (Some g) = g.begun == g.ended + 2

@@ -5,6 +5,7 @@ use Rattle.wat_mnemonics.specs.Heads.{mnemonic_word}
 use Rattle.wat_mnemonics.specs.declared.table.TheConstants.{MNEMONICS}
 use Rattle.wat_report.specs.Nearest.{nearest_among}
 use Rattle.wat_report.specs.Meant.{keyword_text}
+use Rattle.wat_report.specs.declared.front.Groups.{Groups}
 use Rattle.wat_report.specs.declared.hint.Hint.{Hint}
 use Rattle.wat_report.specs.declared.hint.Hint.TheVariants.{ByteOrderMark, SeqCst, ModuleGroup}
 use Rattle.wat_report.specs.declared.hint.Hint.TheVariants.{Nearest, OldWord, Semicolon}
@@ -16,7 +17,7 @@ use Rattle.wat_report.specs.declared.meant.TheConstants.{FIELD_WORDS, TYPE_WORDS
 use Rattle.wat_report.specs.Escapes.{escapes_end}
 use Rattle.wat_report.specs.Found.{word_at}
 use Rattle.wat_report.specs.Places.{place_of_offset}
-use Rattle.wat_report.specs.Hints.{count_of, new_word}
+use Rattle.wat_report.specs.Hints.{new_word}
 
 -- the word by which a value is spelled, between backquotes
 unfoldable pub in_backquotes : {A : Type 0} → (A → List ℕ) → A → List ℕ
@@ -42,11 +43,15 @@ abbrev pub new_word_line : Option (List ℕ) → List ℕ
 new_word_line None = []
 new_word_line (Some new) = codes "hint: this is written `" ++ (new ++ codes "` today\n")
 
--- how often the text has `(` and `)`
-unfoldable pub unclosed_line : List ℕ → List ℕ
-unclosed_line text =
-    codes "hint: a `)` may be missing: the text has " ++ (decimal (count_of text 40)
-    ++ (codes " `(` and " ++ (decimal (count_of text 41) ++ codes " `)`\n")))
+-- how many groups begin and end
+unfoldable pub groups_line : Groups → List ℕ
+groups_line g =
+    codes "hint: a `)` may be missing: the text has " ++ (decimal g.begun
+    ++ (codes " `(` and " ++ (decimal g.ended ++ codes " `)`\n")))
+
+abbrev pub unclosed_line : Option Groups → List ℕ
+unclosed_line None = []
+unclosed_line (Some g) = groups_line g
 
 -- the word with a `$` before it
 unfoldable pub bare_name_line : List ℕ → List ℕ
@@ -79,17 +84,17 @@ same_line Fraction =
 same_line _ = []
 
 -- the hint for the token at the offset, where there is one
-abbrev pub hint_line : List ℕ → ℕ → Option Hint → List ℕ
-hint_line text at None = []
-hint_line text at (Some OldWord) = new_word_line (new_word (word_at text at))
-hint_line text at (Some Unclosed) = unclosed_line text
-hint_line text at (Some Nearest) =
+abbrev pub hint_line : List ℕ → Option Groups → ℕ → Option Hint → List ℕ
+hint_line text groups at None = []
+hint_line text groups at (Some OldWord) = new_word_line (new_word (word_at text at))
+hint_line text groups at (Some Unclosed) = unclosed_line groups
+hint_line text groups at (Some Nearest) =
     nearest_line mnemonic_word (nearest_among mnemonic_word (word_at text at) MNEMONICS)
-hint_line text at (Some NearField) =
+hint_line text groups at (Some NearField) =
     nearest_line keyword_text (nearest_among keyword_text (word_at text at) FIELD_WORDS)
-hint_line text at (Some NearType) =
+hint_line text groups at (Some NearType) =
     nearest_line keyword_text (nearest_among keyword_text (word_at text at) TYPE_WORDS)
-hint_line text at (Some BareName) = bare_name_line (word_at text at)
-hint_line text at (Some WrongEscape) =
+hint_line text groups at (Some BareName) = bare_name_line (word_at text at)
+hint_line text groups at (Some WrongEscape) =
     wrong_escape_line (place_of_offset text (escapes_end text at)).column
-hint_line text at (Some hint) = same_line hint
+hint_line text groups at (Some hint) = same_line hint

@@ -1,6 +1,6 @@
 -- What may help whoever wrote the text.
 use Rattle.std.specs.Prelude.{ℕ, ◌+◌, ◌-◌, ◌==◌, ◌&&◌, ◌||◌, Bool, true, false, List, codes, count_by}
-use Rattle.std.specs.Prelude.{not, length, nat_le, nat_lt, take, slice_index, slice_range, Option, Some, None, is_some}
+use Rattle.std.specs.Prelude.{length, nat_le, nat_lt, take, slice_index, slice_range, Option, Some, None, is_some}
 use Rattle.std.specs.Prelude.{if◌then◌else◌}
 use Rattle.std.specs.Option.{option_or}
 use Rattle.std.specs.Str.{bytes_eq}
@@ -9,9 +9,10 @@ use Rattle.wat_lexer.specs.Bytes.{between}
 use Rattle.wat_report.specs.Around.{past_word, list_start, opened_word}
 use Rattle.wat_report.specs.Escapes.{escapes_end}
 use Rattle.wat_report.specs.Found.{is_word_at, word_at, word_end}
-use Rattle.wat_report.specs.Front.{front_of, is_just_opened}
+use Rattle.wat_report.specs.Front.{is_before_groups, is_behind_group, is_in_group, is_in_two}
 use Rattle.wat_report.specs.Places.{line_stop}
 use Rattle.wat_report.specs.Rules.{names_token}
+use Rattle.wat_report.specs.declared.front.Groups.{Groups}
 use Rattle.wat_report.specs.declared.hint.Hint.{Hint}
 use Rattle.wat_report.specs.declared.hint.Hint.TheVariants.{ByteOrderMark, SeqCst, ModuleGroup}
 use Rattle.wat_report.specs.declared.hint.Hint.TheVariants.{Nearest, OldWord, Semicolon}
@@ -83,10 +84,9 @@ is_semicolon text at = slice_index text at == 59
 abbrev pub count_of : List ℕ → ℕ → ℕ
 count_of text byte = count_by (λ b. b == byte) text
 
--- the text ends at the offset, and has more `(` than `)`
-unfoldable pub is_unclosed : List ℕ → ℕ → Bool
-is_unclosed text at =
-    nat_le (length text) at && nat_lt (count_of text 41) (count_of text 40)
+-- the text ends at the offset, and a group goes on there
+unfoldable pub is_unclosed : List ℕ → Option Groups → ℕ → Bool
+is_unclosed text groups at = nat_le (length text) at && is_in_group groups
 
 -- how often a byte is in the text's line from the offset on
 unfoldable pub count_in_line : List ℕ → ℕ → ℕ → ℕ
@@ -114,23 +114,17 @@ char_hint text at =
 
 -- where another token was needed, or an instruction: of `seq_cst`, of a word of old, of a comment as in
 -- other languages, and of a text that ends too soon
-unfoldable pub token_hint : List ℕ → ℕ → Option Hint
-token_hint text at =
+unfoldable pub token_hint : List ℕ → Option Groups → ℕ → Option Hint
+token_hint text groups at =
     if bytes_eq (word_at text at) (codes "seq_cst") then Some SeqCst
     else if is_some (new_word (word_at text at)) then Some OldWord
     else if is_slash_comment text at then Some SlashComment
-    else if is_unclosed text at then Some Unclosed
+    else if is_unclosed text groups at then Some Unclosed
     else None
 
--- behind a group, and in none
-unfoldable pub is_behind_group : List ℕ → ℕ → Bool
-is_behind_group text at = ((front_of text at).groups == 0) && (front_of text at).closed
-
--- the text ends at the offset, and there is no group in it
-unfoldable pub has_no_group : List ℕ → ℕ → Bool
-has_no_group text at =
-    nat_le (length text) at
-    && (((front_of text at).groups == 0) && not (front_of text at).closed)
+-- the text ends at the offset, and no group is before it
+unfoldable pub has_no_group : List ℕ → Option Groups → ℕ → Bool
+has_no_group text groups at = nat_le (length text) at && is_before_groups groups
 
 -- a string has to stand behind the word
 abbrev pub is_string_word : List ℕ → Bool
@@ -156,10 +150,10 @@ unfoldable pub is_fraction_at : List ℕ → ℕ → Bool
 is_fraction_at text at = begins_number (slice_index text at) && is_fraction (word_at text at)
 
 -- a word is at the offset, directly behind the `(` of a group that is in one other
-unfoldable pub is_field_place : List ℕ → ℕ → Bool
-is_field_place text at =
+unfoldable pub is_field_place : List ℕ → Option Groups → ℕ → Bool
+is_field_place text groups at =
     is_word_at text at
-    && (((front_of text at).groups == 2) && is_just_opened (front_of text at).within)
+    && (nat_lt 0 at && ((slice_index text (at - 1) == 40) && is_in_two groups))
 
 -- types stand behind the word
 abbrev pub is_types_word : List ℕ → Bool
@@ -192,14 +186,14 @@ is_bare_name text at =
 -- Where another token was needed: of a module's first field where `module` was, of what stands behind
 -- the module, of a text without one, of `'`, of a number that is no integer, and of words where one
 -- of a field or of a type was.
-unfoldable pub unexpected_hint : List ℕ → ℕ → Option Hint
-unexpected_hint text at =
+unfoldable pub unexpected_hint : List ℕ → Option Groups → ℕ → Option Hint
+unexpected_hint text groups at =
     if is_first_field text at then Some ModuleGroup
-    else if is_behind_group text at then Some BehindModule
-    else if has_no_group text at then Some NoModule
+    else if is_behind_group groups then Some BehindModule
+    else if has_no_group text groups at then Some NoModule
     else if is_other_quote text at then Some OtherQuote
     else if is_fraction_at text at then Some Fraction
-    else if is_field_place text at then Some NearField
+    else if is_field_place text groups at then Some NearField
     else if is_type_place text at then Some NearType
     else None
 
@@ -213,16 +207,16 @@ operator_hint text at =
     else None
 
 -- there too, by which of the two was needed
-abbrev pub place_hint : List ℕ → ℕ → Fault → Option Hint
-place_hint text at f =
-    if is_unexpected f then unexpected_hint text at
+abbrev pub place_hint : List ℕ → Option Groups → ℕ → Fault → Option Hint
+place_hint text groups at f =
+    if is_unexpected f then unexpected_hint text groups at
     else if is_operator f then operator_hint text at
     else None
 
--- the hint for a fault, if there is one
-abbrev pub hint_of : List ℕ → ℕ → Fault → Option Hint
-hint_of text at f =
+-- the hint for a fault before whose place the groups are, if there is one
+abbrev pub hint_of : List ℕ → Option Groups → ℕ → Fault → Option Hint
+hint_of text groups at f =
     if is_lex_char f then char_hint text at
     else if is_lex_string f then string_hint text at
-    else if names_token f then option_or (token_hint text at) (place_hint text at f)
+    else if names_token f then option_or (token_hint text groups at) (place_hint text groups at f)
     else None

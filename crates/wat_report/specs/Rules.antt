@@ -5,11 +5,6 @@ use Rattle.wat_tokens.specs.Error.{Unexpected, Range, Utf8, FloatLiteral, Alignm
 use Rattle.wat_tokens.specs.Error.{Operator, ParamAfterResult, IfWithoutThen, IfTooMany, HintValue}
 use Rattle.wat_tokens.specs.Error.{HintTwice, HintPlace, ImportMixed, ImportId, HintTarget}
 
--- it has a place in the text
-abbrev pub has_place : Fault → Bool
-has_place Memory = false
-has_place _ = true
-
 -- its rule's words end with the token that was found
 abbrev pub names_token : Fault → Bool
 names_token Unexpected = true

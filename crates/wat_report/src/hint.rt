@@ -11,7 +11,7 @@ ghost use Rattle.wat_report.specs.Hints.{is_slash_comment, is_unexpected, new_wo
 ghost use Rattle.wat_report.specs.Around.{past_word, opened_word};
 ghost use Rattle.wat_report.specs.Hints.{begins_number, has_no_group, has_wrong_escape};
 ghost use Rattle.wat_report.specs.Hints.{is_bare_name};
-ghost use Rattle.wat_report.specs.Hints.{is_behind_group, is_field_place, is_fraction};
+ghost use Rattle.wat_report.specs.Hints.{is_field_place, is_fraction};
 ghost use Rattle.wat_report.specs.Hints.{is_fraction_at, is_head_word, is_other_quote};
 ghost use Rattle.wat_report.specs.Hints.{is_string_word, is_type_place, is_types_word};
 ghost use Rattle.wat_report.specs.Hints.{operator_hint, token_hint, unexpected_hint};
@@ -19,7 +19,7 @@ ghost use Rattle.wat_report.specs.Hints.{operator_hint, token_hint, unexpected_h
 use crate::around::{list_start, opened_word, past_word};
 use crate::escapes::escapes_end;
 use crate::found::{is_word_at, word_at, word_end};
-use crate::front::{front_of, is_just_opened};
+use crate::front::{Groups, is_before_groups, is_behind_group, is_in_group, is_in_two};
 use crate::nearest::LONGEST;
 use crate::place::line_stop;
 use crate::rules::names_token;
@@ -172,18 +172,18 @@ fn is_first_field(text: &str, at: usize) -> bool
 }
 
 /// How often a byte is in the text.
-pub(crate) fn count_of(text: &str, byte: u8) -> usize
+fn count_of(text: &str, byte: u8) -> usize
     ensures { result ≡ count_of text.now byte }
 {
     text.bytes().filter(|b| *b == byte).count()
 }
 
-/// Whether the text ends at the offset, and has more `(` than `)`.
+/// Whether the text ends at the offset, and a group goes on there.
 #[tactic(auto, unfolding(crate::specs::Hints::is_unclosed))]
-fn is_unclosed(text: &str, at: usize) -> bool
-    ensures { result ≡ is_unclosed text.now at }
+fn is_unclosed(text: &str, groups: Option<Groups>, at: usize) -> bool
+    ensures { result ≡ is_unclosed text.now groups at }
 {
-    text.len() <= at && count_of(text, b')') < count_of(text, b'(')
+    text.len() <= at && is_in_group(groups)
 }
 
 /// How often a byte is in the text's line from the offset on.
@@ -240,10 +240,10 @@ fn char_hint(text: &str, at: usize) -> Option<Hint>
 
 /// The hint where another token was needed, or an instruction, if the token itself has one.
 #[tactic(auto, unfolding(crate::specs::Hints::token_hint))]
-fn token_hint(text: &str, at: usize) -> Option<Hint>
+fn token_hint(text: &str, groups: Option<Groups>, at: usize) -> Option<Hint>
     requires within { at ≤ length text.now }
     requires boundary { IsCharBoundary text.now at }
-    ensures { result ≡ token_hint text.now at }
+    ensures { result ≡ token_hint text.now groups at }
 {
     let word = word_at(text, at);
     if word == "seq_cst" {
@@ -255,30 +255,19 @@ fn token_hint(text: &str, at: usize) -> Option<Hint>
     if is_slash_comment(text, at) {
         return Some(Hint::SlashComment);
     }
-    if is_unclosed(text, at) {
+    if is_unclosed(text, groups, at) {
         return Some(Hint::Unclosed);
     }
     None
 }
 
-/// Whether the offset is behind a group, and in none.
-#[tactic(auto, unfolding(crate::specs::Hints::is_behind_group))]
-fn is_behind_group(text: &str, at: usize) -> bool
-    requires { at ≤ length text.now }
-    ensures { result ≡ is_behind_group text.now at }
-{
-    let front = front_of(text, at);
-    front.groups == 0 && front.closed
-}
-
-/// Whether the text ends at the offset, and there is no group in it.
+/// Whether the text ends at the offset, and there is no group before it.
 #[tactic(auto, unfolding(crate::specs::Hints::has_no_group))]
-fn has_no_group(text: &str, at: usize) -> bool
+fn has_no_group(text: &str, groups: Option<Groups>, at: usize) -> bool
     requires { at ≤ length text.now }
-    ensures { result ≡ has_no_group text.now at }
+    ensures { result ≡ has_no_group text.now groups at }
 {
-    let front = front_of(text, at);
-    text.len() <= at && front.groups == 0 && !front.closed
+    text.len() <= at && is_before_groups(groups)
 }
 
 /// Whether a string has to stand behind the word.
@@ -330,12 +319,11 @@ fn is_fraction_at(text: &str, at: usize) -> bool
 
 /// Whether a word is at the offset, directly behind the `(` of a group that is in one other.
 #[tactic(auto, unfolding(crate::specs::Hints::is_field_place))]
-fn is_field_place(text: &str, at: usize) -> bool
+fn is_field_place(text: &str, groups: Option<Groups>, at: usize) -> bool
     requires { at ≤ length text.now }
-    ensures { result ≡ is_field_place text.now at }
+    ensures { result ≡ is_field_place text.now groups at }
 {
-    let front = front_of(text, at);
-    is_word_at(text, at) && front.groups == 2 && is_just_opened(front.within)
+    is_word_at(text, at) && at > 0 && text.as_bytes()[at - 1] == b'(' && is_in_two(groups)
 }
 
 /// Whether types stand behind the word.
@@ -388,18 +376,18 @@ fn is_bare_name(text: &str, at: usize) -> bool
 
 /// The hint where another token was needed.
 #[tactic(auto, unfolding(crate::specs::Hints::unexpected_hint))]
-fn unexpected_hint(text: &str, at: usize) -> Option<Hint>
+fn unexpected_hint(text: &str, groups: Option<Groups>, at: usize) -> Option<Hint>
     requires within { at ≤ length text.now }
     requires boundary { IsCharBoundary text.now at }
-    ensures { result ≡ unexpected_hint text.now at }
+    ensures { result ≡ unexpected_hint text.now groups at }
 {
     if is_first_field(text, at) {
         return Some(Hint::ModuleGroup);
     }
-    if is_behind_group(text, at) {
+    if is_behind_group(groups) {
         return Some(Hint::BehindModule);
     }
-    if has_no_group(text, at) {
+    if has_no_group(text, groups, at) {
         return Some(Hint::NoModule);
     }
     if is_other_quote(text, at) {
@@ -408,7 +396,7 @@ fn unexpected_hint(text: &str, at: usize) -> Option<Hint>
     if is_fraction_at(text, at) {
         return Some(Hint::Fraction);
     }
-    if is_field_place(text, at) {
+    if is_field_place(text, groups, at) {
         return Some(Hint::NearField);
     }
     if is_type_place(text, at) {
@@ -437,13 +425,13 @@ fn operator_hint(text: &str, at: usize) -> Option<Hint>
 }
 
 /// The hint where another token was needed, or an instruction.
-fn place_hint(text: &str, at: usize, fault: Fault) -> Option<Hint>
+fn place_hint(text: &str, groups: Option<Groups>, at: usize, fault: Fault) -> Option<Hint>
     requires within { at ≤ length text.now }
     requires boundary { IsCharBoundary text.now at }
-    ensures { result ≡ place_hint text.now at fault }
+    ensures { result ≡ place_hint text.now groups at fault }
 {
     if is_unexpected(fault) {
-        return unexpected_hint(text, at);
+        return unexpected_hint(text, groups, at);
     }
     if is_operator(fault) {
         return operator_hint(text, at);
@@ -451,11 +439,11 @@ fn place_hint(text: &str, at: usize, fault: Fault) -> Option<Hint>
     None
 }
 
-/// The hint for a fault at the character that begins at the offset.
-pub(crate) fn hint_of(text: &str, at: usize, fault: Fault) -> Option<Hint>
+/// The hint for a fault at the character that begins at the offset, before which the groups are.
+pub(crate) fn hint_of(text: &str, groups: Option<Groups>, at: usize, fault: Fault) -> Option<Hint>
     requires within { at ≤ length text.now }
     requires boundary { IsCharBoundary text.now at }
-    ensures { result ≡ hint_of text.now at fault }
+    ensures { result ≡ hint_of text.now groups at fault }
 {
     if is_lex_char(fault) {
         return char_hint(text, at);
@@ -464,7 +452,7 @@ pub(crate) fn hint_of(text: &str, at: usize, fault: Fault) -> Option<Hint>
         return string_hint(text, at);
     }
     if names_token(fault) {
-        return token_hint(text, at).or(place_hint(text, at, fault));
+        return token_hint(text, groups, at).or(place_hint(text, groups, at, fault));
     }
     None
 }

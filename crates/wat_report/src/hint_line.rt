@@ -1,22 +1,23 @@
 //! The line of a hint.
 
-ghost use Rattle.std.specs.Prelude.{◌≡◌, ◌++◌, ◌≤◌, OnOk, decimal, flat_map, length};
+ghost use Rattle.std.specs.Prelude.{◌≡◌, ◌++◌, ◌≤◌, OnOk, flat_map, length};
 ghost use Rattle.std.specs.Str.{IsCharBoundary};
 ghost use Rattle.wat_mnemonics.specs.Heads.{mnemonic_word};
 ghost use Rattle.wat_mnemonics.specs.declared.table.TheConstants.{MNEMONICS};
 ghost use Rattle.wat_report.specs.HintLine.{bare_name_line, hint_line, in_backquotes, nearest_line};
 ghost use Rattle.wat_report.specs.HintLine.{new_word_line, next_quoted, question_line, same_line};
-ghost use Rattle.wat_report.specs.HintLine.{unclosed_line, wrong_escape_line};
+ghost use Rattle.wat_report.specs.HintLine.{groups_line, unclosed_line, wrong_escape_line};
 ghost use Rattle.wat_report.specs.Places.{place_of_offset};
 ghost use Rattle.wat_report.specs.Meant.{keyword_text};
 ghost use Rattle.wat_report.specs.Escapes.{escapes_end};
-ghost use Rattle.wat_report.specs.Hints.{count_of, hint_of, new_word};
+ghost use Rattle.wat_report.specs.Hints.{hint_of, new_word};
 ghost use Rattle.wat_report.specs.Nearest.{nearest_among};
 ghost use Rattle.wat_report.specs.declared.meant.TheConstants.{FIELD_WORDS, TYPE_WORDS};
 
 use crate::escapes::escapes_end;
 use crate::found::word_at;
-use crate::hint::{Hint, count_of, hint_of, new_word};
+use crate::front::Groups;
+use crate::hint::{Hint, hint_of, new_word};
 use crate::meant::{FIELD_WORDS, TYPE_WORDS};
 use crate::nearest::{Spelled, nearest_among};
 use crate::place::line_column;
@@ -115,23 +116,26 @@ fn add_new_word(out: &mut Vec<u8>, word: &str) -> Result<(), AllocError>
     add(out, "` today\n")
 }
 
-/// Adds words and how often a byte is in the text.
-fn add_count(out: &mut Vec<u8>, words: &str, text: &str, byte: u8) -> Result<(), AllocError>
-    ensures { OnOk result (out.new.items ≡ out.old.items ++ (words.now
-        ++ decimal (count_of text.now byte))) }
+/// Adds how many groups begin and end in a text that ends too soon.
+#[tactic(auto, unfolding(crate::specs::HintLine::groups_line))]
+fn add_groups(out: &mut Vec<u8>, groups: Groups) -> Result<(), AllocError>
+    ensures { OnOk result (out.new.items ≡ out.old.items ++ groups_line groups) }
 {
-    add(out, words)?;
-    add_number(out, count_of(text, byte))
+    add(out, "hint: a `)` may be missing: the text has ")?;
+    add_number(out, groups.begun)?;
+    add(out, " `(` and ")?;
+    add_number(out, groups.ended)?;
+    add(out, " `)`\n")
 }
 
 /// Adds the line of a text that ends too soon.
-#[tactic(auto, unfolding(crate::specs::HintLine::unclosed_line))]
-fn add_unclosed(out: &mut Vec<u8>, text: &str) -> Result<(), AllocError>
-    ensures { OnOk result (out.new.items ≡ out.old.items ++ unclosed_line text.now) }
+fn add_unclosed(out: &mut Vec<u8>, groups: Option<Groups>) -> Result<(), AllocError>
+    ensures { OnOk result (out.new.items ≡ out.old.items ++ unclosed_line groups) }
 {
-    add_count(out, "hint: a `)` may be missing: the text has ", text, b'(')?;
-    add_count(out, " `(` and ", text, b')')?;
-    add(out, " `)`\n")
+    match groups {
+        None => Ok(()),
+        Some(groups) => add_groups(out, groups),
+    }
 }
 
 /// Adds the line of a name without its `$`.
@@ -198,18 +202,19 @@ fn same_line(hint: Hint) -> &'static str
 pub(crate) fn add_hint(
     out: &mut Vec<u8>,
     text: &str,
+    groups: Option<Groups>,
     at: usize,
     fault: Fault,
 ) -> Result<(), AllocError>
     requires within { at ≤ length text.now }
     requires boundary { IsCharBoundary text.now at }
-    ensures { OnOk result (out.new.items ≡ out.old.items ++ hint_line text.now at
-        (hint_of text.now at fault)) }
+    ensures { OnOk result (out.new.items ≡ out.old.items ++ hint_line text.now groups
+        at (hint_of text.now groups at fault)) }
 {
-    match hint_of(text, at, fault) {
+    match hint_of(text, groups, at, fault) {
         None => Ok(()),
         Some(Hint::OldWord) => add_new_word(out, word_at(text, at)),
-        Some(Hint::Unclosed) => add_unclosed(out, text),
+        Some(Hint::Unclosed) => add_unclosed(out, groups),
         Some(Hint::Nearest) => add_near_mnemonics(out, word_at(text, at)),
         Some(Hint::NearField) => add_near_fields(out, word_at(text, at)),
         Some(Hint::NearType) => add_near_types(out, word_at(text, at)),

@@ -1,14 +1,16 @@
 //! The report of a fault.
 
-ghost use Rattle.std.specs.Prelude.{◌≡◌, ◌++◌, ◌≤◌, OnOk, length};
+ghost use Rattle.std.specs.Prelude.{◌≡◌, ◌++◌, ◌≤◌, ℕ, List, OnOk, length};
 ghost use Rattle.std.specs.Str.{IsCharBoundary};
 ghost use Rattle.wat_tokens.specs.Place.{offset_of};
-ghost use Rattle.wat_report.specs.Report.{heading_text, message_text, placed_report, report_text};
+ghost use Rattle.wat_report.specs.Report.{heading_text, message_text};
+ghost use Rattle.wat_report.specs.Report.{AddsReport, IsPlacedReport, placed_report};
 
 use crate::found::{add_found, is_word_at};
+use crate::front::{Groups, groups_of};
 use crate::hint_line::add_hint;
 use crate::place::{Place, char_start, place_of_char};
-use crate::rules::{has_place, names_token, rule};
+use crate::rules::{names_token, rule};
 use crate::shown::add_line;
 use crate::write::{add, add_number};
 use std::alloc::AllocError;
@@ -37,6 +39,28 @@ fn add_message(out: &mut Vec<u8>, text: &str, at: usize, fault: Fault) -> Result
     Ok(())
 }
 
+/// Adds the report of a fault at the character that begins at the offset, before which the groups
+/// are.
+fn add_parts(
+    out: &mut Vec<u8>,
+    name: &str,
+    text: &str,
+    groups: Option<Groups>,
+    at: usize,
+    fault: Fault,
+) -> Result<(), AllocError>
+    requires within { at ≤ length text.now }
+    requires boundary { IsCharBoundary text.now at }
+    ensures { OnOk result (out.new.items ≡ out.old.items ++ placed_report name.now text.now groups at
+        fault) }
+{
+    add_heading(out, name, place_of_char(text, at))?;
+    add_message(out, text, at, fault)?;
+    add(out, "\n")?;
+    add_line(out, text, at)?;
+    add_hint(out, text, groups, at, fault)
+}
+
 /// Adds the report of a fault at the character that begins at the offset.
 fn add_placed(
     out: &mut Vec<u8>,
@@ -47,14 +71,11 @@ fn add_placed(
 ) -> Result<(), AllocError>
     requires within { at ≤ length text.now }
     requires boundary { IsCharBoundary text.now at }
-    ensures { OnOk result (out.new.items ≡ out.old.items ++ placed_report name.now text.now at
-        fault) }
+    ensures { OnOk result ((said : List ℕ) × IsPlacedReport name.now text.now at fault said
+        × (out.new.items ≡ out.old.items ++ said)) }
 {
-    add_heading(out, name, place_of_char(text, at))?;
-    add_message(out, text, at, fault)?;
-    add(out, "\n")?;
-    add_line(out, text, at)?;
-    add_hint(out, text, at, fault)
+    let groups = groups_of(*out.allocator(), &text[..at])?;
+    add_parts(out, name, text, groups, at, fault)
 }
 
 /// Adds the report of an error in a text of that name.
@@ -65,14 +86,20 @@ fn add_placed(
 /// memory has no place: its report is the line `NAME: error: memory ran out`.
 ///
 /// It fails if memory runs out. Then a beginning of the report may have been added.
+#[tactic(auto, unfolding(crate::specs::Report::IsReport))]
 pub fn add_report(out: &mut Vec<u8>, name: &str, text: &str, error: Error) -> Result<(), AllocError>
-    ensures { OnOk result (out.new.items ≡ out.old.items ++ report_text name.now text.now
-        (offset_of error.span) error.fault) }
+    ensures { OnOk result (AddsReport name.now text.now (offset_of error.span) error.fault
+        out.old.items out.new.items) }
 {
-    if has_place(error.fault) {
-        let at = char_start(text, error.span.offset());
-        return add_placed(out, name, text, at, error.fault);
+    if error.fault == Fault::Memory {
+        add(out, name)?;
+        return add(out, ": error: memory ran out\n");
     }
-    add(out, name)?;
-    add(out, ": error: memory ran out\n")
+    add_placed(
+        out,
+        name,
+        text,
+        char_start(text, error.span.offset()),
+        error.fault,
+    )
 }

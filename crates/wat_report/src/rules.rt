@@ -1,16 +1,9 @@
 //! What is wrong, in words.
 
 ghost use Rattle.std.specs.Prelude.{◌≡◌};
-ghost use Rattle.wat_report.specs.Rules.{has_place, names_token, rule_text};
+ghost use Rattle.wat_report.specs.Rules.{names_token, rule_text};
 
 use wat_tokens::Fault;
-
-/// Whether the fault has a place in the text.
-pub(crate) fn has_place(fault: Fault) -> bool
-    ensures { result ≡ has_place fault }
-{
-    !matches!(fault, Fault::Memory)
-}
 
 /// Whether the rule's words end with the token that was found.
 pub(crate) fn names_token(fault: Fault) -> bool

@@ -1,4 +1,4 @@
-use Rattle.std.proofs.Common.{◌+◌, [], refl, ap, sym, subst, arith, ◌++◌}
+use Rattle.std.proofs.Common.{◌+◌, [], refl, ap, sym, ◌++◌}
 use Rattle.std.specs.String.{string_bytes}
 use Rattle.std.proofs.KnownBytes.{Appends-nil, Appends-trans}
 use Rattle.wat.specs.Runs.{ShowsOfName, none}
