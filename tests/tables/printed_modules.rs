@@ -1,10 +1,10 @@
 //! Modules are printed, and what was printed is read again, and printed as the same text.
 
-use crate::printed::Unprinted;
+use crate::printed::{Unprinted, add_unless_wanted};
 use crate::printed_functions::add_changed_parts;
 use crate::reading::repeated;
 use bumpalo::Bump;
-use std::alloc::Global;
+use std::alloc::{AllocError, Global};
 use std::test::Fail;
 use wat_core::{Id, Module, ModuleField, ModuleKind, Span, VisibleModule, read_module};
 use wat_print::{Layout, Refused};
@@ -51,17 +51,27 @@ const MODULES: &[(&str, &str)] = &[
     ),
 ];
 
-#[test]
-fn modules(rt: HostRuntime) -> Result<(), Fail> {
-    let alloc = rt.alloc();
-    for &(text, wanted) in MODULES {
+/// Adds each module of which something else is printed than what stands beside it, and each of the
+/// latter that isn't printed as itself.
+fn add_misprinted_modules(
+    wrong: &mut String,
+    rows: &[(&str, &str)],
+    layout: Layout,
+) -> Result<(), AllocError> {
+    let alloc = *wrong.allocator();
+    for &(text, wanted) in rows {
         for from in [text, wanted] {
-            match reprinted(alloc, from, Layout::Line) {
-                Ok(printed) => assert_eq!(rt; printed.as_str(), wanted),
-                Err(error) => assert!(rt; false, "{from}: {error:?}"),
-            }
+            add_unless_wanted(wrong, from, wanted, reprinted(alloc, from, layout))?;
         }
     }
+    Ok(())
+}
+
+#[test]
+fn modules(rt: HostRuntime) -> Result<(), Fail> {
+    let mut wrong = String::new(rt.alloc());
+    add_misprinted_modules(&mut wrong, MODULES, Layout::Line)?;
+    assert_eq!(rt; wrong.as_str(), "");
     Ok(())
 }
 
@@ -101,15 +111,9 @@ const LINES: &[(&str, &str)] = &[
 
 #[test]
 fn lines_of_modules(rt: HostRuntime) -> Result<(), Fail> {
-    let alloc = rt.alloc();
-    for &(text, wanted) in LINES {
-        for from in [text, wanted] {
-            match reprinted(alloc, from, Layout::Indented) {
-                Ok(lines) => assert_eq!(rt; lines.as_str(), wanted),
-                Err(error) => assert!(rt; false, "{from}: {error:?}"),
-            }
-        }
-    }
+    let mut wrong = String::new(rt.alloc());
+    add_misprinted_modules(&mut wrong, LINES, Layout::Indented)?;
+    assert_eq!(rt; wrong.as_str(), "");
     Ok(())
 }
 
