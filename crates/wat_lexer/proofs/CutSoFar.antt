@@ -1,6 +1,6 @@
 -- The invariant of the cut: what was cut, and what the rest may still be.
-use Rattle.std.proofs.Common.{◌≡◌, ℕ, suc, ◌-◌, ◌≤◌, List, [], ◌∷◌, ◌++◌, length, drop, refl, ap, subst, ◌∙◌, arith, sym, inl, inr, append_assoc, append-nil, length-drop}
-use Rattle.std.specs.Prelude.{Bool, true, false, ◌||◌, ◌&&◌, ◌==◌}
+use Rattle.std.proofs.Common.{◌≡◌, ℕ, suc, ◌-◌, ◌<◌, ◌≤◌, List, [], ◌∷◌, ◌++◌, length, drop, refl, ap, subst, ◌∙◌, arith, sym, inl, inr, append_assoc, append-nil, length-drop}
+use Rattle.std.specs.Prelude.{Bool, true, false, ◌||◌, ◌&&◌, ◌==◌, nat_lt, if◌then◌else◌}
 use Rattle.std.proofs.lemmas.Bool.{cases_Bool}
 use Rattle.std.proofs.lemmas.List.{map-append}
 use Rattle.std.proofs.lemmas.Bool.Decides.{nat_tests}
@@ -58,6 +58,19 @@ pub over_spaces : {text : List ℕ} {ts : List Placed} {behind : Bool} (end next
 over_spaces {text} {ts} {behind} end next h k e so =
     let same : (next == end) ≡ (length (behind_spaces (drop end text)) == length (drop end text)) = grind (arith, nat_tests, length-drop end text, length-drop next text, sym e) in
     rw (same, e) (spaces (drop end text) so)
+
+-- whether a `(` is directly before the next piece, by where the last one ends
+opened_next : (opens : Bool) (opened at end next : ℕ) → opened ≤ at → at < end → end ≤ next → (opens && (next == end)) ≡ ((next == (if opens then end else opened)) && nat_lt 0 next)
+opened_next true opened at end next far order spaces = grind (arith, nat_tests)
+opened_next false opened at end next far order spaces = grind (arith, nat_tests)
+
+pub opened_within : (opens : Bool) (opened at end next : ℕ) → opened ≤ at → at < end → end ≤ next → (if opens then end else opened) ≤ next
+opened_within true opened at end next far order spaces = spaces
+opened_within false opened at end next far order spaces = omega arith
+
+pub over_piece : {text : List ℕ} {ts : List Placed} (opens : Bool) (opened at end next : ℕ) → opened ≤ at → at < end → end ≤ next → next ≤ length text → drop next text ≡ behind_spaces (drop end text) → CutSoFar text ts opens (drop end text) → CutSoFar text ts ((next == (if opens then end else opened)) && nat_lt 0 next) (drop next text)
+over_piece {text} {ts} opens opened at end next far order spaces within e so =
+    subst (λ b. CutSoFar text ts b (drop next text)) (opened_next opens opened at end next far order spaces) (over_spaces end next spaces within e so)
 
 pub over_token : {text rest next : List ℕ} {ts : List Placed} {t : Tok} (offset : ℕ) {behind : Bool} → CutSoFar text ts behind rest → front behind rest ≡ TokenTo t next → offset ≡ length text - length rest → CutSoFar text (ts ++ record { token = t; offset = offset } ∷ []) (is_open t) next
 over_token {text} {rest} {next} {ts} {t} offset so e place = record {

@@ -93,7 +93,7 @@ not_begins : (t : List ℕ) → Begins (λ b. not (b == 59)) t → begins 59 t �
 not_begins [] e = refl
 not_begins (c ∷ t) e = grind (arith, nat_tests)
 
-in_run_front : (behind : Bool) (b : ℕ) (t : List ℕ) → (is_idchar b ≡ true) ⊎ (b ≡ 34) → front behind (b ∷ t) ≡ run_front behind (b ∷ t) (behind_run Between (b ∷ t))
+pub in_run_front : (behind : Bool) (b : ℕ) (t : List ℕ) → (is_idchar b ≡ true) ⊎ (b ≡ 34) → front behind (b ∷ t) ≡ run_front behind (b ∷ t) (behind_run Between (b ∷ t))
 unfolding front
 in_run_front behind b t (inl h) =
     rw (excluded b 32 h refl, excluded b 9 h refl, excluded b 10 h refl, excluded b 13 h refl, excluded b 40 h refl, excluded b 41 h refl, excluded b 59 h refl)

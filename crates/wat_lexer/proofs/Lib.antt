@@ -1,9 +1,9 @@
 pub mod Classes
 pub mod Closing
+pub mod Commons
 pub mod CutSoFar
 pub mod Entries
 pub mod Fronts
-pub mod Idchars
 pub mod Outcomes
 pub mod Pieces
 pub mod Places
@@ -12,5 +12,6 @@ pub mod Rows
 pub mod Skips
 pub mod Steps
 pub mod Strings
+pub mod Tables
 pub mod Values
 pub mod Whole

@@ -96,8 +96,6 @@ raw_more from i s l h e same =
     let here : string_at Raw (drop i s) ≡ with_front (get_or s i 0 ∷ []) (string_at Raw (drop (i + 1) s)) = grind (arith, string_step, nat_tests) in
     rw (slice_more from i s l h, same, here) (front_front (slice_range s from i) (get_or s i 0 ∷ []) (string_at Raw (drop (i + 1) s)))
 
-pub ruleset raw_steps = (raw_none, raw_more)
-
 pub closing_step : (i : ℕ) (s : List ℕ) → i < length s → closing (drop i s) ≡ (if get_or s i 0 == 34 then Some ([], drop (i + 1) s) else None)
 closing_step i s h = rw (at_front i s h)
 
@@ -124,8 +122,6 @@ pub line_over : (i : ℕ) (s : List ℕ) → length s ≤ i → behind_line (dro
 unfolding behind_line
 line_over i s h = rw (drop_of_length-le s h)
 
-pub ruleset line_steps = (line_step, line_over, nat_tests)
-
 pub space_step : (i : ℕ) (s : List ℕ) → i < length s → behind_spaces (drop i s) ≡ (if is_space (get_or s i 0) then behind_spaces (drop (i + 1) s) else drop i s)
 unfolding behind_spaces
 space_step i s h = rw (at_front i s h)
@@ -133,8 +129,6 @@ space_step i s h = rw (at_front i s h)
 pub space_over : (i : ℕ) (s : List ℕ) → length s ≤ i → behind_spaces (drop i s) ≡ drop i s
 unfolding behind_spaces
 space_over i s h = rw (drop_of_length-le s h)
-
-pub ruleset space_steps = (space_step, space_over, nat_tests)
 
 pub run_step : (i : ℕ) (s : List ℕ) → i < length s → behind_run Between (drop i s) ≡ (if get_or s i 0 == 34 then then_run (drop i s) (rest_at (drop (i + 1) s)) else (if is_idchar (get_or s i 0) then behind_run Between (drop (i + 1) s) else Ends (drop i s)))
 run_step i s h = rw (at_front i s h) (run_cons (get_or s i 0) (drop (i + 1) s))
@@ -168,5 +162,3 @@ plain_more from i s l h all e = rw (slice_more from i s l h) (all_push (slice_ra
 pub plain_none : (from : ℕ) (s : List ℕ) → all_idchars (slice_range s from from) ≡ true
 unfolding all_idchars
 plain_none from s = rw (slice_none from s)
-
-pub ruleset plain_steps = (plain_more, plain_none, run_idchar)

@@ -2,11 +2,12 @@
 
 ghost use Rattle.std.specs.Prelude.{◌≡◌, ◌&&◌, ◌==◌, ◌+◌, ◌-◌, ◌≤◌, ◌<◌};
 ghost use Rattle.std.specs.Prelude.{IfOk, IfErr, IfSome, ℕ, List};
-ghost use Rattle.std.specs.Prelude.{true, false, length, drop, slice_range, slice_index};
+ghost use Rattle.std.specs.Prelude.{true, false, length, drop, slice_range, slice_index, nat_lt};
+ghost use Rattle.std.specs.Prelude.{if◌then◌else◌};
 ghost use Rattle.wat_lexer.specs.Cut.{Cuts, FirstFault, IsCut};
 ghost use Rattle.wat_lexer.specs.Place.{offset_of};
 ghost use Rattle.wat_lexer.specs.Scan.{front, run_front, behind_run, all_idchars, Between, Ends};
-ghost use Rattle.wat_lexer.specs.Token.{Placed, has_annotation, is_annotation};
+ghost use Rattle.wat_lexer.specs.Token.{Placed, has_annotation, is_annotation, is_open};
 ghost use Rattle.wat_lexer.specs.View.{view, toks, placed, is_paren, lying, AreSkips, IsPut};
 ghost use Rattle.wat_lexer.specs.View.{FrontGives, IfFault, FailsAt, HasRoom, is_word};
 ghost use Rattle.wat_lexer.specs.View.{FoundFits, found_tok};
@@ -14,9 +15,12 @@ ghost use Rattle.wat_lexer.specs.declared.fault.Fault.{Fault};
 ghost use Rattle.wat_lexer.specs.declared.lexeme.SideEntry.{SideEntry};
 
 use crate::class::{content, part, plain_kind, string_token};
+use crate::common::common_token;
 use crate::fault::{Error, Fault, fault_at};
 use crate::groups::tell_skips;
-use crate::lexeme::{Kind, SideEntry, Skips, has_room, is_annotation_kind, is_open, is_word, kept};
+use crate::lexeme::{
+    Kind, SideEntry, Skips, has_room, is_annotation_kind, is_open, is_word, kept, kept_near,
+};
 use crate::scan::{comment_end, is_space, line_end, plain_end, run_end, spaces_end};
 use crate::string::string_end;
 use crate::token::{Token, is_annotation};
@@ -234,6 +238,8 @@ fn put_word<'a>(
 
 /// What is in front. A word for which what is kept of a token has no room is put into the side
 /// table too.
+// What is common is told without it.
+#[inline(never)]
 fn next_piece<'a>(
     text: &'a str,
     at: usize,
@@ -279,11 +285,20 @@ fn any_annotation(side_table: &[SideEntry]) -> bool
     false
 }
 
-/// Whether a `(` that ends at a place is directly before another.
-fn directly(opens: bool, end: usize, next: usize) -> bool
-    ensures { result ≡ (opens && (next == end)) }
+/// Whether a `(` is directly before a place, by where the last one ends, or 0 where there is none.
+fn directly(opened: usize, at: usize) -> bool
+    ensures { result ≡ ((at == opened) && nat_lt 0 at) }
 {
-    opens && next == end
+    at == opened && at > 0
+}
+
+/// Where the last `(` ends, behind a token of the kind.
+fn last_opened(kind: Kind, end: usize, opened: usize) -> usize
+    ensures { (text : List ℕ) (side_table : List SideEntry) (at : ℕ)
+        → FoundFits text side_table at end kind
+        → result ≡ (if is_open (found_tok text side_table at end kind) then end else opened) }
+{
+    if is_open(kind) { end } else { opened }
 }
 
 /// Cuts a text into pieces. The flag says whether an annotation is among the tokens.
@@ -296,25 +311,32 @@ fn cut_pieces<'a>(
     ensures noted { IfOk result (λ v. v.1 ≡ has_annotation (toks v.0)) }
     ensures fails { IfErr result (λ e. IfFault e (FailsAt text.now e)) }
 {
+    let bytes = text.as_bytes();
     let mut tokens = Vec::with_capacity(alloc, text.len() / 4)?;
     let mut side_table = Vec::new(alloc);
-    let mut behind = false;
+    let mut opened = 0;
     let mut at = 0;
-    while at < text.len() {
-        let piece = match next_piece(text, at, behind, arena, &mut side_table) {
-            Err(e) => return Err(e),
-            Ok(piece) => piece,
-        };
-        let next = spaces_end(text.as_bytes(), piece.end);
-        match piece.kind {
-            None => {
-                behind = false;
-                at = next;
+    while at < bytes.len() {
+        match common_token(bytes, at) {
+            Some((kind, end)) => {
+                opened = last_opened(kind, end, opened);
+                tokens.push(kept_near(kind, at, end, side_table.len()))?;
+                at = spaces_end(bytes, end);
             }
-            Some(kind) => {
-                behind = directly(is_open(kind), piece.end, next);
-                tokens.push(kept(kind, at, piece.end, side_table.len()))?;
-                at = next;
+            None => {
+                let behind = directly(opened, at);
+                let piece = match next_piece(text, at, behind, arena, &mut side_table) {
+                    Err(e) => return Err(e),
+                    Ok(piece) => piece,
+                };
+                match piece.kind {
+                    None => at = spaces_end(bytes, piece.end),
+                    Some(kind) => {
+                        opened = last_opened(kind, piece.end, opened);
+                        tokens.push(kept(kind, at, piece.end, side_table.len()))?;
+                        at = spaces_end(bytes, piece.end);
+                    }
+                }
             }
         }
     }

@@ -169,3 +169,51 @@ pub fn kept(kind: Kind, at: usize, end: usize, side_table: usize) -> Lexeme
         _ => word(kind, at, end),
     }
 }
+
+/// What is kept of a paren in a text's first 4 GiB.
+fn near_paren(kind: Kind, at: usize) -> Lexeme
+    requires near { at < 4294967296 }
+    requires no_word { is_word kind ≡ false }
+    ensures number { own_number result ≡ at }
+    ensures kind { result.kind ≡ kind }
+{
+    Lexeme {
+        low: at as u32,
+        size: 0,
+        high: 0,
+        kind,
+    }
+}
+
+/// What is kept of a word between two places of a text's first 4 GiB.
+fn near_word(kind: Kind, at: usize, end: usize) -> Lexeme
+    requires order { at < end }
+    requires near { end < 4294967296 }
+    requires a_word { is_word kind ≡ true }
+    ensures number { own_number result ≡ at }
+    ensures end { own_number result + result.size ≡ end }
+    ensures kind { result.kind ≡ kind }
+{
+    Lexeme {
+        low: at as u32,
+        size: (end - at) as u32,
+        high: 0,
+        kind,
+    }
+}
+
+/// What is kept of a token between two places of a text's first 4 GiB; of a paren or a word nothing
+/// has to be split.
+#[inline(always)]
+pub fn kept_near(kind: Kind, at: usize, end: usize, side_table: usize) -> Lexeme
+    requires order { at < end }
+    requires near { end < 4294967296 }
+    ensures { (text : List ℕ) (lie : List SideEntry) → length lie ≡ side_table
+        → FoundFits text lie at end kind → WasKept text lie at end kind result }
+{
+    match kind {
+        Kind::LParen | Kind::RParen => near_paren(kind, at),
+        Kind::Annotation | Kind::InSideTable => kept(kind, at, end, side_table),
+        _ => near_word(kind, at, end),
+    }
+}

@@ -2,6 +2,7 @@
 #![tactic(auto)]
 
 pub mod class;
+pub mod common;
 pub mod cut;
 pub mod fault;
 pub mod groups;
@@ -12,5 +13,6 @@ pub mod scan;
 pub mod sight;
 pub mod span;
 pub mod string;
+pub mod table;
 pub mod token;
 pub mod tokens;

@@ -7,40 +7,16 @@ ghost use Rattle.wat_lexer.specs.Scan.{behind_comment, behind_line, behind_run, 
 ghost use Rattle.wat_lexer.specs.Scan.{all_idchars, Between, RunEndIs};
 
 use crate::string::string_end;
+use crate::table::{IDCHARS, IN_COMMENT, IN_LINE, SPACES, marked_end};
 
+#[tactic(auto, using(crate::proofs::Tables::space_at))]
 pub fn is_space(b: u8) -> bool
     ensures { result ≡ is_space b }
 {
-    // (one comparison tells it of the bytes of words)
-    b <= b' ' && matches!(b, b' ' | b'\t' | b'\n' | b'\r')
+    SPACES[usize::from(b)]
 }
 
-const T: bool = true;
-
-const F: bool = false;
-
-/// Which bytes are idchars, 16 in each row.
-#[rattlefmt::skip]
-static IDCHARS: [bool; 256] = [
-    F, F, F, F, F, F, F, F, F, F, F, F, F, F, F, F,
-    F, F, F, F, F, F, F, F, F, F, F, F, F, F, F, F,
-    F, T, F, T, T, T, T, T, F, F, T, T, F, T, T, T,
-    T, T, T, T, T, T, T, T, T, T, T, F, T, T, T, T,
-    T, T, T, T, T, T, T, T, T, T, T, T, T, T, T, T,
-    T, T, T, T, T, T, T, T, T, T, T, F, T, F, T, T,
-    T, T, T, T, T, T, T, T, T, T, T, T, T, T, T, T,
-    T, T, T, T, T, T, T, T, T, T, T, F, T, F, T, F,
-    F, F, F, F, F, F, F, F, F, F, F, F, F, F, F, F,
-    F, F, F, F, F, F, F, F, F, F, F, F, F, F, F, F,
-    F, F, F, F, F, F, F, F, F, F, F, F, F, F, F, F,
-    F, F, F, F, F, F, F, F, F, F, F, F, F, F, F, F,
-    F, F, F, F, F, F, F, F, F, F, F, F, F, F, F, F,
-    F, F, F, F, F, F, F, F, F, F, F, F, F, F, F, F,
-    F, F, F, F, F, F, F, F, F, F, F, F, F, F, F, F,
-    F, F, F, F, F, F, F, F, F, F, F, F, F, F, F, F,
-];
-
-#[tactic(auto, using(crate::proofs::Idchars::idchar_at))]
+#[tactic(auto, using(crate::proofs::Tables::idchar_at))]
 fn is_idchar(b: u8) -> bool
     ensures { result ≡ is_idchar b }
 {
@@ -70,42 +46,33 @@ pub fn comment_end(text: &[u8], from: usize) -> Option<usize>
             }
             depth -= 1;
         } else {
-            i += 1;
+            i = marked_end(&IN_COMMENT, text, i + 1);
         }
     }
     None
 }
 
 /// Where a line comment ends.
-#[tactic(auto, using(crate::proofs::Steps::line_steps))]
 pub fn line_end(text: &[u8], from: usize) -> usize
     requires { from ≤ length text.now }
     ensures within { (from ≤ result) × (result ≤ length text.now) }
     ensures value { drop result text.now ≡ behind_line (drop from text.now) }
 {
-    let mut i = from;
-    while i < text.len() && text[i] != b'\n' && text[i] != b'\r' {
-        i += 1;
-    }
-    i
+    marked_end(&IN_LINE, text, from)
 }
 
 /// Where the spaces end.
-#[tactic(auto, using(crate::proofs::Steps::space_steps))]
+#[inline(always)]
 pub fn spaces_end(text: &[u8], from: usize) -> usize
     requires { from ≤ length text.now }
     ensures within { (from ≤ result) × (result ≤ length text.now) }
     ensures value { drop result text.now ≡ behind_spaces (drop from text.now) }
 {
-    let mut i = from;
-    while i < text.len() && is_space(text[i]) {
-        i += 1;
-    }
-    i
+    marked_end(&SPACES, text, from)
 }
 
 /// Where the idchars end.
-#[tactic(auto, using(crate::proofs::Steps::plain_steps))]
+#[inline(always)]
 pub fn plain_end(text: &[u8], from: usize) -> usize
     requires { from ≤ length text.now }
     ensures within { (from ≤ result) × (result ≤ length text.now) }
@@ -114,11 +81,7 @@ pub fn plain_end(text: &[u8], from: usize) -> usize
         (drop result text.now) }
     ensures stops { result < length text.now → is_idchar (slice_index text.now result) ≡ false }
 {
-    let mut i = from;
-    while i < text.len() && is_idchar(text[i]) {
-        i += 1;
-    }
-    i
+    marked_end(&IDCHARS, text, from)
 }
 
 /// Where a run ends, or the quote of the string in it that is none.

@@ -8,18 +8,14 @@ ghost use Rattle.wat_lexer.specs.Cut.{is_raw, short_escape};
 ghost use Rattle.wat_lexer.specs.Scan.{string_at, rest_at, with_front, spelled, closing, Raw};
 ghost use Rattle.wat_lexer.specs.Scan.{Escape, Digits};
 
+use crate::table::{RAW, marked_end};
+
 /// What an escape stands for.
 #[derive(Clone, Copy, Drop)]
 pub enum Escaped {
     Byte(u8),
     /// The bytes of the character.
     Char(char),
-}
-
-fn is_raw(b: u8) -> bool
-    ensures { result ≡ is_raw b }
-{
-    b >= 32 && b != 127 && b != b'"' && b != b'\\'
 }
 
 pub fn digit_value(b: u8) -> u8
@@ -48,7 +44,6 @@ fn short_escape(b: u8) -> Option<u8>
 }
 
 /// Where the bytes of a string that stand for themselves end.
-#[tactic(auto, using(crate::proofs::Steps::raw_steps))]
 pub fn raw_end(text: &[u8], from: usize) -> usize
     requires { from ≤ length text.now }
     ensures within { (from ≤ result) × (result ≤ length text.now) }
@@ -56,11 +51,7 @@ pub fn raw_end(text: &[u8], from: usize) -> usize
         (slice_range text.now from result) (string_at Raw (drop result text.now)) }
     ensures stops { result < length text.now → is_raw (slice_index text.now result) ≡ false }
 {
-    let mut i = from;
-    while i < text.len() && is_raw(text[i]) {
-        i += 1;
-    }
-    i
+    marked_end(&RAW, text, from)
 }
 
 /// The character whose code point is behind `\u{`, and the place behind its `}`.

@@ -54,6 +54,7 @@ pub enum AccessOp {
 
 impl AccessOp {
     /// The word that it begins with.
+    #[inline(always)]
     pub fn mnemonic(self) -> &'static str
         ensures { result.now ≡ access_word self }
     {
@@ -173,6 +174,7 @@ pub enum AtomicAccessOp {
 
 impl AtomicAccessOp {
     /// The word that it begins with.
+    #[inline(always)]
     pub fn mnemonic(self) -> &'static str
         ensures { result.now ≡ atomic_access_word self }
     {
@@ -275,6 +277,7 @@ pub enum RmwAccessOp {
 
 impl RmwAccessOp {
     /// The word that it begins with.
+    #[inline(always)]
     pub fn mnemonic(self) -> &'static str
         ensures { result.now ≡ rmw_access_word self }
     {
@@ -406,6 +409,7 @@ pub enum LaneAccessOp {
 
 impl LaneAccessOp {
     /// The word that it begins with.
+    #[inline(always)]
     pub fn mnemonic(self) -> &'static str
         ensures { result.now ≡ lane_access_word self }
     {

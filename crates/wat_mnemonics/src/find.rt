@@ -46,6 +46,7 @@ impl Mnemonic {
     /// Takes the word of an instruction that is in front.
     ///
     /// A word that is no mnemonic, or any other token, is refused with Operator at it.
+    #[inline(always)]
     #[tactic(auto, using(crate::proofs::WordReads::reads_other_word, crate::proofs::WordReads::reads_no_word))]
     pub fn take(parser: &mut Parser<'_>) -> Result<Mnemonic>
         ensures reads { ReadsWord result parser.old parser.new }
@@ -54,13 +55,12 @@ impl Mnemonic {
             → parser.old.probes + 1 ≤ parser.new.probes }
         ensures fault { IfErr result (λ e. e.fault ≡ Fault.Operator) }
     {
-        let span = parser.cur_span();
         match parser.take_keyword() {
             Ok(word) => match find(parser, word) {
                 Some(head) => Ok(head),
-                None => Err(Error::at(Fault::Operator, span)),
+                None => Err(Error::at(Fault::Operator, parser.prev_span())),
             },
-            Err(_) => Err(Error::at(Fault::Operator, span)),
+            Err(error) => Err(Error::at(Fault::Operator, error.span)),
         }
     }
 }

@@ -17,6 +17,7 @@ pub enum BlockOp {
 
 impl BlockOp {
     /// The word that it begins with.
+    #[inline(always)]
     pub fn mnemonic(self) -> &'static str
         ensures { result.now ≡ block_word self }
     {
@@ -39,6 +40,7 @@ pub enum LabelOp {
 
 impl LabelOp {
     /// The word that it begins with.
+    #[inline(always)]
     pub fn mnemonic(self) -> &'static str
         ensures { result.now ≡ label_word self }
     {
@@ -90,6 +92,7 @@ pub enum IndexedOp {
 
 impl IndexedOp {
     /// The word that it begins with.
+    #[inline(always)]
     pub fn mnemonic(self) -> &'static str
         ensures { result.now ≡ indexed_word self }
     {
@@ -141,6 +144,7 @@ pub enum CallIndirectOp {
 
 impl CallIndirectOp {
     /// The word that it begins with.
+    #[inline(always)]
     pub fn mnemonic(self) -> &'static str
         ensures { result.now ≡ call_indirect_word self }
     {
@@ -164,6 +168,7 @@ pub enum TableOp {
 
 impl TableOp {
     /// The word that it begins with.
+    #[inline(always)]
     pub fn mnemonic(self) -> &'static str
         ensures { result.now ≡ table_word self }
     {
@@ -189,6 +194,7 @@ pub enum MemoryOp {
 
 impl MemoryOp {
     /// The word that it begins with.
+    #[inline(always)]
     pub fn mnemonic(self) -> &'static str
         ensures { result.now ≡ memory_word self }
     {
@@ -213,6 +219,7 @@ pub enum StructOp {
 
 impl StructOp {
     /// The word that it begins with.
+    #[inline(always)]
     pub fn mnemonic(self) -> &'static str
         ensures { result.now ≡ struct_word self }
     {
@@ -235,6 +242,7 @@ pub enum ArrayInitOp {
 
 impl ArrayInitOp {
     /// The word that it begins with.
+    #[inline(always)]
     pub fn mnemonic(self) -> &'static str
         ensures { result.now ≡ array_init_word self }
     {
@@ -267,6 +275,7 @@ pub enum LaneOp {
 
 impl LaneOp {
     /// The word that it begins with.
+    #[inline(always)]
     pub fn mnemonic(self) -> &'static str
         ensures { result.now ≡ lane_word self }
     {

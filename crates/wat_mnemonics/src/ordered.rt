@@ -32,6 +32,7 @@ pub enum OrderedIndexOp {
 
 impl OrderedIndexOp {
     /// The word that it begins with.
+    #[inline(always)]
     pub fn mnemonic(self) -> &'static str
         ensures { result.now ≡ ordered_index_word self }
     {
@@ -72,6 +73,7 @@ pub enum OrderedTableOp {
 
 impl OrderedTableOp {
     /// The word that it begins with.
+    #[inline(always)]
     pub fn mnemonic(self) -> &'static str
         ensures { result.now ≡ ordered_table_word self }
     {
@@ -103,6 +105,7 @@ pub enum OrderedStructOp {
 
 impl OrderedStructOp {
     /// The word that it begins with.
+    #[inline(always)]
     pub fn mnemonic(self) -> &'static str
         ensures { result.now ≡ ordered_struct_word self }
     {

@@ -170,6 +170,7 @@ pub enum ScalarOp {
 
 impl ScalarOp {
     /// The word that it begins with.
+    #[inline(always)]
     pub fn mnemonic(self) -> &'static str
         ensures { result.now ≡ scalar_word self }
     {

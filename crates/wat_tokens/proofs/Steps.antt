@@ -2,7 +2,7 @@
 use Rattle.std.proofs.Common.{inl, inr, refl, ◌≡◌, ◌≢◌, ℕ, ◌+◌, ◌<◌, ◌≤◌, Bool, List, [], ◌∷◌, length, drop, sym, ap, ◌∙◌, arith, drop-drop}
 use Rattle.std.proofs.Math.ListN.{get_or}
 use Rattle.std.proofs.lemmas.Bool.{cases_lt, cases_Bool}
-use Rattle.std.proofs.lemmas.List.{drop-map}
+use Rattle.std.proofs.lemmas.List.{drop-map, drop_more, length-drop}
 use Rattle.std.specs.Prelude.{false, None}
 use Rattle.wat_lexer.specs.Token.{Tok, Entry, LParen, RParen, Annotation, is_open, is_close, is_annotation}
 use Rattle.wat_lexer.specs.Laws.Kinds.{open_is, close_is}
@@ -36,6 +36,43 @@ shown_here known (x ∷ ls) h =
       | inl e ↦ absurd (omega (arith, rw e at h))
       | inr e ↦ rw e
     ]
+
+-- WHERE NOTHING IS HIDDEN
+
+not_hidden : (known : Bool) (t : List Tok) → begins_hidden_group known t ≡ false → hidden_count known t ≡ 0
+unfolding hidden_count hidden_count_at
+not_hidden known [] h = refl
+not_hidden known (x ∷ r) h = rw h
+
+alone : (known : Bool) (t : Tok) → begins_hidden_group known (t ∷ []) ≡ false
+alone known LParen = refl
+alone known _ = refl
+
+few : (known : Bool) (ls : List Entry) → length ls ≤ 1 → begins_hidden_group known (toks ls) ≡ false
+few known [] h = refl
+few known (x ∷ []) h = alone known x.token
+few known (x ∷ y ∷ ls) h = absurd (omega arith)
+
+no_annotation : (known : Bool) (s t : Tok) (r : List Tok) → is_annotation t ≡ false → begins_hidden_group known (s ∷ t ∷ r) ≡ false
+no_annotation known LParen (Annotation n) r h = cc
+no_annotation known LParen _ r h = refl
+no_annotation known _ t r h = refl
+
+-- where fewer than two tokens are left
+pub shown_few : (known : Bool) (ls : List Entry) (i : ℕ) → length ls ≤ i + 1 → hidden_count known (toks (drop i ls)) ≡ 0
+shown_few known ls i h = not_hidden known (toks (drop i ls)) (few known (drop i ls) (omega (arith, length-drop i ls)))
+
+-- where no annotation is the second
+pub shown_other : (known : Bool) (ls : List Entry) (i : ℕ) → i + 1 < length ls → is_annotation ((get_or ls (i + 1) no_entry).token) ≡ false → hidden_count known (toks (drop i ls)) ≡ 0
+shown_other known ls i lt h =
+    let none : begins_hidden_group known (toks (drop i ls)) ≡ false = rw (drop_more ls i no_entry (omega arith), drop_more ls (i + 1) no_entry lt) (no_annotation known (entry_tok (get_or ls i no_entry)) (entry_tok (get_or ls (i + 1) no_entry)) (toks (drop (i + 1 + 1) ls)) h) in
+    not_hidden known (toks (drop i ls)) none
+
+-- the place is that of the first that is visible
+pub shown_at : (known : Bool) (ls : List Entry) (i : ℕ) → hidden_count known (toks (drop i ls)) ≡ 0 → VisibleFrom known (drop i ls) (visible_tokens known (toks (drop i ls)))
+shown_at known ls i h = shown_here known (drop i ls) h
+
+pub ruleset sight_steps = (shown_few, shown_other, shown_at)
 
 -- so a lookup sees the token at its place, where one is there
 pub front_some : (known : Bool) (ls : List Entry) (i : ℕ) → hidden_count known (toks (drop i ls)) ≡ 0 → i < length ls

@@ -4,8 +4,8 @@ ghost use Rattle.std.specs.Prelude.{◌≡◌, ◌≤◌, length, drop};
 ghost use Rattle.wat_lexer.specs.Sight.{hidden_count, visible_tokens};
 ghost use Rattle.wat_lexer.specs.View.{AreSkips, toks};
 
+use crate::sight::next_visible;
 use wat_lexer::number::Integer;
-use wat_lexer::sight::next_visible;
 use wat_lexer::token::Token;
 use wat_lexer::tokens::Tokens;
 
@@ -69,6 +69,7 @@ impl<'p> Cursor<'p> {
     }
 
     /// Behind a `(`. No more is read of the token than its kind.
+    #[inline(always)]
     #[tactic(auto, using(crate::proofs::Steps::paren_steps, crate::proofs::Steps::front_some, crate::proofs::Steps::front_none))]
     pub fn lparen(self) -> Option<Cursor<'p>>
         ensures { GivesRest as_lparen (in_front self.entry) result }
@@ -81,6 +82,7 @@ impl<'p> Cursor<'p> {
     }
 
     /// Behind a `)`. No more is read of the token than its kind.
+    #[inline(always)]
     #[tactic(auto, using(crate::proofs::Steps::paren_steps, crate::proofs::Steps::front_some, crate::proofs::Steps::front_none))]
     pub fn rparen(self) -> Option<Cursor<'p>>
         ensures { GivesRest as_rparen (in_front self.entry) result }
@@ -93,6 +95,7 @@ impl<'p> Cursor<'p> {
     }
 
     /// Behind one token, whatever it is.
+    #[inline(always)]
     #[tactic(auto, using(crate::proofs::Steps::front_some, crate::proofs::Steps::front_none))]
     pub fn any(self) -> Option<Cursor<'p>>
         ensures { GivesRest as_any (in_front self.entry) result }
@@ -105,6 +108,7 @@ impl<'p> Cursor<'p> {
     }
 
     /// Behind a keyword, with the word.
+    #[inline(always)]
     pub fn keyword(self) -> Option<(&'p str, Cursor<'p>)>
         ensures { GivesContent (λ w. w.now) as_keyword (in_front self.entry) result }
     {
@@ -116,6 +120,7 @@ impl<'p> Cursor<'p> {
     }
 
     /// Behind an identifier, with the name, without its `$`.
+    #[inline(always)]
     pub fn id(self) -> Option<(&'p str, Cursor<'p>)>
         ensures { GivesContent (λ n. n.now) as_id (in_front self.entry) result }
     {
@@ -142,6 +147,7 @@ impl<'p> Cursor<'p> {
     }
 
     /// Behind an integer, with the integer.
+    #[inline(always)]
     pub fn integer(self) -> Option<(Integer<'p>, Cursor<'p>)>
         ensures { GivesContent text_of as_integer (in_front self.entry) result }
     {
@@ -153,6 +159,7 @@ impl<'p> Cursor<'p> {
     }
 
     /// Behind a string, with the content, decoded.
+    #[inline(always)]
     pub fn string(self) -> Option<(&'p [u8], Cursor<'p>)>
         ensures { GivesContent (λ s. s.now) as_string (in_front self.entry) result }
     {
@@ -164,6 +171,7 @@ impl<'p> Cursor<'p> {
     }
 
     /// Whether the keyword is there.
+    #[inline(always)]
     pub fn keyword_is(self, word: &str) -> bool
         ensures { result ≡ begins_word word.now (in_front self.entry) }
     {
@@ -174,6 +182,7 @@ impl<'p> Cursor<'p> {
     }
 
     /// Whether a group that begins with the keyword is there.
+    #[inline(always)]
     pub fn group_is(self, word: &str) -> bool
         ensures { result ≡ begins_group word.now (in_front self.entry) }
     {

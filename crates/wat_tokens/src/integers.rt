@@ -34,11 +34,10 @@ fn unsigned(parser: &mut Parser<'_>, bits: u32) -> Result<u64, Error>
     requires { IsTrue (is_width bits) }
     ensures reads { Reads (plain (λ n. n)) (unsigned bits) result parser.old parser.new }
 {
-    let span = parser.cur_span();
     let integer = parser.take_integer()?;
     match integer.unsigned(bits) {
         Some(number) => Ok(number),
-        None => Err(Error::at(Fault::Range, span)),
+        None => Err(Error::at(Fault::Range, parser.prev_span())),
     }
 }
 
@@ -149,11 +148,10 @@ fn signed(parser: &mut Parser<'_>, bits: u32) -> Result<i64, Error>
     requires { IsTrue (is_width bits) }
     ensures reads { Reads (plain (λ n. n)) (signed bits) result parser.old parser.new }
 {
-    let span = parser.cur_span();
     let integer = parser.take_integer()?;
     match integer.signed(bits) {
         Some(number) => Ok(number),
-        None => Err(Error::at(Fault::Range, span)),
+        None => Err(Error::at(Fault::Range, parser.prev_span())),
     }
 }
 

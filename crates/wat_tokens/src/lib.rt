@@ -14,6 +14,7 @@ pub mod name_annotation;
 pub mod ownership;
 pub mod parser;
 pub mod repeat;
+mod sight;
 pub mod strings;
 pub mod tally;
 pub mod traits;

@@ -21,6 +21,7 @@ ghost use Rattle.wat_tokens.specs.Tests.{begins_group, begins_annotation, none_l
 ghost use Rattle.wat_tokens.specs.Views.{plain};
 
 use crate::cursor::Cursor;
+use crate::sight::next_visible;
 use crate::tally::Tally;
 use bumpalo::Bump;
 use std::alloc::Global;
@@ -28,7 +29,6 @@ use std::marker::Model;
 use wat_lexer::cut::cut;
 use wat_lexer::fault::{Error, Fault};
 use wat_lexer::number::Integer;
-use wat_lexer::sight::next_visible;
 use wat_lexer::span::Span;
 use wat_lexer::token::Token;
 use wat_lexer::tokens::Tokens;
@@ -48,13 +48,12 @@ use wat_lexer::tokens::Tokens;
 #[derive(Drop)]
 pub struct Parser<'a> {
     tokens: Tokens<'a>,
+    /// The place behind the last token that was taken; 0 before any.
     at: usize,
     /// The place of the token in front: the first one from `at` on that is visible.
     front: usize,
     /// How many bytes the text has.
     end: usize,
-    /// The place of the last token that was taken; before any, the last place of all.
-    prev: usize,
     known: bool,
     tracks: bool,
     taken: Tally,
@@ -123,7 +122,6 @@ impl<'a> Parser<'a> {
             at: 0,
             front,
             end,
-            prev: usize::MAX,
             known: false,
             tracks: false,
             taken: Tally::new(),
@@ -228,14 +226,16 @@ impl<'a> Parser<'a> {
 
     /// Where the last token that was taken begins; 0 before any. No clause says which offset it is.
     pub fn prev_span(&self) -> Span {
-        if self.prev < self.tokens.len() {
-            Span::from_offset(self.tokens.offset(self.prev))
+        if self.at > 0 {
+            Span::from_offset(self.tokens.offset(self.at - 1))
         } else {
             Span::from_offset(0)
         }
     }
 
     /// The fault Unexpected, at the token in front, or at the end of the text where none is left.
+    #[cold]
+    #[inline(never)]
     pub fn unexpected(&self) -> Error
         ensures { result.fault ≡ Fault.Unexpected }
     {
@@ -258,6 +258,7 @@ impl<'a> Parser<'a> {
     }
 
     /// Whether the keyword is in front.
+    #[inline(always)]
     pub fn next_is(&self, word: &str) -> bool
         ensures { result ≡ begins_word word.now self.now.left }
     {
@@ -268,6 +269,7 @@ impl<'a> Parser<'a> {
     }
 
     /// Whether a group that begins with the keyword is in front.
+    #[inline(always)]
     pub fn group_is(&self, word: &str) -> bool
         ensures { result ≡ begins_group word.now self.now.left }
     {
@@ -275,6 +277,7 @@ impl<'a> Parser<'a> {
     }
 
     /// Whether the keyword is the second token, whatever the first is.
+    #[inline(always)]
     pub fn second_is(&self, word: &str) -> bool
         ensures { result ≡ second (begins_word word.now) self.now.left }
     {
@@ -344,7 +347,6 @@ impl<'a> Parser<'a> {
         ensures settings { SameSettings self.old self.new }
     {
         prove!(self.front < self.tokens.len());
-        self.prev = self.front;
         self.at = self.front + 1;
         self.front = next_visible(&self.tokens, self.at, self.known);
         self.taken.tick();
@@ -365,6 +367,7 @@ impl<'a> Parser<'a> {
     }
 
     /// Takes a `(`, or refuses with Unexpected.
+    #[inline(always)]
     pub fn open(&mut self) -> Result<(), Error>
         ensures reads { Takes (λ x. x) as_lparen result self.old self.new }
         ensures refused { Unmoved result self.old self.new }
@@ -392,6 +395,7 @@ impl<'a> Parser<'a> {
 
     /// Takes the one keyword (Text Format, "Tokens") and answers where it begins, or refuses with
     /// Unexpected.
+    #[inline(always)]
     pub fn keyword(&mut self, word: &str) -> Result<Span, Error>
         ensures reads { Takes (λ _. tt) (word_only word.now) result self.old self.new }
         ensures refused { Unmoved result self.old self.new }
@@ -409,6 +413,7 @@ impl<'a> Parser<'a> {
 
     /// Takes the one keyword (Text Format, "Tokens") where it is in front, and answers whether it
     /// did.
+    #[inline(always)]
     pub fn flag(&mut self, word: &str) -> bool
         ensures reads { Reads (plain (λ b. b)) (flag word.now) (Ok result) self.old self.new }
     {
@@ -437,6 +442,7 @@ impl<'a> Parser<'a> {
     }
 
     /// Takes a keyword (Text Format, "Tokens"), whichever it is, or refuses with Unexpected.
+    #[inline(always)]
     pub fn take_keyword(&mut self) -> Result<&'a str, Error>
         ensures reads { Takes (λ x. x.now) as_keyword result self.old self.new }
         ensures refused { Unmoved result self.old self.new }
@@ -453,6 +459,7 @@ impl<'a> Parser<'a> {
 
     /// Takes an identifier (Text Format, "Identifiers") and answers its name, without its `$`, or
     /// refuses with Unexpected.
+    #[inline(always)]
     pub fn take_id(&mut self) -> Result<&'a str, Error>
         ensures reads { Takes (λ x. x.now) as_id result self.old self.new }
         ensures refused { Unmoved result self.old self.new }
@@ -468,6 +475,7 @@ impl<'a> Parser<'a> {
     }
 
     /// Takes an integer (Text Format, "Integers") of any value, or refuses with Unexpected.
+    #[inline(always)]
     pub fn take_integer(&mut self) -> Result<Integer<'a>, Error>
         ensures reads { Takes text_of as_integer result self.old self.new }
         ensures refused { Unmoved result self.old self.new }
@@ -484,6 +492,7 @@ impl<'a> Parser<'a> {
 
     /// Takes a string (Text Format, "Strings") and answers its bytes, decoded, or refuses with
     /// Unexpected.
+    #[inline(always)]
     pub fn take_string(&mut self) -> Result<&'a [u8], Error>
         ensures reads { Takes (λ x. x.now) as_string result self.old self.new }
         ensures refused { Unmoved result self.old self.new }

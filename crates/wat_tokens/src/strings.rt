@@ -50,11 +50,10 @@ impl<'a> Parse<'a> for &'a str {
 
     #[tactic(auto, using(crate::proofs::Texts::is_text, crate::proofs::Texts::is_no_text))]
     fn parse(parser: &mut Parser<'a>) -> Result<Self, Error> {
-        let span = parser.cur_span();
         let bytes = parser.take_string()?;
         match str::from_utf8(bytes) {
             Ok(text) => Ok(text),
-            Err(_) => Err(Error::at(Fault::Utf8, span)),
+            Err(_) => Err(Error::at(Fault::Utf8, parser.prev_span())),
         }
     }
 }

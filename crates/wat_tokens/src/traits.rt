@@ -109,6 +109,7 @@ impl<'a> Parser<'a> {
     }
 
     /// Whether a value of the type begins in front.
+    #[inline(always)]
     pub fn peek<T: Peek>(&self) -> bool
         ensures { result ≡ T.begins self.now.left }
     {
@@ -116,6 +117,7 @@ impl<'a> Parser<'a> {
     }
 
     /// Whether a value of the type begins behind the token in front; not at the end.
+    #[inline(always)]
     pub fn peek2<T: Peek>(&self) -> bool
         ensures { result ≡ second T.begins self.now.left }
     {

@@ -26,10 +26,9 @@ pub trait NamedByKeyword: Copy {
 pub fn take_named<'a, T: NamedByKeyword>(parser: &mut Parser<'a>) -> Result<T, Error>
     ensures reads { Takes (λ v. v) (word_in T.words) result parser.old parser.new }
 {
-    let span = parser.cur_span();
     match T::named(parser.take_keyword()?) {
         Some(value) => Ok(value),
-        None => Err(Error::at(Fault::Unexpected, span)),
+        None => Err(Error::at(Fault::Unexpected, parser.prev_span())),
     }
 }
 

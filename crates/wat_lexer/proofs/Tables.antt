@@ -1,0 +1,146 @@
+-- The tables of bytes, and how far a text goes on with bytes that one marks.
+use Rattle.std.proofs.Common.{◌≡◌, ℕ, zero, suc, ◌+◌, ◌<◌, ◌≤◌, List, Bool, true, false, length, drop, get_or, map, refl, ap, subst, sym, ◌∙◌, arith, inl, inr}
+use Rattle.std.specs.Prelude.{slice_range, ◌==◌, ◌||◌, not}
+use Rattle.std.specs.List.{range_with_len}
+use Rattle.std.proofs.lemmas.Bool.{cases_lt}
+use Rattle.std.proofs.lemmas.Bool.Decides.{nat_tests}
+use Rattle.std.proofs.lemmas.List.FromFn.{get_or-map-range_with_len}
+use Rattle.wat_lexer.specs.Bytes.{is_idchar, is_space, is_line_end, between}
+use Rattle.wat_lexer.specs.Cut.{is_raw, is_hex}
+use Rattle.wat_lexer.specs.Scan.{Between, Raw, behind_run, behind_spaces, behind_line, behind_comment, all_idchars, string_at, with_front}
+use Rattle.wat_lexer.specs.declared.table.TheConstants.{SPACES, IDCHARS, DIGITS, HEX_DIGITS, RAW, IN_LINE, IN_COMMENT}
+use Rattle.wat_lexer.proofs.Steps.{plain_none, plain_more, run_idchar, space_step, space_over, raw_none, raw_more, line_step, line_over, comment_step, comment_none}
+
+-- THE TABLES
+
+-- what a table has at a byte, where it has at each what a test says
+table_at : (test : ℕ → Bool) (table : List Bool) → table ≡ map test (range_with_len 0 256) → (b : ℕ) → b < 256 → get_or table b false ≡ test b
+table_at test table same b lt = ap (λ (xs : List Bool). get_or xs b false) same ∙ get_or-map-range_with_len test 0 256 b b false lt (omega arith)
+
+pub space_at : (b : ℕ) → b < 256 → get_or SPACES b false ≡ is_space b
+space_at = table_at is_space SPACES refl
+
+pub idchar_at : (b : ℕ) → b < 256 → get_or IDCHARS b false ≡ is_idchar b
+idchar_at = table_at is_idchar IDCHARS refl
+
+pub digit_at : (b : ℕ) → b < 256 → get_or DIGITS b false ≡ between 48 57 b
+digit_at = table_at (between 48 57) DIGITS refl
+
+pub hex_at : (b : ℕ) → b < 256 → get_or HEX_DIGITS b false ≡ is_hex b
+hex_at = table_at is_hex HEX_DIGITS refl
+
+pub raw_at : (b : ℕ) → b < 256 → get_or RAW b false ≡ is_raw b
+raw_at = table_at is_raw RAW refl
+
+abbrev pub in_line : ℕ → Bool
+in_line b = not (is_line_end b)
+
+pub line_at : (b : ℕ) → b < 256 → get_or IN_LINE b false ≡ in_line b
+line_at = table_at in_line IN_LINE refl
+
+abbrev pub in_comment : ℕ → Bool
+in_comment b = not ((b == 40) || (b == 59))
+
+pub comment_at : (b : ℕ) → b < 256 → get_or IN_COMMENT b false ≡ in_comment b
+comment_at = table_at in_comment IN_COMMENT refl
+
+-- BYTES THAT ONE MARKS
+
+-- what holds of each place from one on and below another
+abbrev pub Below : (ℕ → Type 0) → ℕ → ℕ → Type 0
+Below P from end = (k : ℕ) → k < end → from ≤ k → P k
+
+pub below_none : (P : ℕ → Type 0) (from : ℕ) → Below P from from
+below_none P from k lt le = absurd (omega arith)
+
+pub below_more : (P : ℕ → Type 0) (from i j : ℕ) → j ≡ i + 1 → Below P from i → P i → Below P from j
+below_more P from i j next below here k lt le = elim (cases_lt k i) [
+  | inl l ↦ below k l le
+  | inr g ↦ (let same : i ≡ k = omega arith in subst P same here)
+]
+
+pub below_joined : (P : ℕ → Type 0) (from i end : ℕ) → Below P from i → Below P i end → Below P from end
+below_joined P from i end near far k lt le = elim (cases_lt k i) [
+  | inl l ↦ near k l le
+  | inr g ↦ far k lt g
+]
+
+-- of all places below the last one it holds too
+below_fewer : (P : ℕ → Type 0) (from i end : ℕ) → i ≤ end → Below P from end → Below P from i
+below_fewer P from i end h below k lt le = below k (omega arith) le
+
+pub idchars_to : (d from end : ℕ) (s : List ℕ) → from + d ≡ end → end ≤ length s → Below (λ k. is_idchar (get_or s k 0) ≡ true) from end
+    → (all_idchars (slice_range s from end) ≡ true) × (behind_run Between (drop from s) ≡ behind_run Between (drop end s))
+idchars_to zero from end s e h below =
+    let same : end ≡ from = omega arith in rw same (plain_none from s, refl)
+idchars_to (suc d) from end s e h below =
+    let last = from + d in
+    let next : end ≡ last + 1 = omega arith in
+    let here : is_idchar (get_or s last 0) ≡ true = below last (omega arith) (omega arith) in
+    let (all, run) = idchars_to d from last s refl (omega arith) (below_fewer (λ k. is_idchar (get_or s k 0) ≡ true) from last end (omega arith) below) in
+    rw next (plain_more from last s (omega arith) (omega arith) all here, run ∙ run_idchar last s (omega arith) here)
+
+pub spaces_to : (d from end : ℕ) (s : List ℕ) → from + d ≡ end → end ≤ length s → Below (λ k. is_space (get_or s k 0) ≡ true) from end
+    → behind_spaces (drop from s) ≡ behind_spaces (drop end s)
+spaces_to zero from end s e h below = let same : end ≡ from = omega arith in rw same
+spaces_to (suc d) from end s e h below =
+    let last = from + d in
+    let next : end ≡ last + 1 = omega arith in
+    let here : is_space (get_or s last 0) ≡ true = below last (omega arith) (omega arith) in
+    let step : behind_spaces (drop last s) ≡ behind_spaces (drop (last + 1) s) = space_step last s (omega arith) ∙ rw here in
+    rw next (spaces_to d from last s refl (omega arith) (below_fewer (λ k. is_space (get_or s k 0) ≡ true) from last end (omega arith) below) ∙ step)
+
+-- where no space is in front none is behind spaces
+pub no_spaces : (i : ℕ) (s : List ℕ) → (i < length s → is_space (get_or s i 0) ≡ false) → behind_spaces (drop i s) ≡ drop i s
+no_spaces i s stops = elim (cases_lt i (length s)) [
+  | inl l ↦ (let none = stops l in space_step i s l ∙ rw none)
+  | inr g ↦ space_over i s g
+]
+
+pub raw_to : (d from end : ℕ) (s : List ℕ) → from + d ≡ end → end ≤ length s → Below (λ k. is_raw (get_or s k 0) ≡ true) from end
+    → string_at Raw (drop from s) ≡ with_front (slice_range s from end) (string_at Raw (drop end s))
+raw_to zero from end s e h below = let same : end ≡ from = omega arith in rw same (raw_none from s)
+raw_to (suc d) from end s e h below =
+    let last = from + d in
+    let next : end ≡ last + 1 = omega arith in
+    let here : is_raw (get_or s last 0) ≡ true = below last (omega arith) (omega arith) in
+    rw next (raw_more from last s (omega arith) (omega arith) here (raw_to d from last s refl (omega arith) (below_fewer (λ k. is_raw (get_or s k 0) ≡ true) from last end (omega arith) below)))
+
+not_so : (b c : Bool) → not b ≡ not c → b ≡ c
+not_so true true h = refl
+not_so false false h = refl
+not_so true false h = cc
+not_so false true h = cc
+
+pub lines_to : (d from end : ℕ) (s : List ℕ) → from + d ≡ end → end ≤ length s → Below (λ k. in_line (get_or s k 0) ≡ true) from end
+    → behind_line (drop from s) ≡ behind_line (drop end s)
+lines_to zero from end s e h below = let same : end ≡ from = omega arith in rw same
+lines_to (suc d) from end s e h below =
+    let last = from + d in
+    let next : end ≡ last + 1 = omega arith in
+    let here : is_line_end (get_or s last 0) ≡ false = not_so (is_line_end (get_or s last 0)) false (below last (omega arith) (omega arith)) in
+    let step : behind_line (drop last s) ≡ behind_line (drop (last + 1) s) = line_step last s (omega arith) ∙ rw here in
+    rw next (lines_to d from last s refl (omega arith) (below_fewer (λ k. in_line (get_or s k 0) ≡ true) from last end (omega arith) below) ∙ step)
+
+-- where a line ends nothing of it is behind
+pub no_line : (i : ℕ) (s : List ℕ) → (i < length s → in_line (get_or s i 0) ≡ false) → behind_line (drop i s) ≡ drop i s
+no_line i s stops = elim (cases_lt i (length s)) [
+  | inl l ↦ (let ends = not_so (is_line_end (get_or s i 0)) true (stops l) in line_step i s l ∙ rw ends)
+  | inr g ↦ line_over i s g
+]
+
+comment_byte : (depth i : ℕ) (s : List ℕ) → in_comment (get_or s i 0) ≡ true → behind_comment depth (drop i s) ≡ behind_comment depth (drop (i + 1) s)
+comment_byte depth i s h = elim (cases_lt (i + 1) (length s)) [
+  | inl l ↦ (let no_open : (get_or s i 0 == 40) ≡ false = grind (arith, nat_tests) in
+      let no_close : (get_or s i 0 == 59) ≡ false = grind (arith, nat_tests) in
+      comment_step depth i s l ∙ rw (no_open, no_close))
+  | inr g ↦ comment_none depth i s g ∙ sym (comment_none depth (i + 1) s (omega arith))
+]
+
+pub comment_to : (depth d from end : ℕ) (s : List ℕ) → from + d ≡ end → end ≤ length s → Below (λ k. in_comment (get_or s k 0) ≡ true) from end
+    → behind_comment depth (drop from s) ≡ behind_comment depth (drop end s)
+comment_to depth zero from end s e h below = let same : end ≡ from = omega arith in rw same
+comment_to depth (suc d) from end s e h below =
+    let last = from + d in
+    let next : end ≡ last + 1 = omega arith in
+    rw next (comment_to depth d from last s refl (omega arith) (below_fewer (λ k. in_comment (get_or s k 0) ≡ true) from last end (omega arith) below) ∙ comment_byte depth last s (below last (omega arith) (omega arith)))

@@ -1,0 +1,182 @@
+//! The tokens that are common in texts, told by their first byte and by where their bytes end.
+
+ghost use Rattle.std.specs.Prelude.{◌≡◌, ◌+◌, ◌-◌, ◌≤◌, ◌<◌, IfSome, IsTrue, Bool, List, Some};
+ghost use Rattle.std.specs.Prelude.{true, false, length, drop, slice_range, slice_index};
+ghost use Rattle.wat_lexer.specs.Bytes.{is_idchar, between};
+ghost use Rattle.wat_lexer.specs.Cut.{begins, in_no_run};
+ghost use Rattle.wat_lexer.specs.Number.{is_integer};
+ghost use Rattle.wat_lexer.specs.Scan.{front, all_idchars, behind_run, string_at, Between, Ends, Raw};
+ghost use Rattle.wat_lexer.specs.View.{PieceIs};
+ghost use Rattle.wat_lexer.specs.declared.lexeme.SideEntry.{SideEntry};
+
+use crate::lexeme::{Kind, has_room};
+use crate::scan::plain_end;
+use crate::string::raw_end;
+use crate::table::{DIGITS, HEX_DIGITS, IDCHARS, is_marked, marked_end};
+
+/// Whether a byte is at a place.
+#[inline(always)]
+#[tactic(auto, using(crate::proofs::Places::begins_at))]
+fn is_at(text: &[u8], at: usize, b: u8) -> bool
+    ensures { result ≡ begins b (drop at text.now) }
+{
+    at < text.len() && text[at] == b
+}
+
+/// Whether no run goes on at a place.
+#[inline(always)]
+#[tactic(auto, using(crate::proofs::Tables::idchar_at))]
+fn ends_run(text: &[u8], at: usize) -> bool
+    ensures ends { IsTrue result → at < length text.now
+        → in_no_run (slice_index text.now at) ≡ true }
+    ensures goes_on { result ≡ false → (at < length text.now)
+        × (in_no_run (slice_index text.now at) ≡ false) }
+{
+    if at >= text.len() {
+        return true;
+    }
+    let b = text[at];
+    b != b'"' && !is_marked(&IDCHARS, b)
+}
+
+/// Where a run of idchars ends that begins at a place; `None` where a string is in the run.
+#[inline(always)]
+fn word_end(text: &[u8], at: usize) -> Option<usize>
+    requires place { at < length text.now }
+    requires first { is_idchar (slice_index text.now at) ≡ true }
+    ensures within { IfSome result (λ end. (at < end) × (end ≤ length text.now)) }
+    ensures all { IfSome result (λ end. all_idchars (slice_range text.now at end) ≡ true) }
+    ensures run { IfSome result (λ end. behind_run Between (drop at text.now) ≡ Ends
+        (drop end text.now)) }
+{
+    let end = plain_end(text, at + 1);
+    if is_at(text, end, b'"') {
+        return None;
+    }
+    Some(end)
+}
+
+/// Where an integer of decimal digits alone ends that begins at a place; `None` where the run has
+/// more in it.
+#[inline(always)]
+fn decimal_end(text: &[u8], at: usize) -> Option<usize>
+    requires place { at < length text.now }
+    requires first { between 48 57 (slice_index text.now at) ≡ true }
+    ensures within { IfSome result (λ end. (at < end) × (end ≤ length text.now)) }
+    ensures all { IfSome result (λ end. all_idchars (slice_range text.now at end) ≡ true) }
+    ensures integer { IfSome result (λ end. is_integer (slice_range text.now at end) ≡ true) }
+    ensures run { IfSome result (λ end. behind_run Between (drop at text.now) ≡ Ends
+        (drop end text.now)) }
+{
+    let end = marked_end(&DIGITS, text, at + 1);
+    if !ends_run(text, end) {
+        return None;
+    }
+    Some(end)
+}
+
+/// Where an integer of `0x` and hexadecimal digits alone ends whose `0x` is at a place; `None`
+/// where it has no digit, or the run has more in it.
+#[inline(always)]
+fn hex_end(text: &[u8], at: usize) -> Option<usize>
+    requires place { at + 1 < length text.now }
+    requires zero { slice_index text.now at ≡ 48 }
+    requires mark { slice_index text.now (at + 1) ≡ 120 }
+    ensures within { IfSome result (λ end. (at < end) × (end ≤ length text.now)) }
+    ensures all { IfSome result (λ end. all_idchars (slice_range text.now at end) ≡ true) }
+    ensures integer { IfSome result (λ end. is_integer (slice_range text.now at end) ≡ true) }
+    ensures run { IfSome result (λ end. behind_run Between (drop at text.now) ≡ Ends
+        (drop end text.now)) }
+{
+    let end = marked_end(&HEX_DIGITS, text, at + 2);
+    if end == at + 2 {
+        return None;
+    }
+    if !ends_run(text, end) {
+        return None;
+    }
+    Some(end)
+}
+
+/// Where an integer ends that begins at a place with a digit; `None` where the run has a `_` or
+/// more in it.
+#[inline(always)]
+fn integer_end(text: &[u8], at: usize) -> Option<usize>
+    requires place { at < length text.now }
+    requires first { between 48 57 (slice_index text.now at) ≡ true }
+    ensures within { IfSome result (λ end. (at < end) × (end ≤ length text.now)) }
+    ensures all { IfSome result (λ end. all_idchars (slice_range text.now at end) ≡ true) }
+    ensures integer { IfSome result (λ end. is_integer (slice_range text.now at end) ≡ true) }
+    ensures run { IfSome result (λ end. behind_run Between (drop at text.now) ≡ Ends
+        (drop end text.now)) }
+{
+    if text[at] == b'0' && at + 1 < text.len() && text[at + 1] == b'x' {
+        return hex_end(text, at);
+    }
+    decimal_end(text, at)
+}
+
+/// Where a string without escapes ends whose quote is at a place; `None` where it is none, or the
+/// run has more in it.
+#[inline(always)]
+fn plain_string_end(text: &[u8], at: usize) -> Option<usize>
+    requires place { at < length text.now }
+    requires quote { slice_index text.now at ≡ 34 }
+    ensures within { IfSome result (λ end. (at + 1 < end) × (end ≤ length text.now)) }
+    ensures content { IfSome result (λ end. string_at Raw (drop (at + 1) text.now) ≡ Some
+        (slice_range text.now (at + 1) (end - 1), drop end text.now)) }
+    ensures run { IfSome result (λ end. behind_run Between (drop at text.now) ≡ Ends
+        (drop end text.now)) }
+{
+    let quote = raw_end(text, at + 1);
+    if !is_at(text, quote, b'"') {
+        return None;
+    }
+    if !ends_run(text, quote + 1) {
+        return None;
+    }
+    Some(quote + 1)
+}
+
+/// The kind and the end of the token in front, where it is a paren, a keyword, an identifier, an
+/// integer without a sign and without `_` or a string without escapes. `None` tells nothing, and is
+/// what any text gets that has 4 GiB or more.
+#[inline(always)]
+pub fn common_token(text: &[u8], at: usize) -> Option<(Kind, usize)>
+    requires { at < length text.now }
+    ensures within { IfSome result (λ f. (at < f.1) × (f.1 ≤ length text.now)) }
+    ensures near { IfSome result (λ f. f.1 < 4294967296) }
+    ensures value { IfSome result (λ f. (behind : Bool) (lie : List SideEntry)
+        → PieceIs text.now lie lie at (record { kind = Some f.0; end = f.1 })
+        (front behind (drop at text.now))) }
+{
+    if !has_room(0, text.len()) {
+        return None;
+    }
+    let b = text[at];
+    if b.is_ascii_lowercase() {
+        let end = word_end(text, at)?;
+        Some((Kind::Keyword, end))
+    } else if b == b'$' {
+        let end = word_end(text, at)?;
+        if end == at + 1 {
+            return None;
+        }
+        Some((Kind::Id, end))
+    } else if b == b'(' {
+        if is_at(text, at + 1, b';') {
+            return None;
+        }
+        Some((Kind::LParen, at + 1))
+    } else if b == b')' {
+        Some((Kind::RParen, at + 1))
+    } else if b.is_ascii_digit() {
+        let end = integer_end(text, at)?;
+        Some((Kind::Integer, end))
+    } else if b == b'"' {
+        let end = plain_string_end(text, at)?;
+        Some((Kind::String, end))
+    } else {
+        None
+    }
+}

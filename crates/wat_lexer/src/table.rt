@@ -1,0 +1,232 @@
+//! Tables of bytes, and how far a text goes on with bytes that one marks.
+
+ghost use Rattle.std.specs.Prelude.{◌≡◌, ◌+◌, ◌≤◌, ◌<◌, ℕ, true, false, length, slice_index};
+ghost use Rattle.std.proofs.Math.ListN.{get_or};
+
+const T: bool = true;
+
+const F: bool = false;
+
+/// Which bytes are spaces, 16 in each row.
+#[rattlefmt::skip]
+pub static SPACES: [bool; 256] = [
+    F, F, F, F, F, F, F, F, F, T, T, F, F, T, F, F,
+    F, F, F, F, F, F, F, F, F, F, F, F, F, F, F, F,
+    T, F, F, F, F, F, F, F, F, F, F, F, F, F, F, F,
+    F, F, F, F, F, F, F, F, F, F, F, F, F, F, F, F,
+    F, F, F, F, F, F, F, F, F, F, F, F, F, F, F, F,
+    F, F, F, F, F, F, F, F, F, F, F, F, F, F, F, F,
+    F, F, F, F, F, F, F, F, F, F, F, F, F, F, F, F,
+    F, F, F, F, F, F, F, F, F, F, F, F, F, F, F, F,
+    F, F, F, F, F, F, F, F, F, F, F, F, F, F, F, F,
+    F, F, F, F, F, F, F, F, F, F, F, F, F, F, F, F,
+    F, F, F, F, F, F, F, F, F, F, F, F, F, F, F, F,
+    F, F, F, F, F, F, F, F, F, F, F, F, F, F, F, F,
+    F, F, F, F, F, F, F, F, F, F, F, F, F, F, F, F,
+    F, F, F, F, F, F, F, F, F, F, F, F, F, F, F, F,
+    F, F, F, F, F, F, F, F, F, F, F, F, F, F, F, F,
+    F, F, F, F, F, F, F, F, F, F, F, F, F, F, F, F,
+];
+
+/// Which bytes are idchars.
+#[rattlefmt::skip]
+pub static IDCHARS: [bool; 256] = [
+    F, F, F, F, F, F, F, F, F, F, F, F, F, F, F, F,
+    F, F, F, F, F, F, F, F, F, F, F, F, F, F, F, F,
+    F, T, F, T, T, T, T, T, F, F, T, T, F, T, T, T,
+    T, T, T, T, T, T, T, T, T, T, T, F, T, T, T, T,
+    T, T, T, T, T, T, T, T, T, T, T, T, T, T, T, T,
+    T, T, T, T, T, T, T, T, T, T, T, F, T, F, T, T,
+    T, T, T, T, T, T, T, T, T, T, T, T, T, T, T, T,
+    T, T, T, T, T, T, T, T, T, T, T, F, T, F, T, F,
+    F, F, F, F, F, F, F, F, F, F, F, F, F, F, F, F,
+    F, F, F, F, F, F, F, F, F, F, F, F, F, F, F, F,
+    F, F, F, F, F, F, F, F, F, F, F, F, F, F, F, F,
+    F, F, F, F, F, F, F, F, F, F, F, F, F, F, F, F,
+    F, F, F, F, F, F, F, F, F, F, F, F, F, F, F, F,
+    F, F, F, F, F, F, F, F, F, F, F, F, F, F, F, F,
+    F, F, F, F, F, F, F, F, F, F, F, F, F, F, F, F,
+    F, F, F, F, F, F, F, F, F, F, F, F, F, F, F, F,
+];
+
+/// Which bytes are decimal digits.
+#[rattlefmt::skip]
+pub static DIGITS: [bool; 256] = [
+    F, F, F, F, F, F, F, F, F, F, F, F, F, F, F, F,
+    F, F, F, F, F, F, F, F, F, F, F, F, F, F, F, F,
+    F, F, F, F, F, F, F, F, F, F, F, F, F, F, F, F,
+    T, T, T, T, T, T, T, T, T, T, F, F, F, F, F, F,
+    F, F, F, F, F, F, F, F, F, F, F, F, F, F, F, F,
+    F, F, F, F, F, F, F, F, F, F, F, F, F, F, F, F,
+    F, F, F, F, F, F, F, F, F, F, F, F, F, F, F, F,
+    F, F, F, F, F, F, F, F, F, F, F, F, F, F, F, F,
+    F, F, F, F, F, F, F, F, F, F, F, F, F, F, F, F,
+    F, F, F, F, F, F, F, F, F, F, F, F, F, F, F, F,
+    F, F, F, F, F, F, F, F, F, F, F, F, F, F, F, F,
+    F, F, F, F, F, F, F, F, F, F, F, F, F, F, F, F,
+    F, F, F, F, F, F, F, F, F, F, F, F, F, F, F, F,
+    F, F, F, F, F, F, F, F, F, F, F, F, F, F, F, F,
+    F, F, F, F, F, F, F, F, F, F, F, F, F, F, F, F,
+    F, F, F, F, F, F, F, F, F, F, F, F, F, F, F, F,
+];
+
+/// Which bytes are hexadecimal digits.
+#[rattlefmt::skip]
+pub static HEX_DIGITS: [bool; 256] = [
+    F, F, F, F, F, F, F, F, F, F, F, F, F, F, F, F,
+    F, F, F, F, F, F, F, F, F, F, F, F, F, F, F, F,
+    F, F, F, F, F, F, F, F, F, F, F, F, F, F, F, F,
+    T, T, T, T, T, T, T, T, T, T, F, F, F, F, F, F,
+    F, T, T, T, T, T, T, F, F, F, F, F, F, F, F, F,
+    F, F, F, F, F, F, F, F, F, F, F, F, F, F, F, F,
+    F, T, T, T, T, T, T, F, F, F, F, F, F, F, F, F,
+    F, F, F, F, F, F, F, F, F, F, F, F, F, F, F, F,
+    F, F, F, F, F, F, F, F, F, F, F, F, F, F, F, F,
+    F, F, F, F, F, F, F, F, F, F, F, F, F, F, F, F,
+    F, F, F, F, F, F, F, F, F, F, F, F, F, F, F, F,
+    F, F, F, F, F, F, F, F, F, F, F, F, F, F, F, F,
+    F, F, F, F, F, F, F, F, F, F, F, F, F, F, F, F,
+    F, F, F, F, F, F, F, F, F, F, F, F, F, F, F, F,
+    F, F, F, F, F, F, F, F, F, F, F, F, F, F, F, F,
+    F, F, F, F, F, F, F, F, F, F, F, F, F, F, F, F,
+];
+
+/// Which bytes stand for themselves in a string.
+#[rattlefmt::skip]
+pub static RAW: [bool; 256] = [
+    F, F, F, F, F, F, F, F, F, F, F, F, F, F, F, F,
+    F, F, F, F, F, F, F, F, F, F, F, F, F, F, F, F,
+    T, T, F, T, T, T, T, T, T, T, T, T, T, T, T, T,
+    T, T, T, T, T, T, T, T, T, T, T, T, T, T, T, T,
+    T, T, T, T, T, T, T, T, T, T, T, T, T, T, T, T,
+    T, T, T, T, T, T, T, T, T, T, T, T, F, T, T, T,
+    T, T, T, T, T, T, T, T, T, T, T, T, T, T, T, T,
+    T, T, T, T, T, T, T, T, T, T, T, T, T, T, T, F,
+    T, T, T, T, T, T, T, T, T, T, T, T, T, T, T, T,
+    T, T, T, T, T, T, T, T, T, T, T, T, T, T, T, T,
+    T, T, T, T, T, T, T, T, T, T, T, T, T, T, T, T,
+    T, T, T, T, T, T, T, T, T, T, T, T, T, T, T, T,
+    T, T, T, T, T, T, T, T, T, T, T, T, T, T, T, T,
+    T, T, T, T, T, T, T, T, T, T, T, T, T, T, T, T,
+    T, T, T, T, T, T, T, T, T, T, T, T, T, T, T, T,
+    T, T, T, T, T, T, T, T, T, T, T, T, T, T, T, T,
+];
+
+/// Which bytes end no line.
+#[rattlefmt::skip]
+pub static IN_LINE: [bool; 256] = [
+    T, T, T, T, T, T, T, T, T, T, F, T, T, F, T, T,
+    T, T, T, T, T, T, T, T, T, T, T, T, T, T, T, T,
+    T, T, T, T, T, T, T, T, T, T, T, T, T, T, T, T,
+    T, T, T, T, T, T, T, T, T, T, T, T, T, T, T, T,
+    T, T, T, T, T, T, T, T, T, T, T, T, T, T, T, T,
+    T, T, T, T, T, T, T, T, T, T, T, T, T, T, T, T,
+    T, T, T, T, T, T, T, T, T, T, T, T, T, T, T, T,
+    T, T, T, T, T, T, T, T, T, T, T, T, T, T, T, T,
+    T, T, T, T, T, T, T, T, T, T, T, T, T, T, T, T,
+    T, T, T, T, T, T, T, T, T, T, T, T, T, T, T, T,
+    T, T, T, T, T, T, T, T, T, T, T, T, T, T, T, T,
+    T, T, T, T, T, T, T, T, T, T, T, T, T, T, T, T,
+    T, T, T, T, T, T, T, T, T, T, T, T, T, T, T, T,
+    T, T, T, T, T, T, T, T, T, T, T, T, T, T, T, T,
+    T, T, T, T, T, T, T, T, T, T, T, T, T, T, T, T,
+    T, T, T, T, T, T, T, T, T, T, T, T, T, T, T, T,
+];
+
+/// Which bytes neither begin the `(;` nor the `;)` of a block comment.
+#[rattlefmt::skip]
+pub static IN_COMMENT: [bool; 256] = [
+    T, T, T, T, T, T, T, T, T, T, T, T, T, T, T, T,
+    T, T, T, T, T, T, T, T, T, T, T, T, T, T, T, T,
+    T, T, T, T, T, T, T, T, F, T, T, T, T, T, T, T,
+    T, T, T, T, T, T, T, T, T, T, T, F, T, T, T, T,
+    T, T, T, T, T, T, T, T, T, T, T, T, T, T, T, T,
+    T, T, T, T, T, T, T, T, T, T, T, T, T, T, T, T,
+    T, T, T, T, T, T, T, T, T, T, T, T, T, T, T, T,
+    T, T, T, T, T, T, T, T, T, T, T, T, T, T, T, T,
+    T, T, T, T, T, T, T, T, T, T, T, T, T, T, T, T,
+    T, T, T, T, T, T, T, T, T, T, T, T, T, T, T, T,
+    T, T, T, T, T, T, T, T, T, T, T, T, T, T, T, T,
+    T, T, T, T, T, T, T, T, T, T, T, T, T, T, T, T,
+    T, T, T, T, T, T, T, T, T, T, T, T, T, T, T, T,
+    T, T, T, T, T, T, T, T, T, T, T, T, T, T, T, T,
+    T, T, T, T, T, T, T, T, T, T, T, T, T, T, T, T,
+    T, T, T, T, T, T, T, T, T, T, T, T, T, T, T, T,
+];
+
+/// Whether a table marks a byte.
+#[inline(always)]
+pub fn is_marked(table: &[bool; 256], b: u8) -> bool
+    ensures { result ≡ get_or table.now b false }
+{
+    table[usize::from(b)]
+}
+
+/// How many of four bytes stand before the first that a table doesn't mark.
+#[inline(always)]
+fn marked_of_four(table: &[bool; 256], text: &[u8], from: usize) -> usize
+    requires { from + 4 ≤ length text.now }
+    ensures within { result ≤ 4 }
+    ensures marked { (k : ℕ) → k < from + result → from ≤ k
+        → get_or table.now (slice_index text.now k) false ≡ true }
+    ensures stops { result < 4
+        → get_or table.now (slice_index text.now (from + result)) false ≡ false }
+{
+    if !is_marked(table, text[from]) {
+        return 0;
+    }
+    if !is_marked(table, text[from + 1]) {
+        return 1;
+    }
+    if !is_marked(table, text[from + 2]) {
+        return 2;
+    }
+    if !is_marked(table, text[from + 3]) {
+        return 3;
+    }
+    4
+}
+
+/// Where the bytes that a table marks end.
+// (inlined, the table is known; eight bytes are looked at in a turn, and the length once)
+#[inline(always)]
+pub fn marked_end(table: &[bool; 256], text: &[u8], from: usize) -> usize
+    requires { from ≤ length text.now }
+    ensures within { (from ≤ result) × (result ≤ length text.now) }
+    ensures marked { (k : ℕ) → k < result → from ≤ k
+        → get_or table.now (slice_index text.now k) false ≡ true }
+    ensures stops { result < length text.now
+        → get_or table.now (slice_index text.now result) false ≡ false }
+{
+    let mut i = from;
+    while i + 8 <= text.len() {
+        let near = marked_of_four(table, text, i);
+        if near < 4 {
+            return i + near;
+        }
+        let far = marked_of_four(table, text, i + 4);
+        if far < 4 {
+            return i + 4 + far;
+        }
+        i += 8;
+    }
+    marked_end_near(table, text, i)
+}
+
+/// Where the bytes that a table marks end, by one byte in a turn.
+// Only the last bytes of a text are left to it.
+#[inline(never)]
+fn marked_end_near(table: &[bool; 256], text: &[u8], from: usize) -> usize
+    requires { from ≤ length text.now }
+    ensures within { (from ≤ result) × (result ≤ length text.now) }
+    ensures marked { (k : ℕ) → k < result → from ≤ k
+        → get_or table.now (slice_index text.now k) false ≡ true }
+    ensures stops { result < length text.now
+        → get_or table.now (slice_index text.now result) false ≡ false }
+{
+    let mut i = from;
+    while i < text.len() && is_marked(table, text[i]) {
+        i += 1;
+    }
+    i
+}
