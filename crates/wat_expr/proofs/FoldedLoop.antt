@@ -275,9 +275,8 @@ going_ends a b s e g none =
       held = ap (λ (y : Sum). y.held) w.3 ∙ y.3;
     }
 
-pub going_reads : (a b : State) (s : List OpenGroup) (e : Expression) → Going a s (flat e) b → s ≡ [] → folded_reads a.left ≡ Some (expression_view e, b.left)
-going_reads a b s e g none =
-    let x = going_ends a b s e g none in
+pub folded_found : (a b : State) (e : Expression) → IsFolded a b e → folded_reads a.left ≡ Some (expression_view e, b.left)
+folded_found a b e x =
     read_folded x.instr x.within a.left b.left x.listed ∙ ap (λ (v : Expr). some_of (v, b.left)) (sym x.value)
 
 -- a refusal counts at most one turn more

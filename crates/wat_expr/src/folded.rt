@@ -96,6 +96,7 @@ impl<'a> Expression<'a> {
             parser.note_height(open_groups.height());
             parser.note_held(open_groups.held());
         }
+        out.instrs.shrink_to_fit();
         Ok(out)
     }
 }

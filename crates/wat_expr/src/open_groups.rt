@@ -11,7 +11,7 @@ ghost use Rattle.wat_expr.specs.Taken.{ReadsBehind};
 ghost use Rattle.wat_tokens.specs.Steady.{Steady};
 
 use crate::expression::Expression;
-use crate::take::read_behind;
+use crate::take::{make_room, read_behind};
 use std::alloc::Global;
 use std::marker::Model;
 use wat_instr::{Instruction, Mnemonic};
@@ -166,7 +166,7 @@ impl<'a> OpenGroups<'a> {
     pub fn pop(&mut self, out: &mut Expression<'a>) -> Result<Option<Kind>>
         ensures { Pops result self.old self.new (flat out.old) (flat out.new) }
     {
-        out.instrs.reserve(1)?;
+        make_room(&mut out.instrs)?;
         let Some(kind) = self.kinds.pop() else {
             return Ok(None);
         };

@@ -1,6 +1,7 @@
 //! What takes one token, or an instruction.
 
-ghost use Rattle.std.specs.Prelude.{◌≡◌, ◌++◌, ◌∷◌, [], map, codes, IfErr};
+ghost use Rattle.std.specs.Prelude.{◌≡◌, ◌<◌, ◌++◌, ◌∷◌, [], map, codes, IfOk, IfErr};
+ghost use Rattle.std.specs.Vec.{vec_len, vec_capacity};
 ghost use Rattle.wat_expr.specs.Items.{hint_name, keyword};
 ghost use Rattle.wat_expr.specs.Taken.{TakesIf, TakesString, TakesHead, ReadsBehind};
 ghost use Rattle.wat_instr.specs.Instruction.{instruction_view};
@@ -8,7 +9,7 @@ ghost use Rattle.wat_tokens.specs.Steady.{Steady};
 ghost use Rattle.wat_tokens.specs.Token.{LParen, RParen};
 
 use wat_instr::{Instruction, Mnemonic};
-use wat_tokens::{Parser, Result};
+use wat_tokens::{Fault, Parser, Result};
 
 /// Takes a `(` where it is in front, and answers whether it did.
 #[inline(always)]
@@ -56,6 +57,25 @@ pub fn take_head(parser: &mut Parser<'_>) -> Result<Mnemonic>
     Mnemonic::take(parser)
 }
 
+/// For how many instructions an empty list gets room: more than most expressions have.
+const USUAL: usize = 32;
+
+/// Makes room for one instruction more, or refuses with Memory. A list that is empty gets room for as
+/// many as most expressions have, so that it isn't moved as it grows.
+#[inline(always)]
+pub fn make_room<'a>(out: &mut Vec<Instruction<'a>>) -> Result<()>
+    ensures room { IfOk result (λ _. vec_len out.new < vec_capacity out.new) }
+    ensures items { out.new.items ≡ out.old.items }
+    ensures memory { IfErr result (λ e. e.fault ≡ Fault.Memory) }
+{
+    if out.is_empty() {
+        out.reserve(USUAL)?;
+        return Ok(());
+    }
+    out.reserve(1)?;
+    Ok(())
+}
+
 /// Takes the operand of the instruction whose word was taken, and puts the instruction behind the
 /// others of the list. Where it is refused, they are all that is there. Memory may be answered.
 #[inline(always)]
@@ -70,7 +90,7 @@ pub fn read_behind<'a>(
         ≡ map instruction_view out.old.items) }
     ensures steady { Steady parser.old parser.new }
 {
-    out.reserve(1)?;
+    make_room(out)?;
     Instruction::read_operand(head, parser, out)
 }
 

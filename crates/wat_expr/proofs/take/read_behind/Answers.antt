@@ -4,11 +4,11 @@ use Rattle.wat_expr.proofs.take.read_behind.Goals as goal
 
 pub returns-clause-exact : goal.returns-clause-exact
 unfolding ReadsOperand
-returns-clause-exact c = rw c.reserve.ensures.items at (puts_behind _ _ _ _ _ _ c.read_operand.ensures.exact)
+returns-clause-exact c = rw c.make_room.ensures.items at (puts_behind _ _ _ _ _ _ c.read_operand.ensures.exact)
 
 pub returns-clause-refused : goal.returns-clause-refused
 unfolding ReadsOperand
-returns-clause-refused c = rw c.reserve.ensures.items at (refused_keeps _ _ _ _ _ c.read_operand.ensures.exact)
+returns-clause-refused c = rw c.make_room.ensures.items at (refused_keeps _ _ _ _ _ c.read_operand.ensures.exact)
 
 pub returns-clause-steady : goal.returns-clause-steady
 unfolding ReadsOperand

@@ -2,7 +2,7 @@ use Rattle.std.proofs.Common.{rules, Ok, ap, ◌∙◌}
 use Rattle.std.proofs.lemmas.Result.{err_from_is_err_and}
 use Rattle.wat_expr.specs.Flat.{no_output}
 use Rattle.wat_expr.specs.FoldedProduction.{folded_instruction}
-use Rattle.wat_expr.proofs.FoldedLoop.{is_some, is_none, going_begins, going_on, going_smaller, going_halts, going_ends, going_reads, refused_first, refused_later, begun, not_begun, no_word, read_folded, read_not_bare}
+use Rattle.wat_expr.proofs.FoldedLoop.{is_some, is_none, going_begins, going_on, going_smaller, going_halts, going_ends, folded_found, refused_first, refused_later, begun, not_begun, no_word, read_folded, read_not_bare}
 use Rattle.wat_expr.proofs.Whole.{read_accepted}
 use Rattle.wat_expr.proofs.expression.Expression.parse_folded_instruction.Goals as goal
 
@@ -60,13 +60,25 @@ pub groups-preserved : goal.groups-preserved
 groups-preserved c =
     going_on _ _ _ _ _ _ _ _ _ _ _ _ c.tick.ensures.only c.height-in-groups.ensures c.note_height-in-groups.ensures c.held-in-groups.ensures c.note_held-in-groups.ensures.only (is_some _ _ c.is_empty.ensures c.groups-test.true) c.in_ok-turn.ensures.turned c.groups.invariant c.tick.ensures.counts c.in_ok-turn.ensures.steady.counts c.in_ok-turn.ensures.steady.stays c.in_ok-turn.ensures.steady.settings c.note_held-in-groups.ensures.counts
 
+pub returns-clause-listed : goal.returns-clause-listed
+returns-clause-listed c =
+    let w = going_ends _ _ _ c.groups.out c.groups.invariant (is_none _ _ c.is_empty.ensures c.groups-test.false) in
+    record {
+      instr = w.instr;
+      within = w.within;
+      listed = w.listed;
+      value = rw c.shrink_to_fit.ensures.items w.value;
+      turned = w.turned;
+      peak = w.peak;
+      held = w.held;
+    }
+
 pub returns-clause-exact : goal.returns-clause-exact
 unfolding folded_instruction
-returns-clause-exact c = going_reads _ _ _ c.groups.out c.groups.invariant (is_none _ _ c.is_empty.ensures c.groups-test.false)
+returns-clause-exact c = folded_found _ _ _ (returns-clause-listed c)
 
 pub returns-clause-only : goal.returns-clause-only
 unfolding folded_instruction
-returns-clause-only c = λ i gs r l. read_accepted (Ok c.groups.out) _ _ (returns-clause-exact c) _ r (read_folded i gs _ r l)
-
-pub returns-clause-listed : goal.returns-clause-listed
-returns-clause-listed c = going_ends _ _ _ c.groups.out c.groups.invariant (is_none _ _ c.is_empty.ensures c.groups-test.false)
+returns-clause-only c =
+    let out = c.groups.out in
+    λ i gs r l. read_accepted (Ok record { instrs = c.shrink_to_fit.new.self; branch_hints = out.branch_hints; instr_spans = out.instr_spans }) _ _ (returns-clause-exact c) _ r (read_folded i gs _ r l)
