@@ -6,6 +6,7 @@ pub mod Define
 pub mod Fitting
 pub mod Function
 pub mod Given
+pub mod Integer
 pub mod Label
 pub mod Limits
 pub mod Nesting

@@ -15,6 +15,7 @@ pub use Rattle.wat_types.specs.Value
 pub mod Define
 pub mod Function
 pub mod Index
+pub mod Integer
 pub mod Label
 pub mod Laws
 pub mod Layout

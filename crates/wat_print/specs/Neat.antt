@@ -36,9 +36,11 @@ pub data Neat : List Tok → Type 0 where
   noted : (n : List ℕ) (a r : List Tok) → is_name n ≡ true → is_standard n ≡ true → Neat a → Neat r
       → Neat (LParen ∷ (Annotation n ∷ (a ++ RParen ∷ r)))
 
--- a token that a text can give: names are UTF-8 and not empty, a string has bytes
+-- a token that a text can give: names are UTF-8 and not empty, an integer is written as one, a
+-- string has bytes
 abbrev pub is_given : Tok → Bool
 is_given (Id n) = is_name n
 is_given (Annotation n) = is_name n
+is_given (Integer k) = is_integer k
 is_given (String s) = all_are is_byte s
 is_given _ = true

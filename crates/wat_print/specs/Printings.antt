@@ -2,7 +2,9 @@
 use Rattle.std.specs.Prelude.{◌≡◌, ℕ, List, [], ◌∷◌, true, refl}
 use Rattle.std.specs.Str.{is_utf8, bytes_eq}
 use Rattle.wat_lexer.specs.Token.{Keyword}
+use Rattle.wat_lexer.specs.Number.{is_integer}
 use Rattle.wat_tokens.specs.Index.{identifier, index}
+use Rattle.wat_tokens.specs.Integers.{integer}
 use Rattle.wat_tokens.specs.NameAnnotation.{name_annotation}
 use Rattle.wat_tokens.specs.Parts.{word}
 use Rattle.wat_tokens.specs.Strings.{string, text}
@@ -22,6 +24,7 @@ use Rattle.wat_types.specs.Value.{val_type}
 use Rattle.wat_print.specs.Define.{spell_kind, fit_kind, spell_type, fit_type, spell_rec, fit_rec}
 use Rattle.wat_print.specs.Function.{spell_function, fit_function}
 use Rattle.wat_print.specs.Index.{spell_index, fit_index}
+use Rattle.wat_print.specs.Integer.{spell_integer}
 use Rattle.wat_print.specs.Label.{spell_id, spell_name}
 use Rattle.wat_print.specs.Limits.{spell_limits, fit_limits, spell_memory_type, fit_memory_type}
 use Rattle.wat_print.specs.Limits.{spell_table_type, fit_table_type}
@@ -38,6 +41,7 @@ use Rattle.wat_print.specs.Laws.Define.{kind_here, kind_neat, kind_only, type_he
 use Rattle.wat_print.specs.Laws.Define.{type_only, rec_here, rec_neat, rec_only}
 use Rattle.wat_print.specs.Laws.Function.{function_here, function_neat, function_only, unnamed_here}
 use Rattle.wat_print.specs.Laws.Function.{unnamed_neat, unnamed_only}
+use Rattle.wat_print.specs.Laws.Integer.{integer_here, integer_neat, integer_only}
 use Rattle.wat_print.specs.Laws.Label.{id_here, id_neat, id_only, name_here, name_neat, name_only}
 use Rattle.wat_print.specs.Laws.Limits.{limits_here, limits_neat, limits_only, memory_type_here}
 use Rattle.wat_print.specs.Laws.Limits.{memory_type_neat, memory_type_only, table_type_here}
@@ -83,6 +87,17 @@ text_printing = record {
   neat = text_neat;
   spells = λ v h. text_here v h [];
   only = text_only.holds;
+}
+
+-- ---- integers, as they are written
+
+abbrev pub integer_printing : Printing integer
+integer_printing = record {
+  spell = spell_integer;
+  fit = is_integer;
+  neat = integer_neat;
+  spells = λ v h. integer_here v [];
+  only = integer_only.holds;
 }
 
 -- ---- names and indices

@@ -4,7 +4,7 @@ use Rattle.wat_print.specs.declared.fault.Refused.{Refused}
 use Rattle.wat_print.specs.declared.fault.Refused.TheVariants.{Memory, EmptyName, Label, PageSize}
 use Rattle.wat_print.specs.declared.fault.Refused.TheVariants.{Parents, Alignment}
 use Rattle.wat_print.specs.declared.fault.Refused.TheVariants.{Ordering, Float, Hint}
-use Rattle.wat_print.specs.declared.fault.Refused.TheVariants.{Table, Section}
+use Rattle.wat_print.specs.declared.fault.Refused.TheVariants.{Table, Section, Integer, Folded}
 
 abbrev pub refused_number : Refused → ℕ
 refused_number Memory = 1
@@ -18,3 +18,5 @@ refused_number Float = 8
 refused_number Hint = 9
 refused_number Table = 10
 refused_number Section = 11
+refused_number Integer = 12
+refused_number Folded = 13

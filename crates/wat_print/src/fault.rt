@@ -6,7 +6,7 @@ ghost use Rattle.wat_print.specs.Refusal.{refused_number};
 use std::alloc::AllocError;
 use thiserror::Error;
 
-/// Why a value isn't printed. Each reason has a number, from 1 to 11.
+/// Why a value isn't printed. Each reason has a number, from 1 to 13.
 ///
 /// No text spells a value that is refused for another reason than Memory.
 #[derive(Clone, Copy, Debug, PartialEq, Eq, Hash, Error)]
@@ -54,10 +54,19 @@ pub enum Refused {
     /// or the entries of a `dylink.0` section aren't gathered as a text gathers them.
     #[error("a custom section has a form that no text is read as")]
     Section = 11,
+    /// An integer isn't written as one (Text Format, Values, "Integers"). None that was read is such a
+    /// one.
+    #[error("an integer isn't written as one")]
+    Integer = 12,
+    /// A folded instruction has no instruction; or a `try_table` is its last and a `catch` or
+    /// `catch_all` its first, and each between them is one of these three (Text Format,
+    /// Instructions, "Folded Instructions").
+    #[error("no folded instruction has these instructions")]
+    Folded = 13,
 }
 
 impl Refused {
-    /// The number, from 1 to 11.
+    /// The number, from 1 to 13.
     pub fn number(self) -> u8
         ensures { result ≡ refused_number self }
     {

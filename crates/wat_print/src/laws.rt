@@ -26,7 +26,8 @@ pub fn lines_are_cut()
         → (ps : List Placed) × IsCut page.bytes ps × (tokens_of ps ≡ ts) }
 {}
 
-/// Names in a text are UTF-8 and not empty, and its strings have bytes.
+/// Names in a text are UTF-8 and not empty, its integers are written as such, and its strings have
+/// bytes.
 pub fn text_is_given()
     ensures { (x : List ℕ) (ps : List Placed) (known : Bool) → IsUtf8 x → IsCut x ps
         → each is_given (visible_tokens known (tokens_of ps)) ≡ true }

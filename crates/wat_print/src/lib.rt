@@ -8,6 +8,7 @@
 pub mod define;
 pub mod fault;
 pub mod function;
+pub mod integer;
 pub mod keyword;
 pub mod label;
 pub mod laws;

@@ -163,6 +163,16 @@ impl Output {
         Ok(())
     }
 
+    /// Writes an integer by its text.
+    pub fn integer(&mut self, text: &str) -> Result<(), AllocError>
+        ensures { OnOk result (self.new ≡ put self.old (Integer text.now ∷ [])) }
+    {
+        self.space()?;
+        self.text.push_str(text)?;
+        self.tight = false;
+        Ok(())
+    }
+
     /// Writes a number in decimal digits.
     pub fn number(&mut self, number: u64) -> Result<(), AllocError>
         ensures { OnOk result (self.new ≡ put self.old (Integer (decimal number) ∷ [])) }

@@ -1,5 +1,5 @@
 -- Laws: characters in a string that is UTF-8.
-use Rattle.std.specs.Prelude.{◌≡◌, ℕ, ◌+◌, ◌*◌, ◌/◌, ◌%◌, ◌≤◌, ◌<◌, Bool, true, false, List, [], ◌∷◌}
+use Rattle.std.specs.Prelude.{◌≡◌, ℕ, ◌+◌, ◌/◌, ◌%◌, ◌≤◌, ◌<◌, Bool, true, false, List, [], ◌∷◌}
 use Rattle.std.specs.Prelude.{◌++◌, encode_utf8, flat_map, map}
 use Rattle.std.specs.Char.{is_ascii}
 use Rattle.std.specs.Str.{encode_utf8_all, IsUtf8, chars, is_utf8}

@@ -11,6 +11,7 @@ use Rattle.wat_lexer.specs.Bytes.{is_idchar}
 use Rattle.wat_lexer.specs.Cut.{IsCut, Cuts, done, blank, token, Token, Str, close, more, Element}
 use Rattle.wat_lexer.specs.Cut.{raw_byte, short_form, hex_byte, code_point, short_escape, is_hex}
 use Rattle.wat_lexer.specs.Cut.{Name, Idchars}
+use Rattle.wat_lexer.specs.Number.{is_integer}
 use Rattle.wat_lexer.specs.Sight.{visible, visible_tokens, begins_hidden_group, shuts, deeper}
 use Rattle.wat_lexer.specs.Token.{Tok, Placed, LParen, RParen, Keyword, Id, Annotation, Integer}
 use Rattle.wat_lexer.specs.Token.{String, Reserved, tokens_of, is_open}
@@ -88,7 +89,8 @@ token_given behind x r RParen k a = refl
 token_given behind x r (Keyword w) k a = refl
 token_given behind x r (Id n) k a = name_given 36 x n k.2
 token_given behind x r (Annotation n) k a = name_given 64 x n k.2.1
-token_given behind x r (Integer w) k a = refl
+token_given behind x r (Integer w) k a =
+    subst (λ (y : List ℕ). is_integer y ≡ true) k.2.0 k.2.2
 token_given behind x r (String c) k a =
     let s = k.2 in
     string_given s.0 c s.2 (and_parts true _ (subst

@@ -1,0 +1,7 @@
+-- How integers are written.
+use Rattle.std.specs.Prelude.{ℕ, List, [], ◌∷◌}
+use Rattle.wat_lexer.specs.Token.{Tok, Integer}
+
+-- an integer, by its text
+abbrev pub spell_integer : List ℕ → List Tok
+spell_integer x = Integer x ∷ []

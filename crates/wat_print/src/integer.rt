@@ -1,0 +1,33 @@
+//! How integers are printed.
+
+ghost use Rattle.std.specs.Prelude.{List, ℕ};
+ghost use Rattle.wat_lexer.specs.Integer.{text_of};
+ghost use Rattle.wat_tokens.specs.Integers.{integer};
+ghost use Rattle.wat_print.specs.Printings.{integer_printing};
+
+use crate::fault::Refused;
+use crate::output::Output;
+use crate::traits::Print;
+use wat_tokens::Integer;
+
+/// An integer is written as it was read: with its sign, its `0x` and its underscores (Text Format,
+/// Values, "Integers").
+impl Print for Integer<'_> {
+    ghost View = { List ℕ };
+
+    ghost view = { text_of };
+
+    ghost grammar = { integer };
+
+    ghost printing = { integer_printing };
+
+    #[tactic(auto, using(crate::specs::Laws::Written::puts_put))]
+    fn write(&self, out: &mut Output) -> Result<(), Refused> {
+        let text = self.text();
+        if Integer::of(text).is_none() {
+            return Err(Refused::Integer);
+        }
+        out.integer(text)?;
+        Ok(())
+    }
+}
