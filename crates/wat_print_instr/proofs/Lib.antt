@@ -1,2 +1,3 @@
+pub mod FoldedWritten
 pub mod Walked
 pub mod Written

@@ -1,6 +1,8 @@
 -- Laws of the definitions: lemmas that other crates rest on.
 pub mod Expression
 pub mod ExpressionOnly
+pub mod Folded
+pub mod FoldedOnly
 pub mod Instruction
 pub mod Numbers
 pub mod OperandFront

@@ -14,6 +14,8 @@ pub use Rattle.wat_operands.specs.Vector
 pub mod Access
 pub mod Control
 pub mod ExpressionForm
+pub mod FoldedForm
+pub mod FoldedPrinting
 pub mod InstructionForm
 pub mod InstructionPrinting
 pub mod Laws

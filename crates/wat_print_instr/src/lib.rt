@@ -9,6 +9,7 @@ pub mod access;
 pub mod caught;
 pub mod control;
 pub mod expression;
+pub mod folded;
 pub mod instruction;
 pub mod laws;
 pub mod numbers;

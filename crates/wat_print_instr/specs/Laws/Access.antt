@@ -48,7 +48,7 @@ use Rattle.wat_print_instr.specs.Numbers.{numbered, is_unsigned}
 use Rattle.wat_print_instr.specs.Places.{is_index_0}
 use Rattle.wat_print_instr.specs.Laws.Numbers.{less_by, equal_by, same_number, number_text}
 use Rattle.wat_print_instr.specs.Laws.Numbers.{number_chars, unsigned_neat}
-use Rattle.wat_print_instr.specs.Laws.Numbers.{unsigned_given}
+use Rattle.wat_print_instr.specs.Laws.Numbers.{unsigned_found}
 use Rattle.wat_print_instr.specs.Laws.Places.{both_here, index_or_0_here, index_or_0_neat}
 use Rattle.wat_print_instr.specs.Laws.Places.{index_or_0_only}
 
@@ -279,7 +279,7 @@ access_neat a m f = place_neat a m (and_parts (fit_place a m) (is_none m.orderin
 -- ---- what a text spells can be written
 
 in_number : (o : Option (List ℕ)) (n : ℕ) → number_in o ≡ Some n → is_u64 n ≡ true
-in_number (Some x) n e = unsigned_given 64 (lit≤ tt) (Integer x) n refl e
+in_number (Some x) n e = unsigned_found 64 (lit≤ tt) x n e
 in_number None n e = absurd cc
 
 behind_given : (front : List ℕ) (t : Tok) (n : ℕ) → is_given t ≡ true
@@ -463,7 +463,7 @@ lane_given : (t : Tok) (n : ℕ) → is_given t ≡ true → lane_in t ≡ Some 
 lane_given (Integer x) n a e =
     cond_both (is_none (sign_of x)) (unsigned_value 8 x) None
     (λ (o : Option ℕ). o ≡ Some n → is_unsigned 8 n ≡ true)
-    (λ u k. (unsigned_given 8 (lit≤ tt) (Integer x) n refl k)) (λ u k. absurd cc) e
+    (λ u k. (unsigned_found 8 (lit≤ tt) x n k)) (λ u k. absurd cc) e
 lane_given LParen n a e = absurd cc
 lane_given _ n a e = absurd cc
 

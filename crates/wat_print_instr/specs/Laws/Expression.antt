@@ -208,21 +208,22 @@ expression_no_type e r k = (
 
 -- ---- what may follow an instruction
 
-word_ends : (h : Mnemonic) (y : List Tok) → NoTypeSecond (Keyword (mnemonic_word h) ∷ y)
-    → EndsOperand (Keyword (mnemonic_word h) ∷ y)
+word_ends : {w : Mnemonic} (h : Mnemonic) (y : List Tok)
+    → NoTypeSecond (Keyword (mnemonic_word h) ∷ y)
+    → EndsOperand w (Keyword (mnemonic_word h) ∷ y)
 word_ends h y n =
     let p = word_unsought h in record {
       no_index = refl;
       no_lane = rw (p.no_offset, p.no_align) refl;
       no_ordering = rw (p.no_seqcst, p.no_acqrel) refl;
       no_result = n.2;
-      no_catch = refl;
+      no_catch = λ t. refl;
       no_handler = refl;
       access = (p.no_offset, p.no_align, p.no_type, n.0);
       block = ((n.0, refl, rw (n.1, n.2) refl), refl, refl);
     }
 
-end_ends : (r : List Tok) → EndsExpression r → EndsOperand r
+pub end_ends : {w : Mnemonic} (r : List Tok) → EndsExpression r → EndsOperand w r
 end_ends [] e = ends_nothing
 end_ends (RParen ∷ x) e =
     let n = e.1 in record {
@@ -230,21 +231,21 @@ end_ends (RParen ∷ x) e =
       no_lane = refl;
       no_ordering = refl;
       no_result = n.2;
-      no_catch = refl;
+      no_catch = λ t. refl;
       no_handler = refl;
       access = (refl, refl, refl, n.0);
       block = ((n.0, refl, rw (n.1, n.2) refl), refl, refl);
     }
 end_ends (_ ∷ x) e = absurd cc
 
-step_ends : (h : Option ℕ) (i : Instr) (s t : List Tok)
+step_ends : {w : Mnemonic} (h : Option ℕ) (i : Instr) (s t : List Tok)
     → NoTypeSecond ((spell_step (step_of h i) ++ s) ++ t)
-    → EndsOperand ((spell_step (step_of h i) ++ s) ++ t)
+    → EndsOperand w ((spell_step (step_of h i) ++ s) ++ t)
 step_ends (Some v) i s t n = ends_annotation (codes "metadata.code.branch_hint") _ refl
 step_ends None i s t n = word_ends (mnemonic_of_row i.row) _ n
 
-steps_ends : (xs : List HintedInstr) (r : List Tok) → EndsExpression r
-    → EndsOperand (flat_map spell_step xs ++ r)
+steps_ends : {w : Mnemonic} (xs : List HintedInstr) (r : List Tok) → EndsExpression r
+    → EndsOperand w (flat_map spell_step xs ++ r)
 steps_ends [] r e = end_ends r e
 steps_ends (x ∷ xs) r e =
     step_ends x.hint x.instr (flat_map spell_step xs) r (
@@ -265,7 +266,7 @@ items_of (x ∷ xs) = item x.hint x.instr (items_of xs)
 
 one_listed : (h : Option ℕ) (i : Instr) (xs : List HintedInstr) (t s : List Tok)
     → if_some (fit_hint i) h && fit_instruction i ≡ true → lists (items_of xs) t s
-    → EndsOperand t → lists (items_of (step_of h i ∷ xs)) (spell_step (step_of h i) ++ t) s
+    → EndsOperand (mnemonic_of_row i.row) t → lists (items_of (step_of h i ∷ xs)) (spell_step (step_of h i) ++ t) s
 one_listed None i xs t s f l e =
     (t, (spell_instruction i, refl, instruction_here i t f e), l)
 one_listed (Some v) i xs t s f l e =

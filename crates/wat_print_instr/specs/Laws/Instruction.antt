@@ -47,6 +47,7 @@ use Rattle.wat_print.specs.Laws.Parts.{neat_word}
 use Rattle.wat_print.specs.Laws.Only.{OnlyFit}
 use Rattle.wat_print.specs.Neat as neat
 use Rattle.wat_tokens.specs.Followed.{blank}
+use Rattle.wat_print_instr.specs.FoldedForm.{takes_catches}
 use Rattle.wat_print_instr.specs.InstructionForm.{found_nothing, found_block, found_label}
 use Rattle.wat_print_instr.specs.InstructionForm.{found_one_index}
 use Rattle.wat_print_instr.specs.InstructionForm.{found_two_indices, found_branches, found_call}
@@ -198,63 +199,63 @@ thrown_from _ v e = absurd cc
 
 -- ---- operands
 
--- what may follow an operand without taking part in it
-pub record EndsOperand (r : List Tok) : Type 0 where
+-- what may follow the operand of the word without taking part in it
+pub record EndsOperand (h : Mnemonic) (r : List Tok) : Type 0 where
   pub no_index : begins_index r ≡ false
   pub no_lane : goes_on r ≡ false
   pub no_ordering : begins_ordering r ≡ false
   pub no_result : result_follows r ≡ false
-  pub no_catch : begins_catch r ≡ false
+  pub no_catch : takes_catches h ≡ true → begins_catch r ≡ false
   pub no_handler : begins_handler r ≡ false
   pub access : EndsAccess r
   pub block : EndsBlock r
 
-pub ends_nothing : EndsOperand []
+pub ends_nothing : {h : Mnemonic} → EndsOperand h []
 ends_nothing = record {
   no_index = refl;
   no_lane = refl;
   no_ordering = refl;
   no_result = refl;
-  no_catch = refl;
+  no_catch = λ t. refl;
   no_handler = refl;
   access = (refl, refl, refl, refl);
   block = ((refl, refl, refl), refl, refl);
 }
 
 -- a group that begins with another annotation than `@name`
-pub ends_annotation : (n : List ℕ) (x : List Tok) → bytes_eq n (codes "name") ≡ false
-    → EndsOperand (LParen ∷ Annotation n ∷ x)
+pub ends_annotation : {h : Mnemonic} (n : List ℕ) (x : List Tok)
+    → bytes_eq n (codes "name") ≡ false → EndsOperand h (LParen ∷ Annotation n ∷ x)
 ends_annotation n x e = record {
   no_index = refl;
   no_lane = refl;
   no_ordering = refl;
   no_result = refl;
-  no_catch = refl;
+  no_catch = λ t. refl;
   no_handler = refl;
   access = (refl, refl, refl, refl);
   block = ((refl, refl, refl), refl, e);
 }
 
--- an operand is printed so
-pub record Forms (g : Production Operand) (f : OperandForm) : Type 0 where
+-- an operand of the word is printed so
+pub record Forms (h : Mnemonic) (g : Production Operand) (f : OperandForm) : Type 0 where
   pub neat : (o : Operand) → f.fit o ≡ true → Neat (f.spell o)
-  pub spells : (o : Operand) (r : List Tok) → f.fit o ≡ true → EndsOperand r
+  pub spells : (o : Operand) (r : List Tok) → f.fit o ≡ true → EndsOperand h r
       → g.spells o (f.spell o) r
   pub only : (o : Operand) (c r : List Tok) → each is_given c ≡ true → g.spells o c r
       → f.fit o ≡ true
 
 -- what is made of a value that is printed
-module _ {A : Type 0} {g : Production A} (make : A → Operand) (from : Operand → Option A)
-    (back : (v : A) → from (make v) ≡ Some v)
+module _ {w : Mnemonic} {A : Type 0} {g : Production A} (make : A → Operand)
+    (from : Operand → Option A) (back : (v : A) → from (make v) ≡ Some v)
     (made_of : (o : Operand) (v : A) → from o ≡ Some v → make v ≡ o) (p : Printing g)
-    (here : (v : A) (r : List Tok) → p.fit v ≡ true → EndsOperand r → g.spells v (p.spell v) r)
+    (here : (v : A) (r : List Tok) → p.fit v ≡ true → EndsOperand w r → g.spells v (p.spell v) r)
   where
     neat_by : (o : Option A) → passes p.fit o ≡ true → Neat (spell_option p.spell o)
     neat_by (Some v) h = p.neat v h
     neat_by None h = absurd cc
 
     spells_by : (o : Operand) (x : Option A) (r : List Tok) → from o ≡ x → passes p.fit x ≡ true
-        → EndsOperand r → (made make g).spells o (spell_option p.spell x) r
+        → EndsOperand w r → (made make g).spells o (spell_option p.spell x) r
     spells_by o (Some v) r e h k = (v, here v r h k, refl, made_of o v e)
     spells_by o None r e h k = absurd cc
 
@@ -264,7 +265,7 @@ module _ {A : Type 0} {g : Production A} (make : A → Operand) (from : Operand 
         subst (λ (u : Operand). passes p.fit (from u) ≡ true) s.3
         (subst (λ (x : Option A). passes p.fit x ≡ true) (sym (back s.0)) (p.only s.0 c r a s.1))
 
-    forms_made : Forms (made make g) (form from p)
+    forms_made : Forms w (made make g) (form from p)
     forms_made = record {
       neat = λ o h. neat_by (from o) h;
       spells = λ o r h k. spells_by o (from o) r refl h k;
@@ -276,8 +277,8 @@ nothing_neat : (o : Operand) → passes nothing_printing.fit (found_nothing o) �
 nothing_neat nothing h = neat.nothing
 nothing_neat _ h = absurd cc
 
-nothing_spells : (o : Operand) (r : List Tok)
-    → passes nothing_printing.fit (found_nothing o) ≡ true → EndsOperand r
+nothing_spells : {h : Mnemonic} (o : Operand) (r : List Tok)
+    → passes nothing_printing.fit (found_nothing o) ≡ true → EndsOperand h r
     → (blank nothing).spells o (spell_option nothing_printing.spell (found_nothing o)) r
 nothing_spells nothing r h k = (refl, refl)
 nothing_spells _ r h k = absurd cc
@@ -288,10 +289,10 @@ nothing_only o c r a s =
     subst (λ (u : Operand). passes nothing_printing.fit (found_nothing u) ≡ true) (sym s.1) refl
 
 -- an instruction without an operand
-forms_nothing : Forms (blank nothing) (form found_nothing nothing_printing)
+forms_nothing : {h : Mnemonic} → Forms h (blank nothing) (form found_nothing nothing_printing)
 forms_nothing = record { neat = nothing_neat; spells = nothing_spells; only = nothing_only }
 
-operand_forms : (h : Mnemonic) → Forms (operand h) (operand_form h)
+operand_forms : (h : Mnemonic) → Forms h (operand h) (operand_form h)
 unfolding operand
 operand_forms (head.Block op) =
     forms_made block found_block (λ v. refl) block_from block_printing
@@ -423,7 +424,7 @@ operand_forms head.i8x16_shuffle =
     (λ v r f e. (shuffle_here v f r))
 operand_forms head.try_table =
     forms_made caught found_caught (λ v. refl) caught_from try_printing
-    (λ v r f e. (try_here v r f e.block e.no_catch))
+    (λ v r f e. (try_here v r f e.block (e.no_catch refl)))
 operand_forms head.cont_bind =
     forms_made two_indices found_two_indices (λ v. refl) two_indices_from pair_printing
     (λ v r f e. (pair_here v f r))
@@ -485,7 +486,7 @@ fit_of h o =
     ∙ ap (λ (b : Bool). b && (operand_form h).fit o) (same_number (mnemonic_row h))
 
 spells_of : (h : Mnemonic) (o : Operand) (r : List Tok) → (operand_form h).fit o ≡ true
-    → EndsOperand r
+    → EndsOperand h r
     → instruction.spells (instr_of h o) (Keyword (mnemonic_word h) ∷ (operand_form h).spell o) r
 unfolding instruction
 spells_of h o r f e = (
@@ -506,8 +507,8 @@ of_row i f =
     (equal_by (mnemonic_row h) i.row a.0)
 
 -- in front of what doesn't take part in it
-pub instruction_here : (i : Instr) (r : List Tok) → fit_instruction i ≡ true → EndsOperand r
-    → instruction.spells i (spell_instruction i) r
+pub instruction_here : (i : Instr) (r : List Tok) → fit_instruction i ≡ true
+    → EndsOperand (mnemonic_of_row i.row) r → instruction.spells i (spell_instruction i) r
 instruction_here i r f e =
     let h = mnemonic_of_row i.row in
     let a = and_parts (mnemonic_row h == i.row) ((operand_form h).fit i.operand) f in

@@ -1,5 +1,5 @@
 -- Laws: numbers with a sign, and words that end in a number, are read again.
-use Rattle.std.specs.Prelude.{◌≡◌, ℕ, ℤ, zero, suc, pos, negsuc, ◌^◌, ◌-◌, ◌<◌, ◌≤◌, ◌==◌}
+use Rattle.std.specs.Prelude.{List, ◌≡◌, ℕ, ℤ, zero, suc, pos, negsuc, ◌^◌, ◌-◌, ◌<◌, ◌≤◌, ◌==◌}
 use Rattle.std.specs.Prelude.{◌-ℤ◌, neg_ℤ, true, false, nat_lt, nat_le}
 use Rattle.std.specs.Prelude.{Option, Some, None, option_map, decimal}
 use Rattle.std.specs.Fmt.{signed_decimal}
@@ -156,10 +156,14 @@ unsigned_neat bits n le h =
     let lt : n < 2 ^ bits = less_by n (2 ^ bits) h in
     neat_one (Integer (decimal n)) (decimal_fit n (omega arith))
 
+pub unsigned_found : (bits : ℕ) → 1 ≤ 2 ^ bits → (x : List ℕ) (n : ℕ)
+    → unsigned_value bits x ≡ Some n → is_unsigned bits n ≡ true
+unsigned_found bits p x n e =
+    let le = unsigned_fits bits x n e in less_tested n (2 ^ bits) (omega arith)
+
 pub unsigned_given : (bits : ℕ) → 1 ≤ 2 ^ bits → (t : Tok) (n : ℕ) → is_given t ≡ true
     → unsigned_of bits t ≡ Some n → is_unsigned bits n ≡ true
-unsigned_given bits p (Integer x) n a e =
-    let le = unsigned_fits bits x n e in less_tested n (2 ^ bits) (omega arith)
+unsigned_given bits p (Integer x) n a e = unsigned_found bits p x n e
 unsigned_given bits p LParen n a e = absurd cc
 unsigned_given bits p _ n a e = absurd cc
 

@@ -1,0 +1,320 @@
+-- Laws: folded instructions are read again, and each that tokens of a text spell can be written.
+use Rattle.std.specs.Prelude.{◌≡◌, ℕ, zero, suc, ◌<◌, Bool, true, false, not, ◌&&◌, ◌||◌}
+use Rattle.std.specs.Prelude.{if◌then◌else◌, List, [], ◌∷◌, ◌++◌, length, Option, Some, None, codes}
+use Rattle.std.specs.Prelude.{option_map, is_some}
+use Rattle.std.specs.Str.{bytes_eq}
+use Rattle.std.proofs.Common.{refl, ap, subst, sym, ◌∙◌, append_assoc, append-nil, get_or, arith}
+use Rattle.std.proofs.lemmas.Bool.{and_parts, cond_both, not-true}
+use Rattle.wat_lexer.specs.Token.{Tok, LParen, RParen, Keyword}
+use Rattle.wat_tokens.specs.Spelled.{in_parens}
+use Rattle.wat_operands.specs.Catches.{begins_catch}
+use Rattle.wat_mnemonics.specs.Heads.{mnemonic_word}
+use Rattle.wat_mnemonics.specs.Laws.Places.{there, place_below, table_length}
+use Rattle.wat_mnemonics.specs.Order.{first}
+use Rattle.wat_mnemonics.specs.Places.{place}
+use Rattle.wat_mnemonics.specs.Table.{all_mnemonics}
+use Rattle.wat_mnemonics.specs.declared.mnemonic.Mnemonic.{Mnemonic}
+use Rattle.wat_instr.specs.Instruction.{Instr}
+use Rattle.wat_expr.specs.Expression.{Expr}
+use Rattle.wat_expr.specs.Folded.{Groups, NoGroup, Group, groups, unfolded_groups, folded_value}
+use Rattle.wat_expr.specs.Folded.{folded_spells}
+use Rattle.wat_expr.specs.FoldedProduction.{folded_instruction}
+use Rattle.wat_print.specs.Neat.{Neat, nothing}
+use Rattle.wat_print.specs.Parts.{each, spell_option}
+use Rattle.wat_print.specs.Laws.Parts.{neat_both, neat_paren, each_both}
+use Rattle.wat_print_instr.specs.FoldedForm.{takes_catches, is_catch, head_of, keeps_apart}
+use Rattle.wat_print_instr.specs.FoldedForm.{own_groups, first_apart, catch_first, groups_behind}
+use Rattle.wat_print_instr.specs.FoldedForm.{group_from, spell_groups, spell_folded, no_hints, fit_folded}
+use Rattle.wat_print_instr.specs.InstructionForm.{spell_instruction, fit_instruction}
+use Rattle.wat_print_instr.specs.Laws.Expression.{EndsExpression, end_ends, word_unsought}
+use Rattle.wat_print_instr.specs.Laws.Instruction.{EndsOperand, instruction_here, instruction_neat}
+use Rattle.wat_print_instr.specs.Laws.Places.{each_front}
+
+-- ---- what a group begins with
+
+abbrev same_test : Bool → Bool → Bool
+same_test true b = b
+same_test false b = not b
+
+same_by : (a b : Bool) → same_test a b ≡ true → b ≡ a
+same_by true b e = e
+same_by false true e = absurd cc
+same_by false false e = refl
+
+-- a group of the word begins a clause of a `try_table` as `is_catch` has it, and no handler
+abbrev group_told : Mnemonic → Bool
+group_told h =
+    same_test (is_catch h) (begins_catch (LParen ∷ Keyword (mnemonic_word h) ∷ []))
+    && not (bytes_eq (mnemonic_word h) (codes "on"))
+
+groups_told : each group_told all_mnemonics ≡ true
+groups_told = refl
+
+told_at : (xs : List Mnemonic) (k : ℕ) → each group_told xs ≡ true → k < length xs
+    → group_told (get_or xs k first) ≡ true
+told_at [] k e l = absurd (omega (arith, l))
+told_at (x ∷ xs) zero e l = (and_parts (group_told x) (each group_told xs) e).0
+told_at (x ∷ xs) (suc k) e l =
+    told_at xs k (and_parts (group_told x) (each group_told xs) e).1 (omega (arith, l))
+
+told : (h : Mnemonic) → group_told h ≡ true
+told h =
+    subst (λ (x : Mnemonic). group_told x ≡ true) (there h)
+    (told_at all_mnemonics (place h) groups_told
+    (let l = table_length in let b = place_below h in omega arith))
+
+pub catch_told : (h : Mnemonic) (y : List Tok)
+    → begins_catch (LParen ∷ Keyword (mnemonic_word h) ∷ y) ≡ is_catch h
+catch_told h y = same_by (is_catch h) _ (and_parts _ _ (told h)).0
+
+no_on : (h : Mnemonic) → bytes_eq (mnemonic_word h) (codes "on") ≡ false
+no_on h = not-true _ (and_parts _ _ (told h)).1
+
+-- a group of an instruction takes part in no operand but that of a `try_table`, and in that only if
+-- it is one of a `catch`
+group_ends : {w : Mnemonic} (h : Mnemonic) (y : List Tok)
+    → (takes_catches w ≡ true → is_catch h ≡ false)
+    → EndsOperand w (LParen ∷ Keyword (mnemonic_word h) ∷ y)
+group_ends h y k =
+    let p = word_unsought h in record {
+      no_index = refl;
+      no_lane = refl;
+      no_ordering = refl;
+      no_result = p.no_result;
+      no_catch = λ t. (catch_told h y ∙ k t);
+      no_handler = no_on h;
+      access = (refl, refl, refl, p.no_type);
+      block = (
+        (p.no_type, rw (p.no_param, p.no_result) refl, rw (p.no_param, p.no_result) refl),
+        refl,
+        refl,
+      );
+    }
+
+-- ---- groups as they are written are read again
+
+-- no `catch` is in the first group behind a `try_table`
+abbrev FirstFree : Mnemonic → Groups → Type 0
+FirstFree w NoGroup = Unit {0}
+FirstFree w (Group i gs hs) = takes_catches w ≡ true → is_catch (head_of i) ≡ false
+
+abbrev Readable : Groups → Type 0
+Readable NoGroup = Unit {0}
+Readable (Group i gs hs) = FirstFree (head_of i) gs × Readable gs × Readable hs
+
+groups_end : {w : Mnemonic} (gs : Groups) (d : List Tok) → FirstFree w gs
+    → EndsExpression (RParen ∷ d) → EndsOperand w (spell_groups gs ++ RParen ∷ d)
+groups_end NoGroup d k e = end_ends (RParen ∷ d) e
+groups_end (Group i gs hs) d k e = group_ends (head_of i) _ k
+
+group_closed : (hs : Groups) (r : List Tok)
+    → EndsExpression (RParen ∷ (spell_groups hs ++ RParen ∷ r))
+group_closed NoGroup r = (refl, (refl, refl, refl))
+group_closed (Group i gs hs) r = (refl, (refl, refl, refl))
+
+group_text : (s g h t : List Tok)
+    → (in_parens (s ++ g) ++ h) ++ t ≡ LParen ∷ (s ++ (g ++ (RParen ∷ (h ++ t))))
+group_text s g h t = simp append_assoc
+
+-- that of the group's instruction, and those of the groups in it
+own_fits : (gs : Groups) (i : Instr) → each fit_instruction (unfolded_groups gs ++ i ∷ []) ≡ true
+    → (each fit_instruction (unfolded_groups gs) ≡ true) × (fit_instruction i ≡ true)
+own_fits gs i f =
+    let u = each_front fit_instruction (unfolded_groups gs) (i ∷ []) f in
+    (u.0, (and_parts (fit_instruction i) true u.1).0)
+
+groups_listed : (gs : Groups) (r : List Tok) → each fit_instruction (unfolded_groups gs) ≡ true
+    → Readable gs → groups gs (spell_groups gs ++ RParen ∷ r) (RParen ∷ r)
+groups_listed NoGroup r f k = refl
+groups_listed (Group i gs hs) r f k =
+    let d = spell_groups hs ++ RParen ∷ r in
+    let b = spell_groups gs ++ RParen ∷ d in
+    let u = each_front fit_instruction (unfolded_groups gs ++ i ∷ []) (unfolded_groups hs) f in
+    let v = own_fits gs i u.0 in (
+      spell_instruction i ++ b,
+      b,
+      d,
+      group_text (spell_instruction i) (spell_groups gs) (spell_groups hs) (RParen ∷ r),
+      (
+        spell_instruction i,
+        refl,
+        instruction_here i b v.1 (groups_end gs d k.0 (group_closed hs r)),
+      ),
+      groups_listed gs d v.0 k.1,
+      groups_listed hs r u.1 k.2,
+    )
+
+groups_neat : (gs : Groups) → each fit_instruction (unfolded_groups gs) ≡ true
+    → Neat (spell_groups gs)
+groups_neat NoGroup f = nothing
+groups_neat (Group i gs hs) f =
+    let u = each_front fit_instruction (unfolded_groups gs ++ i ∷ []) (unfolded_groups hs) f in
+    let v = own_fits gs i u.0 in
+    neat_both (in_parens (spell_instruction i ++ spell_groups gs)) (spell_groups hs)
+    (neat_paren (spell_instruction i ++ spell_groups gs)
+    (neat_both (spell_instruction i) (spell_groups gs) (instruction_neat i v.1)
+    (groups_neat gs v.0)))
+    (groups_neat hs u.1)
+
+-- ---- which groups are written
+
+own_unfold : (is : List Instr) → unfolded_groups (own_groups is) ≡ is
+own_unfold [] = refl
+own_unfold (i ∷ is) = ap (λ (l : List Instr). i ∷ l) (own_unfold is)
+
+own_readable : (is : List Instr) → Readable (own_groups is)
+own_readable [] = tt
+own_readable (i ∷ is) = (tt, tt, own_readable is)
+
+apart_facts : (i : Instr) → keeps_apart i ≡ true
+    → (takes_catches (head_of i) ≡ false) × (is_catch (head_of i) ≡ false)
+apart_facts i e =
+    let p = and_parts (not (takes_catches (head_of i))) (not (is_catch (head_of i))) e in
+    (not-true (takes_catches (head_of i)) p.0, not-true (is_catch (head_of i)) p.1)
+
+free_behind : (w : Mnemonic) (gs : Groups) → takes_catches w ≡ false → FirstFree w gs
+free_behind w NoGroup e = tt
+free_behind w (Group i gs hs) e = λ t. absurd cc
+
+-- the groups are read behind the word, and hold the instructions
+abbrev Chosen : Mnemonic → List Instr → Option Groups → Type 0
+Chosen w is None = Unit {0}
+Chosen w is (Some gs) = (unfolded_groups gs ≡ is) × FirstFree w gs × Readable gs
+
+apart_unfold : (i : Instr) (before is : List Instr)
+    → unfolded_groups (Group i (own_groups before) (own_groups is)) ≡ before ++ i ∷ is
+apart_unfold i before is =
+    rw (own_unfold before, own_unfold is) (append_assoc before (i ∷ []) is)
+
+apart_chosen : (w : Mnemonic) (before is : List Instr)
+    → Chosen w (before ++ is) (first_apart before is)
+apart_chosen w before [] = tt
+apart_chosen w before (i ∷ is) =
+    cond_both (keeps_apart i) (Some (Group i (own_groups before) (own_groups is)))
+    (first_apart (before ++ i ∷ []) is) (Chosen w (before ++ i ∷ is))
+    (λ e. (let p = apart_facts i e in (
+      apart_unfold i before is,
+      λ t. p.1,
+      (
+        free_behind (head_of i) (own_groups before) p.0,
+        own_readable before,
+        own_readable is,
+      ),
+    )))
+    (λ e. (subst (λ (l : List Instr). Chosen w l (first_apart (before ++ i ∷ []) is))
+    (append_assoc before (i ∷ []) is) (apart_chosen w (before ++ i ∷ []) is)))
+
+not_both : (a b : Bool) → a && b ≡ false → a ≡ true → b ≡ false
+not_both true b e t = e
+not_both false b e t = absurd cc
+
+own_free : (h : Instr) (is : List Instr) → catch_first h is ≡ false
+    → FirstFree (head_of h) (own_groups is)
+own_free h [] e = tt
+own_free h (i ∷ is) e = not_both (takes_catches (head_of h)) (is_catch (head_of i)) e
+
+behind_chosen : (h : Instr) (is : List Instr) → Chosen (head_of h) is (groups_behind h is)
+behind_chosen h is =
+    cond_both (catch_first h is) (first_apart [] is) (Some (own_groups is))
+    (Chosen (head_of h) is) (λ e. (apart_chosen (head_of h) [] is))
+    (λ e. (own_unfold is, own_free h is e, own_readable is))
+
+-- one group, which is read and holds the instructions
+abbrev Whole : List Instr → Option Groups → Type 0
+Whole is None = Unit {0}
+Whole is (Some (Group i gs NoGroup)) =
+    (unfolded_groups gs ++ i ∷ [] ≡ is) × FirstFree (head_of i) gs × Readable gs
+Whole is _ = ⊥
+
+whole_of : (i : Instr) (is : List Instr) (o : Option Groups) → Chosen (head_of i) is o
+    → Whole (is ++ i ∷ []) (option_map (λ gs. Group i gs NoGroup) o)
+whole_of i is None c = tt
+whole_of i is (Some gs) c = (ap (λ (l : List Instr). l ++ i ∷ []) c.0, c.1, c.2)
+
+from_whole : (before is : List Instr) → Whole (before ++ is) (group_from before is)
+from_whole before [] = tt
+from_whole before (i ∷ []) = whole_of i before (groups_behind i before) (behind_chosen i before)
+from_whole before (i ∷ j ∷ is) =
+    subst (λ (l : List Instr). Whole l (group_from (before ++ i ∷ []) (j ∷ is)))
+    (append_assoc before (i ∷ []) (j ∷ is)) (from_whole (before ++ i ∷ []) (j ∷ is))
+
+-- the last instruction's group
+pub group_last : (before is : List Instr) (i : Instr) → group_from before (is ++ i ∷ [])
+    ≡ option_map (λ gs. Group i gs NoGroup) (groups_behind i (before ++ is))
+group_last before [] i =
+    ap (λ (l : List Instr). option_map (λ gs. Group i gs NoGroup) (groups_behind i l))
+    (sym (append-nil before))
+group_last before (j ∷ []) i = refl
+group_last before (j ∷ k ∷ is) i =
+    group_last (before ++ j ∷ []) (k ∷ is) i
+    ∙ ap (λ (l : List Instr). option_map (λ gs. Group i gs NoGroup) (groups_behind i l))
+    (append_assoc before (j ∷ []) (k ∷ is))
+
+-- ---- what is written
+
+unhinted : (hs : List (ℕ × ℕ)) → no_hints hs ≡ true → hs ≡ []
+unhinted [] e = refl
+unhinted (h ∷ hs) e = absurd cc
+
+whole_spells : (e : Expr) (o : Option Groups) (r : List Tok) → Whole e.instrs o → e.hints ≡ []
+    → each fit_instruction e.instrs ≡ true → is_some o ≡ true → EndsExpression (RParen ∷ r)
+    → folded_spells e (spell_option spell_groups o) r
+whole_spells e None r w n f s k = absurd cc
+whole_spells e (Some NoGroup) r w n f s k = absurd w
+whole_spells e (Some (Group i gs NoGroup)) r w n f s k =
+    let b = spell_groups gs ++ RParen ∷ r in
+    let v = own_fits gs i
+    (subst (λ (l : List Instr). each fit_instruction l ≡ true) (sym w.0) f) in (
+      i,
+      gs,
+      (
+        spell_instruction i ++ b,
+        b,
+        group_text (spell_instruction i) (spell_groups gs) [] r,
+        (
+          spell_instruction i,
+          refl,
+          instruction_here i b v.1 (groups_end gs r w.1 k),
+        ),
+        groups_listed gs r v.0 w.2,
+      ),
+      ap (λ (l : List Instr). record { instrs = l; hints = e.hints }) (sym w.0)
+          ∙ ap (λ (l : List (ℕ × ℕ)). record { instrs = unfolded_groups gs ++ i ∷ []; hints = l }) n,
+    )
+whole_spells e (Some (Group i gs (Group j ks hs))) r w n f s k = absurd w
+
+abbrev Fits : Expr → Type 0
+Fits e =
+    (no_hints e.hints ≡ true) × (each fit_instruction e.instrs ≡ true)
+    × (is_some (group_from [] e.instrs) ≡ true)
+
+fits_of : (e : Expr) → fit_folded e ≡ true → Fits e
+fits_of e f =
+    let some = is_some (group_from [] e.instrs) in
+    let p = and_parts (no_hints e.hints) (each fit_instruction e.instrs && some) f in
+    let q = and_parts (each fit_instruction e.instrs) some p.1 in
+    (p.0, q.0, q.1)
+
+-- where no word that tells of a type is behind it
+pub folded_here : (e : Expr) (r : List Tok) → fit_folded e ≡ true → EndsExpression (RParen ∷ r)
+    → folded_instruction.spells e (spell_folded e) r
+unfolding folded_instruction
+folded_here e r f k =
+    let p = fits_of e f in
+    whole_spells e (group_from [] e.instrs) r (from_whole [] e.instrs) (unhinted e.hints p.0) p.1
+    p.2 k
+
+whole_neat : (is : List Instr) (o : Option Groups) → Whole is o → each fit_instruction is ≡ true
+    → Neat (spell_option spell_groups o)
+whole_neat is None w f = nothing
+whole_neat is (Some NoGroup) w f = absurd w
+whole_neat is (Some (Group i gs NoGroup)) w f =
+    groups_neat (Group i gs NoGroup)
+    (each_both fit_instruction (unfolded_groups gs ++ i ∷ []) []
+    (subst (λ (l : List Instr). each fit_instruction l ≡ true) (sym w.0) f) refl)
+whole_neat is (Some (Group i gs (Group j ks hs))) w f = absurd w
+
+pub folded_neat : (e : Expr) → fit_folded e ≡ true → Neat (spell_folded e)
+folded_neat e f =
+    let p = fits_of e f in
+    whole_neat e.instrs (group_from [] e.instrs) (from_whole [] e.instrs) p.1

@@ -1,0 +1,198 @@
+-- Laws: each folded instruction that tokens of a text spell can be written.
+use Rattle.std.specs.Prelude.{◌≡◌, Bool, true, false, not, ◌&&◌, ◌||◌, if◌then◌else◌, List, []}
+use Rattle.std.specs.Prelude.{◌∷◌, ◌++◌, Option, Some, None, option_map, is_some}
+use Rattle.std.proofs.Common.{refl, ap, subst, sym, ◌∙◌, append_assoc, append-nil}
+use Rattle.std.proofs.lemmas.Bool.{and_parts, cond_both, or_left, or_right}
+use Rattle.std.proofs.lemmas.List.{append_cancel_right}
+use Rattle.wat_lexer.specs.Token.{Tok, LParen, RParen, Keyword}
+use Rattle.wat_tokens.specs.ManySpells.{many_spells}
+use Rattle.wat_tokens.specs.Production.{Production}
+use Rattle.wat_tokens.specs.Laws.Production.{by_test}
+use Rattle.wat_operands.specs.Catches.{begins_catch, try_table}
+use Rattle.wat_operands.specs.CatchClause.{catch_clause}
+use Rattle.wat_mnemonics.specs.Heads.{mnemonic_word}
+use Rattle.wat_mnemonics.specs.Laws.Places.{there}
+use Rattle.wat_mnemonics.specs.declared.mnemonic.Mnemonic.{Mnemonic}
+use Rattle.wat_mnemonics.specs.declared.mnemonic.Mnemonic.TheVariants as head
+use Rattle.wat_instr.specs.Instruction.{Instr, instruction}
+use Rattle.wat_instr.specs.Operand.{Operand, operand}
+use Rattle.wat_expr.specs.Expression.{Expr}
+use Rattle.wat_expr.specs.Folded.{Groups, NoGroup, Group, groups, unfolded_groups, folded_value}
+use Rattle.wat_expr.specs.Folded.{folded_spells}
+use Rattle.wat_expr.specs.FoldedProduction.{folded_instruction}
+use Rattle.wat_expr.specs.Items.{reads}
+use Rattle.wat_expr.specs.Laws.Facts.{group_is}
+use Rattle.wat_expr.specs.Laws.Folded.{groups_between}
+use Rattle.wat_print.specs.Neat.{is_given}
+use Rattle.wat_print.specs.Parts.{each}
+use Rattle.wat_print.specs.Laws.Only.{OnlyFit}
+use Rattle.wat_print.specs.Laws.Parts.{each_both}
+use Rattle.wat_print_instr.specs.FoldedForm.{takes_catches, is_catch, head_of, keeps_apart}
+use Rattle.wat_print_instr.specs.FoldedForm.{first_apart, catch_first, groups_behind, group_from}
+use Rattle.wat_print_instr.specs.FoldedForm.{own_groups, fit_folded}
+use Rattle.wat_print_instr.specs.InstructionForm.{fit_instruction}
+use Rattle.wat_print_instr.specs.Laws.Folded.{catch_told, group_last}
+use Rattle.wat_print_instr.specs.Laws.Instruction.{instruction_only}
+use Rattle.wat_print_instr.specs.Laws.Places.{each_front}
+
+-- ---- its instructions can be written
+
+given_group : (f y x : List Tok) → each is_given (LParen ∷ (f ++ (y ++ (RParen ∷ x)))) ≡ true
+    → (each is_given f ≡ true) × (each is_given y ≡ true) × (each is_given x ≡ true)
+given_group f y x g =
+    let a = each_front is_given f (y ++ (RParen ∷ x)) g in
+    let b = each_front is_given y (RParen ∷ x) a.1 in
+    (a.0, b.0, b.1)
+
+groups_fit : (gs : Groups) (c r : List Tok) → groups gs (c ++ r) r → each is_given c ≡ true
+    → each fit_instruction (unfolded_groups gs) ≡ true
+groups_fit NoGroup c r l g = refl
+groups_fit (Group i gs hs) c r (a, b, d, e, h, ly, lx) g =
+    let y = groups_between gs b (RParen ∷ d) ly in
+    let x = groups_between hs d r lx in
+    let k = LParen ∷ (h.0 ++ (y.front ++ (RParen ∷ x.front))) in
+    let same : c ≡ k =
+    append_cancel_right c k r (e ∙ group_is a h.0 y.front x.front d b r h.1 y.is x.is) in
+    let v = given_group h.0 y.front x.front
+    (subst (λ (l : List Tok). each is_given l ≡ true) same g) in
+    let own : each fit_instruction (i ∷ []) ≡ true =
+    rw (instruction_only.holds i h.0 b v.0 h.2) refl in
+    each_both fit_instruction (unfolded_groups gs ++ i ∷ []) (unfolded_groups hs)
+    (each_both fit_instruction (unfolded_groups gs) (i ∷ [])
+    (groups_fit gs y.front (RParen ∷ d)
+    (subst (λ (t : List Tok). groups gs t (RParen ∷ d)) y.is ly) v.1) own)
+    (groups_fit hs x.front r (subst (λ (t : List Tok). groups hs t r) x.is lx) v.2)
+
+-- ---- what a `try_table` leaves
+
+many_stops : {A : Type 0} (begins : List Tok → Bool) (g : Production A) (vs : List A)
+    (c r : List Tok) → many_spells begins g vs c r → begins r ≡ false
+many_stops begins g [] c r s = s.1
+many_stops begins g (v ∷ vs) c r s = many_stops begins g vs s.1 r s.5
+
+try_stops : (h : Mnemonic) (o : Operand) (c r : List Tok) → (operand h).spells o c r
+    → takes_catches h ≡ true → begins_catch r ≡ false
+unfolding operand try_table
+try_stops head.try_table o c r s t =
+    let p = s.1 in
+    many_stops begins_catch catch_clause p.0.1 p.1.1 r p.1.4
+try_stops _ o c r s t = absurd cc
+
+-- no clause is behind it
+behind_try : (i : Instr) (a b : List Tok) → reads i a b → takes_catches (head_of i) ≡ true
+    → begins_catch b ≡ false
+unfolding instruction
+behind_try i a b (c, e, s) t =
+    let h = s.0 in
+    let same : head_of i ≡ h = ap (λ (x : Instr). head_of x) (sym s.5.3) ∙ there h in
+    try_stops h s.5.0 s.2 b s.5.1
+    (subst (λ (x : Mnemonic). takes_catches x ≡ true) same t)
+
+-- what an instruction's group is taken for behind a `try_table`
+group_told_of : (i : Instr) (a b : List Tok) → reads i a b
+    → begins_catch (LParen ∷ a) ≡ is_catch (head_of i)
+unfolding instruction
+group_told_of i a b (c, e, s) =
+    let h = s.0 in
+    let same : head_of i ≡ h = ap (λ (x : Instr). head_of x) (sym s.5.3) ∙ there h in
+    let front : a ≡ Keyword (mnemonic_word h) ∷ (s.2 ++ b) =
+    e ∙ ap (λ (l : List Tok). l ++ b) (s.3 ∙ ap (λ (l : List Tok). l ++ s.2) s.4) in
+    ap (λ (l : List Tok). begins_catch (LParen ∷ l)) front ∙ catch_told h (s.2 ++ b)
+    ∙ sym (ap is_catch same)
+
+-- ---- where a `catch` is the first of several instructions, one of them keeps apart
+
+abbrev first_is_catch : List Instr → Bool
+first_is_catch [] = false
+first_is_catch (i ∷ is) = is_catch (head_of i)
+
+abbrev any_apart : List Instr → Bool
+any_apart [] = false
+any_apart (i ∷ is) = keeps_apart i || any_apart is
+
+any_left : (xs ys : List Instr) → any_apart xs ≡ true → any_apart (xs ++ ys) ≡ true
+any_left [] ys e = absurd cc
+any_left (x ∷ xs) ys e =
+    by_test (keeps_apart x) (λ t. or_left (keeps_apart x) (any_apart (xs ++ ys)) t)
+    (λ t. or_right (keeps_apart x) (any_apart (xs ++ ys))
+    (any_left xs ys (subst (λ (b : Bool). b || any_apart xs ≡ true) t e)))
+
+any_last : (xs : List Instr) (i : Instr) → keeps_apart i ≡ true
+    → any_apart (xs ++ i ∷ []) ≡ true
+any_last [] i e = or_left (keeps_apart i) false e
+any_last (x ∷ xs) i e = or_right (keeps_apart x) (any_apart (xs ++ i ∷ [])) (any_last xs i e)
+
+-- the first is one of those in the group
+first_in : (xs : List Instr) (i : Instr) (ys : List Instr) → is_catch (head_of i) ≡ false
+    → first_is_catch ((xs ++ i ∷ []) ++ ys) ≡ true → first_is_catch xs ≡ true
+first_in [] i ys n e = absurd cc
+first_in (x ∷ xs) i ys n e = e
+
+keeps_by : (i : Instr) → takes_catches (head_of i) ≡ false → is_catch (head_of i) ≡ false
+    → keeps_apart i ≡ true
+keeps_by i e f = rw (e, f) refl
+
+apart_in : (gs : Groups) (ts r : List Tok) → groups gs ts r → begins_catch ts ≡ false
+    → first_is_catch (unfolded_groups gs) ≡ true → any_apart (unfolded_groups gs) ≡ true
+apart_in NoGroup ts r l n e = absurd cc
+apart_in (Group i gs hs) ts r (a, b, d, q, h, ly, lx) n e =
+    let own : is_catch (head_of i) ≡ false =
+    sym (group_told_of i a b h) ∙ sym (ap begins_catch q) ∙ n in
+    any_left (unfolded_groups gs ++ i ∷ []) (unfolded_groups hs)
+    (by_test (takes_catches (head_of i))
+    (λ t. any_left (unfolded_groups gs) (i ∷ [])
+    (apart_in gs b (RParen ∷ d) ly (behind_try i a b h t)
+    (first_in (unfolded_groups gs) i (unfolded_groups hs) own e)))
+    (λ t. any_last (unfolded_groups gs) i (keeps_by i t own)))
+
+some_apart : (before is : List Instr) → any_apart is ≡ true
+    → is_some (first_apart before is) ≡ true
+some_apart before [] e = absurd cc
+some_apart before (i ∷ is) e =
+    cond_both (keeps_apart i) (Some (Group i (own_groups before) (own_groups is)))
+    (first_apart (before ++ i ∷ []) is) (λ (o : Option Groups). is_some o ≡ true) (λ t. refl)
+    (λ t. (some_apart (before ++ i ∷ []) is
+    (subst (λ (b : Bool). b || any_apart is ≡ true) t e)))
+
+catch_parts : (i : Instr) (is : List Instr) → catch_first i is ≡ true
+    → (takes_catches (head_of i) ≡ true) × (first_is_catch is ≡ true)
+catch_parts i [] t = absurd cc
+catch_parts i (j ∷ is) t = and_parts (takes_catches (head_of i)) (is_catch (head_of j)) t
+
+behind_some : (i : Instr) (is : List Instr)
+    → (takes_catches (head_of i) ≡ true → first_is_catch is ≡ true → any_apart is ≡ true)
+    → is_some (groups_behind i is) ≡ true
+behind_some i is k =
+    cond_both (catch_first i is) (first_apart [] is) (Some (own_groups is))
+    (λ (o : Option Groups). is_some o ≡ true)
+    (λ t. (let p = catch_parts i is t in some_apart [] is (k p.0 p.1))) (λ t. refl)
+
+-- ---- folded instructions
+
+some_group : (i : Instr) (o : Option Groups) → is_some o ≡ true
+    → is_some (option_map (λ gs. Group i gs NoGroup) o) ≡ true
+some_group i (Some gs) e = refl
+some_group i None e = absurd cc
+
+value_fits : (i : Instr) (gs : Groups)
+    → each fit_instruction (unfolded_groups (Group i gs NoGroup)) ≡ true
+    → is_some (groups_behind i (unfolded_groups gs)) ≡ true
+    → fit_folded (folded_value i gs) ≡ true
+value_fits i gs f s =
+    let a = (each_front fit_instruction (unfolded_groups gs ++ i ∷ []) [] f).0 in
+    let b : is_some (group_from [] (unfolded_groups gs ++ i ∷ [])) ≡ true =
+    ap is_some (group_last [] (unfolded_groups gs) i)
+    ∙ some_group i (groups_behind i (unfolded_groups gs)) s in
+    rw (a, b) refl
+
+folded_holds : (e : Expr) (c r : List Tok) → each is_given c ≡ true → folded_spells e c r
+    → fit_folded e ≡ true
+folded_holds e c r g (i, gs, (a, b, q, h, l), k) =
+    subst (λ (v : Expr). fit_folded v ≡ true) (sym k)
+    (value_fits i gs (groups_fit (Group i gs NoGroup) c r (a, b, r, q, h, l, refl) g)
+    (behind_some i (unfolded_groups gs)
+    (λ t. (apart_in gs b (RParen ∷ r) l (behind_try i a b h t)))))
+
+pub folded_fits : OnlyFit folded_instruction fit_folded
+unfolding folded_instruction
+folded_fits = record { holds = folded_holds }

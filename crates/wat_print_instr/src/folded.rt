@@ -1,0 +1,186 @@
+//! How folded instructions are printed.
+
+ghost use Rattle.std.specs.Prelude.{◌≡◌, ◌≢◌, ◌&&◌, [], ◌∷◌, ◌++◌, OnOk, IfErr, IfSome};
+ghost use Rattle.std.specs.Prelude.{MatchOption, Some, None, true, false, is_some, map};
+ghost use Rattle.wat_instr.specs.Instruction.{instruction_view};
+ghost use Rattle.wat_expr.specs.Expression.{Expr, expression_view};
+ghost use Rattle.wat_expr.specs.Folded.{Group};
+ghost use Rattle.wat_expr.specs.FoldedProduction.{folded_instruction};
+ghost use Rattle.wat_print.specs.Parts.{each, spell_option, Wrote};
+ghost use Rattle.wat_print.specs.Text.{put};
+ghost use Rattle.wat_print.specs.declared.fault.Refused.TheVariants.{Memory};
+ghost use Rattle.wat_print_instr.specs.FoldedForm.{takes_catches, is_catch, head_of, keeps_apart};
+ghost use Rattle.wat_print_instr.specs.FoldedForm.{own_groups, first_apart, catch_first, groups_behind};
+ghost use Rattle.wat_print_instr.specs.FoldedForm.{spell_own, spell_groups};
+ghost use Rattle.wat_print_instr.specs.FoldedPrinting.{folded_printing};
+ghost use Rattle.wat_print_instr.specs.InstructionForm.{fit_instruction};
+
+use crate::traits::PrintCode;
+use wat_expr::{BranchHint, FoldedInstruction};
+use wat_instr::Instruction;
+use wat_mnemonics::{IndexedOp, Mnemonic, ScalarOp};
+use wat_print::{Output, Refused};
+
+/// Whether the groups directly behind it may be those of what it catches.
+fn takes_catches(head: Mnemonic) -> bool
+    ensures { result ≡ takes_catches head }
+{
+    matches!(head, Mnemonic::try_table)
+}
+
+/// Whether its group, directly behind a `try_table`, isn't one of an instruction.
+fn is_catch(head: Mnemonic) -> bool
+    ensures { result ≡ is_catch head }
+{
+    match head {
+        Mnemonic::Indexed(op) => matches!(op, IndexedOp::catch),
+        Mnemonic::Scalar(op) => matches!(op, ScalarOp::catch_all),
+        _ => false,
+    }
+}
+
+/// Whether its group can stand between a `try_table` and a `catch`.
+fn keeps_apart(instr: &Instruction) -> bool
+    ensures { result ≡ keeps_apart (instruction_view instr.now) }
+{
+    let head = instr.head();
+    !takes_catches(head) && !is_catch(head)
+}
+
+/// Writes an instruction in a group of its own.
+#[tactic(auto, using(wat_print::specs::Laws::Written::put_both))]
+fn write_own(out: &mut Output, instr: &Instruction) -> Result<(), Refused>
+    ensures written { OnOk result (out.new ≡ put out.old (spell_own (instruction_view instr.now))) }
+    ensures fit { OnOk result (fit_instruction (instruction_view instr.now) ≡ true) }
+    ensures refused { IfErr result (λ e. e ≢ Memory
+        → fit_instruction (instruction_view instr.now) ≡ false) }
+{
+    out.open()?;
+    instr.write(out)?;
+    out.close()?;
+    Ok(())
+}
+
+/// Writes instructions, each in a group of its own.
+fn write_each_own(out: &mut Output, instrs: &[Instruction]) -> Result<(), Refused>
+    ensures wrote { OnOk result (Wrote instruction_view spell_own fit_instruction instrs.now
+        out.old out.new) }
+    ensures refused { IfErr result (λ e. e ≢ Memory
+        → each fit_instruction (map instruction_view instrs.now) ≡ false) }
+{
+    for instr in instrs {
+        write_own(out, instr)?;
+    }
+    Ok(())
+}
+
+/// The first instruction that keeps apart, with those before it and those behind it.
+fn find_apart<'b, 'a>(
+    instrs: &'b [Instruction<'a>],
+) -> Option<
+    (
+        &'b [Instruction<'a>],
+        &'b Instruction<'a>,
+        &'b [Instruction<'a>],
+    ),
+>
+    ensures found { MatchOption result (first_apart [] (map instruction_view instrs.now) ≡ None)
+        (λ p. first_apart [] (map instruction_view instrs.now)
+        ≡ Some (Group (instruction_view p.1.now) (own_groups (map instruction_view p.0.now))
+        (own_groups (map instruction_view p.2.now)))) }
+    ensures all { IfSome result (λ p. instrs.now ≡ p.0.now ++ p.1.now ∷ p.2.now) }
+{
+    for (k, instr) in instrs.iter().enumerate() {
+        if keeps_apart(instr) {
+            return Some((&instrs[..k], instr, &instrs[k + 1..]));
+        }
+    }
+    None
+}
+
+/// Writes the group of the first instruction that keeps apart, with those before it in groups in
+/// it, and then those behind it in groups of their own.
+fn write_apart(out: &mut Output, instrs: &[Instruction]) -> Result<(), Refused>
+    ensures written { OnOk result (out.new ≡ put out.old
+        (spell_option spell_groups (first_apart [] (map instruction_view instrs.now)))) }
+    ensures fit { OnOk result (each fit_instruction (map instruction_view instrs.now)
+        && is_some (first_apart [] (map instruction_view instrs.now)) ≡ true) }
+    ensures refused { IfErr result (λ e. e ≢ Memory
+        → each fit_instruction (map instruction_view instrs.now)
+        && is_some (first_apart [] (map instruction_view instrs.now)) ≡ false) }
+{
+    let Some((before, instr, behind)) = find_apart(instrs) else {
+        return Err(Refused::Folded);
+    };
+    out.open()?;
+    instr.write(out)?;
+    write_each_own(out, before)?;
+    out.close()?;
+    write_each_own(out, behind)?;
+    Ok(())
+}
+
+/// Whether the group of the second, directly behind the first, isn't one of an instruction.
+#[tactic(auto, using(wat_mnemonics::specs::Laws::Places::there))]
+fn is_taken(last: &Instruction, first: &Instruction) -> bool
+    ensures { result ≡ takes_catches (head_of (instruction_view last.now))
+        && is_catch (head_of (instruction_view first.now)) }
+{
+    takes_catches(last.head()) && is_catch(first.head())
+}
+
+/// Whether a `catch` would be the first behind a `try_table`.
+fn catch_first(last: &Instruction, instrs: &[Instruction]) -> bool
+    ensures { result ≡ catch_first (instruction_view last.now) (map instruction_view instrs.now) }
+{
+    if instrs.is_empty() {
+        return false;
+    }
+    is_taken(last, &instrs[0])
+}
+
+/// Writes the groups of the instructions before the last one, behind that one.
+fn write_behind(out: &mut Output, last: &Instruction, instrs: &[Instruction]) -> Result<(), Refused>
+    ensures written { OnOk result (out.new ≡ put out.old (spell_option spell_groups
+        (groups_behind (instruction_view last.now) (map instruction_view instrs.now)))) }
+    ensures fit { OnOk result (each fit_instruction (map instruction_view instrs.now)
+        && is_some (groups_behind (instruction_view last.now) (map instruction_view instrs.now))
+        ≡ true) }
+    ensures refused { IfErr result (λ e. e ≢ Memory
+        → each fit_instruction (map instruction_view instrs.now)
+        && is_some (groups_behind (instruction_view last.now) (map instruction_view instrs.now))
+        ≡ false) }
+{
+    if catch_first(last, instrs) {
+        return write_apart(out, instrs);
+    }
+    write_each_own(out, instrs)?;
+    Ok(())
+}
+
+/// The last instruction is in front, and the others are in groups behind it. A hint is refused with
+/// Hint, and instructions that are in no group with Folded.
+impl PrintCode for FoldedInstruction<'_> {
+    ghost View = { Expr };
+
+    ghost view = { λ folded. expression_view folded.0 };
+
+    ghost grammar = { folded_instruction };
+
+    ghost printing = { folded_printing };
+
+    fn write(&self, out: &mut Output) -> Result<(), Refused> {
+        let hints: &[BranchHint] = &self.0.branch_hints;
+        if !hints.is_empty() {
+            return Err(Refused::Hint);
+        }
+        let Some((last, others)) = self.0.instrs.split_last() else {
+            return Err(Refused::Folded);
+        };
+        out.open()?;
+        last.write(out)?;
+        write_behind(out, last, others)?;
+        out.close()?;
+        Ok(())
+    }
+}
