@@ -6,7 +6,7 @@ use bumpalo::Bump;
 use std::alloc::{AllocError, Global};
 use std::test::Fail;
 use wat_print::{Layout, Output, Print, Refused, print, read_value};
-use wat_tokens::{Error, Fault, Id, Index, NameAnnotation, Parse, Span, kw};
+use wat_tokens::{Error, Fault, Id, Index, Integer, NameAnnotation, Parse, Span, kw};
 use wat_types::{
     AbstractHeapType, ArrayType, ContType, FunctionType, FunctionTypeNoNames, GlobalType, HeapType,
     InnerTypeKind, Limits, MemoryType, Rec, RefType, StorageType, StructType, TableType, TagType,
@@ -234,11 +234,41 @@ fn numbers_and_words_that_end_in_one(rt: HostRuntime) -> Result<(), Fail> {
     for number in [i64::MIN, -1, 0, i64::MAX] {
         out.signed(number)?;
     }
+    out.integer("+0x1_F")?;
     assert_eq!(rt;
         out.into_text().as_str(),
         "0 offset=0 10 offset=10 18446744073709551615 offset=18446744073709551615 \
-        -9223372036854775808 -1 0 9223372036854775807"
+        -9223372036854775808 -1 0 9223372036854775807 +0x1_F"
     );
+    Ok(())
+}
+
+/// Integers, each in a form of its own.
+const INTEGERS: &[&str] = &[
+    "0",
+    "-0",
+    "+0",
+    "007",
+    "1_000",
+    "-1_0_0",
+    "0x0",
+    "0xfF",
+    "0x1F_ff",
+    "+0x0_1",
+    "-0x8000_0000_0000_0000",
+    "123456789012345678901234567890",
+];
+
+#[test]
+fn integers(rt: HostRuntime) -> Result<(), Fail> {
+    let alloc = rt.alloc();
+    let arena = Bump::new(alloc);
+    let mut wrong = String::new(alloc);
+    add_changed::<Integer>(&mut wrong, &arena, INTEGERS)?;
+    let many = text_of_times(alloc, &arena, ("-0x1", "_2", ""), 1000)?;
+    add_changed::<Integer>(&mut wrong, &arena, &[many])?;
+    add_misprinted::<Integer>(&mut wrong, &arena, &[(" 1_0 ;; ten", "1_0"), ("(;;)+7(;;)", "+7")])?;
+    assert_eq!(rt; wrong.as_str(), "");
     Ok(())
 }
 
