@@ -266,6 +266,48 @@ fn tokens_keep_their_offsets(rt: HostRuntime) -> Result<(), Fail> {
     Ok(())
 }
 
+/// How a word is shown, and what it is made of: its front, its filling and its end.
+type Word<'w> = (&'w str, &'w str, &'w str, &'w str);
+
+/// Whether a word of so many bytes is cut where it stands, between two parens; None where the text
+/// has other tokens.
+fn is_cut(alloc: Global, word: Word<'_>, size: usize) -> Result<Option<bool>, Error> {
+    let (shown_as, front, filling, end) = word;
+    let count = size.saturating_sub(front.len()).saturating_sub(end.len());
+    let text = repeated(alloc, "(", front, 1, "")?;
+    let text = repeated(alloc, text.as_str(), filling, count, end)?;
+    let text = repeated(alloc, text.as_str(), ")", 1, "")?;
+    let arena = Bump::new(alloc);
+    let tokens = cut(alloc, text.as_str(), &arena)?;
+    if tokens.len() != 3 {
+        return Ok(None);
+    }
+    let mut out = String::new(alloc);
+    add(&mut out, tokens.token(1))?;
+    let wanted = repeated(alloc, shown_as, filling, count, "")?;
+    let stands = tokens.offset(1) == 1 && tokens.offset(2) == size.saturating_add(1);
+    Ok(Some(stands && out == wanted))
+}
+
+#[test]
+fn words_of_any_length(rt: HostRuntime) -> Result<(), Fail> {
+    let alloc = rt.alloc();
+    // (what is kept of a token has 16 bits for how many bytes a word has)
+    for size in [4, 5, 255, 65535, 65536, 65537, 100000] {
+        for word in [
+            ("k", "k", "a", ""),
+            ("$", "$", "a", ""),
+            ("#1", "1", "7", ""),
+            ("#-0x", "-0x", "f", ""),
+            ("'", "\"", "a", "\""),
+            ("?/", "/", "a", ""),
+        ] {
+            assert_eq!(rt; is_cut(alloc, word, size)?, Some(true), "at {size}");
+        }
+    }
+    Ok(())
+}
+
 /// Text that is made of an opening and a closing part, each so many times.
 fn nested(alloc: Global, open: &str, close: &str, times: usize) -> Result<String, AllocError> {
     let front = repeated(alloc, "", open, times, "")?;

@@ -11,7 +11,7 @@ use Rattle.wat_lexer.specs.Token.{is_open, is_annotation, has_annotation}
 use Rattle.wat_lexer.specs.Sight.{begins_hidden_group}
 use Rattle.std.proofs.lemmas.List.{drop_more, length-drop}
 use Rattle.std.proofs.lemmas.List.Elements.{All-get_or, All-from_recursion}
-use Rattle.wat_lexer.specs.View.{view, is_paren, lying, is_annotation_kind, is_word, no_side_entry, lies_from, stands_at, skips_of, no_skips, lying_skips, upper, wide, own_number, Apart, AllApart, tok_at, Readable, lies, last_in_side_table, CanBeRead, AllCanBeRead, WasKept, PutInSideTable, FoundFits, found_tok, entry_of, entries_of, toks, entry_tok, skip_in_front, skipping, no_entry}
+use Rattle.wat_lexer.specs.View.{view, is_paren, lying, is_annotation_kind, is_word, no_side_entry, lies_from, stands_at, skips_of, no_skips, lying_skips, number_of, wide, own_number, Apart, AllApart, tok_at, Readable, lies, last_in_side_table, CanBeRead, AllCanBeRead, WasKept, PutInSideTable, FoundFits, found_tok, entry_of, entries_of, toks, entry_tok, skip_in_front, skipping, no_entry}
 use Rattle.wat_lexer.specs.declared.lexeme.Kind.{Kind}
 use Rattle.wat_lexer.specs.declared.lexeme.Kind.TheVariants as kinds
 use Rattle.wat_lexer.specs.declared.lexeme.Skips.{Skips}
@@ -85,18 +85,24 @@ skips_told text side_table (y ∷ ls) (suc i) skips x d lt e (here, apart) is wi
     let rest = skips_told text side_table ls i skips x d (omega arith) e apart is within in
     λ i. first i ∷ rest i
 
+-- what is put into the side table at once is one token at most
+pub put_few : (kind : Kind) (old new : List SideEntry) → PutInSideTable kind old new → length new ≤ length old + 1
+put_few kinds.Annotation old new (t, e) = omega (arith, ap length e, length-append old (t ∷ []))
+put_few kinds.InSideTable old new (t, e) = omega (arith, ap length e, length-append old (t ∷ []))
+put_few _ old new e = omega (arith, ap length e)
+
 -- what is an annotation is so by its kind, and lies in the side table
 annotation_kind : (kind : Kind) (text : List ℕ) (from end : ℕ) {P : Type 0} (other : Tok) → Readable kind text from end P other → is_annotation (tok_at kind text from end other) ≡ true → (is_annotation_kind kind ≡ true) × P
 annotation_kind kinds.Annotation text from end other h e = (refl, h.0)
 annotation_kind kinds.InSideTable text from end other h e = absurd (let f : true ≡ false = sym e ∙ h.1 in cc)
 annotation_kind _ text from end other h e = cc
 
-annotation_upper : (kind : Kind) (size high : ℕ) → is_annotation_kind kind ≡ true → size ≡ upper kind size high
-annotation_upper kinds.Annotation size high is = refl
-annotation_upper _ size high is = cc
+annotation_wide : (kind : Kind) (low size : ℕ) → is_annotation_kind kind ≡ true → wide low size ≡ number_of kind low size
+annotation_wide kinds.Annotation low size is = refl
+annotation_wide _ low size is = cc
 
 pub annotation_number : (x : Lexeme) → is_annotation_kind x.kind ≡ true → wide x.low x.size ≡ own_number x
-annotation_number x is = ap (wide x.low) (annotation_upper x.kind x.size x.high is)
+annotation_number x is = annotation_wide x.kind x.low x.size is
 
 pub annotation_there : (text : List ℕ) (side_table : List SideEntry) (ls : List Lexeme) (i : ℕ) (x d : Lexeme) → i < length ls → get_or ls i d ≡ x → AllCanBeRead text side_table ls → is_annotation (entry_tok (get_or (entries_of text side_table ls) i no_entry)) ≡ true
     → (is_annotation_kind x.kind ≡ true) × (own_number x < length side_table)
@@ -172,14 +178,14 @@ all_push : (P : Lexeme → Type 0) (ls : List Lexeme) (x : Lexeme) → AllByRecu
 all_push P [] x h f = (f, tt)
 all_push P (y ∷ ls) x (h, t) f = (h, all_push P ls x t f)
 
-annotation_within : (text : List ℕ) (side_table : List SideEntry) (low size high : ℕ) (kind : Kind) → is_annotation_kind kind ≡ true → CanBeRead text side_table (record { low = low; size = size; high = high; kind = kind }) → own_number (record { low = low; size = size; high = high; kind = kind }) < length side_table
-annotation_within text side_table low size high kinds.Annotation is h = h.0.0
-annotation_within text side_table low size high _ is h = cc
+annotation_within : (text : List ℕ) (side_table : List SideEntry) (low size : ℕ) (kind : Kind) → is_annotation_kind kind ≡ true → CanBeRead text side_table (record { low = low; size = size; kind = kind }) → own_number (record { low = low; size = size; kind = kind }) < length side_table
+annotation_within text side_table low size kinds.Annotation is h = h.0.0
+annotation_within text side_table low size _ is h = cc
 
 -- an annotation that lies behind all others lies apart from them
 apart_behind : (text : List ℕ) (old : List SideEntry) (ls : List Lexeme) (x : Lexeme) → AllCanBeRead text old ls → (is_annotation_kind x.kind ≡ true → length old ≤ own_number x) → AllByRecursion (λ y. Apart y x) ls
 apart_behind text old [] x h far = tt
-apart_behind text old (y ∷ ls) x (h, t) far = (λ is too. let lt = annotation_within text old y.low y.size y.high y.kind is h in let le = far too in λ same. absurd (omega (arith, same)), apart_behind text old ls x t far)
+apart_behind text old (y ∷ ls) x (h, t) far = (λ is too. let lt = annotation_within text old y.low y.size y.kind is h in let le = far too in λ same. absurd (omega (arith, same)), apart_behind text old ls x t far)
 
 apart_more : (ls : List Lexeme) (x : Lexeme) → AllApart ls → AllByRecursion (λ y. Apart y x) ls → AllApart (ls ++ x ∷ [])
 apart_more [] x all behind = (tt, tt)

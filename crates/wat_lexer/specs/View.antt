@@ -126,27 +126,27 @@ is_word kinds.Annotation = false
 is_word kinds.InSideTable = false
 is_word _ = true
 
--- what is kept of a token has room for a word between two places: 48 bits for the first and 32 for
+-- what is kept of a token has room for a word between two places: 32 bits for the first and 16 for
 -- how many bytes it has
 abbrev pub HasRoom : ℕ → ℕ → Type 0
-HasRoom at end = (at < 281474976710656) × (end < at + 4294967296)
+HasRoom at end = (at < 4294967296) × (end < at + 65536)
 
 -- a number by its lower 32 bits and those above
 abbrev pub wide : ℕ → ℕ → ℕ
 wide low above = low + 4294967296 * above
 
--- the part of a token's number above 32 bits: that of a word is in a field of its own, that of any
--- other in the field that says how many bytes a word has
-abbrev pub upper : Kind → ℕ → ℕ → ℕ
-upper kinds.LParen size high = size
-upper kinds.RParen size high = size
-upper kinds.Annotation size high = size
-upper kinds.InSideTable size high = size
-upper _ size high = high
+-- a token's number by its kind and two fields: a word's is in the first alone, since the second
+-- says how many bytes it has; any other's is in both
+abbrev pub number_of : Kind → ℕ → ℕ → ℕ
+number_of kinds.LParen low size = wide low size
+number_of kinds.RParen low size = wide low size
+number_of kinds.Annotation low size = wide low size
+number_of kinds.InSideTable low size = wide low size
+number_of _ low size = low
 
 -- how many bytes of the text stand before it; where it lies in the side table, its place there
 abbrev pub own_number : Lexeme → ℕ
-own_number x = wide x.low (upper x.kind x.size x.high)
+own_number x = number_of x.kind x.low x.size
 
 -- where a token of the kind stands, by its own number and by that which lies in the side table
 abbrev pub stands_at : Kind → ℕ → ℕ → ℕ

@@ -6,10 +6,10 @@ ghost use Rattle.wat_lexer.specs.Bytes.{is_idchar, between};
 ghost use Rattle.wat_lexer.specs.Cut.{begins, in_no_run};
 ghost use Rattle.wat_lexer.specs.Number.{is_integer};
 ghost use Rattle.wat_lexer.specs.Scan.{front, all_idchars, behind_run, string_at, Between, Ends, Raw};
-ghost use Rattle.wat_lexer.specs.View.{PieceIs};
+ghost use Rattle.wat_lexer.specs.View.{PieceIs, HasRoom, is_word};
 ghost use Rattle.wat_lexer.specs.declared.lexeme.SideEntry.{SideEntry};
 
-use crate::lexeme::{Kind, has_room};
+use crate::lexeme::Kind;
 use crate::scan::plain_end;
 use crate::string::raw_end;
 use crate::table::{DIGITS, HEX_DIGITS, IDCHARS, is_marked, marked_end};
@@ -138,27 +138,41 @@ fn plain_string_end(text: &[u8], at: usize) -> Option<usize>
     Some(quote + 1)
 }
 
+/// The end of a word, where it has fewer than 65,536 bytes; what is kept of a token has room for no
+/// more.
+#[inline(always)]
+fn short(at: usize, end: usize) -> Option<usize>
+    requires { at < end }
+    ensures { IfSome result (λ same. (same ≡ end) × (end < at + 65536)) }
+{
+    if end - at >= 0x1_0000 {
+        return None;
+    }
+    Some(end)
+}
+
 /// The kind and the end of the token in front, where it is a paren, a keyword, an identifier, an
 /// integer without a sign and without `_` or a string without escapes. `None` tells nothing, and is
-/// what any text gets that has 4 GiB or more.
+/// what any word gets that has 65,536 bytes or more, and any text that has 4 GiB or more.
 #[inline(always)]
 pub fn common_token(text: &[u8], at: usize) -> Option<(Kind, usize)>
     requires { at < length text.now }
     ensures within { IfSome result (λ f. (at < f.1) × (f.1 ≤ length text.now)) }
     ensures near { IfSome result (λ f. f.1 < 4294967296) }
+    ensures room { IfSome result (λ f. is_word f.0 ≡ true → HasRoom at f.1) }
     ensures value { IfSome result (λ f. (behind : Bool) (lie : List SideEntry)
         → PieceIs text.now lie lie at (record { kind = Some f.0; end = f.1 })
         (front behind (drop at text.now))) }
 {
-    if !has_room(0, text.len()) {
+    if text.len() >= 0x1_0000_0000 {
         return None;
     }
     let b = text[at];
     if b.is_ascii_lowercase() {
-        let end = word_end(text, at)?;
+        let end = short(at, word_end(text, at)?)?;
         Some((Kind::Keyword, end))
     } else if b == b'$' {
-        let end = word_end(text, at)?;
+        let end = short(at, word_end(text, at)?)?;
         if end == at + 1 {
             return None;
         }
@@ -171,10 +185,10 @@ pub fn common_token(text: &[u8], at: usize) -> Option<(Kind, usize)>
     } else if b == b')' {
         Some((Kind::RParen, at + 1))
     } else if b.is_ascii_digit() {
-        let end = integer_end(text, at)?;
+        let end = short(at, integer_end(text, at)?)?;
         Some((Kind::Integer, end))
     } else if b == b'"' {
-        let end = plain_string_end(text, at)?;
+        let end = short(at, plain_string_end(text, at)?)?;
         Some((Kind::String, end))
     } else {
         None

@@ -218,7 +218,7 @@ fn front<'a>(
 }
 
 /// Puts a word into the side table that is between two places. Answers its kind.
-// No word of a usual text lies in the side table.
+// Few words lie in the side table.
 #[inline(never)]
 fn put_word<'a>(
     text: &'a str,
@@ -307,6 +307,7 @@ fn cut_pieces<'a>(
     text: &'a str,
     arena: &'a Bump,
 ) -> Result<(Tokens<'a>, bool), Error>
+    requires { length text.now < 281474976710656 }
     ensures found { IfOk result (λ v. Cuts (length text.now) false text.now (placed v.0)) }
     ensures noted { IfOk result (λ v. v.1 ≡ has_annotation (toks v.0)) }
     ensures fails { IfErr result (λ e. IfFault e (FailsAt text.now e)) }
@@ -347,7 +348,8 @@ fn cut_pieces<'a>(
 /// Cuts a text into tokens, each of whose annotation groups is closed. Names and strings without
 /// escapes are slices of the text, the others lie in the arena.
 ///
-/// The faults are LexChar, LexString, LexComment, LexAnnotation and Memory. WebAssembly Core
+/// The faults are LexChar, LexString, LexComment, LexAnnotation and Memory. A text of 2^48 bytes or
+/// more gets Memory, since what is kept of a token has no room for its numbers. WebAssembly Core
 /// Specification, Text Format, Lexical Format.
 pub fn cut<'a>(alloc: Global, text: &'a str, arena: &'a Bump) -> Result<Tokens<'a>, Error>
     ensures found { IfOk result (λ ts. IsCut text.now (placed ts)) }
@@ -356,6 +358,9 @@ pub fn cut<'a>(alloc: Global, text: &'a str, arena: &'a Bump) -> Result<Tokens<'
     ensures fault { IfErr result (λ e. IfFault e (FirstFault text.now e.fault (offset_of e.span))) }
     ensures none { IfErr result (λ e. IfFault e ((ts : List Placed) → IsCut text.now ts → ⊥)) }
 {
+    if text.len() >= 0x1_0000_0000_0000 {
+        return Err(fault_at(Fault::Memory, 0));
+    }
     let (mut tokens, noted) = match cut_pieces(alloc, text, arena) {
         Err(e) => return Err(e),
         Ok(parts) => parts,

@@ -11,7 +11,7 @@ use thiserror::Error;
 /// What is wrong with a text. Each fault has a number, from 1 to 21.
 #[derive(Clone, Copy, Debug, PartialEq, Eq, Hash)]
 pub enum Fault {
-    /// A growth was refused memory; the offset is 0.
+    /// A growth was refused memory, or the text has 2^48 bytes or more; the offset is 0.
     Memory = 1,
     /// A character that begins no token and no blank, outside strings and comments; the offset is
     /// its own.

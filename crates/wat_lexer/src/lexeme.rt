@@ -1,6 +1,6 @@
 //! What is kept of a token: its kind, and where it stands.
 
-ghost use Rattle.std.specs.Prelude.{◌≡◌, ◌<◌, ◌+◌, List, ℕ, length, true, false, IsTrue, ◌↔◌};
+ghost use Rattle.std.specs.Prelude.{◌≡◌, ◌<◌, ◌≤◌, ◌+◌, List, ℕ, length, true, false, IsTrue, ◌↔◌};
 ghost use Rattle.wat_lexer.specs.Token.{is_open};
 ghost use Rattle.wat_lexer.specs.View.{found_tok, is_annotation_kind, is_word, wide, own_number};
 ghost use Rattle.wat_lexer.specs.View.{FoundFits, HasRoom, WasKept};
@@ -53,26 +53,24 @@ pub struct SideEntry<'a> {
 /// in the side table, its place there.
 #[derive(Clone, Copy, Debug)]
 pub struct Lexeme {
-    /// The lower 32 bits of its number.
+    /// A word's number; of any other token the lower 32 bits of its number.
     low: u32,
-    /// How many bytes a word has; of any other token the upper 32 bits of its number.
-    size: u32,
-    /// The next 16 bits of a word's number.
-    high: u16,
+    /// How many bytes a word has; of any other token the upper 16 bits of its number.
+    size: u16,
     pub kind: Kind,
 }
 
-const _: () = prove!(size_of::<Lexeme>() == 12);
+const _: () = prove!(size_of::<Lexeme>() == 8);
 
-/// The parts of a number are counted in units of so many bytes.
+/// The upper part of a number is counted in units of so many bytes.
 const UNIT: usize = 0x1_0000_0000;
 
 impl Lexeme {
     /// How many bytes of the text stand before it, where it is a word.
     pub fn word_at(self) -> usize
-        ensures { result ≡ wide self.low self.high }
+        ensures { result ≡ self.low }
     {
-        self.low as usize + UNIT * self.high as usize
+        self.low as usize
     }
 
     /// How many bytes it has, where it is a word.
@@ -121,19 +119,19 @@ pub fn has_room(at: usize, end: usize) -> bool
     requires { at < end }
     ensures { IsTrue result ↔ HasRoom at end }
 {
-    at < UNIT * 0x1_0000 && end - at < UNIT
+    at < UNIT && end - at < 0x1_0000
 }
 
 /// What is kept of a token that is no word, by its number.
 fn numbered(kind: Kind, number: usize) -> Lexeme
-    requires { is_word kind ≡ false }
+    requires no_word { is_word kind ≡ false }
+    requires fits { number < 281474976710656 }
     ensures number { own_number result ≡ number }
     ensures kind { result.kind ≡ kind }
 {
     Lexeme {
         low: (number % UNIT) as u32,
-        size: (number / UNIT) as u32,
-        high: 0,
+        size: (number / UNIT) as u16,
         kind,
     }
 }
@@ -148,18 +146,19 @@ fn word(kind: Kind, at: usize, end: usize) -> Lexeme
     ensures kind { result.kind ≡ kind }
 {
     Lexeme {
-        low: (at % UNIT) as u32,
-        size: (end - at) as u32,
-        high: (at / UNIT) as u16,
+        low: at as u32,
+        size: (end - at) as u16,
         kind,
     }
 }
 
 /// What is kept of a token between two places of a text, where so many lie in the side table; where
 /// it lies in the side table, it is the last there.
-pub fn kept(kind: Kind, at: usize, end: usize, side_table: usize) -> Lexeme
+pub(crate) fn kept(kind: Kind, at: usize, end: usize, side_table: usize) -> Lexeme
     requires order { at < end }
     requires room { is_word kind ≡ true → HasRoom at end }
+    requires fits { at < 281474976710656 }
+    requires few { side_table ≤ 281474976710656 }
     ensures { (text : List ℕ) (lie : List SideEntry) → length lie ≡ side_table
         → FoundFits text lie at end kind → WasKept text lie at end kind result }
 {
@@ -177,43 +176,24 @@ fn near_paren(kind: Kind, at: usize) -> Lexeme
     ensures number { own_number result ≡ at }
     ensures kind { result.kind ≡ kind }
 {
-    Lexeme {
-        low: at as u32,
-        size: 0,
-        high: 0,
-        kind,
-    }
+    let low = at as u32;
+    Lexeme { low, size: 0, kind }
 }
 
-/// What is kept of a word between two places of a text's first 4 GiB.
-fn near_word(kind: Kind, at: usize, end: usize) -> Lexeme
-    requires order { at < end }
-    requires near { end < 4294967296 }
-    requires a_word { is_word kind ≡ true }
-    ensures number { own_number result ≡ at }
-    ensures end { own_number result + result.size ≡ end }
-    ensures kind { result.kind ≡ kind }
-{
-    Lexeme {
-        low: at as u32,
-        size: (end - at) as u32,
-        high: 0,
-        kind,
-    }
-}
-
-/// What is kept of a token between two places of a text's first 4 GiB; of a paren or a word nothing
-/// has to be split.
+/// What is kept of a token between two places of a text's first 4 GiB. There a paren's number isn't
+/// split.
 #[inline(always)]
-pub fn kept_near(kind: Kind, at: usize, end: usize, side_table: usize) -> Lexeme
+pub(crate) fn kept_near(kind: Kind, at: usize, end: usize, side_table: usize) -> Lexeme
     requires order { at < end }
     requires near { end < 4294967296 }
+    requires room { is_word kind ≡ true → HasRoom at end }
+    requires few { side_table ≤ 281474976710656 }
     ensures { (text : List ℕ) (lie : List SideEntry) → length lie ≡ side_table
         → FoundFits text lie at end kind → WasKept text lie at end kind result }
 {
     match kind {
         Kind::LParen | Kind::RParen => near_paren(kind, at),
         Kind::Annotation | Kind::InSideTable => kept(kind, at, end, side_table),
-        _ => near_word(kind, at, end),
+        _ => word(kind, at, end),
     }
 }

@@ -12,7 +12,7 @@ use crate::number::Integer;
 use crate::token::Token;
 use std::marker::Model;
 
-/// The tokens of a text, each with its place, in 12 bytes. What can be read out of the text is,
+/// The tokens of a text, each with its place, in 8 bytes. What can be read out of the text is,
 /// whenever it is asked for; the rest lies in the side table, and with an annotation how far
 /// lookups go from its group.
 #[derive(Drop)]

@@ -8,19 +8,19 @@ use Rattle.wat_mnemonics.specs.Heads.{mnemonic_word}
 use Rattle.wat_mnemonics.specs.Laws.Places.{there, place_below, entry_at}
 use Rattle.wat_mnemonics.specs.Order.{words}
 use Rattle.wat_mnemonics.specs.Places.{place}
-use Rattle.wat_mnemonics.specs.Slots.{eight_from, four_from, two_from, mixed, number_of, told_place}
+use Rattle.wat_mnemonics.specs.Slots.{eight_from, four_from, two_from, mixed, word_number, told_place}
 use Rattle.wat_mnemonics.specs.declared.mnemonic.Mnemonic.{Mnemonic}
 use Rattle.wat_mnemonics.specs.declared.slots.TheConstants.{SHIFTS, SLOTS}
 
 -- each word's place is told by its number
-told_at : (k : ℕ) → k < 623 → told_place (number_of (get_or words k [])) ≡ k
-unfolding eight_from four_from two_from mixed number_of told_place
+told_at : (k : ℕ) → k < 623 → told_place (word_number (get_or words k [])) ≡ k
+unfolding eight_from four_from two_from mixed word_number told_place
 told_at k l =
-    eqb-true _ _ (agree_below_at (λ n. nat_eq (told_place (number_of (get_or words n []))) n) (λ n. true) 623 k refl l)
+    eqb-true _ _ (agree_below_at (λ n. nat_eq (told_place (word_number (get_or words n []))) n) (λ n. true) 623 k refl l)
 
-pub told_is : (x : Mnemonic) → told_place (number_of (mnemonic_word x)) ≡ place x
+pub told_is : (x : Mnemonic) → told_place (word_number (mnemonic_word x)) ≡ place x
 told_is x =
-    ap (λ (w : List ℕ). told_place (number_of w)) (sym (entry_at (place x) (place_below x) ∙ ap mnemonic_word (there x)))
+    ap (λ (w : List ℕ). told_place (word_number w)) (sym (entry_at (place x) (place_below x) ∙ ap mnemonic_word (there x)))
     ∙ told_at (place x) (place_below x)
 
 -- what passes for all of a list passes at each place, where it does for what is past the end

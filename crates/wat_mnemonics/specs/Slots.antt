@@ -27,8 +27,8 @@ mixed first last next =
 
 -- the number of a text: of its first eight bytes, its last eight, and those behind the first eight;
 -- of fewer bytes if it is shorter
-unfoldable pub number_of : List ℕ → ℕ
-number_of bytes =
+unfoldable pub word_number : List ℕ → ℕ
+word_number bytes =
     (if nat_lt (length bytes) 2 then 0
     else (if nat_lt (length bytes) 4
     then mixed (two_from bytes 0) (two_from bytes (length bytes - 2)) 0

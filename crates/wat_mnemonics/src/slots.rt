@@ -9,7 +9,7 @@
 ghost use Rattle.std.specs.Prelude.{◌≡◌, ◌≤◌, ◌<◌, ◌+◌, length};
 ghost use Rattle.wat_mnemonics.specs.Heads.{mnemonic_word};
 ghost use Rattle.wat_mnemonics.specs.Places.{place};
-ghost use Rattle.wat_mnemonics.specs.Slots.{eight_from, four_from, two_from, mixed, number_of};
+ghost use Rattle.wat_mnemonics.specs.Slots.{eight_from, four_from, two_from, mixed, word_number};
 ghost use Rattle.wat_mnemonics.specs.Slots.{told_place};
 ghost use Rattle.wat_mnemonics.specs.declared.mnemonic.Mnemonic.{Mnemonic as AnyMnemonic};
 
@@ -68,9 +68,9 @@ fn mixed(first: u64, last: u64, next: u64) -> u64
 }
 
 /// The number of a text. It has no other word's, if the text is a word.
-#[tactic(auto, unfolding(crate::specs::Slots::number_of))]
-fn number_of(bytes: &[u8]) -> u64
-    ensures { result ≡ number_of bytes.now }
+#[tactic(auto, unfolding(crate::specs::Slots::word_number))]
+fn word_number(bytes: &[u8]) -> u64
+    ensures { result ≡ word_number bytes.now }
 {
     let size = bytes.len();
     if size >= 16 {
@@ -107,7 +107,7 @@ pub(crate) fn place_of(text: &str) -> usize
     ensures below { result < 623 }
     ensures of_word { (x : AnyMnemonic) → mnemonic_word x ≡ text.now → result ≡ place x }
 {
-    told_place(number_of(text.as_bytes()))
+    told_place(word_number(text.as_bytes()))
 }
 
 /// How far the slots of some numbers are shifted, by the number's highest byte.

@@ -12,7 +12,7 @@ returns-in-Err-clause-none c = λ no_memory ts cut. fronts.no_cut (c.in-Err.ensu
 
 pub returns-in-Some-clause-fault : goal.returns-in-Some-clause-fault
 returns-in-Some-clause-fault c = λ no_memory.
-    left_open c.fault_at.result c.in-Ok.ensures.found (rw c.in-Some.is at c.in_ok-offset.ensures.first) c.fault_at.ensures.fault c.fault_at.ensures.place
+    left_open c.fault_at-in-Some.result c.in-Ok.ensures.found (rw c.in-Some.is at c.in_ok-offset.ensures.first) c.fault_at-in-Some.ensures.fault c.fault_at-in-Some.ensures.place
 
 pub returns-in-Some-clause-none : goal.returns-in-Some-clause-none
 returns-in-Some-clause-none c = λ no_memory ts. no_cut c.args.text.now _ _ ts (returns-in-Some-clause-fault c no_memory)

@@ -4,7 +4,7 @@ use Rattle.std.proofs.ResultArms.{chosen}
 use Rattle.std.proofs.lemmas.List.{map-append, length-append}
 use Rattle.wat_lexer.specs.Token.{Entry, has_annotation, is_open}
 use Rattle.wat_lexer.specs.View.{lying, entries_of, found_tok, placed_of, no_skips}
-use Rattle.wat_lexer.proofs.Entries.{any_put, kept_more}
+use Rattle.wat_lexer.proofs.Entries.{any_put, kept_more, put_few}
 use Rattle.std.proofs.Math.ListN.{drop_of_length-le}
 use Rattle.wat_lexer.proofs.CutSoFar.{over_blank, over_piece, over_token, opened_within, at_end, fault_here, noted_more}
 use Rattle.wat_lexer.proofs.cut.cut_pieces.Goals as goal
@@ -42,6 +42,7 @@ loop-at-preserved-in-Some c =
       fits = more.fit;
       apart = more.apart;
       few = rw items (omega (arith, length-append ls (c.kept_near.result ∷ []), c.loop-at.invariant.few, within, spaces));
+      few_lie = omega (arith, c.loop-at.invariant.few_lie, within, spaces);
       within = spaces.1;
       opened = rw opens (opened_within (is_open t) opened at end next c.loop-at.invariant.opened within.0 spaces.0);
     }
@@ -60,6 +61,7 @@ loop-at-preserved-in-None-kind c =
       fits = rw same c.loop-at.invariant.fits;
       apart = c.loop-at.invariant.apart;
       few = omega (arith, c.loop-at.invariant, within, spaces);
+      few_lie = rw same (omega (arith, c.loop-at.invariant.few_lie, within, spaces));
       within = spaces.1;
       opened = omega (arith, c.loop-at.invariant, within, spaces);
     }
@@ -91,6 +93,7 @@ loop-at-preserved c =
       fits = more.fit;
       apart = more.apart;
       few = rw items (omega (arith, length-append ls (c.kept.result ∷ []), c.loop-at.invariant.few, within, spaces));
+      few_lie = omega (arith, put_few c.in-Some-kind.kind c.loop-at.side_table.items side_table put, c.loop-at.invariant.few_lie, within, spaces);
       within = spaces.1;
       opened = rw opens (opened_within (is_open t) opened at end next c.loop-at.invariant.opened within.0 spaces.0);
     }

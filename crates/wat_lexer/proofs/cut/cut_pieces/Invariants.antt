@@ -12,6 +12,7 @@ invariant-loop-at l = record {
   fits : AllCanBeRead l.text l.side_table.items l.tokens.items;
   apart : AllApart l.tokens.items;
   few : length l.tokens.items ≤ l.at;
+  few_lie : length l.side_table.items ≤ l.at;
   within : l.at ≤ length l.text;
   opened : l.opened ≤ l.at;
 }
