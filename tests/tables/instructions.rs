@@ -115,6 +115,37 @@ fn operands_that_are_refused(rt: HostRuntime) {
     }
 }
 
+/// Whether something is said of an instruction's block, or None where it has no block.
+fn says_something(found: &Instruction<'_>) -> Option<bool> {
+    match found {
+        Instruction::Block(_, block) => Some(block.is_some()),
+        _ => None,
+    }
+}
+
+#[test]
+fn blocks_are_in_a_box_where_something_is_said(rt: HostRuntime) -> Result<(), Fail> {
+    let alloc = rt.alloc();
+    let arena = Bump::new(alloc);
+    for (text, wanted) in [
+        ("block", Some(false)),
+        ("loop", Some(false)),
+        ("if nop", Some(false)),
+        ("try", Some(false)),
+        ("block $l", Some(true)),
+        ("if (@name \"l\")", Some(true)),
+        ("loop (type 0)", Some(true)),
+        ("block (result i32)", Some(true)),
+        ("block (param)", Some(true)),
+        ("end", None),
+    ] {
+        let found = read::<Instruction>(alloc, text, &arena)?;
+        assert_eq!(rt; says_something(&found), wanted, "at {text}");
+        assert_eq!(rt; says_something(&found.clone()?), wanted, "at {text}");
+    }
+    Ok(())
+}
+
 /// The lane, the memory, the offset and the alignment of an access to one lane.
 fn lane_of(found: &Instruction<'_>) -> Option<(u8, Option<u32>, u64, u64)> {
     match found {

@@ -6,7 +6,7 @@ use wat_tokens::Error;
 /// Adds what Debug writes of the operand of an instruction that is of a kind with others.
 fn add_shared(out: &mut String, found: &Instruction<'_>) -> Result<(), Error> {
     match found {
-        Instruction::Block(_, block) => write!(out, "{block:?}")?,
+        Instruction::Block(_, Some(block)) => write!(out, "{block:?}")?,
         Instruction::Label(_, label) => write!(out, "{label:?}")?,
         Instruction::Indexed(_, index) => write!(out, "{index:?}")?,
         Instruction::CallIndirect(_, call) => write!(out, "{call:?}")?,

@@ -202,12 +202,10 @@ fn refusal(alloc: Global, value: &Expression) -> Option<u8> {
 fn hinted<'a>(alloc: Global, hints: &[(usize, u32)]) -> Result<Expression<'a>, Fail> {
     let zero = Index::Num(0, Span::from_offset(0));
     let mut found = Expression::one(alloc, Instruction::Scalar(ScalarOp::nop))?;
-    let ty = TypeUse { index: None, inline: None };
-    let block = BlockType { label: None, label_name: None, ty };
     let span = Span::from_offset(0);
     found.put_last(Instruction::Scalar(ScalarOp::nop), span)?;
     found.put_last(Instruction::Indexed(IndexedOp::br_if, zero), span)?;
-    found.put_last(Instruction::Block(BlockOp::if_, Box::new(alloc, block)?), span)?;
+    found.put_last(Instruction::Block(BlockOp::if_, None), span)?;
     for &(instr_index, value) in hints {
         found.branch_hints.push(BranchHint { instr_index, value })?;
     }
@@ -262,7 +260,7 @@ fn expressions_without_a_text(rt: HostRuntime) -> Result<(), Fail> {
     let mut wrong = String::new(alloc);
     for (instr, number) in [
         (Instruction::Label(LabelOp::end, Some(empty)), 2),
-        (Instruction::Block(BlockOp::block, Box::new(alloc, block)?), 3),
+        (Instruction::Block(BlockOp::block, Some(Box::new(alloc, block)?)), 3),
         (unaligned, 6),
         (paired, 7),
         (Instruction::f32_const(F32 { bits: 0 }), 8),

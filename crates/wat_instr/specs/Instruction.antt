@@ -1,9 +1,12 @@
 -- Instructions.
-use Rattle.std.specs.Prelude.{ℕ, Bool, ◌||◌, ◌==◌, None}
+use Rattle.std.specs.Global.{Box}
+use Rattle.std.specs.Prelude.{ℕ, Bool, ◌||◌, ◌==◌, Option, Some, None, is_some}
 use Rattle.wat_tokens.specs.Index.{name_of, index_view}
 use Rattle.wat_tokens.specs.Production.{Production}
 use Rattle.wat_tokens.specs.Parts.{made}
 use Rattle.wat_types.specs.Heap.{heap_view}
+use Rattle.wat_types.specs.Label.{no_label, labelled}
+use Rattle.wat_types.specs.Use.{use_of}
 use Rattle.wat_operands.specs.Aggregates.{struct_access_view, cont_bind_view, switch_view}
 use Rattle.wat_operands.specs.Aggregates.{array_fill_view, array_copy_view, array_init_view}
 use Rattle.wat_operands.specs.Aggregates.{array_new_fixed_view, array_new_data_view}
@@ -14,7 +17,7 @@ use Rattle.wat_operands.specs.Memory.{mem_arg_view}
 use Rattle.wat_operands.specs.Ordering.{ordered_view}
 use Rattle.wat_operands.specs.Tables.{table_arg_view, memory_arg_view, table_init_view}
 use Rattle.wat_operands.specs.Tables.{memory_init_view, table_copy_view, memory_copy_view}
-use Rattle.wat_operands.specs.Block.{block_view}
+use Rattle.wat_operands.specs.Block.{BlockTy, block_of, block_view}
 use Rattle.wat_operands.specs.Call.{call_view}
 use Rattle.wat_operands.specs.Casts.{test_view, cast_view, cast_desc_eq_view, branch_view}
 use Rattle.wat_operands.specs.Casts.{branch_fail_view, branch_desc_eq_view}
@@ -115,9 +118,21 @@ head_in (code.ref_cast_desc_eq x) = head.ref_cast_desc_eq
 head_in (code.br_on_cast_desc_eq x) = head.br_on_cast_desc_eq
 head_in (code.br_on_cast_desc_eq_fail x) = head.br_on_cast_desc_eq_fail
 
+-- a block of which nothing is said: it has neither a label nor a name nor a type
+abbrev pub no_block : BlockTy
+no_block = block_of no_label (use_of None None)
+
+abbrev pub says_something : BlockTy → Bool
+says_something b = labelled b.label || (is_some b.ty.index || is_some b.ty.inline)
+
+-- what is said of a block, which is in a box unless that is nothing
+abbrev pub block_in : Option (Box BlockType) → BlockTy
+block_in (Some b) = block_view b.value
+block_in None = no_block
+
 -- the operand, without places
 abbrev pub operand_in : Instruction → Operand
-operand_in (code.Block op x) = operands.block (block_view x.value)
+operand_in (code.Block op x) = operands.block (block_in x)
 operand_in (code.Label op x) = operands.label (option_view name_of x)
 operand_in (code.Scalar op) = operands.nothing
 operand_in (code.Indexed op x) = operands.one_index (index_view x)

@@ -1,6 +1,7 @@
 -- When an instruction is another one once more.
 use Rattle.std.specs.Prelude.{◌≡◌}
 use Rattle.wat_operands.specs.Block.{SameBlock}
+use Rattle.wat_types.specs.Use.{SameOption}
 use Rattle.wat_operands.specs.Call.{SameCall}
 use Rattle.wat_operands.specs.Catches.{SameTry}
 use Rattle.wat_operands.specs.Select.{SameTypes}
@@ -10,7 +11,7 @@ use Rattle.wat_instr.specs.declared.instruction.InstructionOf.TheVariants as cod
 -- every part is the same, the places too: boxes and lists hold the same, and any other instruction
 -- is that one
 abbrev pub SameInstruction : Instruction → Instruction → Type 0
-SameInstruction (code.Block op x) (code.Block op' y) = (op' ≡ op) × SameBlock x.value y.value
+SameInstruction (code.Block op x) (code.Block op' y) = (op' ≡ op) × SameOption (λ a b. SameBlock a.value b.value) x y
 SameInstruction (code.CallIndirect op x) (code.CallIndirect op' y) =
     (op' ≡ op) × SameCall x.value y.value
 SameInstruction (code.br_table x) (code.br_table y) =

@@ -173,13 +173,18 @@ impl<'a> Instruction<'a> {
     }
 }
 
-/// `block`, `loop`, `if` or `try`, and the type of the block, once more.
-fn clone_block<'a>(op: BlockOp, x: &Box<BlockType<'a>>) -> Result<Instruction<'a>>
+/// `block`, `loop`, `if` or `try`, and what is said of the block, once more.
+fn clone_block<'a>(op: BlockOp, x: &Option<Box<BlockType<'a>>>) -> Result<Instruction<'a>>
     ensures copies { Copies SameInstruction (owning instruction_view bare_instruction) result
         (code.Block op x.now) }
 {
-    let same = BlockType::clone(x)?;
-    Ok(Instruction::Block(op, Box::new(*Box::allocator(x), same)?))
+    match x {
+        Some(x) => {
+            let same = BlockType::clone(x)?;
+            Ok(Instruction::Block(op, Some(Box::new(*Box::allocator(x), same)?)))
+        }
+        None => Ok(Instruction::Block(op, None)),
+    }
 }
 
 /// `else`, `end` or another instruction that may name a label, once more.

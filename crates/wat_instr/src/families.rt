@@ -1,11 +1,15 @@
 //! The operands of instructions that share their kind of operand.
 #![tactic(auto, unfolding(crate::specs::Reading::ReadsOperand, crate::specs::Operand::operand))]
 
+ghost use Rattle.std.specs.Prelude.{◌≡◌, IfOk, IfErr};
+ghost use Rattle.wat_instr.specs.Instruction.{says_something, block_in};
 ghost use Rattle.wat_instr.specs.Reading.{ReadsOperand};
 ghost use Rattle.wat_mnemonics.specs.declared.mnemonic.Mnemonic.TheVariants as head;
+ghost use Rattle.wat_operands.specs.Block.{block_view};
 
 use crate::instruction::Instruction;
 use crate::place::Place;
+use std::alloc::Global;
 use wat_mnemonics::{
     AccessOp, ArrayInitOp, AtomicAccessOp, BlockOp, CallIndirectOp, IndexedOp, LabelOp,
     LaneAccessOp, LaneOp, MemoryOp, OrderedIndexOp, OrderedStructOp, OrderedTableOp, RmwAccessOp,
@@ -15,9 +19,31 @@ use wat_operands::{
     ArrayInit, BlockType, CallIndirect, LaneArg, LoadOrStoreLane, MemArg, MemoryArg, Ordered,
     StructAccess, TableArg,
 };
-use wat_tokens::{Id, Index, Parse, Parser, Result};
+use wat_tokens::ownership::discard;
+use wat_tokens::{Fault, Id, Index, Parse, Parser, Result};
 
-/// `block`, `loop`, `if` or `try`, and the type of the block.
+/// Whether a block has a label, a name or a type.
+fn says_something(block: &BlockType) -> bool
+    ensures { result ≡ says_something (block_view block.now) }
+{
+    let names = block.label.is_some() || block.label_name.is_some();
+    names || block.ty.index.is_some() || block.ty.inline.is_some()
+}
+
+/// What is said of a block, in a box; None where nothing is. Memory refuses the box.
+#[tactic(auto, using(crate::proofs::Blocks::nothing_said))]
+fn boxed<'a>(alloc: Global, block: BlockType<'a>) -> Result<Option<Box<BlockType<'a>>>>
+    ensures value { IfOk result (λ b. block_in b ≡ block_view block.entry) }
+    ensures memory { IfErr result (λ e. e.fault ≡ Fault.Memory) }
+{
+    if says_something(&block) {
+        return Ok(Some(Box::new(alloc, block)?));
+    }
+    discard(block);
+    Ok(None)
+}
+
+/// `block`, `loop`, `if` or `try`, and what is said of the block.
 #[inline(always)]
 pub(crate) fn read_block<'a, P: Place<'a>>(
     op: BlockOp,
@@ -27,11 +53,14 @@ pub(crate) fn read_block<'a, P: Place<'a>>(
     requires { P.has_room out.old }
     ensures { ReadsOperand (head.Block op) (P.seen out.old) (P.seen out.new) result parser.old parser.new }
 {
-    match Box::<BlockType>::parse(parser) {
-        Ok(operand) => {
-            out.put(Instruction::Block(op, operand));
-            Ok(())
-        }
+    match BlockType::parse(parser) {
+        Ok(block) => match boxed(parser.alloc(), block) {
+            Ok(operand) => {
+                out.put(Instruction::Block(op, operand));
+                Ok(())
+            }
+            Err(refused) => Err(refused),
+        },
         Err(refused) => Err(refused),
     }
 }

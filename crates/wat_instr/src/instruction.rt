@@ -38,8 +38,9 @@ pub enum InstructionOf<
     BrOnCastDescEq,
     BrOnCastDescEqFail,
 > {
-    /// `block`, `loop`, `if` or `try`, and the type of the block.
-    Block(BlockOp, Box<BlockType>),
+    /// `block`, `loop`, `if` or `try`, and what is said of the block; None where nothing is: it has
+    /// neither a label nor a name nor a type.
+    Block(BlockOp, Option<Box<BlockType>>),
     /// `else` or `end`, and the label that may follow.
     Label(LabelOp, Option<Id>),
     /// An instruction without an operand that is none of vectors.

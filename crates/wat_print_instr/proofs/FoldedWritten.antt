@@ -1,6 +1,6 @@
 -- Instructions in groups that are written.
-use Rattle.std.specs.Prelude.{◌≡◌, ◌==◌, ℕ, Bool, true, false, ◌&&◌, if◌then◌else◌, List, []}
-use Rattle.std.specs.Prelude.{◌∷◌, ◌++◌, flat_map, map, length, take, drop, Option, Some, None}
+use Rattle.std.specs.Prelude.{◌≡◌, ◌==◌, ℕ, Bool, true, false, ◌&&◌, List, []}
+use Rattle.std.specs.Prelude.{◌∷◌, ◌++◌, flat_map, map, length, Option, Some, None}
 use Rattle.std.specs.Prelude.{option_map, is_some}
 use Rattle.std.proofs.Common.{refl, ap, subst, sym, ◌∙◌, append-nil, get_or, arith}
 use Rattle.std.proofs.lemmas.Bool.{and_parts}
@@ -15,8 +15,8 @@ use Rattle.wat_print.specs.Parts.{each, spell_option}
 use Rattle.wat_print.specs.Text.{Page, put}
 use Rattle.wat_print.specs.Laws.Parts.{each_both}
 use Rattle.wat_print.specs.Laws.Written.{put_then, put_parens}
-use Rattle.wat_print_instr.specs.FoldedForm.{takes_catches, is_catch, head_of, keeps_apart, own_groups}
-use Rattle.wat_print_instr.specs.FoldedForm.{first_apart, catch_first, groups_behind, group_from, spell_own}
+use Rattle.wat_print_instr.specs.FoldedForm.{takes_catches, is_catch, head_of, own_groups}
+use Rattle.wat_print_instr.specs.FoldedForm.{catch_first, groups_behind, group_from, spell_own}
 use Rattle.wat_print_instr.specs.FoldedForm.{spell_groups, spell_folded, no_hints, fit_folded}
 use Rattle.wat_print_instr.specs.Laws.Folded.{group_last}
 use Rattle.wat_print_instr.specs.Laws.Numbers.{equal_by}

@@ -4,13 +4,14 @@ ghost use Rattle.std.specs.Prelude.{◌≡◌, ◌≢◌, OnOk, IfErr, true, fal
 ghost use Rattle.wat_tokens.specs.Index.{name_of};
 ghost use Rattle.wat_tokens.specs.Views.{option_view};
 ghost use Rattle.wat_instr.specs.Instruction.{Instr, head_in, operand_in, instruction_view};
-ghost use Rattle.wat_instr.specs.Instruction.{instruction};
+ghost use Rattle.wat_instr.specs.Instruction.{instruction, block_in};
 ghost use Rattle.wat_print.specs.Label.{spell_id};
 ghost use Rattle.wat_print.specs.Neat.{is_name};
 ghost use Rattle.wat_print.specs.Parts.{spell_option, if_some};
 ghost use Rattle.wat_print.specs.Text.{put};
 ghost use Rattle.wat_print.specs.declared.fault.Refused.TheVariants.{Memory};
 ghost use Rattle.wat_print_instr.specs.Access.{spell_ordering};
+ghost use Rattle.wat_print_instr.specs.Control.{spell_block, fit_block};
 ghost use Rattle.wat_print_instr.specs.InstructionForm.{operand_form};
 ghost use Rattle.wat_print_instr.specs.InstructionPrinting.{instruction_printing};
 
@@ -18,7 +19,7 @@ use crate::access::{write_access, write_atomic, write_lane_access, write_orderin
 use crate::control::write_block;
 use crate::traits::PrintCode;
 use wat_instr::{Instruction, InstructionOf};
-use wat_operands::Ordering;
+use wat_operands::{BlockType, Ordering};
 use wat_print::reference::{write_heap, write_index};
 use wat_print::{Output, Refused};
 use wat_tokens::Id;
@@ -49,6 +50,18 @@ fn write_fence(out: &mut Output, ordering: Option<Ordering>) -> Result<(), Refus
     }
 }
 
+/// Writes what is said of a block, which is nothing where there is no box.
+fn write_said(out: &mut Output, block: &Option<Box<BlockType>>) -> Result<(), Refused>
+    ensures written { OnOk result (out.new ≡ put out.old (spell_block (block_in block.now))) }
+    ensures fit { OnOk result (fit_block (block_in block.now) ≡ true) }
+    ensures refused { IfErr result (λ e. e ≢ Memory → fit_block (block_in block.now) ≡ false) }
+{
+    match block {
+        Some(block) => write_block(out, block),
+        None => Ok(()),
+    }
+}
+
 /// Writes the operand of an instruction, behind its word.
 fn write_operand(out: &mut Output, instr: &Instruction) -> Result<(), Refused>
     ensures written { OnOk result (out.new ≡ put out.old
@@ -59,7 +72,7 @@ fn write_operand(out: &mut Output, instr: &Instruction) -> Result<(), Refused>
         → (operand_form (head_in instr.now)).fit (operand_in instr.now) ≡ false) }
 {
     match instr {
-        InstructionOf::Block(_, block) => write_block(out, block),
+        InstructionOf::Block(_, block) => write_said(out, block),
         InstructionOf::Label(_, label) => write_end_label(out, label),
         InstructionOf::Scalar(_) => Ok(()),
         InstructionOf::Indexed(_, index) => write_index(out, index),

@@ -1,6 +1,6 @@
 -- Laws: folded instructions are read again, and each that tokens of a text spell can be written.
-use Rattle.std.specs.Prelude.{◌≡◌, ℕ, zero, suc, ◌<◌, Bool, true, false, not, ◌&&◌, ◌||◌}
-use Rattle.std.specs.Prelude.{if◌then◌else◌, List, [], ◌∷◌, ◌++◌, length, Option, Some, None, codes}
+use Rattle.std.specs.Prelude.{◌≡◌, ℕ, zero, suc, ◌<◌, Bool, true, false, not, ◌&&◌}
+use Rattle.std.specs.Prelude.{List, [], ◌∷◌, ◌++◌, length, Option, Some, None, codes}
 use Rattle.std.specs.Prelude.{option_map, is_some}
 use Rattle.std.specs.Str.{bytes_eq}
 use Rattle.std.proofs.Common.{refl, ap, subst, sym, ◌∙◌, append_assoc, append-nil, get_or, arith}
@@ -16,7 +16,7 @@ use Rattle.wat_mnemonics.specs.Table.{all_mnemonics}
 use Rattle.wat_mnemonics.specs.declared.mnemonic.Mnemonic.{Mnemonic}
 use Rattle.wat_instr.specs.Instruction.{Instr}
 use Rattle.wat_expr.specs.Expression.{Expr}
-use Rattle.wat_expr.specs.Folded.{Groups, NoGroup, Group, groups, unfolded_groups, folded_value}
+use Rattle.wat_expr.specs.Folded.{Groups, NoGroup, Group, groups, unfolded_groups}
 use Rattle.wat_expr.specs.Folded.{folded_spells}
 use Rattle.wat_expr.specs.FoldedProduction.{folded_instruction}
 use Rattle.wat_print.specs.Neat.{Neat, nothing}

@@ -1,7 +1,7 @@
 -- Laws: each folded instruction that tokens of a text spell can be written.
-use Rattle.std.specs.Prelude.{◌≡◌, Bool, true, false, not, ◌&&◌, ◌||◌, if◌then◌else◌, List, []}
+use Rattle.std.specs.Prelude.{◌≡◌, Bool, true, false, ◌||◌, List, []}
 use Rattle.std.specs.Prelude.{◌∷◌, ◌++◌, Option, Some, None, option_map, is_some}
-use Rattle.std.proofs.Common.{refl, ap, subst, sym, ◌∙◌, append_assoc, append-nil}
+use Rattle.std.proofs.Common.{refl, ap, subst, sym, ◌∙◌}
 use Rattle.std.proofs.lemmas.Bool.{and_parts, cond_both, or_left, or_right}
 use Rattle.std.proofs.lemmas.List.{append_cancel_right}
 use Rattle.wat_lexer.specs.Token.{Tok, LParen, RParen, Keyword}

@@ -1,4 +1,4 @@
-use Rattle.std.specs.Prelude.{◌≡◌, ◌≢◌, ◌&&◌, Bool, [], false, map, is_some}
+use Rattle.std.specs.Prelude.{◌≡◌, ◌≢◌, ◌&&◌, [], false, map, is_some}
 use Rattle.std.proofs.Common.{rules}
 use Rattle.wat_instr.specs.Instruction.{instruction_view}
 use Rattle.wat_print.specs.Parts.{each}
