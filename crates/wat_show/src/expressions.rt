@@ -45,6 +45,7 @@ pub(crate) fn marks_of(
     Ok(marks)
 }
 
+#[inline(always)]
 fn add_hint(out: &mut Vec<u8>, hint: Option<u32>) -> Result<(), AllocError>
     ensures { OnOk result (out.new.items ≡ out.old.items ++ hint_text hint) }
 {
@@ -58,6 +59,7 @@ fn add_hint(out: &mut Vec<u8>, hint: Option<u32>) -> Result<(), AllocError>
 }
 
 /// Adds a prefix, an instruction and its hint, on a line.
+#[inline(always)]
 fn add_line(
     out: &mut Vec<u8>,
     front: &str,
@@ -91,6 +93,7 @@ fn add_lines(
 }
 
 /// Adds instructions without hints, one a line behind the prefix.
+#[inline(always)]
 fn add_plain_lines(out: &mut Vec<u8>, front: &str, instrs: &[Instruction]) -> Result<(), AllocError>
     ensures { OnOk result (out.new.items ≡ out.old.items ++ lines front.now (hint_at []) 0
         (map instruction_view instrs.now)) }
@@ -103,6 +106,7 @@ fn add_plain_lines(out: &mut Vec<u8>, front: &str, instrs: &[Instruction]) -> Re
 
 /// Adds the instructions of an expression, one a line behind the prefix, each with the hint that
 /// has its index.
+#[inline(always)]
 fn add_lines_of(out: &mut Vec<u8>, front: &str, expression: &Expression) -> Result<(), AllocError>
     ensures { OnOk result (out.new.items ≡ out.old.items ++ lines_of front.now
         (expression_view expression.now)) }

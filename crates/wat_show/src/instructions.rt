@@ -9,6 +9,7 @@ use std::alloc::AllocError;
 use wat_instr::Instruction;
 
 /// Adds a space and the operand, where that is an index, an i32 or an i64.
+#[inline(always)]
 fn add_operand(out: &mut Vec<u8>, instr: &Instruction) -> Result<(), AllocError>
     ensures { OnOk result (out.new.items ≡ out.old.items ++ shown_operand (head_in instr.now)
         (operand_in instr.now)) }
@@ -31,6 +32,7 @@ fn add_operand(out: &mut Vec<u8>, instr: &Instruction) -> Result<(), AllocError>
 }
 
 /// Adds the mnemonic, and the operand where it is shown.
+#[inline(always)]
 pub fn add_instruction(out: &mut Vec<u8>, instr: &Instruction) -> Result<(), AllocError>
     ensures { OnOk result (out.new.items ≡ out.old.items ++ instr_text
         (instruction_view instr.now)) }

@@ -7,6 +7,7 @@ ghost use Rattle.wat_show.specs.Written.{counted};
 use std::alloc::AllocError;
 
 /// Adds a text to the output.
+#[inline(always)]
 pub fn add(out: &mut Vec<u8>, text: &str) -> Result<(), AllocError>
     ensures { OnOk result (out.new.items ≡ out.old.items ++ text.now) }
 {
@@ -14,6 +15,7 @@ pub fn add(out: &mut Vec<u8>, text: &str) -> Result<(), AllocError>
 }
 
 /// Adds one byte to the output.
+#[inline(always)]
 pub fn add_byte(out: &mut Vec<u8>, byte: u8) -> Result<(), AllocError>
     ensures { OnOk result (out.new.items ≡ out.old.items ++ byte ∷ []) }
 {
