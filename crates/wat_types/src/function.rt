@@ -111,6 +111,8 @@ fn read_result_group<'a>(parser: &mut Parser<'a>, out: &mut FunctionType<'a>) ->
 {
     parser.open()?;
     parser.keyword("result")?;
+    // (what is given back before the next list is made leaves no hole in front of it)
+    out.params.shrink_to_fit();
     rest_of_group::<ValType>(parser, &mut out.results)?;
     parser.close()?;
     Ok(())
