@@ -11,7 +11,7 @@ ghost use Rattle.wat_expr.specs.Taken.{ReadsBehind};
 ghost use Rattle.wat_tokens.specs.Steady.{Steady};
 
 use crate::expression::Expression;
-use crate::take::{make_room, read_behind};
+use crate::take::{make_room, read_behind, refuse};
 use std::alloc::Global;
 use std::marker::Model;
 use wat_instr::{Instruction, Mnemonic};
@@ -213,7 +213,7 @@ impl<'a> OpenGroups<'a> {
                 self.marks.push_reserved(mark);
                 Ok(())
             }
-            Err(refused) => Err(refused),
+            Err(refused) => refuse(refused),
         }
     }
 }

@@ -16,7 +16,9 @@ ghost use Rattle.wat_tokens.specs.Token.{Tok, LParen, RParen};
 
 use crate::expression::Expression;
 use crate::open_groups::{Kind, Mark, OpenGroups};
-use crate::take::{take_close, take_head, take_hint_name, take_open, take_string, take_word};
+use crate::take::{
+    refuse, take_close, take_head, take_hint_name, take_open, take_string, take_word,
+};
 use std::alloc::Global;
 use wat_instr::{Instruction, LabelOp, Mnemonic, branches_if, opens_block, opens_if};
 use wat_tokens::ownership::discard;
@@ -259,14 +261,14 @@ impl<'a> Reader<'a> {
         }
         let head = match take_suited(parser, self.pending) {
             Ok(head) => head,
-            Err(refused) => return Err(refused),
+            Err(refused) => return refuse(refused),
         };
         let span = parser.prev_span();
         let hint = self.pending.take();
         if opens_block(head) {
             return match self.out.read(head, parser, hint, span) {
                 Ok(()) => self.open_groups.enter(Kind::Block),
-                Err(refused) => Err(refused),
+                Err(refused) => refuse(refused),
             };
         }
         let mark = Mark { span, hint };

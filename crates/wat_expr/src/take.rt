@@ -1,6 +1,6 @@
 //! What takes one token, or an instruction.
 
-ghost use Rattle.std.specs.Prelude.{◌≡◌, ◌<◌, ◌++◌, ◌∷◌, [], map, codes, IfOk, IfErr};
+ghost use Rattle.std.specs.Prelude.{◌≡◌, ◌<◌, ◌++◌, ◌∷◌, [], map, codes, IfOk, IfErr, Err};
 ghost use Rattle.std.specs.Vec.{vec_len, vec_capacity};
 ghost use Rattle.wat_expr.specs.Items.{hint_name, keyword};
 ghost use Rattle.wat_expr.specs.Taken.{TakesIf, TakesString, TakesHead, ReadsBehind};
@@ -9,7 +9,7 @@ ghost use Rattle.wat_tokens.specs.Steady.{Steady};
 ghost use Rattle.wat_tokens.specs.Token.{LParen, RParen};
 
 use wat_instr::{Instruction, Mnemonic};
-use wat_tokens::{Fault, Parser, Result};
+use wat_tokens::{Error, Fault, Parser, Result};
 
 /// Takes a `(` where it is in front, and answers whether it did.
 #[inline(always)]
@@ -100,4 +100,14 @@ pub fn take_string<'a>(parser: &mut Parser<'a>) -> Result<&'a [u8]>
     ensures steady { Steady parser.old parser.new }
 {
     parser.take_string()
+}
+
+/// Answers the refusal.
+// Written where a refusal is handed on, its moves would stand in the way of what isn't refused too.
+#[cold]
+#[inline(never)]
+pub fn refuse(refused: Error) -> Result<()>
+    ensures { result ≡ Err refused }
+{
+    Err(refused)
 }
