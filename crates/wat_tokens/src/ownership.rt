@@ -9,10 +9,16 @@ use wat_lexer::fault::{Error, Fault};
 
 /// Puts a value behind the others. Memory refuses it; then the list is as it was, and the value is
 /// dropped.
+// Most lists have one value. So an empty one gets room for one and not for four: what a list gives
+// back at its end takes time, and a small piece stays a hole.
+#[inline(always)]
 pub fn push_into<T: Drop>(list: &mut Vec<T>, value: T) -> Result<(), Error>
     ensures { MatchResult result (λ _. list.new.items ≡ list.old.items ++ value ∷ []) (λ e. (e.fault
         ≡ Fault.Memory) × (list.new.items ≡ list.old.items)) }
 {
+    if list.is_empty() {
+        list.reserve_exact(1)?;
+    }
     list.push(value)?;
     Ok(())
 }

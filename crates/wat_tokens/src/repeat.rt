@@ -11,6 +11,7 @@ ghost use Rattle.wat_tokens.specs.Reads.{Call, ReadsAt};
 ghost use Rattle.wat_tokens.specs.Tests.{more};
 ghost use Rattle.wat_tokens.specs.Views.{ViewOf, owning, no_items};
 
+use crate::ownership::push_into;
 use crate::parser::Parser;
 use crate::traits::{Parse, Peek};
 use wat_lexer::fault::Error;
@@ -52,7 +53,7 @@ pub fn parts<'a, V: Drop, P: Part<'a, V>>(
         result parser.old parser.new }
 {
     'parts: while P::follows(parser) {
-        out.push(P::take(parser)?)?;
+        push_into(out, P::take(parser)?)?;
     }
     Ok(())
 }

@@ -10,7 +10,7 @@ use Rattle.wat_tokens.proofs.repeat.parts.Goals as goal
 pub parts-preserved : goal.parts-preserved
 parts-preserved g c =
     let v = c.in_ok-take.field-0 in
-    let e : map g.P.Part.view.of c.push.new.self.items ≡ map g.P.Part.view.of c.parts.out.items ++ g.P.Part.view.of v ∷ [] = rw c.in_ok-push.ensures.items (map_push _ c.parts.out.items v) in
+    let e : map g.P.Part.view.of c.push_into.new.list.items ≡ map g.P.Part.view.of c.parts.out.items ++ g.P.Part.view.of v ∷ [] = rw c.in_ok-push_into.ensures (map_push _ c.parts.out.items v) in
     record {
       exact = rw e (sym (loop_goes_on g.P.Part.follows g.P.Part.grammar c.requires (map g.P.Part.view.of c.parts.out.items) c.parts.parser.left (g.P.Part.view.of v) c.take.new.parser.left (sym c.follows.ensures ∙ c.parts-test.true) c.in_ok-take.ensures.reads.exact) ∙ c.parts.invariant.exact);
       counts = search rules;
@@ -42,12 +42,12 @@ returns-in_err-take g c =
       };
     }
 
-pub returns-in_err-push : goal.returns-in_err-push
-returns-in_err-push g c =
-    let p = err_from_is_err_and c.from_residual-in_err-push.result c.from_residual-in_err-push.ensures.1 in
+pub returns-in_err-push_into : goal.returns-in_err-push_into
+returns-in_err-push_into g c =
+    let p = err_from_is_err_and c.from_residual-in_err-push_into.result c.from_residual-in_err-push_into.ensures.1 in
     record {
       reads = record {
-        exact = rw p.1 ((λ not. absurd (not (ap (λ (e : Error). e.fault) p.2))), (λ m. (not_bare g.P.Part.follows g.P.Part.grammar (map g.P.Part.view.of c.parts.out.items) c.parts.parser.left _ (sym c.follows.ensures ∙ c.parts-test.true) c.parts.invariant.exact)));
+        exact = rw p.1 ((λ not. absurd (not (ap (λ (e : Error). e.fault) p.2 ∙ c.in_err-push_into.ensures.0))), (λ m. (not_bare g.P.Part.follows g.P.Part.grammar (map g.P.Part.view.of c.parts.out.items) c.parts.parser.left _ (sym c.follows.ensures ∙ c.parts-test.true) c.parts.invariant.exact)));
         counts = search rules;
         cost = search (rules, costs_then, quiet_costs);
         settings = search rules;
