@@ -1,7 +1,8 @@
 -- The directives of a script.
-use Rattle.std.specs.Prelude.{Bool, List, codes, map}
+use Rattle.std.specs.Global.{Box}
+use Rattle.std.specs.Prelude.{Bool, List, codes, map, false}
 use Rattle.wat_core.specs.Groups.{paren}
-use Rattle.wat_core.specs.Module.{ModuleTy, module_view, bare_module, module_}
+use Rattle.wat_core.specs.Module.{ModuleTy, module_view, module_}
 use Rattle.wat_core.specs.Parts.{made, where_else}
 use Rattle.wat_core.specs.Production.{Production}
 use Rattle.wat_core.specs.Tests.{begins_group}
@@ -24,16 +25,24 @@ pub data DirectiveTy : Type 0 where
 
 -- a directive as the code has it
 abbrev pub Directive : Type 0
-Directive = DirectiveOf «Module» Invoke AssertReturn
+Directive = DirectiveOf (Box «Module») Invoke AssertReturn
+
+-- a module in its box
+abbrev pub boxed_view : Box «Module» → ModuleTy
+boxed_view b = module_view b.value
 
 abbrev pub directive_view : Directive → DirectiveTy
-directive_view (code.«Module» m) = a_module (module_view m)
+directive_view (code.«Module» m) = a_module (boxed_view m)
 directive_view (code.Invoke i) = an_invoke (invoke_view i)
 directive_view (code.AssertReturn a) = an_assert_return (assert_return_view a)
 
+-- a box is memory
+abbrev pub never_bare : ModuleTy → Bool
+never_bare m = false
+
 -- what the value of its kind says
 abbrev pub bare_directive : DirectiveTy → Bool
-bare_directive (a_module m) = bare_module m
+bare_directive (a_module m) = never_bare m
 bare_directive (an_invoke i) = bare_invoke i
 bare_directive (an_assert_return a) = bare_assert_return a
 

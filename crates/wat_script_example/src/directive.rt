@@ -2,11 +2,11 @@
 
 ghost use Rattle.wat_core.specs.Cost.{turns_too};
 ghost use Rattle.wat_core.specs.Groups.{paren};
-ghost use Rattle.wat_core.specs.Module.{module_view, bare_module, module_};
+ghost use Rattle.wat_core.specs.Module.{module_};
 ghost use Rattle.wat_core.specs.Reads.{ReadsAt};
 ghost use Rattle.wat_core.specs.Views.{owning};
 ghost use Rattle.wat_script_example.specs.Directive.{DirectiveTy, directive_view, bare_directive};
-ghost use Rattle.wat_script_example.specs.Directive.{directive};
+ghost use Rattle.wat_script_example.specs.Directive.{directive, boxed_view, never_bare};
 
 use crate::invoke::{AssertReturn, Invoke};
 use wat_core::whole::in_parens;
@@ -23,16 +23,16 @@ pub enum DirectiveOf<Module, Invoke, AssertReturn> {
     AssertReturn(AssertReturn),
 }
 
-/// A directive of a script.
-pub type Directive<'a> = DirectiveOf<Module<'a>, Invoke<'a>, AssertReturn<'a>>;
+/// A directive of a script. A module is in a box, since it is far larger than the others.
+pub type Directive<'a> = DirectiveOf<Box<Module<'a>>, Invoke<'a>, AssertReturn<'a>>;
 
 /// A module in its parentheses, over the tokens that are visible.
-fn read_group<'a>(parser: &mut Parser<'a>) -> Result<Module<'a>>
-    ensures reads { ReadsAt turns_too (owning module_view bare_module) (paren module_) result
+fn read_group<'a>(parser: &mut Parser<'a>) -> Result<Box<Module<'a>>>
+    ensures reads { ReadsAt turns_too (owning boxed_view never_bare) (paren module_) result
         parser.old parser.new }
 {
     let visible = in_parens::<VisibleModule>(parser)?;
-    Ok(visible.0)
+    Ok(Box::new(parser.alloc(), visible.0)?)
 }
 
 /// The directive whose word is in front, behind a `(`. Another word is refused with Unexpected.
