@@ -1,7 +1,11 @@
 mod Heads
+mod Lent
 mod Prefix
+mod RmwTable
 mod Rows
 mod RowsBelow
+mod ScalarTables
 mod ToldPlaces
+mod VectorTables
 mod WordOrder
 mod WordReads

@@ -174,329 +174,335 @@ impl ScalarOp {
     pub fn mnemonic(self) -> &'static str
         ensures { result.now ≡ scalar_word self }
     {
-        match self {
-            ScalarOp::unreachable => "unreachable",
-            ScalarOp::nop => "nop",
-            ScalarOp::return_ => "return",
-            ScalarOp::drop => "drop",
-            ScalarOp::ref_is_null => "ref.is_null",
-            ScalarOp::ref_as_non_null => "ref.as_non_null",
-            ScalarOp::ref_eq => "ref.eq",
-            ScalarOp::array_len => "array.len",
-            ScalarOp::ref_i31 => "ref.i31",
-            ScalarOp::i31_get_s => "i31.get_s",
-            ScalarOp::i31_get_u => "i31.get_u",
-            ScalarOp::any_convert_extern => "any.convert_extern",
-            ScalarOp::extern_convert_any => "extern.convert_any",
-            ScalarOp::i32_clz => "i32.clz",
-            ScalarOp::i32_ctz => "i32.ctz",
-            ScalarOp::i32_popcnt => "i32.popcnt",
-            ScalarOp::i32_add => "i32.add",
-            ScalarOp::i32_sub => "i32.sub",
-            ScalarOp::i32_mul => "i32.mul",
-            ScalarOp::i32_div_s => "i32.div_s",
-            ScalarOp::i32_div_u => "i32.div_u",
-            ScalarOp::i32_rem_s => "i32.rem_s",
-            ScalarOp::i32_rem_u => "i32.rem_u",
-            ScalarOp::i32_and => "i32.and",
-            ScalarOp::i32_or => "i32.or",
-            ScalarOp::i32_xor => "i32.xor",
-            ScalarOp::i32_shl => "i32.shl",
-            ScalarOp::i32_shr_s => "i32.shr_s",
-            ScalarOp::i32_shr_u => "i32.shr_u",
-            ScalarOp::i32_rotl => "i32.rotl",
-            ScalarOp::i32_rotr => "i32.rotr",
-            ScalarOp::i64_clz => "i64.clz",
-            ScalarOp::i64_ctz => "i64.ctz",
-            ScalarOp::i64_popcnt => "i64.popcnt",
-            ScalarOp::i64_add => "i64.add",
-            ScalarOp::i64_sub => "i64.sub",
-            ScalarOp::i64_mul => "i64.mul",
-            ScalarOp::i64_div_s => "i64.div_s",
-            ScalarOp::i64_div_u => "i64.div_u",
-            ScalarOp::i64_rem_s => "i64.rem_s",
-            ScalarOp::i64_rem_u => "i64.rem_u",
-            ScalarOp::i64_and => "i64.and",
-            ScalarOp::i64_or => "i64.or",
-            ScalarOp::i64_xor => "i64.xor",
-            ScalarOp::i64_shl => "i64.shl",
-            ScalarOp::i64_shr_s => "i64.shr_s",
-            ScalarOp::i64_shr_u => "i64.shr_u",
-            ScalarOp::i64_rotl => "i64.rotl",
-            ScalarOp::i64_rotr => "i64.rotr",
-            ScalarOp::f32_abs => "f32.abs",
-            ScalarOp::f32_neg => "f32.neg",
-            ScalarOp::f32_ceil => "f32.ceil",
-            ScalarOp::f32_floor => "f32.floor",
-            ScalarOp::f32_trunc => "f32.trunc",
-            ScalarOp::f32_nearest => "f32.nearest",
-            ScalarOp::f32_sqrt => "f32.sqrt",
-            ScalarOp::f32_add => "f32.add",
-            ScalarOp::f32_sub => "f32.sub",
-            ScalarOp::f32_mul => "f32.mul",
-            ScalarOp::f32_div => "f32.div",
-            ScalarOp::f32_min => "f32.min",
-            ScalarOp::f32_max => "f32.max",
-            ScalarOp::f32_copysign => "f32.copysign",
-            ScalarOp::f64_abs => "f64.abs",
-            ScalarOp::f64_neg => "f64.neg",
-            ScalarOp::f64_ceil => "f64.ceil",
-            ScalarOp::f64_floor => "f64.floor",
-            ScalarOp::f64_trunc => "f64.trunc",
-            ScalarOp::f64_nearest => "f64.nearest",
-            ScalarOp::f64_sqrt => "f64.sqrt",
-            ScalarOp::f64_add => "f64.add",
-            ScalarOp::f64_sub => "f64.sub",
-            ScalarOp::f64_mul => "f64.mul",
-            ScalarOp::f64_div => "f64.div",
-            ScalarOp::f64_min => "f64.min",
-            ScalarOp::f64_max => "f64.max",
-            ScalarOp::f64_copysign => "f64.copysign",
-            ScalarOp::i32_eqz => "i32.eqz",
-            ScalarOp::i32_eq => "i32.eq",
-            ScalarOp::i32_ne => "i32.ne",
-            ScalarOp::i32_lt_s => "i32.lt_s",
-            ScalarOp::i32_lt_u => "i32.lt_u",
-            ScalarOp::i32_gt_s => "i32.gt_s",
-            ScalarOp::i32_gt_u => "i32.gt_u",
-            ScalarOp::i32_le_s => "i32.le_s",
-            ScalarOp::i32_le_u => "i32.le_u",
-            ScalarOp::i32_ge_s => "i32.ge_s",
-            ScalarOp::i32_ge_u => "i32.ge_u",
-            ScalarOp::i64_eqz => "i64.eqz",
-            ScalarOp::i64_eq => "i64.eq",
-            ScalarOp::i64_ne => "i64.ne",
-            ScalarOp::i64_lt_s => "i64.lt_s",
-            ScalarOp::i64_lt_u => "i64.lt_u",
-            ScalarOp::i64_gt_s => "i64.gt_s",
-            ScalarOp::i64_gt_u => "i64.gt_u",
-            ScalarOp::i64_le_s => "i64.le_s",
-            ScalarOp::i64_le_u => "i64.le_u",
-            ScalarOp::i64_ge_s => "i64.ge_s",
-            ScalarOp::i64_ge_u => "i64.ge_u",
-            ScalarOp::f32_eq => "f32.eq",
-            ScalarOp::f32_ne => "f32.ne",
-            ScalarOp::f32_lt => "f32.lt",
-            ScalarOp::f32_gt => "f32.gt",
-            ScalarOp::f32_le => "f32.le",
-            ScalarOp::f32_ge => "f32.ge",
-            ScalarOp::f64_eq => "f64.eq",
-            ScalarOp::f64_ne => "f64.ne",
-            ScalarOp::f64_lt => "f64.lt",
-            ScalarOp::f64_gt => "f64.gt",
-            ScalarOp::f64_le => "f64.le",
-            ScalarOp::f64_ge => "f64.ge",
-            ScalarOp::i32_wrap_i64 => "i32.wrap_i64",
-            ScalarOp::i32_trunc_f32_s => "i32.trunc_f32_s",
-            ScalarOp::i32_trunc_f32_u => "i32.trunc_f32_u",
-            ScalarOp::i32_trunc_f64_s => "i32.trunc_f64_s",
-            ScalarOp::i32_trunc_f64_u => "i32.trunc_f64_u",
-            ScalarOp::i64_extend_i32_s => "i64.extend_i32_s",
-            ScalarOp::i64_extend_i32_u => "i64.extend_i32_u",
-            ScalarOp::i64_trunc_f32_s => "i64.trunc_f32_s",
-            ScalarOp::i64_trunc_f32_u => "i64.trunc_f32_u",
-            ScalarOp::i64_trunc_f64_s => "i64.trunc_f64_s",
-            ScalarOp::i64_trunc_f64_u => "i64.trunc_f64_u",
-            ScalarOp::f32_convert_i32_s => "f32.convert_i32_s",
-            ScalarOp::f32_convert_i32_u => "f32.convert_i32_u",
-            ScalarOp::f32_convert_i64_s => "f32.convert_i64_s",
-            ScalarOp::f32_convert_i64_u => "f32.convert_i64_u",
-            ScalarOp::f32_demote_f64 => "f32.demote_f64",
-            ScalarOp::f64_convert_i32_s => "f64.convert_i32_s",
-            ScalarOp::f64_convert_i32_u => "f64.convert_i32_u",
-            ScalarOp::f64_convert_i64_s => "f64.convert_i64_s",
-            ScalarOp::f64_convert_i64_u => "f64.convert_i64_u",
-            ScalarOp::f64_promote_f32 => "f64.promote_f32",
-            ScalarOp::i32_reinterpret_f32 => "i32.reinterpret_f32",
-            ScalarOp::i64_reinterpret_f64 => "i64.reinterpret_f64",
-            ScalarOp::f32_reinterpret_i32 => "f32.reinterpret_i32",
-            ScalarOp::f64_reinterpret_i64 => "f64.reinterpret_i64",
-            ScalarOp::i32_trunc_sat_f32_s => "i32.trunc_sat_f32_s",
-            ScalarOp::i32_trunc_sat_f32_u => "i32.trunc_sat_f32_u",
-            ScalarOp::i32_trunc_sat_f64_s => "i32.trunc_sat_f64_s",
-            ScalarOp::i32_trunc_sat_f64_u => "i32.trunc_sat_f64_u",
-            ScalarOp::i64_trunc_sat_f32_s => "i64.trunc_sat_f32_s",
-            ScalarOp::i64_trunc_sat_f32_u => "i64.trunc_sat_f32_u",
-            ScalarOp::i64_trunc_sat_f64_s => "i64.trunc_sat_f64_s",
-            ScalarOp::i64_trunc_sat_f64_u => "i64.trunc_sat_f64_u",
-            ScalarOp::i32_extend8_s => "i32.extend8_s",
-            ScalarOp::i32_extend16_s => "i32.extend16_s",
-            ScalarOp::i64_extend8_s => "i64.extend8_s",
-            ScalarOp::i64_extend16_s => "i64.extend16_s",
-            ScalarOp::i64_extend32_s => "i64.extend32_s",
-            ScalarOp::pause => "pause",
-            ScalarOp::ref_i31_shared => "ref.i31_shared",
-            ScalarOp::throw_ref => "throw_ref",
-            ScalarOp::catch_all => "catch_all",
-            ScalarOp::i64_add128 => "i64.add128",
-            ScalarOp::i64_sub128 => "i64.sub128",
-            ScalarOp::i64_mul_wide_s => "i64.mul_wide_s",
-            ScalarOp::i64_mul_wide_u => "i64.mul_wide_u",
-        }
+        WORDS[self as usize]
     }
 
     /// What stands for it in a binary module (Core Specification 2.0, "Index of Instructions").
     pub fn opcode(self) -> Opcode
         ensures { result ≡ scalar_opcode self }
     {
-        match self {
-            ScalarOp::unreachable => Opcode::Single(0x00),
-            ScalarOp::nop => Opcode::Single(0x01),
-            ScalarOp::return_ => Opcode::Single(0x0f),
-            ScalarOp::drop => Opcode::Single(0x1a),
-            ScalarOp::ref_is_null => Opcode::Single(0xd1),
-            ScalarOp::ref_as_non_null => Opcode::Absent,
-            ScalarOp::ref_eq => Opcode::Absent,
-            ScalarOp::array_len => Opcode::Absent,
-            ScalarOp::ref_i31 => Opcode::Absent,
-            ScalarOp::i31_get_s => Opcode::Absent,
-            ScalarOp::i31_get_u => Opcode::Absent,
-            ScalarOp::any_convert_extern => Opcode::Absent,
-            ScalarOp::extern_convert_any => Opcode::Absent,
-            ScalarOp::i32_clz => Opcode::Single(0x67),
-            ScalarOp::i32_ctz => Opcode::Single(0x68),
-            ScalarOp::i32_popcnt => Opcode::Single(0x69),
-            ScalarOp::i32_add => Opcode::Single(0x6a),
-            ScalarOp::i32_sub => Opcode::Single(0x6b),
-            ScalarOp::i32_mul => Opcode::Single(0x6c),
-            ScalarOp::i32_div_s => Opcode::Single(0x6d),
-            ScalarOp::i32_div_u => Opcode::Single(0x6e),
-            ScalarOp::i32_rem_s => Opcode::Single(0x6f),
-            ScalarOp::i32_rem_u => Opcode::Single(0x70),
-            ScalarOp::i32_and => Opcode::Single(0x71),
-            ScalarOp::i32_or => Opcode::Single(0x72),
-            ScalarOp::i32_xor => Opcode::Single(0x73),
-            ScalarOp::i32_shl => Opcode::Single(0x74),
-            ScalarOp::i32_shr_s => Opcode::Single(0x75),
-            ScalarOp::i32_shr_u => Opcode::Single(0x76),
-            ScalarOp::i32_rotl => Opcode::Single(0x77),
-            ScalarOp::i32_rotr => Opcode::Single(0x78),
-            ScalarOp::i64_clz => Opcode::Single(0x79),
-            ScalarOp::i64_ctz => Opcode::Single(0x7a),
-            ScalarOp::i64_popcnt => Opcode::Single(0x7b),
-            ScalarOp::i64_add => Opcode::Single(0x7c),
-            ScalarOp::i64_sub => Opcode::Single(0x7d),
-            ScalarOp::i64_mul => Opcode::Single(0x7e),
-            ScalarOp::i64_div_s => Opcode::Single(0x7f),
-            ScalarOp::i64_div_u => Opcode::Single(0x80),
-            ScalarOp::i64_rem_s => Opcode::Single(0x81),
-            ScalarOp::i64_rem_u => Opcode::Single(0x82),
-            ScalarOp::i64_and => Opcode::Single(0x83),
-            ScalarOp::i64_or => Opcode::Single(0x84),
-            ScalarOp::i64_xor => Opcode::Single(0x85),
-            ScalarOp::i64_shl => Opcode::Single(0x86),
-            ScalarOp::i64_shr_s => Opcode::Single(0x87),
-            ScalarOp::i64_shr_u => Opcode::Single(0x88),
-            ScalarOp::i64_rotl => Opcode::Single(0x89),
-            ScalarOp::i64_rotr => Opcode::Single(0x8a),
-            ScalarOp::f32_abs => Opcode::Single(0x8b),
-            ScalarOp::f32_neg => Opcode::Single(0x8c),
-            ScalarOp::f32_ceil => Opcode::Single(0x8d),
-            ScalarOp::f32_floor => Opcode::Single(0x8e),
-            ScalarOp::f32_trunc => Opcode::Single(0x8f),
-            ScalarOp::f32_nearest => Opcode::Single(0x90),
-            ScalarOp::f32_sqrt => Opcode::Single(0x91),
-            ScalarOp::f32_add => Opcode::Single(0x92),
-            ScalarOp::f32_sub => Opcode::Single(0x93),
-            ScalarOp::f32_mul => Opcode::Single(0x94),
-            ScalarOp::f32_div => Opcode::Single(0x95),
-            ScalarOp::f32_min => Opcode::Single(0x96),
-            ScalarOp::f32_max => Opcode::Single(0x97),
-            ScalarOp::f32_copysign => Opcode::Single(0x98),
-            ScalarOp::f64_abs => Opcode::Single(0x99),
-            ScalarOp::f64_neg => Opcode::Single(0x9a),
-            ScalarOp::f64_ceil => Opcode::Single(0x9b),
-            ScalarOp::f64_floor => Opcode::Single(0x9c),
-            ScalarOp::f64_trunc => Opcode::Single(0x9d),
-            ScalarOp::f64_nearest => Opcode::Single(0x9e),
-            ScalarOp::f64_sqrt => Opcode::Single(0x9f),
-            ScalarOp::f64_add => Opcode::Single(0xa0),
-            ScalarOp::f64_sub => Opcode::Single(0xa1),
-            ScalarOp::f64_mul => Opcode::Single(0xa2),
-            ScalarOp::f64_div => Opcode::Single(0xa3),
-            ScalarOp::f64_min => Opcode::Single(0xa4),
-            ScalarOp::f64_max => Opcode::Single(0xa5),
-            ScalarOp::f64_copysign => Opcode::Single(0xa6),
-            ScalarOp::i32_eqz => Opcode::Single(0x45),
-            ScalarOp::i32_eq => Opcode::Single(0x46),
-            ScalarOp::i32_ne => Opcode::Single(0x47),
-            ScalarOp::i32_lt_s => Opcode::Single(0x48),
-            ScalarOp::i32_lt_u => Opcode::Single(0x49),
-            ScalarOp::i32_gt_s => Opcode::Single(0x4a),
-            ScalarOp::i32_gt_u => Opcode::Single(0x4b),
-            ScalarOp::i32_le_s => Opcode::Single(0x4c),
-            ScalarOp::i32_le_u => Opcode::Single(0x4d),
-            ScalarOp::i32_ge_s => Opcode::Single(0x4e),
-            ScalarOp::i32_ge_u => Opcode::Single(0x4f),
-            ScalarOp::i64_eqz => Opcode::Single(0x50),
-            ScalarOp::i64_eq => Opcode::Single(0x51),
-            ScalarOp::i64_ne => Opcode::Single(0x52),
-            ScalarOp::i64_lt_s => Opcode::Single(0x53),
-            ScalarOp::i64_lt_u => Opcode::Single(0x54),
-            ScalarOp::i64_gt_s => Opcode::Single(0x55),
-            ScalarOp::i64_gt_u => Opcode::Single(0x56),
-            ScalarOp::i64_le_s => Opcode::Single(0x57),
-            ScalarOp::i64_le_u => Opcode::Single(0x58),
-            ScalarOp::i64_ge_s => Opcode::Single(0x59),
-            ScalarOp::i64_ge_u => Opcode::Single(0x5a),
-            ScalarOp::f32_eq => Opcode::Single(0x5b),
-            ScalarOp::f32_ne => Opcode::Single(0x5c),
-            ScalarOp::f32_lt => Opcode::Single(0x5d),
-            ScalarOp::f32_gt => Opcode::Single(0x5e),
-            ScalarOp::f32_le => Opcode::Single(0x5f),
-            ScalarOp::f32_ge => Opcode::Single(0x60),
-            ScalarOp::f64_eq => Opcode::Single(0x61),
-            ScalarOp::f64_ne => Opcode::Single(0x62),
-            ScalarOp::f64_lt => Opcode::Single(0x63),
-            ScalarOp::f64_gt => Opcode::Single(0x64),
-            ScalarOp::f64_le => Opcode::Single(0x65),
-            ScalarOp::f64_ge => Opcode::Single(0x66),
-            ScalarOp::i32_wrap_i64 => Opcode::Single(0xa7),
-            ScalarOp::i32_trunc_f32_s => Opcode::Single(0xa8),
-            ScalarOp::i32_trunc_f32_u => Opcode::Single(0xa9),
-            ScalarOp::i32_trunc_f64_s => Opcode::Single(0xaa),
-            ScalarOp::i32_trunc_f64_u => Opcode::Single(0xab),
-            ScalarOp::i64_extend_i32_s => Opcode::Single(0xac),
-            ScalarOp::i64_extend_i32_u => Opcode::Single(0xad),
-            ScalarOp::i64_trunc_f32_s => Opcode::Single(0xae),
-            ScalarOp::i64_trunc_f32_u => Opcode::Single(0xaf),
-            ScalarOp::i64_trunc_f64_s => Opcode::Single(0xb0),
-            ScalarOp::i64_trunc_f64_u => Opcode::Single(0xb1),
-            ScalarOp::f32_convert_i32_s => Opcode::Single(0xb2),
-            ScalarOp::f32_convert_i32_u => Opcode::Single(0xb3),
-            ScalarOp::f32_convert_i64_s => Opcode::Single(0xb4),
-            ScalarOp::f32_convert_i64_u => Opcode::Single(0xb5),
-            ScalarOp::f32_demote_f64 => Opcode::Single(0xb6),
-            ScalarOp::f64_convert_i32_s => Opcode::Single(0xb7),
-            ScalarOp::f64_convert_i32_u => Opcode::Single(0xb8),
-            ScalarOp::f64_convert_i64_s => Opcode::Single(0xb9),
-            ScalarOp::f64_convert_i64_u => Opcode::Single(0xba),
-            ScalarOp::f64_promote_f32 => Opcode::Single(0xbb),
-            ScalarOp::i32_reinterpret_f32 => Opcode::Single(0xbc),
-            ScalarOp::i64_reinterpret_f64 => Opcode::Single(0xbd),
-            ScalarOp::f32_reinterpret_i32 => Opcode::Single(0xbe),
-            ScalarOp::f64_reinterpret_i64 => Opcode::Single(0xbf),
-            ScalarOp::i32_trunc_sat_f32_s => Opcode::Saturating(0),
-            ScalarOp::i32_trunc_sat_f32_u => Opcode::Saturating(1),
-            ScalarOp::i32_trunc_sat_f64_s => Opcode::Saturating(2),
-            ScalarOp::i32_trunc_sat_f64_u => Opcode::Saturating(3),
-            ScalarOp::i64_trunc_sat_f32_s => Opcode::Saturating(4),
-            ScalarOp::i64_trunc_sat_f32_u => Opcode::Saturating(5),
-            ScalarOp::i64_trunc_sat_f64_s => Opcode::Saturating(6),
-            ScalarOp::i64_trunc_sat_f64_u => Opcode::Saturating(7),
-            ScalarOp::i32_extend8_s => Opcode::Single(0xc0),
-            ScalarOp::i32_extend16_s => Opcode::Single(0xc1),
-            ScalarOp::i64_extend8_s => Opcode::Single(0xc2),
-            ScalarOp::i64_extend16_s => Opcode::Single(0xc3),
-            ScalarOp::i64_extend32_s => Opcode::Single(0xc4),
-            ScalarOp::pause => Opcode::Absent,
-            ScalarOp::ref_i31_shared => Opcode::Absent,
-            ScalarOp::throw_ref => Opcode::Absent,
-            ScalarOp::catch_all => Opcode::Absent,
-            ScalarOp::i64_add128 => Opcode::Absent,
-            ScalarOp::i64_sub128 => Opcode::Absent,
-            ScalarOp::i64_mul_wide_s => Opcode::Absent,
-            ScalarOp::i64_mul_wide_u => Opcode::Absent,
-        }
+        OPCODES[self as usize]
     }
 }
+
+/// The word of each, in the order of the variants.
+static WORDS: [&str; 157] = [
+    "unreachable",
+    "nop",
+    "return",
+    "drop",
+    "ref.is_null",
+    "ref.as_non_null",
+    "ref.eq",
+    "array.len",
+    "ref.i31",
+    "i31.get_s",
+    "i31.get_u",
+    "any.convert_extern",
+    "extern.convert_any",
+    "i32.clz",
+    "i32.ctz",
+    "i32.popcnt",
+    "i32.add",
+    "i32.sub",
+    "i32.mul",
+    "i32.div_s",
+    "i32.div_u",
+    "i32.rem_s",
+    "i32.rem_u",
+    "i32.and",
+    "i32.or",
+    "i32.xor",
+    "i32.shl",
+    "i32.shr_s",
+    "i32.shr_u",
+    "i32.rotl",
+    "i32.rotr",
+    "i64.clz",
+    "i64.ctz",
+    "i64.popcnt",
+    "i64.add",
+    "i64.sub",
+    "i64.mul",
+    "i64.div_s",
+    "i64.div_u",
+    "i64.rem_s",
+    "i64.rem_u",
+    "i64.and",
+    "i64.or",
+    "i64.xor",
+    "i64.shl",
+    "i64.shr_s",
+    "i64.shr_u",
+    "i64.rotl",
+    "i64.rotr",
+    "f32.abs",
+    "f32.neg",
+    "f32.ceil",
+    "f32.floor",
+    "f32.trunc",
+    "f32.nearest",
+    "f32.sqrt",
+    "f32.add",
+    "f32.sub",
+    "f32.mul",
+    "f32.div",
+    "f32.min",
+    "f32.max",
+    "f32.copysign",
+    "f64.abs",
+    "f64.neg",
+    "f64.ceil",
+    "f64.floor",
+    "f64.trunc",
+    "f64.nearest",
+    "f64.sqrt",
+    "f64.add",
+    "f64.sub",
+    "f64.mul",
+    "f64.div",
+    "f64.min",
+    "f64.max",
+    "f64.copysign",
+    "i32.eqz",
+    "i32.eq",
+    "i32.ne",
+    "i32.lt_s",
+    "i32.lt_u",
+    "i32.gt_s",
+    "i32.gt_u",
+    "i32.le_s",
+    "i32.le_u",
+    "i32.ge_s",
+    "i32.ge_u",
+    "i64.eqz",
+    "i64.eq",
+    "i64.ne",
+    "i64.lt_s",
+    "i64.lt_u",
+    "i64.gt_s",
+    "i64.gt_u",
+    "i64.le_s",
+    "i64.le_u",
+    "i64.ge_s",
+    "i64.ge_u",
+    "f32.eq",
+    "f32.ne",
+    "f32.lt",
+    "f32.gt",
+    "f32.le",
+    "f32.ge",
+    "f64.eq",
+    "f64.ne",
+    "f64.lt",
+    "f64.gt",
+    "f64.le",
+    "f64.ge",
+    "i32.wrap_i64",
+    "i32.trunc_f32_s",
+    "i32.trunc_f32_u",
+    "i32.trunc_f64_s",
+    "i32.trunc_f64_u",
+    "i64.extend_i32_s",
+    "i64.extend_i32_u",
+    "i64.trunc_f32_s",
+    "i64.trunc_f32_u",
+    "i64.trunc_f64_s",
+    "i64.trunc_f64_u",
+    "f32.convert_i32_s",
+    "f32.convert_i32_u",
+    "f32.convert_i64_s",
+    "f32.convert_i64_u",
+    "f32.demote_f64",
+    "f64.convert_i32_s",
+    "f64.convert_i32_u",
+    "f64.convert_i64_s",
+    "f64.convert_i64_u",
+    "f64.promote_f32",
+    "i32.reinterpret_f32",
+    "i64.reinterpret_f64",
+    "f32.reinterpret_i32",
+    "f64.reinterpret_i64",
+    "i32.trunc_sat_f32_s",
+    "i32.trunc_sat_f32_u",
+    "i32.trunc_sat_f64_s",
+    "i32.trunc_sat_f64_u",
+    "i64.trunc_sat_f32_s",
+    "i64.trunc_sat_f32_u",
+    "i64.trunc_sat_f64_s",
+    "i64.trunc_sat_f64_u",
+    "i32.extend8_s",
+    "i32.extend16_s",
+    "i64.extend8_s",
+    "i64.extend16_s",
+    "i64.extend32_s",
+    "pause",
+    "ref.i31_shared",
+    "throw_ref",
+    "catch_all",
+    "i64.add128",
+    "i64.sub128",
+    "i64.mul_wide_s",
+    "i64.mul_wide_u",
+];
+
+/// The opcode of each, in the order of the variants.
+static OPCODES: [Opcode; 157] = [
+    Opcode::Single(0x00), // unreachable
+    Opcode::Single(0x01), // nop
+    Opcode::Single(0x0f), // return
+    Opcode::Single(0x1a), // drop
+    Opcode::Single(0xd1), // ref.is_null
+    Opcode::Absent, // ref.as_non_null
+    Opcode::Absent, // ref.eq
+    Opcode::Absent, // array.len
+    Opcode::Absent, // ref.i31
+    Opcode::Absent, // i31.get_s
+    Opcode::Absent, // i31.get_u
+    Opcode::Absent, // any.convert_extern
+    Opcode::Absent, // extern.convert_any
+    Opcode::Single(0x67), // i32.clz
+    Opcode::Single(0x68), // i32.ctz
+    Opcode::Single(0x69), // i32.popcnt
+    Opcode::Single(0x6a), // i32.add
+    Opcode::Single(0x6b), // i32.sub
+    Opcode::Single(0x6c), // i32.mul
+    Opcode::Single(0x6d), // i32.div_s
+    Opcode::Single(0x6e), // i32.div_u
+    Opcode::Single(0x6f), // i32.rem_s
+    Opcode::Single(0x70), // i32.rem_u
+    Opcode::Single(0x71), // i32.and
+    Opcode::Single(0x72), // i32.or
+    Opcode::Single(0x73), // i32.xor
+    Opcode::Single(0x74), // i32.shl
+    Opcode::Single(0x75), // i32.shr_s
+    Opcode::Single(0x76), // i32.shr_u
+    Opcode::Single(0x77), // i32.rotl
+    Opcode::Single(0x78), // i32.rotr
+    Opcode::Single(0x79), // i64.clz
+    Opcode::Single(0x7a), // i64.ctz
+    Opcode::Single(0x7b), // i64.popcnt
+    Opcode::Single(0x7c), // i64.add
+    Opcode::Single(0x7d), // i64.sub
+    Opcode::Single(0x7e), // i64.mul
+    Opcode::Single(0x7f), // i64.div_s
+    Opcode::Single(0x80), // i64.div_u
+    Opcode::Single(0x81), // i64.rem_s
+    Opcode::Single(0x82), // i64.rem_u
+    Opcode::Single(0x83), // i64.and
+    Opcode::Single(0x84), // i64.or
+    Opcode::Single(0x85), // i64.xor
+    Opcode::Single(0x86), // i64.shl
+    Opcode::Single(0x87), // i64.shr_s
+    Opcode::Single(0x88), // i64.shr_u
+    Opcode::Single(0x89), // i64.rotl
+    Opcode::Single(0x8a), // i64.rotr
+    Opcode::Single(0x8b), // f32.abs
+    Opcode::Single(0x8c), // f32.neg
+    Opcode::Single(0x8d), // f32.ceil
+    Opcode::Single(0x8e), // f32.floor
+    Opcode::Single(0x8f), // f32.trunc
+    Opcode::Single(0x90), // f32.nearest
+    Opcode::Single(0x91), // f32.sqrt
+    Opcode::Single(0x92), // f32.add
+    Opcode::Single(0x93), // f32.sub
+    Opcode::Single(0x94), // f32.mul
+    Opcode::Single(0x95), // f32.div
+    Opcode::Single(0x96), // f32.min
+    Opcode::Single(0x97), // f32.max
+    Opcode::Single(0x98), // f32.copysign
+    Opcode::Single(0x99), // f64.abs
+    Opcode::Single(0x9a), // f64.neg
+    Opcode::Single(0x9b), // f64.ceil
+    Opcode::Single(0x9c), // f64.floor
+    Opcode::Single(0x9d), // f64.trunc
+    Opcode::Single(0x9e), // f64.nearest
+    Opcode::Single(0x9f), // f64.sqrt
+    Opcode::Single(0xa0), // f64.add
+    Opcode::Single(0xa1), // f64.sub
+    Opcode::Single(0xa2), // f64.mul
+    Opcode::Single(0xa3), // f64.div
+    Opcode::Single(0xa4), // f64.min
+    Opcode::Single(0xa5), // f64.max
+    Opcode::Single(0xa6), // f64.copysign
+    Opcode::Single(0x45), // i32.eqz
+    Opcode::Single(0x46), // i32.eq
+    Opcode::Single(0x47), // i32.ne
+    Opcode::Single(0x48), // i32.lt_s
+    Opcode::Single(0x49), // i32.lt_u
+    Opcode::Single(0x4a), // i32.gt_s
+    Opcode::Single(0x4b), // i32.gt_u
+    Opcode::Single(0x4c), // i32.le_s
+    Opcode::Single(0x4d), // i32.le_u
+    Opcode::Single(0x4e), // i32.ge_s
+    Opcode::Single(0x4f), // i32.ge_u
+    Opcode::Single(0x50), // i64.eqz
+    Opcode::Single(0x51), // i64.eq
+    Opcode::Single(0x52), // i64.ne
+    Opcode::Single(0x53), // i64.lt_s
+    Opcode::Single(0x54), // i64.lt_u
+    Opcode::Single(0x55), // i64.gt_s
+    Opcode::Single(0x56), // i64.gt_u
+    Opcode::Single(0x57), // i64.le_s
+    Opcode::Single(0x58), // i64.le_u
+    Opcode::Single(0x59), // i64.ge_s
+    Opcode::Single(0x5a), // i64.ge_u
+    Opcode::Single(0x5b), // f32.eq
+    Opcode::Single(0x5c), // f32.ne
+    Opcode::Single(0x5d), // f32.lt
+    Opcode::Single(0x5e), // f32.gt
+    Opcode::Single(0x5f), // f32.le
+    Opcode::Single(0x60), // f32.ge
+    Opcode::Single(0x61), // f64.eq
+    Opcode::Single(0x62), // f64.ne
+    Opcode::Single(0x63), // f64.lt
+    Opcode::Single(0x64), // f64.gt
+    Opcode::Single(0x65), // f64.le
+    Opcode::Single(0x66), // f64.ge
+    Opcode::Single(0xa7), // i32.wrap_i64
+    Opcode::Single(0xa8), // i32.trunc_f32_s
+    Opcode::Single(0xa9), // i32.trunc_f32_u
+    Opcode::Single(0xaa), // i32.trunc_f64_s
+    Opcode::Single(0xab), // i32.trunc_f64_u
+    Opcode::Single(0xac), // i64.extend_i32_s
+    Opcode::Single(0xad), // i64.extend_i32_u
+    Opcode::Single(0xae), // i64.trunc_f32_s
+    Opcode::Single(0xaf), // i64.trunc_f32_u
+    Opcode::Single(0xb0), // i64.trunc_f64_s
+    Opcode::Single(0xb1), // i64.trunc_f64_u
+    Opcode::Single(0xb2), // f32.convert_i32_s
+    Opcode::Single(0xb3), // f32.convert_i32_u
+    Opcode::Single(0xb4), // f32.convert_i64_s
+    Opcode::Single(0xb5), // f32.convert_i64_u
+    Opcode::Single(0xb6), // f32.demote_f64
+    Opcode::Single(0xb7), // f64.convert_i32_s
+    Opcode::Single(0xb8), // f64.convert_i32_u
+    Opcode::Single(0xb9), // f64.convert_i64_s
+    Opcode::Single(0xba), // f64.convert_i64_u
+    Opcode::Single(0xbb), // f64.promote_f32
+    Opcode::Single(0xbc), // i32.reinterpret_f32
+    Opcode::Single(0xbd), // i64.reinterpret_f64
+    Opcode::Single(0xbe), // f32.reinterpret_i32
+    Opcode::Single(0xbf), // f64.reinterpret_i64
+    Opcode::Saturating(0), // i32.trunc_sat_f32_s
+    Opcode::Saturating(1), // i32.trunc_sat_f32_u
+    Opcode::Saturating(2), // i32.trunc_sat_f64_s
+    Opcode::Saturating(3), // i32.trunc_sat_f64_u
+    Opcode::Saturating(4), // i64.trunc_sat_f32_s
+    Opcode::Saturating(5), // i64.trunc_sat_f32_u
+    Opcode::Saturating(6), // i64.trunc_sat_f64_s
+    Opcode::Saturating(7), // i64.trunc_sat_f64_u
+    Opcode::Single(0xc0), // i32.extend8_s
+    Opcode::Single(0xc1), // i32.extend16_s
+    Opcode::Single(0xc2), // i64.extend8_s
+    Opcode::Single(0xc3), // i64.extend16_s
+    Opcode::Single(0xc4), // i64.extend32_s
+    Opcode::Absent, // pause
+    Opcode::Absent, // ref.i31_shared
+    Opcode::Absent, // throw_ref
+    Opcode::Absent, // catch_all
+    Opcode::Absent, // i64.add128
+    Opcode::Absent, // i64.sub128
+    Opcode::Absent, // i64.mul_wide_s
+    Opcode::Absent, // i64.mul_wide_u
+];
