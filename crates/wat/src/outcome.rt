@@ -96,7 +96,11 @@ fn said_of_text(
 {
     let arena = Bump::new(alloc);
     match module_of(alloc, text, &arena) {
-        Ok(module) => Ok((said_of_module(alloc, task, &module)?, 0)),
+        Ok(module) => {
+            let said = said_of_module(alloc, task, &module);
+            module.discard();
+            Ok((said?, 0))
+        }
         Err(error) => refused(alloc, task, name, text, error),
     }
 }

@@ -33,7 +33,9 @@ pub fn exported(alloc: Global, text: &str) -> Result<String, Error>
     let arena = Bump::new(alloc);
     let module = read_module(alloc, text, &arena)?;
     let mut out = String::new(alloc);
-    listing::add_module(&mut out, &module)?;
+    let added = listing::add_module(&mut out, &module);
+    module.discard();
+    added?;
     Ok(out)
 }
 

@@ -22,6 +22,7 @@ ghost use Rattle.wat_tokens.specs.Views.{owning};
 use crate::reader::Reader;
 use crate::take::read_behind;
 use std::alloc::Global;
+use std::mem;
 use wat_instr::{Instruction, LabelOp, Mnemonic};
 use wat_tokens::ownership::push_into;
 use wat_tokens::{Error, Fault, Parse, Parser, Result, Span};
@@ -208,6 +209,14 @@ impl<'a> Expression<'a> {
             (λ e. e.fault ≡ Fault.Memory) }
     {
         self.push(Instruction::Label(LabelOp::end, None), span)
+    }
+
+    /// Doesn't give back the memory that the expression holds, as a program may that ends soon.
+    ///
+    /// It is proved here once. A crate that passes an expression to `std::mem::forget` itself proves
+    /// the drop of each of its parts once more.
+    pub fn forget(self) {
+        mem::forget(self);
     }
 }
 

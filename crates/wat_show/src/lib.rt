@@ -7,6 +7,7 @@ pub mod entries;
 pub mod error;
 pub mod expressions;
 pub mod fields;
+pub mod forget;
 pub mod input;
 pub mod instructions;
 pub mod listing;

@@ -15,20 +15,20 @@ ghost use Rattle.wat_types.specs.Function.{function_view, function_type};
 ghost use Rattle.wat_types.specs.Group.{FuncTy};
 
 use crate::expressions::add_expression;
+use crate::forget::Forget;
 use crate::listing::add_function;
 use crate::modules::add_module;
 use crate::shown::refused;
 use crate::whole::{read_module, read_whole};
 use bumpalo::Bump;
 use std::alloc::{AllocError, Global};
-use std::mem::forget;
 use wat_core::Module;
 use wat_expr::{Expression, FoldedInstruction};
 use wat_tokens::Error;
 use wat_types::FunctionType;
 
 /// A type whose values are read from a text and listed.
-pub trait Listed<'a>: Sized {
+pub trait Listed<'a>: Forget {
     /// What contracts see of a value.
     ghost View: { Type 0 };
 
@@ -123,7 +123,7 @@ impl<'a> Listed<'a> for Module<'a> {
 }
 
 /// What is shown of a text that is to be a value of the type.
-pub fn show_value<'a, T: Listed<'a> + Drop>(
+pub fn show_value<'a, T: Listed<'a>>(
     alloc: Global,
     text: &'a str,
     arena: &'a Bump,
@@ -133,9 +133,10 @@ pub fn show_value<'a, T: Listed<'a> + Drop>(
     match T::read(alloc, text, arena) {
         Ok(value) => {
             let mut out = Vec::new(alloc);
-            value.list(&mut out)?;
+            let listed = value.list(&mut out);
             // The program ends behind its listing, and gives all back at once then.
-            forget(value);
+            value.forget();
+            listed?;
             Ok((out, 0))
         }
         Err(error) => refused(alloc, error),

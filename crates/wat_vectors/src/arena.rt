@@ -17,7 +17,7 @@ fn fields_of(alloc: Allocator, text: &str) -> Result<usize, Fail> {
         ModuleKind::Text(fields) => fields.len(),
         ModuleKind::Binary(_) => 0,
     };
-    ownership::discard(module);
+    module.discard();
     arena.reset()?;
     Ok(fields)
 }

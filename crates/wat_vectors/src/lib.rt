@@ -15,4 +15,6 @@ mod invoke;
 #[cfg(test)]
 mod modules;
 #[cfg(test)]
+mod refused;
+#[cfg(test)]
 mod shown;
