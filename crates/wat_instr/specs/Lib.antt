@@ -4,6 +4,7 @@ pub mod Instruction
 pub mod Laws
 pub mod MemoryAccess
 pub mod Operand
+pub mod OperandOf
 pub mod Reading
 pub mod Rows
 pub mod Same

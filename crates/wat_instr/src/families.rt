@@ -1,13 +1,20 @@
 //! The operands of instructions that share their kind of operand.
 #![tactic(auto, unfolding(crate::specs::Reading::ReadsOperand, crate::specs::Operand::operand))]
 
-ghost use Rattle.std.specs.Prelude.{◌≡◌, IfOk, IfErr};
+ghost use Rattle.std.specs.Prelude.{◌≡◌, IfOk, IfErr, refl};
 ghost use Rattle.wat_instr.specs.Instruction.{says_something, block_in};
+ghost use Rattle.wat_instr.specs.Operand.{operand};
+ghost use Rattle.wat_instr.specs.Operand as operands;
 ghost use Rattle.wat_instr.specs.Reading.{ReadsOperand};
 ghost use Rattle.wat_mnemonics.specs.declared.mnemonic.Mnemonic.TheVariants as head;
+ghost use Rattle.wat_operands.specs.Aggregates.{array_init_view, struct_access_view};
 ghost use Rattle.wat_operands.specs.Block.{block_view};
+ghost use Rattle.wat_operands.specs.Ordering.{ordered_view};
+ghost use Rattle.wat_operands.specs.Tables.{memory_arg_view, table_arg_view};
+ghost use Rattle.wat_tokens.specs.Index.{index_view};
 
 use crate::instruction::Instruction;
+use crate::operand::OperandOf;
 use crate::place::Place;
 use std::alloc::Global;
 use wat_mnemonics::{
@@ -85,21 +92,22 @@ pub(crate) fn read_label<'a, P: Place<'a>>(
 }
 
 /// An instruction with an index.
-#[inline(always)]
-pub(crate) fn read_indexed<'a, P: Place<'a>>(
-    op: IndexedOp,
-    parser: &mut Parser<'a>,
-    out: &mut P,
-) -> Result<()>
-    requires { P.has_room out.old }
-    ensures { ReadsOperand (head.Indexed op) (P.seen out.old) (P.seen out.new) result parser.old parser.new }
-{
-    match Index::parse(parser) {
-        Ok(operand) => {
-            out.put(Instruction::Indexed(op, operand));
-            Ok(())
-        }
-        Err(refused) => Err(refused),
+impl<'a> OperandOf<'a, IndexedOp> for Index<'a> {
+    ghost word = { λ op. head.Indexed op };
+
+    ghost seen = { λ x. operands.one_index (index_view x) };
+
+    ghost is_operand = { λ op. record {
+      make = operands.one_index;
+      reads = λ t. unfold operand in refl;
+      sees = λ x. refl;
+      bare = λ v. refl;
+      cost = refl;
+    } };
+
+    #[inline(always)]
+    fn instruction(self, op: IndexedOp) -> Instruction<'a> {
+        Instruction::Indexed(op, self)
     }
 }
 
@@ -122,20 +130,22 @@ pub(crate) fn read_call_indirect<'a, P: Place<'a>>(
 }
 
 /// An instruction with a table.
-pub(crate) fn read_table<'a, P: Place<'a>>(
-    op: TableOp,
-    parser: &mut Parser<'a>,
-    out: &mut P,
-) -> Result<()>
-    requires { P.has_room out.old }
-    ensures { ReadsOperand (head.Table op) (P.seen out.old) (P.seen out.new) result parser.old parser.new }
-{
-    match TableArg::parse(parser) {
-        Ok(operand) => {
-            out.put(Instruction::Table(op, operand));
-            Ok(())
-        }
-        Err(refused) => Err(refused),
+impl<'a> OperandOf<'a, TableOp> for TableArg<'a> {
+    ghost word = { λ op. head.Table op };
+
+    ghost seen = { λ x. operands.one_index (table_arg_view x) };
+
+    ghost is_operand = { λ op. record {
+      make = operands.one_index;
+      reads = λ t. unfold operand in refl;
+      sees = λ x. refl;
+      bare = λ v. refl;
+      cost = refl;
+    } };
+
+    #[inline(always)]
+    fn instruction(self, op: TableOp) -> Instruction<'a> {
+        Instruction::Table(op, self)
     }
 }
 
@@ -159,56 +169,62 @@ pub(crate) fn read_access<'a, P: Place<'a>>(
 }
 
 /// An instruction with a memory.
-pub(crate) fn read_memory<'a, P: Place<'a>>(
-    op: MemoryOp,
-    parser: &mut Parser<'a>,
-    out: &mut P,
-) -> Result<()>
-    requires { P.has_room out.old }
-    ensures { ReadsOperand (head.Memory op) (P.seen out.old) (P.seen out.new) result parser.old parser.new }
-{
-    match MemoryArg::parse(parser) {
-        Ok(operand) => {
-            out.put(Instruction::Memory(op, operand));
-            Ok(())
-        }
-        Err(refused) => Err(refused),
+impl<'a> OperandOf<'a, MemoryOp> for MemoryArg<'a> {
+    ghost word = { λ op. head.Memory op };
+
+    ghost seen = { λ x. operands.one_index (memory_arg_view x) };
+
+    ghost is_operand = { λ op. record {
+      make = operands.one_index;
+      reads = λ t. unfold operand in refl;
+      sees = λ x. refl;
+      bare = λ v. refl;
+      cost = refl;
+    } };
+
+    #[inline(always)]
+    fn instruction(self, op: MemoryOp) -> Instruction<'a> {
+        Instruction::Memory(op, self)
     }
 }
 
 /// A field of a structure.
-pub(crate) fn read_struct<'a, P: Place<'a>>(
-    op: StructOp,
-    parser: &mut Parser<'a>,
-    out: &mut P,
-) -> Result<()>
-    requires { P.has_room out.old }
-    ensures { ReadsOperand (head.Struct op) (P.seen out.old) (P.seen out.new) result parser.old parser.new }
-{
-    match StructAccess::parse(parser) {
-        Ok(operand) => {
-            out.put(Instruction::Struct(op, operand));
-            Ok(())
-        }
-        Err(refused) => Err(refused),
+impl<'a> OperandOf<'a, StructOp> for StructAccess<'a> {
+    ghost word = { λ op. head.Struct op };
+
+    ghost seen = { λ x. operands.two_indices (struct_access_view x) };
+
+    ghost is_operand = { λ op. record {
+      make = operands.two_indices;
+      reads = λ t. unfold operand in refl;
+      sees = λ x. refl;
+      bare = λ v. refl;
+      cost = refl;
+    } };
+
+    #[inline(always)]
+    fn instruction(self, op: StructOp) -> Instruction<'a> {
+        Instruction::Struct(op, self)
     }
 }
 
 /// An array, and the segment that it is filled from.
-pub(crate) fn read_array_init<'a, P: Place<'a>>(
-    op: ArrayInitOp,
-    parser: &mut Parser<'a>,
-    out: &mut P,
-) -> Result<()>
-    requires { P.has_room out.old }
-    ensures { ReadsOperand (head.ArrayInit op) (P.seen out.old) (P.seen out.new) result parser.old parser.new }
-{
-    match ArrayInit::parse(parser) {
-        Ok(operand) => {
-            out.put(Instruction::ArrayInit(op, operand));
-            Ok(())
-        }
-        Err(refused) => Err(refused),
+impl<'a> OperandOf<'a, ArrayInitOp> for ArrayInit<'a> {
+    ghost word = { λ op. head.ArrayInit op };
+
+    ghost seen = { λ x. operands.two_indices (array_init_view x) };
+
+    ghost is_operand = { λ op. record {
+      make = operands.two_indices;
+      reads = λ t. unfold operand in refl;
+      sees = λ x. refl;
+      bare = λ v. refl;
+      cost = refl;
+    } };
+
+    #[inline(always)]
+    fn instruction(self, op: ArrayInitOp) -> Instruction<'a> {
+        Instruction::ArrayInit(op, self)
     }
 }
 
@@ -249,56 +265,62 @@ pub(crate) fn read_rmw_access<'a, P: Place<'a>>(
 }
 
 /// An atomic access to what an index names.
-pub(crate) fn read_ordered_index<'a, P: Place<'a>>(
-    op: OrderedIndexOp,
-    parser: &mut Parser<'a>,
-    out: &mut P,
-) -> Result<()>
-    requires { P.has_room out.old }
-    ensures { ReadsOperand (head.OrderedIndex op) (P.seen out.old) (P.seen out.new) result parser.old parser.new }
-{
-    match Ordered::<Index>::parse(parser) {
-        Ok(operand) => {
-            out.put(Instruction::OrderedIndex(op, operand));
-            Ok(())
-        }
-        Err(refused) => Err(refused),
+impl<'a> OperandOf<'a, OrderedIndexOp> for Ordered<Index<'a>> {
+    ghost word = { λ op. head.OrderedIndex op };
+
+    ghost seen = { λ x. operands.ordered_index (ordered_view index_view x) };
+
+    ghost is_operand = { λ op. record {
+      make = operands.ordered_index;
+      reads = λ t. unfold operand in refl;
+      sees = λ x. refl;
+      bare = λ v. refl;
+      cost = refl;
+    } };
+
+    #[inline(always)]
+    fn instruction(self, op: OrderedIndexOp) -> Instruction<'a> {
+        Instruction::OrderedIndex(op, self)
     }
 }
 
 /// An atomic access to a table.
-pub(crate) fn read_ordered_table<'a, P: Place<'a>>(
-    op: OrderedTableOp,
-    parser: &mut Parser<'a>,
-    out: &mut P,
-) -> Result<()>
-    requires { P.has_room out.old }
-    ensures { ReadsOperand (head.OrderedTable op) (P.seen out.old) (P.seen out.new) result parser.old parser.new }
-{
-    match Ordered::<TableArg>::parse(parser) {
-        Ok(operand) => {
-            out.put(Instruction::OrderedTable(op, operand));
-            Ok(())
-        }
-        Err(refused) => Err(refused),
+impl<'a> OperandOf<'a, OrderedTableOp> for Ordered<TableArg<'a>> {
+    ghost word = { λ op. head.OrderedTable op };
+
+    ghost seen = { λ x. operands.ordered_index (ordered_view table_arg_view x) };
+
+    ghost is_operand = { λ op. record {
+      make = operands.ordered_index;
+      reads = λ t. unfold operand in refl;
+      sees = λ x. refl;
+      bare = λ v. refl;
+      cost = refl;
+    } };
+
+    #[inline(always)]
+    fn instruction(self, op: OrderedTableOp) -> Instruction<'a> {
+        Instruction::OrderedTable(op, self)
     }
 }
 
 /// An atomic access to a field of a structure.
-pub(crate) fn read_ordered_struct<'a, P: Place<'a>>(
-    op: OrderedStructOp,
-    parser: &mut Parser<'a>,
-    out: &mut P,
-) -> Result<()>
-    requires { P.has_room out.old }
-    ensures { ReadsOperand (head.OrderedStruct op) (P.seen out.old) (P.seen out.new) result parser.old parser.new }
-{
-    match Ordered::<StructAccess>::parse(parser) {
-        Ok(operand) => {
-            out.put(Instruction::OrderedStruct(op, operand));
-            Ok(())
-        }
-        Err(refused) => Err(refused),
+impl<'a> OperandOf<'a, OrderedStructOp> for Ordered<StructAccess<'a>> {
+    ghost word = { λ op. head.OrderedStruct op };
+
+    ghost seen = { λ x. operands.ordered_indices (ordered_view struct_access_view x) };
+
+    ghost is_operand = { λ op. record {
+      make = operands.ordered_indices;
+      reads = λ t. unfold operand in refl;
+      sees = λ x. refl;
+      bare = λ v. refl;
+      cost = refl;
+    } };
+
+    #[inline(always)]
+    fn instruction(self, op: OrderedStructOp) -> Instruction<'a> {
+        Instruction::OrderedStruct(op, self)
     }
 }
 
@@ -321,20 +343,22 @@ pub(crate) fn read_lane_access<'a, P: Place<'a>>(
 }
 
 /// A lane that is taken out or replaced.
-pub(crate) fn read_lane<'a, P: Place<'a>>(
-    op: LaneOp,
-    parser: &mut Parser<'a>,
-    out: &mut P,
-) -> Result<()>
-    requires { P.has_room out.old }
-    ensures { ReadsOperand (head.Lane op) (P.seen out.old) (P.seen out.new) result parser.old parser.new }
-{
-    match LaneArg::parse(parser) {
-        Ok(operand) => {
-            out.put(Instruction::Lane(op, operand));
-            Ok(())
-        }
-        Err(refused) => Err(refused),
+impl<'a> OperandOf<'a, LaneOp> for LaneArg {
+    ghost word = { λ op. head.Lane op };
+
+    ghost seen = { operands.lane };
+
+    ghost is_operand = { λ op. record {
+      make = operands.lane;
+      reads = λ t. unfold operand in refl;
+      sees = λ x. refl;
+      bare = λ v. refl;
+      cost = refl;
+    } };
+
+    #[inline(always)]
+    fn instruction(self, op: LaneOp) -> Instruction<'a> {
+        Instruction::Lane(op, self)
     }
 }
 

@@ -6,6 +6,7 @@ mod families;
 mod heads;
 pub mod instruction;
 pub mod laws;
+mod operand;
 mod parse;
 mod place;
 mod singles;

@@ -1,499 +1,659 @@
 //! The operands of instructions that are alone in their kind.
-#![tactic(auto, unfolding(crate::specs::Reading::ReadsOperand, crate::specs::Operand::operand))]
 
-ghost use Rattle.wat_instr.specs.Reading.{ReadsOperand};
+ghost use Rattle.std.specs.Prelude.{Some, None, refl};
+ghost use Rattle.wat_instr.specs.Instruction.{operand_in};
+ghost use Rattle.wat_instr.specs.Operand.{operand};
+ghost use Rattle.wat_instr.specs.Operand as operands;
+ghost use Rattle.wat_instr.specs.declared.instruction.InstructionOf.TheVariants as code;
 ghost use Rattle.wat_mnemonics.specs.declared.mnemonic.Mnemonic.TheVariants as head;
 
 use crate::instruction::Instruction;
-use crate::place::Place;
+use crate::operand::OperandOf;
 use wat_operands::{
     ArrayCopy, ArrayFill, ArrayNewData, ArrayNewElem, ArrayNewFixed, BrOnCast, BrOnCastDescEq,
     BrOnCastDescEqFail, BrOnCastFail, BrTableIndices, ContBind, I8x16Shuffle, MemoryCopy,
     MemoryInit, Ordering, RefCast, RefCastDescEq, RefTest, Resume, ResumeThrow, ResumeThrowRef,
     SelectTypes, Switch, TableCopy, TableInit, TryTable, V128Const,
 };
-use wat_tokens::{F32, F64, Parse, Parser, Result};
+use wat_tokens::{F32, F64};
 use wat_types::HeapType;
 
 /// `br_table`.
-pub(crate) fn read_br_table<'a, P: Place<'a>>(parser: &mut Parser<'a>, out: &mut P) -> Result<()>
-    requires { P.has_room out.old }
-    ensures { ReadsOperand head.br_table (P.seen out.old) (P.seen out.new) result parser.old parser.new }
-{
-    match BrTableIndices::parse(parser) {
-        Ok(operand) => {
-            out.put(Instruction::br_table(operand));
-            Ok(())
-        }
-        Err(refused) => Err(refused),
+impl<'a> OperandOf<'a, ()> for BrTableIndices<'a> {
+    ghost word = { λ _. head.br_table };
+
+    ghost seen = { λ x. operand_in (code.br_table x) };
+
+    ghost is_operand = { λ _. record {
+      make = operands.branches;
+      reads = λ t. unfold operand in refl;
+      sees = λ x. refl;
+      bare = λ v. refl;
+      cost = refl;
+    } };
+
+    #[inline(always)]
+    fn instruction(self, _: ()) -> Instruction<'a> {
+        Instruction::br_table(self)
     }
 }
 
 /// `select`.
-pub(crate) fn read_select<'a, P: Place<'a>>(parser: &mut Parser<'a>, out: &mut P) -> Result<()>
-    requires { P.has_room out.old }
-    ensures { ReadsOperand head.select (P.seen out.old) (P.seen out.new) result parser.old parser.new }
-{
-    match SelectTypes::parse(parser) {
-        Ok(operand) => {
-            out.put(Instruction::select(operand));
-            Ok(())
-        }
-        Err(refused) => Err(refused),
+impl<'a> OperandOf<'a, ()> for SelectTypes<'a> {
+    ghost word = { λ _. head.select };
+
+    ghost seen = { λ x. operand_in (code.select x) };
+
+    ghost is_operand = { λ _. record {
+      make = operands.chosen;
+      reads = λ t. unfold operand in refl;
+      sees = λ x. refl;
+      bare = λ v. refl;
+      cost = refl;
+    } };
+
+    #[inline(always)]
+    fn instruction(self, _: ()) -> Instruction<'a> {
+        Instruction::select(self)
     }
 }
 
 /// `memory.init`.
-pub(crate) fn read_memory_init<'a, P: Place<'a>>(parser: &mut Parser<'a>, out: &mut P) -> Result<()>
-    requires { P.has_room out.old }
-    ensures { ReadsOperand head.memory_init (P.seen out.old) (P.seen out.new) result parser.old parser.new }
-{
-    match MemoryInit::parse(parser) {
-        Ok(operand) => {
-            out.put(Instruction::memory_init(operand));
-            Ok(())
-        }
-        Err(refused) => Err(refused),
+impl<'a> OperandOf<'a, ()> for MemoryInit<'a> {
+    ghost word = { λ _. head.memory_init };
+
+    ghost seen = { λ x. operand_in (code.memory_init x) };
+
+    ghost is_operand = { λ _. record {
+      make = operands.two_indices;
+      reads = λ t. unfold operand in refl;
+      sees = λ x. refl;
+      bare = λ v. refl;
+      cost = refl;
+    } };
+
+    #[inline(always)]
+    fn instruction(self, _: ()) -> Instruction<'a> {
+        Instruction::memory_init(self)
     }
 }
 
 /// `memory.copy`.
-pub(crate) fn read_memory_copy<'a, P: Place<'a>>(parser: &mut Parser<'a>, out: &mut P) -> Result<()>
-    requires { P.has_room out.old }
-    ensures { ReadsOperand head.memory_copy (P.seen out.old) (P.seen out.new) result parser.old parser.new }
-{
-    match MemoryCopy::parse(parser) {
-        Ok(operand) => {
-            out.put(Instruction::memory_copy(operand));
-            Ok(())
-        }
-        Err(refused) => Err(refused),
+impl<'a> OperandOf<'a, ()> for MemoryCopy<'a> {
+    ghost word = { λ _. head.memory_copy };
+
+    ghost seen = { λ x. operand_in (code.memory_copy x) };
+
+    ghost is_operand = { λ _. record {
+      make = operands.two_indices;
+      reads = λ t. unfold operand in refl;
+      sees = λ x. refl;
+      bare = λ v. refl;
+      cost = refl;
+    } };
+
+    #[inline(always)]
+    fn instruction(self, _: ()) -> Instruction<'a> {
+        Instruction::memory_copy(self)
     }
 }
 
 /// `table.init`.
-pub(crate) fn read_table_init<'a, P: Place<'a>>(parser: &mut Parser<'a>, out: &mut P) -> Result<()>
-    requires { P.has_room out.old }
-    ensures { ReadsOperand head.table_init (P.seen out.old) (P.seen out.new) result parser.old parser.new }
-{
-    match TableInit::parse(parser) {
-        Ok(operand) => {
-            out.put(Instruction::table_init(operand));
-            Ok(())
-        }
-        Err(refused) => Err(refused),
+impl<'a> OperandOf<'a, ()> for TableInit<'a> {
+    ghost word = { λ _. head.table_init };
+
+    ghost seen = { λ x. operand_in (code.table_init x) };
+
+    ghost is_operand = { λ _. record {
+      make = operands.two_indices;
+      reads = λ t. unfold operand in refl;
+      sees = λ x. refl;
+      bare = λ v. refl;
+      cost = refl;
+    } };
+
+    #[inline(always)]
+    fn instruction(self, _: ()) -> Instruction<'a> {
+        Instruction::table_init(self)
     }
 }
 
 /// `table.copy`.
-pub(crate) fn read_table_copy<'a, P: Place<'a>>(parser: &mut Parser<'a>, out: &mut P) -> Result<()>
-    requires { P.has_room out.old }
-    ensures { ReadsOperand head.table_copy (P.seen out.old) (P.seen out.new) result parser.old parser.new }
-{
-    match TableCopy::parse(parser) {
-        Ok(operand) => {
-            out.put(Instruction::table_copy(operand));
-            Ok(())
-        }
-        Err(refused) => Err(refused),
+impl<'a> OperandOf<'a, ()> for TableCopy<'a> {
+    ghost word = { λ _. head.table_copy };
+
+    ghost seen = { λ x. operand_in (code.table_copy x) };
+
+    ghost is_operand = { λ _. record {
+      make = operands.two_indices;
+      reads = λ t. unfold operand in refl;
+      sees = λ x. refl;
+      bare = λ v. refl;
+      cost = refl;
+    } };
+
+    #[inline(always)]
+    fn instruction(self, _: ()) -> Instruction<'a> {
+        Instruction::table_copy(self)
     }
 }
 
 /// `ref.null`.
-pub(crate) fn read_ref_null<'a, P: Place<'a>>(parser: &mut Parser<'a>, out: &mut P) -> Result<()>
-    requires { P.has_room out.old }
-    ensures { ReadsOperand head.ref_null (P.seen out.old) (P.seen out.new) result parser.old parser.new }
-{
-    match HeapType::parse(parser) {
-        Ok(operand) => {
-            out.put(Instruction::ref_null(operand));
-            Ok(())
-        }
-        Err(refused) => Err(refused),
+impl<'a> OperandOf<'a, ()> for HeapType<'a> {
+    ghost word = { λ _. head.ref_null };
+
+    ghost seen = { λ x. operand_in (code.ref_null x) };
+
+    ghost is_operand = { λ _. record {
+      make = operands.heap;
+      reads = λ t. unfold operand in refl;
+      sees = λ x. refl;
+      bare = λ v. refl;
+      cost = refl;
+    } };
+
+    #[inline(always)]
+    fn instruction(self, _: ()) -> Instruction<'a> {
+        Instruction::ref_null(self)
     }
 }
 
 /// `array.new_fixed`.
-pub(crate) fn read_array_new_fixed<'a, P: Place<'a>>(
-    parser: &mut Parser<'a>,
-    out: &mut P,
-) -> Result<()>
-    requires { P.has_room out.old }
-    ensures { ReadsOperand head.array_new_fixed (P.seen out.old) (P.seen out.new) result parser.old parser.new }
-{
-    match ArrayNewFixed::parse(parser) {
-        Ok(operand) => {
-            out.put(Instruction::array_new_fixed(operand));
-            Ok(())
-        }
-        Err(refused) => Err(refused),
+impl<'a> OperandOf<'a, ()> for ArrayNewFixed<'a> {
+    ghost word = { λ _. head.array_new_fixed };
+
+    ghost seen = { λ x. operand_in (code.array_new_fixed x) };
+
+    ghost is_operand = { λ _. record {
+      make = operands.sized;
+      reads = λ t. unfold operand in refl;
+      sees = λ x. refl;
+      bare = λ v. refl;
+      cost = refl;
+    } };
+
+    #[inline(always)]
+    fn instruction(self, _: ()) -> Instruction<'a> {
+        Instruction::array_new_fixed(self)
     }
 }
 
 /// `array.new_data`.
-pub(crate) fn read_array_new_data<'a, P: Place<'a>>(
-    parser: &mut Parser<'a>,
-    out: &mut P,
-) -> Result<()>
-    requires { P.has_room out.old }
-    ensures { ReadsOperand head.array_new_data (P.seen out.old) (P.seen out.new) result parser.old parser.new }
-{
-    match ArrayNewData::parse(parser) {
-        Ok(operand) => {
-            out.put(Instruction::array_new_data(operand));
-            Ok(())
-        }
-        Err(refused) => Err(refused),
+impl<'a> OperandOf<'a, ()> for ArrayNewData<'a> {
+    ghost word = { λ _. head.array_new_data };
+
+    ghost seen = { λ x. operand_in (code.array_new_data x) };
+
+    ghost is_operand = { λ _. record {
+      make = operands.two_indices;
+      reads = λ t. unfold operand in refl;
+      sees = λ x. refl;
+      bare = λ v. refl;
+      cost = refl;
+    } };
+
+    #[inline(always)]
+    fn instruction(self, _: ()) -> Instruction<'a> {
+        Instruction::array_new_data(self)
     }
 }
 
 /// `array.new_elem`.
-pub(crate) fn read_array_new_elem<'a, P: Place<'a>>(
-    parser: &mut Parser<'a>,
-    out: &mut P,
-) -> Result<()>
-    requires { P.has_room out.old }
-    ensures { ReadsOperand head.array_new_elem (P.seen out.old) (P.seen out.new) result parser.old parser.new }
-{
-    match ArrayNewElem::parse(parser) {
-        Ok(operand) => {
-            out.put(Instruction::array_new_elem(operand));
-            Ok(())
-        }
-        Err(refused) => Err(refused),
+impl<'a> OperandOf<'a, ()> for ArrayNewElem<'a> {
+    ghost word = { λ _. head.array_new_elem };
+
+    ghost seen = { λ x. operand_in (code.array_new_elem x) };
+
+    ghost is_operand = { λ _. record {
+      make = operands.two_indices;
+      reads = λ t. unfold operand in refl;
+      sees = λ x. refl;
+      bare = λ v. refl;
+      cost = refl;
+    } };
+
+    #[inline(always)]
+    fn instruction(self, _: ()) -> Instruction<'a> {
+        Instruction::array_new_elem(self)
     }
 }
 
 /// `array.fill`.
-pub(crate) fn read_array_fill<'a, P: Place<'a>>(parser: &mut Parser<'a>, out: &mut P) -> Result<()>
-    requires { P.has_room out.old }
-    ensures { ReadsOperand head.array_fill (P.seen out.old) (P.seen out.new) result parser.old parser.new }
-{
-    match ArrayFill::parse(parser) {
-        Ok(operand) => {
-            out.put(Instruction::array_fill(operand));
-            Ok(())
-        }
-        Err(refused) => Err(refused),
+impl<'a> OperandOf<'a, ()> for ArrayFill<'a> {
+    ghost word = { λ _. head.array_fill };
+
+    ghost seen = { λ x. operand_in (code.array_fill x) };
+
+    ghost is_operand = { λ _. record {
+      make = operands.one_index;
+      reads = λ t. unfold operand in refl;
+      sees = λ x. refl;
+      bare = λ v. refl;
+      cost = refl;
+    } };
+
+    #[inline(always)]
+    fn instruction(self, _: ()) -> Instruction<'a> {
+        Instruction::array_fill(self)
     }
 }
 
 /// `array.copy`.
-pub(crate) fn read_array_copy<'a, P: Place<'a>>(parser: &mut Parser<'a>, out: &mut P) -> Result<()>
-    requires { P.has_room out.old }
-    ensures { ReadsOperand head.array_copy (P.seen out.old) (P.seen out.new) result parser.old parser.new }
-{
-    match ArrayCopy::parse(parser) {
-        Ok(operand) => {
-            out.put(Instruction::array_copy(operand));
-            Ok(())
-        }
-        Err(refused) => Err(refused),
+impl<'a> OperandOf<'a, ()> for ArrayCopy<'a> {
+    ghost word = { λ _. head.array_copy };
+
+    ghost seen = { λ x. operand_in (code.array_copy x) };
+
+    ghost is_operand = { λ _. record {
+      make = operands.two_indices;
+      reads = λ t. unfold operand in refl;
+      sees = λ x. refl;
+      bare = λ v. refl;
+      cost = refl;
+    } };
+
+    #[inline(always)]
+    fn instruction(self, _: ()) -> Instruction<'a> {
+        Instruction::array_copy(self)
     }
 }
 
 /// `ref.test`.
-pub(crate) fn read_ref_test<'a, P: Place<'a>>(parser: &mut Parser<'a>, out: &mut P) -> Result<()>
-    requires { P.has_room out.old }
-    ensures { ReadsOperand head.ref_test (P.seen out.old) (P.seen out.new) result parser.old parser.new }
-{
-    match RefTest::parse(parser) {
-        Ok(operand) => {
-            out.put(Instruction::ref_test(operand));
-            Ok(())
-        }
-        Err(refused) => Err(refused),
+impl<'a> OperandOf<'a, ()> for RefTest<'a> {
+    ghost word = { λ _. head.ref_test };
+
+    ghost seen = { λ x. operand_in (code.ref_test x) };
+
+    ghost is_operand = { λ _. record {
+      make = operands.reference;
+      reads = λ t. unfold operand in refl;
+      sees = λ x. refl;
+      bare = λ v. refl;
+      cost = refl;
+    } };
+
+    #[inline(always)]
+    fn instruction(self, _: ()) -> Instruction<'a> {
+        Instruction::ref_test(self)
     }
 }
 
 /// `ref.cast`.
-pub(crate) fn read_ref_cast<'a, P: Place<'a>>(parser: &mut Parser<'a>, out: &mut P) -> Result<()>
-    requires { P.has_room out.old }
-    ensures { ReadsOperand head.ref_cast (P.seen out.old) (P.seen out.new) result parser.old parser.new }
-{
-    match RefCast::parse(parser) {
-        Ok(operand) => {
-            out.put(Instruction::ref_cast(operand));
-            Ok(())
-        }
-        Err(refused) => Err(refused),
+impl<'a> OperandOf<'a, ()> for RefCast<'a> {
+    ghost word = { λ _. head.ref_cast };
+
+    ghost seen = { λ x. operand_in (code.ref_cast x) };
+
+    ghost is_operand = { λ _. record {
+      make = operands.reference;
+      reads = λ t. unfold operand in refl;
+      sees = λ x. refl;
+      bare = λ v. refl;
+      cost = refl;
+    } };
+
+    #[inline(always)]
+    fn instruction(self, _: ()) -> Instruction<'a> {
+        Instruction::ref_cast(self)
     }
 }
 
 /// `br_on_cast`.
-pub(crate) fn read_br_on_cast<'a, P: Place<'a>>(parser: &mut Parser<'a>, out: &mut P) -> Result<()>
-    requires { P.has_room out.old }
-    ensures { ReadsOperand head.br_on_cast (P.seen out.old) (P.seen out.new) result parser.old parser.new }
-{
-    match Box::<BrOnCast>::parse(parser) {
-        Ok(operand) => {
-            out.put(Instruction::br_on_cast(operand));
-            Ok(())
-        }
-        Err(refused) => Err(refused),
+impl<'a> OperandOf<'a, ()> for Box<BrOnCast<'a>> {
+    ghost word = { λ _. head.br_on_cast };
+
+    ghost seen = { λ x. operand_in (code.br_on_cast x) };
+
+    ghost is_operand = { λ _. record {
+      make = operands.cast;
+      reads = λ t. unfold operand in refl;
+      sees = λ x. refl;
+      bare = λ v. refl;
+      cost = refl;
+    } };
+
+    #[inline(always)]
+    fn instruction(self, _: ()) -> Instruction<'a> {
+        Instruction::br_on_cast(self)
     }
 }
 
 /// `br_on_cast_fail`.
-pub(crate) fn read_br_on_cast_fail<'a, P: Place<'a>>(
-    parser: &mut Parser<'a>,
-    out: &mut P,
-) -> Result<()>
-    requires { P.has_room out.old }
-    ensures { ReadsOperand head.br_on_cast_fail (P.seen out.old) (P.seen out.new) result parser.old parser.new }
-{
-    match Box::<BrOnCastFail>::parse(parser) {
-        Ok(operand) => {
-            out.put(Instruction::br_on_cast_fail(operand));
-            Ok(())
-        }
-        Err(refused) => Err(refused),
+impl<'a> OperandOf<'a, ()> for Box<BrOnCastFail<'a>> {
+    ghost word = { λ _. head.br_on_cast_fail };
+
+    ghost seen = { λ x. operand_in (code.br_on_cast_fail x) };
+
+    ghost is_operand = { λ _. record {
+      make = operands.cast;
+      reads = λ t. unfold operand in refl;
+      sees = λ x. refl;
+      bare = λ v. refl;
+      cost = refl;
+    } };
+
+    #[inline(always)]
+    fn instruction(self, _: ()) -> Instruction<'a> {
+        Instruction::br_on_cast_fail(self)
     }
 }
 
 /// `i32.const`.
-#[inline(always)]
-pub(crate) fn read_i32_const<'a, P: Place<'a>>(parser: &mut Parser<'a>, out: &mut P) -> Result<()>
-    requires { P.has_room out.old }
-    ensures { ReadsOperand head.i32_const (P.seen out.old) (P.seen out.new) result parser.old parser.new }
-{
-    match i32::parse(parser) {
-        Ok(operand) => {
-            out.put(Instruction::i32_const(operand));
-            Ok(())
-        }
-        Err(refused) => Err(refused),
+impl<'a> OperandOf<'a, ()> for i32 {
+    ghost word = { λ _. head.i32_const };
+
+    ghost seen = { λ x. operand_in (code.i32_const x) };
+
+    ghost is_operand = { λ _. record {
+      make = operands.integer;
+      reads = λ t. unfold operand in refl;
+      sees = λ x. refl;
+      bare = λ v. refl;
+      cost = refl;
+    } };
+
+    #[inline(always)]
+    fn instruction(self, _: ()) -> Instruction<'a> {
+        Instruction::i32_const(self)
     }
 }
 
 /// `i64.const`.
-#[inline(always)]
-pub(crate) fn read_i64_const<'a, P: Place<'a>>(parser: &mut Parser<'a>, out: &mut P) -> Result<()>
-    requires { P.has_room out.old }
-    ensures { ReadsOperand head.i64_const (P.seen out.old) (P.seen out.new) result parser.old parser.new }
-{
-    match i64::parse(parser) {
-        Ok(operand) => {
-            out.put(Instruction::i64_const(operand));
-            Ok(())
-        }
-        Err(refused) => Err(refused),
+impl<'a> OperandOf<'a, ()> for i64 {
+    ghost word = { λ _. head.i64_const };
+
+    ghost seen = { λ x. operand_in (code.i64_const x) };
+
+    ghost is_operand = { λ _. record {
+      make = operands.integer;
+      reads = λ t. unfold operand in refl;
+      sees = λ x. refl;
+      bare = λ v. refl;
+      cost = refl;
+    } };
+
+    #[inline(always)]
+    fn instruction(self, _: ()) -> Instruction<'a> {
+        Instruction::i64_const(self)
     }
 }
 
 /// `f32.const`; no literal is read.
-pub(crate) fn read_f32_const<'a, P: Place<'a>>(parser: &mut Parser<'a>, out: &mut P) -> Result<()>
-    requires { P.has_room out.old }
-    ensures { ReadsOperand head.f32_const (P.seen out.old) (P.seen out.new) result parser.old parser.new }
-{
-    match F32::parse(parser) {
-        Ok(operand) => {
-            out.put(Instruction::f32_const(operand));
-            Ok(())
-        }
-        Err(refused) => Err(refused),
+impl<'a> OperandOf<'a, ()> for F32 {
+    ghost word = { λ _. head.f32_const };
+
+    ghost seen = { λ x. operand_in (code.f32_const x) };
+
+    ghost is_operand = { λ _. record {
+      make = operands.float;
+      reads = λ t. unfold operand in refl;
+      sees = λ x. refl;
+      bare = λ v. refl;
+      cost = refl;
+    } };
+
+    #[inline(always)]
+    fn instruction(self, _: ()) -> Instruction<'a> {
+        Instruction::f32_const(self)
     }
 }
 
 /// `f64.const`; no literal is read.
-pub(crate) fn read_f64_const<'a, P: Place<'a>>(parser: &mut Parser<'a>, out: &mut P) -> Result<()>
-    requires { P.has_room out.old }
-    ensures { ReadsOperand head.f64_const (P.seen out.old) (P.seen out.new) result parser.old parser.new }
-{
-    match F64::parse(parser) {
-        Ok(operand) => {
-            out.put(Instruction::f64_const(operand));
-            Ok(())
-        }
-        Err(refused) => Err(refused),
+impl<'a> OperandOf<'a, ()> for F64 {
+    ghost word = { λ _. head.f64_const };
+
+    ghost seen = { λ x. operand_in (code.f64_const x) };
+
+    ghost is_operand = { λ _. record {
+      make = operands.float;
+      reads = λ t. unfold operand in refl;
+      sees = λ x. refl;
+      bare = λ v. refl;
+      cost = refl;
+    } };
+
+    #[inline(always)]
+    fn instruction(self, _: ()) -> Instruction<'a> {
+        Instruction::f64_const(self)
     }
 }
 
 /// `atomic.fence`.
-pub(crate) fn read_atomic_fence<'a, P: Place<'a>>(
-    parser: &mut Parser<'a>,
-    out: &mut P,
-) -> Result<()>
-    requires { P.has_room out.old }
-    ensures { ReadsOperand head.atomic_fence (P.seen out.old) (P.seen out.new) result parser.old parser.new }
-{
-    match Option::<Ordering>::parse(parser) {
-        Ok(operand) => {
-            out.put(Instruction::atomic_fence(operand));
-            Ok(())
-        }
-        Err(refused) => Err(refused),
+impl<'a> OperandOf<'a, ()> for Option<Ordering> {
+    ghost word = { λ _. head.atomic_fence };
+
+    ghost seen = { λ x. operand_in (code.atomic_fence x) };
+
+    ghost is_operand = { λ _. record {
+      make = operands.fence;
+      reads = λ t. unfold operand in refl;
+      sees = λ x. refl;
+      bare = elim [ Some v ↦ refl | None ↦ refl ];
+      cost = refl;
+    } };
+
+    #[inline(always)]
+    fn instruction(self, _: ()) -> Instruction<'a> {
+        Instruction::atomic_fence(self)
     }
 }
 
 /// `v128.const`.
-pub(crate) fn read_v128_const<'a, P: Place<'a>>(parser: &mut Parser<'a>, out: &mut P) -> Result<()>
-    requires { P.has_room out.old }
-    ensures { ReadsOperand head.v128_const (P.seen out.old) (P.seen out.new) result parser.old parser.new }
-{
-    match V128Const::parse(parser) {
-        Ok(operand) => {
-            out.put(Instruction::v128_const(operand));
-            Ok(())
-        }
-        Err(refused) => Err(refused),
+impl<'a> OperandOf<'a, ()> for V128Const {
+    ghost word = { λ _. head.v128_const };
+
+    ghost seen = { λ x. operand_in (code.v128_const x) };
+
+    ghost is_operand = { λ _. record {
+      make = operands.vector;
+      reads = λ t. unfold operand in refl;
+      sees = λ x. refl;
+      bare = λ v. refl;
+      cost = refl;
+    } };
+
+    #[inline(always)]
+    fn instruction(self, _: ()) -> Instruction<'a> {
+        Instruction::v128_const(self)
     }
 }
 
 /// `i8x16.shuffle`.
-pub(crate) fn read_i8x16_shuffle<'a, P: Place<'a>>(
-    parser: &mut Parser<'a>,
-    out: &mut P,
-) -> Result<()>
-    requires { P.has_room out.old }
-    ensures { ReadsOperand head.i8x16_shuffle (P.seen out.old) (P.seen out.new) result parser.old parser.new }
-{
-    match I8x16Shuffle::parse(parser) {
-        Ok(operand) => {
-            out.put(Instruction::i8x16_shuffle(operand));
-            Ok(())
-        }
-        Err(refused) => Err(refused),
+impl<'a> OperandOf<'a, ()> for I8x16Shuffle {
+    ghost word = { λ _. head.i8x16_shuffle };
+
+    ghost seen = { λ x. operand_in (code.i8x16_shuffle x) };
+
+    ghost is_operand = { λ _. record {
+      make = operands.shuffled;
+      reads = λ t. unfold operand in refl;
+      sees = λ x. refl;
+      bare = λ v. refl;
+      cost = refl;
+    } };
+
+    #[inline(always)]
+    fn instruction(self, _: ()) -> Instruction<'a> {
+        Instruction::i8x16_shuffle(self)
     }
 }
 
 /// `try_table`.
-pub(crate) fn read_try_table<'a, P: Place<'a>>(parser: &mut Parser<'a>, out: &mut P) -> Result<()>
-    requires { P.has_room out.old }
-    ensures { ReadsOperand head.try_table (P.seen out.old) (P.seen out.new) result parser.old parser.new }
-{
-    match TryTable::parse(parser) {
-        Ok(operand) => {
-            out.put(Instruction::try_table(operand));
-            Ok(())
-        }
-        Err(refused) => Err(refused),
+impl<'a> OperandOf<'a, ()> for TryTable<'a> {
+    ghost word = { λ _. head.try_table };
+
+    ghost seen = { λ x. operand_in (code.try_table x) };
+
+    ghost is_operand = { λ _. record {
+      make = operands.caught;
+      reads = λ t. unfold operand in refl;
+      sees = λ x. refl;
+      bare = λ v. refl;
+      cost = refl;
+    } };
+
+    #[inline(always)]
+    fn instruction(self, _: ()) -> Instruction<'a> {
+        Instruction::try_table(self)
     }
 }
 
 /// `cont.bind`.
-pub(crate) fn read_cont_bind<'a, P: Place<'a>>(parser: &mut Parser<'a>, out: &mut P) -> Result<()>
-    requires { P.has_room out.old }
-    ensures { ReadsOperand head.cont_bind (P.seen out.old) (P.seen out.new) result parser.old parser.new }
-{
-    match ContBind::parse(parser) {
-        Ok(operand) => {
-            out.put(Instruction::cont_bind(operand));
-            Ok(())
-        }
-        Err(refused) => Err(refused),
+impl<'a> OperandOf<'a, ()> for ContBind<'a> {
+    ghost word = { λ _. head.cont_bind };
+
+    ghost seen = { λ x. operand_in (code.cont_bind x) };
+
+    ghost is_operand = { λ _. record {
+      make = operands.two_indices;
+      reads = λ t. unfold operand in refl;
+      sees = λ x. refl;
+      bare = λ v. refl;
+      cost = refl;
+    } };
+
+    #[inline(always)]
+    fn instruction(self, _: ()) -> Instruction<'a> {
+        Instruction::cont_bind(self)
     }
 }
 
 /// `resume`.
-pub(crate) fn read_resume<'a, P: Place<'a>>(parser: &mut Parser<'a>, out: &mut P) -> Result<()>
-    requires { P.has_room out.old }
-    ensures { ReadsOperand head.resume (P.seen out.old) (P.seen out.new) result parser.old parser.new }
-{
-    match Resume::parse(parser) {
-        Ok(operand) => {
-            out.put(Instruction::resume(operand));
-            Ok(())
-        }
-        Err(refused) => Err(refused),
+impl<'a> OperandOf<'a, ()> for Resume<'a> {
+    ghost word = { λ _. head.resume };
+
+    ghost seen = { λ x. operand_in (code.resume x) };
+
+    ghost is_operand = { λ _. record {
+      make = operands.resumed;
+      reads = λ t. unfold operand in refl;
+      sees = λ x. refl;
+      bare = λ v. refl;
+      cost = refl;
+    } };
+
+    #[inline(always)]
+    fn instruction(self, _: ()) -> Instruction<'a> {
+        Instruction::resume(self)
     }
 }
 
 /// `resume_throw`.
-pub(crate) fn read_resume_throw<'a, P: Place<'a>>(
-    parser: &mut Parser<'a>,
-    out: &mut P,
-) -> Result<()>
-    requires { P.has_room out.old }
-    ensures { ReadsOperand head.resume_throw (P.seen out.old) (P.seen out.new) result parser.old parser.new }
-{
-    match Box::<ResumeThrow>::parse(parser) {
-        Ok(operand) => {
-            out.put(Instruction::resume_throw(operand));
-            Ok(())
-        }
-        Err(refused) => Err(refused),
+impl<'a> OperandOf<'a, ()> for Box<ResumeThrow<'a>> {
+    ghost word = { λ _. head.resume_throw };
+
+    ghost seen = { λ x. operand_in (code.resume_throw x) };
+
+    ghost is_operand = { λ _. record {
+      make = operands.thrown;
+      reads = λ t. unfold operand in refl;
+      sees = λ x. refl;
+      bare = λ v. refl;
+      cost = refl;
+    } };
+
+    #[inline(always)]
+    fn instruction(self, _: ()) -> Instruction<'a> {
+        Instruction::resume_throw(self)
     }
 }
 
 /// `resume_throw_ref`.
-pub(crate) fn read_resume_throw_ref<'a, P: Place<'a>>(
-    parser: &mut Parser<'a>,
-    out: &mut P,
-) -> Result<()>
-    requires { P.has_room out.old }
-    ensures { ReadsOperand head.resume_throw_ref (P.seen out.old) (P.seen out.new) result parser.old parser.new }
-{
-    match ResumeThrowRef::parse(parser) {
-        Ok(operand) => {
-            out.put(Instruction::resume_throw_ref(operand));
-            Ok(())
-        }
-        Err(refused) => Err(refused),
+impl<'a> OperandOf<'a, ()> for ResumeThrowRef<'a> {
+    ghost word = { λ _. head.resume_throw_ref };
+
+    ghost seen = { λ x. operand_in (code.resume_throw_ref x) };
+
+    ghost is_operand = { λ _. record {
+      make = operands.resumed;
+      reads = λ t. unfold operand in refl;
+      sees = λ x. refl;
+      bare = λ v. refl;
+      cost = refl;
+    } };
+
+    #[inline(always)]
+    fn instruction(self, _: ()) -> Instruction<'a> {
+        Instruction::resume_throw_ref(self)
     }
 }
 
 /// `switch`.
-pub(crate) fn read_switch<'a, P: Place<'a>>(parser: &mut Parser<'a>, out: &mut P) -> Result<()>
-    requires { P.has_room out.old }
-    ensures { ReadsOperand head.switch (P.seen out.old) (P.seen out.new) result parser.old parser.new }
-{
-    match Switch::parse(parser) {
-        Ok(operand) => {
-            out.put(Instruction::switch(operand));
-            Ok(())
-        }
-        Err(refused) => Err(refused),
+impl<'a> OperandOf<'a, ()> for Switch<'a> {
+    ghost word = { λ _. head.switch };
+
+    ghost seen = { λ x. operand_in (code.switch x) };
+
+    ghost is_operand = { λ _. record {
+      make = operands.two_indices;
+      reads = λ t. unfold operand in refl;
+      sees = λ x. refl;
+      bare = λ v. refl;
+      cost = refl;
+    } };
+
+    #[inline(always)]
+    fn instruction(self, _: ()) -> Instruction<'a> {
+        Instruction::switch(self)
     }
 }
 
 /// `ref.cast_desc_eq`.
-pub(crate) fn read_ref_cast_desc_eq<'a, P: Place<'a>>(
-    parser: &mut Parser<'a>,
-    out: &mut P,
-) -> Result<()>
-    requires { P.has_room out.old }
-    ensures { ReadsOperand head.ref_cast_desc_eq (P.seen out.old) (P.seen out.new) result parser.old parser.new }
-{
-    match RefCastDescEq::parse(parser) {
-        Ok(operand) => {
-            out.put(Instruction::ref_cast_desc_eq(operand));
-            Ok(())
-        }
-        Err(refused) => Err(refused),
+impl<'a> OperandOf<'a, ()> for RefCastDescEq<'a> {
+    ghost word = { λ _. head.ref_cast_desc_eq };
+
+    ghost seen = { λ x. operand_in (code.ref_cast_desc_eq x) };
+
+    ghost is_operand = { λ _. record {
+      make = operands.reference;
+      reads = λ t. unfold operand in refl;
+      sees = λ x. refl;
+      bare = λ v. refl;
+      cost = refl;
+    } };
+
+    #[inline(always)]
+    fn instruction(self, _: ()) -> Instruction<'a> {
+        Instruction::ref_cast_desc_eq(self)
     }
 }
 
 /// `br_on_cast_desc_eq`.
-pub(crate) fn read_br_on_cast_desc_eq<'a, P: Place<'a>>(
-    parser: &mut Parser<'a>,
-    out: &mut P,
-) -> Result<()>
-    requires { P.has_room out.old }
-    ensures { ReadsOperand head.br_on_cast_desc_eq (P.seen out.old) (P.seen out.new) result parser.old parser.new }
-{
-    match Box::<BrOnCastDescEq>::parse(parser) {
-        Ok(operand) => {
-            out.put(Instruction::br_on_cast_desc_eq(operand));
-            Ok(())
-        }
-        Err(refused) => Err(refused),
+impl<'a> OperandOf<'a, ()> for Box<BrOnCastDescEq<'a>> {
+    ghost word = { λ _. head.br_on_cast_desc_eq };
+
+    ghost seen = { λ x. operand_in (code.br_on_cast_desc_eq x) };
+
+    ghost is_operand = { λ _. record {
+      make = operands.cast;
+      reads = λ t. unfold operand in refl;
+      sees = λ x. refl;
+      bare = λ v. refl;
+      cost = refl;
+    } };
+
+    #[inline(always)]
+    fn instruction(self, _: ()) -> Instruction<'a> {
+        Instruction::br_on_cast_desc_eq(self)
     }
 }
 
 /// `br_on_cast_desc_eq_fail`.
-pub(crate) fn read_br_on_cast_desc_eq_fail<'a, P: Place<'a>>(
-    parser: &mut Parser<'a>,
-    out: &mut P,
-) -> Result<()>
-    requires { P.has_room out.old }
-    ensures { ReadsOperand head.br_on_cast_desc_eq_fail (P.seen out.old) (P.seen out.new) result parser.old parser.new }
-{
-    match Box::<BrOnCastDescEqFail>::parse(parser) {
-        Ok(operand) => {
-            out.put(Instruction::br_on_cast_desc_eq_fail(operand));
-            Ok(())
-        }
-        Err(refused) => Err(refused),
+impl<'a> OperandOf<'a, ()> for Box<BrOnCastDescEqFail<'a>> {
+    ghost word = { λ _. head.br_on_cast_desc_eq_fail };
+
+    ghost seen = { λ x. operand_in (code.br_on_cast_desc_eq_fail x) };
+
+    ghost is_operand = { λ _. record {
+      make = operands.cast;
+      reads = λ t. unfold operand in refl;
+      sees = λ x. refl;
+      bare = λ v. refl;
+      cost = refl;
+    } };
+
+    #[inline(always)]
+    fn instruction(self, _: ()) -> Instruction<'a> {
+        Instruction::br_on_cast_desc_eq_fail(self)
     }
 }
