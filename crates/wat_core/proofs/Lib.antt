@@ -1,3 +1,4 @@
 pub mod Ends
+pub mod Fields
 pub mod IndependentOfRest
 pub mod Rows

@@ -1,8 +1,19 @@
 -- Types of which a value is a field of a module.
-use Rattle.std.specs.Prelude.{◌≡◌}
+use Rattle.std.specs.Prelude.{◌≡◌, List}
+use Rattle.wat_tokens.specs.Parts.{made}
+use Rattle.wat_tokens.specs.Production.{Production}
+use Rattle.wat_tokens.specs.Token.{Tok}
 use Rattle.wat_tokens.specs.Views.{ViewOf}
 use Rattle.wat_core.specs.Field.{ModuleFieldTy, bare_field}
 
--- A field that is made of what contracts see of a value holds memory where the value does.
-abbrev pub HoldsAlike : {X V : Type 0} → (V → ModuleFieldTy) → ViewOf X V → Type 0
-HoldsAlike {V = V} make view = (v : V) → bare_field (make v) ≡ view.bare v
+-- Such a field is written as a value of X is, as `seen` sees it.
+-- make: the field, of what contracts see of a value
+-- reads: it is what is read
+-- sees: a value is seen so
+-- bare: it holds memory where the value does
+pub record IsFieldOf {X V : Type 0} (form : Production ModuleFieldTy) (seen : X → ModuleFieldTy)
+    (view : ViewOf X V) (g : Production V) : Type 0 where
+  pub make : V → ModuleFieldTy
+  pub reads : (t : List Tok) → form.reads t ≡ (made make g).reads t
+  pub sees : (x : X) → seen x ≡ make (view.of x)
+  pub bare : (v : V) → bare_field (make v) ≡ view.bare v

@@ -1,13 +1,28 @@
 //! The types of which a value is a field of a module, and how a field is read as one of them.
+
 ghost use Rattle.std.specs.Prelude.{◌≡◌, refl};
-ghost use Rattle.wat_tokens.specs.Cost.{turns_too};
-ghost use Rattle.wat_tokens.specs.Parts.{made};
-ghost use Rattle.wat_tokens.specs.Reads.{ReadsAt};
-ghost use Rattle.wat_tokens.specs.Views.{owning};
 ghost use Rattle.wat_core.specs.Field.{ModuleFieldTy, field_view, bare_field};
 ghost use Rattle.wat_core.specs.Field.{a_type, a_rec, an_import, a_func, a_table, a_memory};
 ghost use Rattle.wat_core.specs.Field.{a_global, an_export, an_elem, a_data, a_tag, a_custom};
-ghost use Rattle.wat_core.specs.FieldOf.{HoldsAlike};
+ghost use Rattle.wat_core.specs.FieldOf.{IsFieldOf};
+ghost use Rattle.wat_fields.specs.Data.{data_view, data_segment};
+ghost use Rattle.wat_fields.specs.Elem.{elem_view, elem};
+ghost use Rattle.wat_fields.specs.Func.{func_view, func};
+ghost use Rattle.wat_fields.specs.Global.{global_view, global};
+ghost use Rattle.wat_fields.specs.Memory.{memory_view, memory};
+ghost use Rattle.wat_fields.specs.Table.{table_view, table};
+ghost use Rattle.wat_fields.specs.Tag.{tag_view, tag};
+ghost use Rattle.wat_links.specs.Custom.{custom_view, custom};
+ghost use Rattle.wat_links.specs.Export.{export_view, export_};
+ghost use Rattle.wat_links.specs.Forms.{imports};
+ghost use Rattle.wat_links.specs.Import.{imports_view};
+ghost use Rattle.wat_tokens.specs.Cost.{turns_too};
+ghost use Rattle.wat_tokens.specs.Parts.{made};
+ghost use Rattle.wat_tokens.specs.Production.{Production};
+ghost use Rattle.wat_tokens.specs.Reads.{ReadsAt};
+ghost use Rattle.wat_tokens.specs.Views.{owning};
+ghost use Rattle.wat_types.specs.Define.{type_view, type_};
+ghost use Rattle.wat_types.specs.Recursion.{rec_view, rec};
 
 use crate::field::ModuleField;
 use wat_fields::{Data, Elem, Func, Global, Memory, Table, Tag};
@@ -17,21 +32,25 @@ use wat_types::{Rec, Type};
 
 /// A type of which a value is a field of a module.
 pub(crate) trait FieldOf<'a>: Parse<'a> {
-    /// The field, of what contracts see of a value.
-    ghost make: { Self.View → ModuleFieldTy };
+    /// How such a field is written.
+    ghost form: { Production ModuleFieldTy };
 
-    ghost holds_alike: { HoldsAlike make Self.view };
+    /// What contracts see of the field that a value is.
+    ghost seen: { Self → ModuleFieldTy };
 
     /// The field that the value is.
     fn field(self) -> ModuleField<'a>
-        ensures { field_view result ≡ make (Self.view.of self) };
+        ensures { field_view result ≡ seen self };
+
+    /// It is written as a value is.
+    ghost is_field: { IsFieldOf form seen Self.view Self.grammar };
 }
 
 /// Reads a field as the type is read.
 #[inline(always)]
 pub(crate) fn read_as<'a, T: FieldOf<'a>>(parser: &mut Parser<'a>) -> Result<ModuleField<'a>>
-    ensures reads { ReadsAt turns_too (owning field_view bare_field) (made T.make T.grammar) result
-        parser.old parser.new }
+    ensures reads { ReadsAt turns_too (owning field_view bare_field) T.form result parser.old
+        parser.new }
 {
     match T::parse(parser) {
         Ok(value) => Ok(value.field()),
@@ -40,9 +59,16 @@ pub(crate) fn read_as<'a, T: FieldOf<'a>>(parser: &mut Parser<'a>) -> Result<Mod
 }
 
 impl<'a> FieldOf<'a> for Type<'a> {
-    ghost make = { a_type };
+    ghost form = { made a_type type_ };
 
-    ghost holds_alike = { λ _. refl };
+    ghost seen = { λ x. a_type (type_view x) };
+
+    ghost is_field = { record {
+      make = a_type;
+      reads = λ t. refl;
+      sees = λ x. refl;
+      bare = λ v. refl;
+    } };
 
     #[inline(always)]
     fn field(self) -> ModuleField<'a> {
@@ -51,9 +77,16 @@ impl<'a> FieldOf<'a> for Type<'a> {
 }
 
 impl<'a> FieldOf<'a> for Rec<'a> {
-    ghost make = { a_rec };
+    ghost form = { made a_rec rec };
 
-    ghost holds_alike = { λ _. refl };
+    ghost seen = { λ x. a_rec (rec_view x) };
+
+    ghost is_field = { record {
+      make = a_rec;
+      reads = λ t. refl;
+      sees = λ x. refl;
+      bare = λ v. refl;
+    } };
 
     #[inline(always)]
     fn field(self) -> ModuleField<'a> {
@@ -62,9 +95,16 @@ impl<'a> FieldOf<'a> for Rec<'a> {
 }
 
 impl<'a> FieldOf<'a> for Imports<'a> {
-    ghost make = { an_import };
+    ghost form = { made an_import imports };
 
-    ghost holds_alike = { λ _. refl };
+    ghost seen = { λ x. an_import (imports_view x) };
+
+    ghost is_field = { record {
+      make = an_import;
+      reads = λ t. refl;
+      sees = λ x. refl;
+      bare = λ v. refl;
+    } };
 
     #[inline(always)]
     fn field(self) -> ModuleField<'a> {
@@ -73,9 +113,16 @@ impl<'a> FieldOf<'a> for Imports<'a> {
 }
 
 impl<'a> FieldOf<'a> for Func<'a> {
-    ghost make = { a_func };
+    ghost form = { made a_func func };
 
-    ghost holds_alike = { λ _. refl };
+    ghost seen = { λ x. a_func (func_view x) };
+
+    ghost is_field = { record {
+      make = a_func;
+      reads = λ t. refl;
+      sees = λ x. refl;
+      bare = λ v. refl;
+    } };
 
     #[inline(always)]
     fn field(self) -> ModuleField<'a> {
@@ -84,9 +131,16 @@ impl<'a> FieldOf<'a> for Func<'a> {
 }
 
 impl<'a> FieldOf<'a> for Table<'a> {
-    ghost make = { a_table };
+    ghost form = { made a_table table };
 
-    ghost holds_alike = { λ _. refl };
+    ghost seen = { λ x. a_table (table_view x) };
+
+    ghost is_field = { record {
+      make = a_table;
+      reads = λ t. refl;
+      sees = λ x. refl;
+      bare = λ v. refl;
+    } };
 
     #[inline(always)]
     fn field(self) -> ModuleField<'a> {
@@ -95,9 +149,16 @@ impl<'a> FieldOf<'a> for Table<'a> {
 }
 
 impl<'a> FieldOf<'a> for Memory<'a> {
-    ghost make = { a_memory };
+    ghost form = { made a_memory memory };
 
-    ghost holds_alike = { λ _. refl };
+    ghost seen = { λ x. a_memory (memory_view x) };
+
+    ghost is_field = { record {
+      make = a_memory;
+      reads = λ t. refl;
+      sees = λ x. refl;
+      bare = λ v. refl;
+    } };
 
     #[inline(always)]
     fn field(self) -> ModuleField<'a> {
@@ -106,9 +167,16 @@ impl<'a> FieldOf<'a> for Memory<'a> {
 }
 
 impl<'a> FieldOf<'a> for Global<'a> {
-    ghost make = { a_global };
+    ghost form = { made a_global global };
 
-    ghost holds_alike = { λ _. refl };
+    ghost seen = { λ x. a_global (global_view x) };
+
+    ghost is_field = { record {
+      make = a_global;
+      reads = λ t. refl;
+      sees = λ x. refl;
+      bare = λ v. refl;
+    } };
 
     #[inline(always)]
     fn field(self) -> ModuleField<'a> {
@@ -117,9 +185,16 @@ impl<'a> FieldOf<'a> for Global<'a> {
 }
 
 impl<'a> FieldOf<'a> for Export<'a> {
-    ghost make = { an_export };
+    ghost form = { made an_export export_ };
 
-    ghost holds_alike = { λ _. refl };
+    ghost seen = { λ x. an_export (export_view x) };
+
+    ghost is_field = { record {
+      make = an_export;
+      reads = λ t. refl;
+      sees = λ x. refl;
+      bare = λ v. refl;
+    } };
 
     #[inline(always)]
     fn field(self) -> ModuleField<'a> {
@@ -128,9 +203,16 @@ impl<'a> FieldOf<'a> for Export<'a> {
 }
 
 impl<'a> FieldOf<'a> for Elem<'a> {
-    ghost make = { an_elem };
+    ghost form = { made an_elem elem };
 
-    ghost holds_alike = { λ _. refl };
+    ghost seen = { λ x. an_elem (elem_view x) };
+
+    ghost is_field = { record {
+      make = an_elem;
+      reads = λ t. refl;
+      sees = λ x. refl;
+      bare = λ v. refl;
+    } };
 
     #[inline(always)]
     fn field(self) -> ModuleField<'a> {
@@ -139,9 +221,16 @@ impl<'a> FieldOf<'a> for Elem<'a> {
 }
 
 impl<'a> FieldOf<'a> for Data<'a> {
-    ghost make = { a_data };
+    ghost form = { made a_data data_segment };
 
-    ghost holds_alike = { λ _. refl };
+    ghost seen = { λ x. a_data (data_view x) };
+
+    ghost is_field = { record {
+      make = a_data;
+      reads = λ t. refl;
+      sees = λ x. refl;
+      bare = λ v. refl;
+    } };
 
     #[inline(always)]
     fn field(self) -> ModuleField<'a> {
@@ -150,9 +239,16 @@ impl<'a> FieldOf<'a> for Data<'a> {
 }
 
 impl<'a> FieldOf<'a> for Tag<'a> {
-    ghost make = { a_tag };
+    ghost form = { made a_tag tag };
 
-    ghost holds_alike = { λ _. refl };
+    ghost seen = { λ x. a_tag (tag_view x) };
+
+    ghost is_field = { record {
+      make = a_tag;
+      reads = λ t. refl;
+      sees = λ x. refl;
+      bare = λ v. refl;
+    } };
 
     #[inline(always)]
     fn field(self) -> ModuleField<'a> {
@@ -161,9 +257,16 @@ impl<'a> FieldOf<'a> for Tag<'a> {
 }
 
 impl<'a> FieldOf<'a> for Custom<'a> {
-    ghost make = { a_custom };
+    ghost form = { made a_custom custom };
 
-    ghost holds_alike = { λ _. refl };
+    ghost seen = { λ x. a_custom (custom_view x) };
+
+    ghost is_field = { record {
+      make = a_custom;
+      reads = λ t. refl;
+      sees = λ x. refl;
+      bare = λ v. refl;
+    } };
 
     #[inline(always)]
     fn field(self) -> ModuleField<'a> {
