@@ -131,6 +131,7 @@ pub use Rattle.wat_fields.specs.Tag
 pub use Rattle.wat_links.specs.declared.export.ExportKind
 pub mod Field
 pub mod FieldGroup
+pub mod FieldOf
 pub mod Laws
 pub mod Module
 pub mod Rows

@@ -1,14 +1,14 @@
 //! Fields of a module.
 
-ghost use Rattle.std.specs.Prelude.{◌≡◌};
 ghost use Rattle.wat_tokens.specs.Cost.{turns_too};
-ghost use Rattle.wat_tokens.specs.Index.{index_view};
-ghost use Rattle.wat_tokens.specs.Reads.{Reads, ReadsAt};
-ghost use Rattle.wat_tokens.specs.Views.{plain, owning};
-ghost use Rattle.wat_core.specs.Field.{ModuleFieldTy, field_view, bare_field, start};
+ghost use Rattle.wat_tokens.specs.Parts.{made};
+ghost use Rattle.wat_tokens.specs.Reads.{ReadsAt};
+ghost use Rattle.wat_tokens.specs.Views.{owning};
+ghost use Rattle.wat_core.specs.Field.{ModuleFieldTy, field_view, bare_field, a_start, start};
 ghost use Rattle.wat_core.specs.Field.{start_or_later_field, global_or_later_field};
 ghost use Rattle.wat_core.specs.Field.{func_or_later_field, module_field};
 
+use crate::field_of::read_as;
 use wat_fields::{Data, Elem, Func, Global, Memory, Table, Tag};
 use wat_links::{Custom, Export, Imports};
 use wat_tokens::{Index, Parse, Parser, Result};
@@ -78,11 +78,13 @@ pub type ModuleField<'a> = ModuleFieldOf<
 
 /// `start`, and an index.
 #[tactic(auto, unfolding(crate::specs::Field::start))]
-fn read_start<'a>(parser: &mut Parser<'a>) -> Result<Index<'a>>
-    ensures reads { Reads (plain index_view) start result parser.old parser.new }
+fn read_start<'a>(parser: &mut Parser<'a>) -> Result<ModuleField<'a>>
+    ensures reads { ReadsAt turns_too (owning field_view bare_field) (made a_start start) result
+        parser.old parser.new }
 {
     parser.keyword("start")?;
-    Index::parse(parser)
+    let index = Index::parse(parser)?;
+    Ok(ModuleField::Start(index))
 }
 
 /// The function to start with, an element or data segment, or a custom section.
@@ -93,15 +95,15 @@ fn read_start_or_later<'a>(parser: &mut Parser<'a>) -> Result<ModuleField<'a>>
         parser.new }
 {
     if parser.next_is("start") {
-        return Ok(ModuleField::Start(read_start(parser)?));
+        return read_start(parser);
     }
     if parser.next_is("elem") {
-        return Ok(ModuleField::Elem(Elem::parse(parser)?));
+        return read_as::<Elem>(parser);
     }
     if parser.next_is("data") {
-        return Ok(ModuleField::Data(Data::parse(parser)?));
+        return read_as::<Data>(parser);
     }
-    Ok(ModuleField::Custom(Custom::parse(parser)?))
+    read_as::<Custom>(parser)
 }
 
 /// A global, an export, a tag, or one of the last.
@@ -112,13 +114,13 @@ fn read_global_or_later<'a>(parser: &mut Parser<'a>) -> Result<ModuleField<'a>>
         parser.new }
 {
     if parser.next_is("global") {
-        return Ok(ModuleField::Global(Global::parse(parser)?));
+        return read_as::<Global>(parser);
     }
     if parser.next_is("export") {
-        return Ok(ModuleField::Export(Export::parse(parser)?));
+        return read_as::<Export>(parser);
     }
     if parser.next_is("tag") {
-        return Ok(ModuleField::Tag(Tag::parse(parser)?));
+        return read_as::<Tag>(parser);
     }
     read_start_or_later(parser)
 }
@@ -131,13 +133,13 @@ fn read_func_or_later<'a>(parser: &mut Parser<'a>) -> Result<ModuleField<'a>>
         parser.new }
 {
     if parser.next_is("func") {
-        return Ok(ModuleField::Func(Func::parse(parser)?));
+        return read_as::<Func>(parser);
     }
     if parser.next_is("table") {
-        return Ok(ModuleField::Table(Table::parse(parser)?));
+        return read_as::<Table>(parser);
     }
     if parser.next_is("memory") {
-        return Ok(ModuleField::Memory(Memory::parse(parser)?));
+        return read_as::<Memory>(parser);
     }
     read_global_or_later(parser)
 }
@@ -157,13 +159,13 @@ impl<'a> Parse<'a> for ModuleField<'a> {
     #[tactic(auto, unfolding(crate::specs::Field::module_field))]
     fn parse(parser: &mut Parser<'a>) -> Result<Self> {
         if parser.next_is("type") {
-            return Ok(ModuleField::Type(Type::parse(parser)?));
+            return read_as::<Type>(parser);
         }
         if parser.next_is("rec") {
-            return Ok(ModuleField::Rec(Rec::parse(parser)?));
+            return read_as::<Rec>(parser);
         }
         if parser.next_is("import") {
-            return Ok(ModuleField::Import(Imports::parse(parser)?));
+            return read_as::<Imports>(parser);
         }
         read_func_or_later(parser)
     }

@@ -9,6 +9,7 @@
 #![tactic(auto)]
 
 pub mod field;
+mod field_of;
 pub mod laws;
 pub mod module;
 pub mod text;
