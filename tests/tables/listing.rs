@@ -5,8 +5,8 @@ use bumpalo::Bump;
 use std::alloc::{AllocError, Global};
 use std::test::Fail;
 use wat_expr::{BranchHint, Expression};
+use wat_listing::expressions::add_expression;
 use wat_show::Mode;
-use wat_show::expressions::add_expression;
 
 fn hints_of(alloc: Global, hints: &[(usize, u32)]) -> Result<Vec<BranchHint>, AllocError> {
     let mut made = Vec::new(alloc);

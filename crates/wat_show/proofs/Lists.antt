@@ -10,9 +10,6 @@ use Rattle.wat_core.specs.declared.module.ModuleKindOf.TheVariants as code
 use Rattle.wat_show.specs.Fields.{field_text}
 use Rattle.wat_show.specs.Modules.{text_lines, kind_text, kind_listing}
 
--- what is made of each value that is seen is made of each value
-pub ruleset of_seen = (flat_map-map)
-
 -- what is listed of the fields is what is added of each
 pub kind_listed : (k : ModuleKindOf ModuleField Piece) → kind_listing (λ f. field_text (field_view f)) (λ s. s.now) k ≡ kind_text (module_kind_view k)
 kind_listed (code.Text fs) =

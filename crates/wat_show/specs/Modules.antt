@@ -3,8 +3,9 @@ use Rattle.std.specs.Prelude.{List, ℕ, ◌++◌, length, map, flat_map, codes}
 use Rattle.wat_core.specs.Module.{ModuleTy, ModuleKindTy, text, binary}
 use Rattle.wat_core.specs.declared.module.ModuleKindOf.{ModuleKindOf}
 use Rattle.wat_core.specs.declared.module.ModuleKindOf.TheVariants as code
-use Rattle.wat_show.specs.Fields.{byte_count, field_text}
-use Rattle.wat_show.specs.Written.{counted}
+use Rattle.wat_listing.specs.Fields.{byte_count}
+use Rattle.wat_listing.specs.Written.{counted}
+use Rattle.wat_show.specs.Fields.{field_text}
 
 -- `text`, how many fields, and below that what is listed of them
 abbrev pub text_lines : ℕ → List ℕ → List ℕ

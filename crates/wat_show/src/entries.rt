@@ -2,15 +2,11 @@
 
 ghost use Rattle.std.specs.Prelude.{◌≡◌, ◌++◌, ℕ, List, OnOk, flat_map};
 ghost use Rattle.wat_core.specs.Field.{field_view};
-ghost use Rattle.wat_expr.specs.Expression.{expression_view};
-ghost use Rattle.wat_show.specs.Expressions.{below};
 ghost use Rattle.wat_show.specs.Fields.{field_text};
 
-use crate::expressions::add_below;
 use crate::fields::add_field;
 use std::alloc::AllocError;
 use wat_core::ModuleField;
-use wat_expr::Expression;
 
 /// A value in a list of its kind.
 pub trait Entry {
@@ -20,14 +16,6 @@ pub trait Entry {
     /// Adds it to an output.
     fn add_to(&self, out: &mut Vec<u8>) -> Result<(), AllocError>
         ensures { OnOk result (out.new.items ≡ out.old.items ++ text self.now) };
-}
-
-impl<'a> Entry for Expression<'a> {
-    ghost text = { λ expression. below (expression_view expression) };
-
-    fn add_to(&self, out: &mut Vec<u8>) -> Result<(), AllocError> {
-        add_below(out, self)
-    }
 }
 
 impl<'a> Entry for ModuleField<'a> {

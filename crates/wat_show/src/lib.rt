@@ -1,23 +1,17 @@
 //! What the program `watshow` shows: it reads all bytes, makes its whole output from them, and
-//! writes that. Beside the listing there is the run over a reader and a writer, and the calls that
-//! add to an output.
+//! writes that. Beside the run over a reader and a writer there is the listing of a module.
 #![tactic(auto)]
 
 pub mod entries;
 pub mod error;
-pub mod expressions;
 pub mod fields;
 pub mod forget;
 pub mod input;
-pub mod instructions;
-pub mod listing;
 pub mod mode;
 pub mod modules;
 pub mod output;
-pub mod pieces;
 pub mod show;
 pub mod shown;
-pub mod text;
 pub mod value;
 pub mod watched;
 pub mod whole;

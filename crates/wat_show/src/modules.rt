@@ -5,10 +5,10 @@ ghost use Rattle.wat_core.specs.Module.{module_view};
 ghost use Rattle.wat_show.specs.Modules.{kind_listing, module_text};
 
 use crate::entries::{Entry, add_entries};
-use crate::pieces::{Piece, total};
-use crate::text::add_counted;
 use std::alloc::AllocError;
 use wat_core::{Module, ModuleKindOf};
+use wat_listing::pieces::{Piece, total};
+use wat_listing::text::add_counted;
 
 /// Adds the line of what is in a module, and below it what is added of its fields.
 fn add_kind<F: Entry, P: Piece>(

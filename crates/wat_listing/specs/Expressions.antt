@@ -1,0 +1,43 @@
+-- How expressions are listed.
+use Rattle.std.specs.Prelude.{◌≡◌, ◌==◌, ℕ, ◌+◌, ◌<◌, List, [], ◌∷◌, ◌++◌, length, codes, decimal}
+use Rattle.std.specs.Prelude.{Option, Some, None, if◌then◌else◌}
+use Rattle.std.proofs.Common.{get_or}
+use Rattle.wat_expr.specs.Expression.{Expr}
+use Rattle.wat_instr.specs.Instruction.{Instr}
+use Rattle.wat_listing.specs.Instructions.{instr_text}
+
+-- the value of the first hint that has the index, where one has it
+abbrev pub hint_at : List (ℕ × ℕ) → ℕ → Option ℕ
+hint_at [] k = None
+hint_at (h ∷ hs) k = if h.0 == k then Some h.1 else hint_at hs k
+
+-- ` hint ` and its value
+abbrev pub hint_text : Option ℕ → List ℕ
+hint_text None = []
+hint_text (Some v) = codes " hint " ++ decimal v
+
+-- a prefix, an instruction and its hint, on a line
+abbrev pub line : List ℕ → Instr → Option ℕ → List ℕ
+line front i hint = front ++ (instr_text i ++ (hint_text hint ++ codes "\n"))
+
+-- Instructions, one a line behind the prefix, the first of which has the index k; each with what
+-- hint says of its index.
+abbrev pub lines : List ℕ → (ℕ → Option ℕ) → ℕ → List Instr → List ℕ
+lines front hint k [] = []
+lines front hint k (i ∷ is) = line front i (hint k) ++ lines front hint (k + 1) is
+
+-- its instructions, one a line behind the prefix, each with the hint that has its index
+unfoldable pub lines_of : List ℕ → Expr → List ℕ
+lines_of front e = lines front (hint_at e.hints) 0 e.instrs
+
+-- its instructions, one a line
+abbrev pub expression_text : Expr → List ℕ
+expression_text e = lines_of [] e
+
+-- the same below another line: each behind two spaces
+abbrev pub below : Expr → List ℕ
+below e = lines_of (codes "  ") e
+
+-- for each index below their number, the hint that has it
+abbrev pub AreMarks : List (ℕ × ℕ) → List (Option ℕ) → Type 0
+AreMarks hints marks = (k : ℕ) → k < length marks → get_or marks k None ≡ hint_at hints k
