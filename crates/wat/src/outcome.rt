@@ -96,11 +96,7 @@ fn said_of_text(
 {
     let arena = Bump::new(alloc);
     match module_of(alloc, text, &arena) {
-        Ok(module) => {
-            let said = said_of_module(alloc, task, &module);
-            module.discard();
-            Ok((said?, 0))
-        }
+        Ok(module) => Ok((said_of_module(alloc, task, &module)?, 0)),
         Err(error) => refused(alloc, task, name, text, error),
     }
 }

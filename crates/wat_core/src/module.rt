@@ -20,13 +20,12 @@ ghost use Rattle.wat_core.specs.Module.{module_view, bare_module, module_};
 ghost use Rattle.wat_core.specs.FieldGroup.{field_group};
 
 use crate::field::ModuleField;
-use std::mem;
 use wat_tokens::repeat::{Part, all_parts, all_to_end};
 use wat_tokens::whole::in_parens;
 use wat_tokens::{Id, NameAnnotation, Parse, Parser, Result, Span};
 
 /// A module (WebAssembly Core Specification, Text Format, "Modules").
-#[derive(Debug, Drop)]
+#[derive(Debug)]
 pub struct Module<'a> {
     /// Where the word `module` begins.
     pub span: Span,
@@ -36,6 +35,19 @@ pub struct Module<'a> {
     pub name: Option<NameAnnotation<'a>>,
     /// What is in it.
     pub kind: ModuleKind<'a>,
+}
+
+/// It is written out, and proved once, here. Were it derived, each crate that drops a module would prove
+/// the drop of each of its parts once more, which takes the prover minutes.
+impl Drop for Module<'_> {
+    fn drop(self) {
+        let Module {
+            span: _,
+            id: _,
+            name: _,
+            kind: _,
+        } = self;
+    }
 }
 
 /// What is in a module, generic in what a field and a piece are: see [`ModuleKind`].
@@ -172,18 +184,5 @@ impl<'a> Module<'a> {
             Ok(named) => Ok(named.0),
             Err(error) => Err(error),
         }
-    }
-
-    /// Gives back the memory that the module holds, as dropping it does.
-    ///
-    /// It is proved here once. A crate that drops a module itself proves the drop of each of its
-    /// parts once more, which takes the prover a minute or two.
-    pub fn discard(self) {}
-
-    /// Doesn't give back the memory that the module holds, as a program may that ends soon.
-    ///
-    /// It is proved here once, as [`discard`](Module::discard) is.
-    pub fn forget(self) {
-        mem::forget(self);
     }
 }

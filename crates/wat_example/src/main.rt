@@ -33,9 +33,7 @@ pub fn exported(alloc: Global, text: &str) -> Result<String, Error>
     let arena = Bump::new(alloc);
     let module = read_module(alloc, text, &arena)?;
     let mut out = String::new(alloc);
-    let added = listing::add_module(&mut out, &module);
-    module.discard();
-    added?;
+    listing::add_module(&mut out, &module)?;
     Ok(out)
 }
 

@@ -22,7 +22,6 @@ ghost use Rattle.wat_tokens.specs.Views.{owning};
 use crate::reader::Reader;
 use crate::take::read_behind;
 use std::alloc::Global;
-use std::mem;
 use wat_instr::{Instruction, LabelOp, Mnemonic};
 use wat_tokens::ownership::push_into;
 use wat_tokens::{Error, Fault, Parse, Parser, Result, Span};
@@ -42,7 +41,7 @@ pub struct BranchHint {
 ///
 /// Folded instructions are behind their operands, and a block that was written as a group is
 /// followed by `end` (Text Format, "Folded Instructions").
-#[derive(Debug, Drop)]
+#[derive(Debug)]
 pub struct Expression<'a> {
     /// The instructions, in order.
     pub instrs: Vec<Instruction<'a>>,
@@ -51,6 +50,18 @@ pub struct Expression<'a> {
     /// Where each instruction's word begins, where the parser was told to keep it. An `end` that
     /// was added begins at the `)` of its group.
     pub instr_spans: Option<Vec<Span>>,
+}
+
+/// It is written out, and proved once, here. Were it derived, each crate that drops an expression would
+/// prove the drop of each of its parts once more.
+impl Drop for Expression<'_> {
+    fn drop(self) {
+        let Expression {
+            instrs: _,
+            branch_hints: _,
+            instr_spans: _,
+        } = self;
+    }
 }
 
 /// Puts a hint behind the others, where there is one; `index` is that of its instruction. Memory
@@ -209,14 +220,6 @@ impl<'a> Expression<'a> {
             (λ e. e.fault ≡ Fault.Memory) }
     {
         self.push(Instruction::Label(LabelOp::end, None), span)
-    }
-
-    /// Doesn't give back the memory that the expression holds, as a program may that ends soon.
-    ///
-    /// It is proved here once. A crate that passes an expression to `std::mem::forget` itself proves
-    /// the drop of each of its parts once more.
-    pub fn forget(self) {
-        mem::forget(self);
     }
 }
 

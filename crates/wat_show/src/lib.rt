@@ -5,7 +5,6 @@
 pub mod entries;
 pub mod error;
 pub mod fields;
-pub mod forget;
 pub mod input;
 pub mod mode;
 pub mod modules;

@@ -14,12 +14,12 @@ ghost use Rattle.wat_tokens.specs.Error.{Memory};
 ghost use Rattle.wat_types.specs.Function.{function_view, function_type};
 ghost use Rattle.wat_types.specs.Group.{FuncTy};
 
-use crate::forget::Forget;
 use crate::modules::add_module;
 use crate::shown::refused;
 use crate::whole::{read_module, read_whole};
 use bumpalo::Bump;
 use std::alloc::{AllocError, Global};
+use std::mem::forget;
 use wat_core::Module;
 use wat_expr::{Expression, FoldedInstruction};
 use wat_listing::expressions::add_expression;
@@ -28,7 +28,7 @@ use wat_tokens::Error;
 use wat_types::FunctionType;
 
 /// A type whose values are read from a text and listed.
-pub trait Listed<'a>: Forget {
+pub trait Listed<'a>: Sized {
     /// What contracts see of a value.
     ghost View: { Type 0 };
 
@@ -123,7 +123,7 @@ impl<'a> Listed<'a> for Module<'a> {
 }
 
 /// What is shown of a text that is to be a value of the type.
-pub fn show_value<'a, T: Listed<'a>>(
+pub fn show_value<'a, T: Listed<'a> + Drop>(
     alloc: Global,
     text: &'a str,
     arena: &'a Bump,
@@ -133,10 +133,9 @@ pub fn show_value<'a, T: Listed<'a>>(
     match T::read(alloc, text, arena) {
         Ok(value) => {
             let mut out = Vec::new(alloc);
-            let listed = value.list(&mut out);
+            value.list(&mut out)?;
             // The program ends behind its listing, and gives all back at once then.
-            value.forget();
-            listed?;
+            forget(value);
             Ok((out, 0))
         }
         Err(error) => refused(alloc, error),

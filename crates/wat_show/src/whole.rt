@@ -6,16 +6,14 @@ ghost use Rattle.wat_show.specs.Whole.{TextSpells, SpelledModule};
 ghost use Rattle.wat_tokens.specs.Error.{Memory};
 ghost use Rattle.wat_tokens.specs.Token.{RParen};
 
-use crate::forget::Forget;
 use bumpalo::Bump;
 use std::alloc::Global;
 use wat_core::Module;
 use wat_tokens::{Error, Parse, Parser, one_cut};
 
-/// Reads the value that the whole text spells. A token that is left over is Unexpected. Then what
-/// was read isn't given back: a program ends behind a refusal.
+/// Reads the value that the whole text spells. A token that is left over is Unexpected.
 #[tactic(auto, using(wat_tokens::specs::Laws::Refuses::refused_read))]
-pub fn read_whole<'a, T: Parse<'a> + Forget>(
+pub fn read_whole<'a, T: Parse<'a> + Drop>(
     alloc: Global,
     text: &'a str,
     arena: &'a Bump,
@@ -27,29 +25,23 @@ pub fn read_whole<'a, T: Parse<'a> + Forget>(
     one_cut();
     let mut parser = Parser::new(alloc, text, arena)?;
     let value = T::parse(&mut parser)?;
-    if parser.at_end() {
-        return Ok(value);
+    if !parser.at_end() {
+        return Err(parser.unexpected());
     }
-    value.forget();
-    Err(parser.unexpected())
+    Ok(value)
 }
 
-/// Takes what closes the group of a value, and nothing may be left. The value is passed on; where
-/// that is refused, it isn't given back.
-fn closed<'a, T: Forget>(parser: &mut Parser<'a>, value: T) -> Result<T, Error>
+/// Takes what closes the group of a value, and nothing may be left. The value is passed on.
+fn closed<'a, T: Drop>(parser: &mut Parser<'a>, value: T) -> Result<T, Error>
     ensures value { IfOk result (λ v. v ≡ value) }
     ensures stands { IfOk result (λ _. parser.old.left ≡ RParen ∷ []) }
     ensures refused { IfErr result (λ _. parser.old.left ≢ RParen ∷ []) }
 {
-    if let Err(error) = parser.close() {
-        value.forget();
-        return Err(error);
+    parser.close()?;
+    if !parser.at_end() {
+        return Err(parser.unexpected());
     }
-    if parser.at_end() {
-        return Ok(value);
-    }
-    value.forget();
-    Err(parser.unexpected())
+    Ok(value)
 }
 
 /// Reads the module that the whole text spells, between its parentheses. A token that is left over

@@ -17,7 +17,7 @@ fn fields_of(alloc: Allocator, text: &str) -> Result<usize, Fail> {
         ModuleKind::Text(fields) => fields.len(),
         ModuleKind::Binary(_) => 0,
     };
-    module.discard();
+    ownership::discard(module);
     arena.reset()?;
     Ok(fields)
 }

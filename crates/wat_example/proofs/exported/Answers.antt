@@ -12,4 +12,4 @@ returns-in_err-module-clause-only c =
 pub returns-clause-only : goal.returns-clause-only
 returns-clause-only c =
     let here = module_lines (module_view c.in_ok-module.module) in
-    λ m spells. c.in_ok-added.ensures ∙ ap (λ (l : List ℕ). l ++ here) c.new-out.ensures.bytes ∙ ap module_lines (c.in_ok-module.ensures.only m spells)
+    λ m spells. c.in_ok-add_module.ensures ∙ ap (λ (l : List ℕ). l ++ here) c.new-out.ensures.bytes ∙ ap module_lines (c.in_ok-module.ensures.only m spells)
