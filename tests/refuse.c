@@ -2,7 +2,8 @@
    one on: of those that ask for memory (REFUSE_MEMORY is the number of the call, the first being 1), or of those that read standard
    input or write standard output (REFUSE_IO). Where REFUSE_LASTS is set, each call behind that one is refused too. To the file of the
    number REFUSE_TELLS it writes '!' where a call was refused, 's' behind it where that call asked for no more bytes than its block has,
-   and '<' where the next call for memory asks for less than the refused one. No headers are needed to compile it. */
+   and '<' where the next call for memory asks for less than the refused one. Where REFUSE_BLOCKS is set, it writes '+' for each block
+   that is taken, and '-' for each that is given back. No headers are needed to compile it. */
 
 typedef unsigned long size;
 
@@ -10,6 +11,7 @@ enum { INPUT_OUTPUT_ERROR = 5, NO_MEMORY = 12 };
 
 extern void *__libc_malloc(size bytes);
 extern void *__libc_realloc(void *old, size bytes);
+extern void __libc_free(void *block);
 extern size malloc_usable_size(void *block);
 extern long __read(int file, void *to, size bytes);
 extern long __write(int file, const void *from, size bytes);
@@ -57,12 +59,28 @@ static int is_memory_refused(void *old, size bytes) {
     return 1;
 }
 
+/* Tells of a block that is taken or given back, if there is one. */
+static void tell_block(void *block, const char *what) {
+    if (block && number_of("REFUSE_BLOCKS"))
+        tell(what);
+}
+
 void *malloc(size bytes) {
-    return is_memory_refused(0, bytes) ? 0 : __libc_malloc(bytes);
+    void *block = is_memory_refused(0, bytes) ? 0 : __libc_malloc(bytes);
+    tell_block(block, "+");
+    return block;
 }
 
 void *realloc(void *old, size bytes) {
-    return is_memory_refused(old, bytes) ? 0 : __libc_realloc(old, bytes);
+    void *block = is_memory_refused(old, bytes) ? 0 : __libc_realloc(old, bytes);
+    if (!old)
+        tell_block(block, "+");
+    return block;
+}
+
+void free(void *block) {
+    tell_block(block, "-");
+    __libc_free(block);
 }
 
 long read(int file, void *to, size bytes) {
