@@ -314,9 +314,9 @@ fn nested(alloc: Global, open: &str, close: &str, times: usize) -> Result<String
     repeated(alloc, front.as_str(), close, times, "")
 }
 
-/// How often the tests below nest, in two sizes, so that a time that grows faster than the text is
-/// seen as a test that doesn't end.
-const DEPTHS: [usize; 2] = [100000, 1000000];
+/// How often the tests below nest. (`tests/program_runs` nests them a million times, in a program
+/// without the checks at each access that are compiled in here.)
+const DEPTHS: [usize; 2] = [10_000, 100_000];
 
 #[test]
 fn deep_comments_are_passed_over(rt: HostRuntime) -> Result<(), Fail> {

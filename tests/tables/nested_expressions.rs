@@ -1,4 +1,5 @@
-//! Expressions of 100,000 nested parts.
+//! Expressions of 20,000 nested parts. (`tests/program_runs` nests a million, in a program without
+//! the checks at each access that are compiled in here.)
 
 use crate::reading::nested;
 use crate::whole_expressions::{Mode, read_whole, refusal_of};
@@ -9,7 +10,7 @@ use std::test::Fail;
 use wat_tokens::{Error, Fault};
 
 /// How many parts are nested.
-const TIMES: usize = 100_000;
+const TIMES: usize = 20_000;
 
 /// How many instructions a whole text is read as.
 fn count_of(alloc: Global, mode: Mode, text: &str) -> Result<usize, Error> {
@@ -36,17 +37,17 @@ fn has_count(
 
 #[test]
 fn deep_blocks(rt: HostRuntime) -> Result<(), Fail> {
-    has_count(&rt, rt.alloc(), Mode::WrittenOut, "(block", ")", 200_000)
+    has_count(&rt, rt.alloc(), Mode::WrittenOut, "(block", ")", 2 * TIMES)
 }
 
 #[test]
 fn deep_groups(rt: HostRuntime) -> Result<(), Fail> {
-    has_count(&rt, rt.alloc(), Mode::WrittenOut, "(nop ", ")", 100_000)
+    has_count(&rt, rt.alloc(), Mode::WrittenOut, "(nop ", ")", TIMES)
 }
 
 #[test]
 fn deep_conditions(rt: HostRuntime) -> Result<(), Fail> {
-    has_count(&rt, rt.alloc(), Mode::WrittenOut, "(if", "(then))", 200_000)
+    has_count(&rt, rt.alloc(), Mode::WrittenOut, "(if", "(then))", 2 * TIMES)
 }
 
 #[test]
@@ -57,13 +58,13 @@ fn deep_arms(rt: HostRuntime) -> Result<(), Fail> {
         Mode::WrittenOut,
         "(if (then",
         "))",
-        200_000,
+        2 * TIMES,
     )
 }
 
 #[test]
 fn deep_folded_instructions(rt: HostRuntime) -> Result<(), Fail> {
-    has_count(&rt, rt.alloc(), Mode::Folded, "(nop", ")", 100_000)
+    has_count(&rt, rt.alloc(), Mode::Folded, "(nop", ")", TIMES)
 }
 
 #[test]
@@ -74,17 +75,17 @@ fn deep_and_refused(rt: HostRuntime) -> Result<(), Fail> {
             Mode::WrittenOut,
             "(block",
             ")",
-            99_999,
+            TIMES - 1,
             Fault::Operator,
-            699_999,
+            139_999,
         ),
         (
             Mode::Folded,
             "(nop",
             ")",
-            99_999,
+            TIMES - 1,
             Fault::Unexpected,
-            499_999,
+            99_999,
         ),
         (
             Mode::WrittenOut,
@@ -92,7 +93,7 @@ fn deep_and_refused(rt: HostRuntime) -> Result<(), Fail> {
             ")",
             1,
             Fault::IfWithoutThen,
-            300_000,
+            60_000,
         ),
     ] {
         let text = nested(alloc, first, TIMES, second, more)?;

@@ -164,7 +164,7 @@ const BLOCKS: &[(&str, &str)] = &[
 fn deep_nesting(rt: HostRuntime) -> Result<(), Fail> {
     let mut wrong = String::new(rt.alloc());
     for &block in BLOCKS {
-        let text = nest(rt.alloc(), block, 100_000)?;
+        let text = nest(rt.alloc(), block, 20_000)?;
         add_otherwise(&mut wrong, &text, Layout::Line, &text)?;
     }
     assert!(rt; wrong.is_empty());
@@ -176,12 +176,12 @@ fn lines_of_deep_nesting(rt: HostRuntime) -> Result<(), Fail> {
     let alloc = rt.alloc();
     let mut wrong = String::new(alloc);
     for &block in BLOCKS {
-        let text = nest(alloc, block, 5_000)?;
+        let text = nest(alloc, block, 2_000)?;
         match reprinted(alloc, &text, Layout::Indented) {
             Ok(indented) => {
                 add_otherwise(&mut wrong, &indented, Layout::Line, &text)?;
                 // (a line begins with 50 times two spaces at most)
-                assert!(rt; indented.len() < text.len() + 4 * 5_000 * 100);
+                assert!(rt; indented.len() < text.len() + 4 * 2_000 * 100);
             }
             Err(error) => write!(wrong, "{error:?}\n")?,
         }

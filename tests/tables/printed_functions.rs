@@ -197,13 +197,13 @@ fn deep_bodies(rt: HostRuntime) -> Result<(), Fail> {
     let alloc = rt.alloc();
     let arena = Bump::new(alloc);
     let mut wrong = String::new(alloc);
-    let opened = repeated(alloc, "func ", "(i32.eqz ", 10_000, "(i32.const 0)")?;
-    let text: &str = arena.try_alloc_str(&repeated(alloc, &opened, ")", 10_000, "")?)?;
+    let opened = repeated(alloc, "func ", "(i32.eqz ", 4_000, "(i32.const 0)")?;
+    let text: &str = arena.try_alloc_str(&repeated(alloc, &opened, ")", 4_000, "")?)?;
     let wanted: &str =
-        arena.try_alloc_str(&repeated(alloc, "func i32.const 0", " i32.eqz", 10_000, "")?)?;
+        arena.try_alloc_str(&repeated(alloc, "func i32.const 0", " i32.eqz", 4_000, "")?)?;
     add_misprinted_parts::<Func>(&mut wrong, &arena, &[(text, wanted)])?;
-    let opened = repeated(alloc, "func", " block", 10_000, "")?;
-    let text: &str = arena.try_alloc_str(&repeated(alloc, &opened, " end", 10_000, "")?)?;
+    let opened = repeated(alloc, "func", " block", 4_000, "")?;
+    let text: &str = arena.try_alloc_str(&repeated(alloc, &opened, " end", 4_000, "")?)?;
     add_changed_parts::<Func>(&mut wrong, &arena, &[text])?;
     assert_eq!(rt; wrong.as_str(), "");
     Ok(())
