@@ -176,12 +176,12 @@ fn lines_of_deep_nesting(rt: HostRuntime) -> Result<(), Fail> {
     let alloc = rt.alloc();
     let mut wrong = String::new(alloc);
     for &block in BLOCKS {
-        let text = nest(alloc, block, 2_000)?;
+        let text = nest(alloc, block, 5_000)?;
         match reprinted(alloc, &text, Layout::Indented) {
             Ok(indented) => {
                 add_otherwise(&mut wrong, &indented, Layout::Line, &text)?;
                 // (a line begins with 50 times two spaces at most)
-                assert!(rt; indented.len() < text.len() + 4 * 2_000 * 100);
+                assert!(rt; indented.len() < text.len() + 4 * 5_000 * 100);
             }
             Err(error) => write!(wrong, "{error:?}\n")?,
         }
