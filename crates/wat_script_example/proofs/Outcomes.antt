@@ -1,9 +1,9 @@
 -- From what is said of the script that was read to what is said of the script that the text spells.
-use Rattle.std.proofs.Common.{◌≡◌, ◌∙◌, ap, subst, ℕ, List, [], ◌∷◌, true, Some, map}
-use Rattle.std.specs.Prelude.{Result, Ok, Err, IfOk, IfErr, MatchResult, slice_get}
+use Rattle.std.proofs.Common.{◌≡◌, ◌∙◌, ap, subst, ℕ, List, true}
+use Rattle.std.specs.Prelude.{Result, Ok, Err, IfOk, IfErr, MatchResult}
 use Rattle.wat_script_example.specs.Directive.{DirectiveTy}
 use Rattle.wat_script_example.specs.Listing.{script_lines}
-use Rattle.wat_script_example.specs.Script.{SpellsScript, module_first, is_module, MayRefuse}
+use Rattle.wat_script_example.specs.Script.{SpellsScript, module_first, MayRefuse}
 use Rattle.wat_script_example.specs.Script.{NoneFirst}
 use Rattle.wat_script_example.specs.declared.script.ScriptError.{ScriptError}
 use Rattle.wat_script_example.specs.declared.script.ScriptError.TheVariants.{Text, NoModule}
@@ -34,9 +34,3 @@ pub only_of : {O : Type 0} (bytes : O → List ℕ) (v s : List DirectiveTy)
 only_of bytes v s (Ok out) same h = h.1 ∙ ap script_lines same
 only_of bytes v s (Err e) same h =
     let P : List DirectiveTy → Type 0 = λ w. MayRefuse w e in subst P same h
-
--- the first directive
-pub first_is : {A : Type 0} (f : A → DirectiveTy) (xs : List A) (x : A)
-    → Some x ≡ slice_get xs 0 → module_first (map f xs) ≡ is_module (f x)
-first_is f [] x e = cc
-first_is f (y ∷ ys) x e = cc

@@ -6,7 +6,7 @@ use Rattle.wat_core.specs.Module.{ModuleTy, module_view, module_}
 use Rattle.wat_core.specs.Parts.{made, where_else}
 use Rattle.wat_core.specs.Production.{Production}
 use Rattle.wat_core.specs.Tests.{begins_group}
-use Rattle.wat_core.specs.declared.module.«Module».{«Module»}
+use Rattle.wat_core.specs.declared.module.VisibleModule.{VisibleModule}
 use Rattle.wat_script_example.specs.Invoke.{InvokeTy, invoke_view, bare_invoke, invoke}
 use Rattle.wat_script_example.specs.Invoke.{AssertReturnTy, assert_return_view, bare_assert_return}
 use Rattle.wat_script_example.specs.Invoke.{assert_return}
@@ -25,24 +25,20 @@ pub data DirectiveTy : Type 0 where
 
 -- a directive as the code has it
 abbrev pub Directive : Type 0
-Directive = DirectiveOf (Box «Module») Invoke AssertReturn
+Directive = DirectiveOf (Box VisibleModule) Invoke AssertReturn
 
 -- a module in its box
-abbrev pub boxed_view : Box «Module» → ModuleTy
-boxed_view b = module_view b.value
+abbrev pub boxed_view : Box VisibleModule → ModuleTy
+boxed_view b = module_view b.value.0
 
 abbrev pub directive_view : Directive → DirectiveTy
 directive_view (code.«Module» m) = a_module (boxed_view m)
 directive_view (code.Invoke i) = an_invoke (invoke_view i)
 directive_view (code.AssertReturn a) = an_assert_return (assert_return_view a)
 
--- a box is memory
-abbrev pub never_bare : ModuleTy → Bool
-never_bare m = false
-
--- what the value of its kind says
+-- a box is memory; of the others, what the value of its kind says
 abbrev pub bare_directive : DirectiveTy → Bool
-bare_directive (a_module m) = never_bare m
+bare_directive (a_module m) = false
 bare_directive (an_invoke i) = bare_invoke i
 bare_directive (an_assert_return a) = bare_assert_return a
 

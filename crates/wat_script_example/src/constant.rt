@@ -8,7 +8,7 @@ ghost use Rattle.wat_script_example.specs.Constant.{typed_constant};
 use wat_core::{Parse, Parser, Result};
 
 /// A constant.
-#[derive(Clone, Copy, Debug)]
+#[derive(Clone, Copy)]
 pub enum Constant {
     /// `(i32.const ..)`.
     I32(i32),

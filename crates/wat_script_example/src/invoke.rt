@@ -10,7 +10,7 @@ use wat_core::repeat::all_to_end;
 use wat_core::{Id, Parse, Parser, Result, Span};
 
 /// A call of an exported function.
-#[derive(Debug, Drop)]
+#[derive(Drop)]
 pub struct Invoke<'a> {
     /// Where the word `invoke` begins.
     pub span: Span,
@@ -46,7 +46,7 @@ impl<'a> Parse<'a> for Invoke<'a> {
 }
 
 /// What a call has to answer.
-#[derive(Debug, Drop)]
+#[derive(Drop)]
 pub struct AssertReturn<'a> {
     /// Where the word `assert_return` begins.
     pub span: Span,

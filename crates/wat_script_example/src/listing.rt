@@ -86,7 +86,7 @@ fn add_directive(out: &mut String, directive: &Directive) -> Result<(), AllocErr
         (directive_view directive.now)) }
 {
     match directive {
-        Directive::Module(module) => add_module(out, module),
+        Directive::Module(module) => add_module(out, &module.0),
         Directive::Invoke(call) => {
             out.push_str("call")?;
             add_call(out, call)?;

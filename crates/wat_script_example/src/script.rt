@@ -58,7 +58,7 @@ impl fmt::Display for ScriptError {
 }
 
 /// A script: directives, one behind the other.
-#[derive(Debug, Drop)]
+#[derive(Drop)]
 pub struct Script<'a> {
     /// Its directives.
     pub directives: Vec<Directive<'a>>,
@@ -122,10 +122,10 @@ pub fn too_early(script: &[Directive]) -> Option<Span>
     ensures { MatchOption result (module_first (directives_view script.now) ≡ true)
         (λ _. module_first (directives_view script.now) ≡ false) }
 {
-    match script.first() {
-        None => None,
-        Some(directive) => word_of_call(directive),
+    if script.is_empty() {
+        return None;
     }
+    word_of_call(&script[0])
 }
 
 /// Reads the script that the whole text spells. Where the text spells none, it is refused with the
