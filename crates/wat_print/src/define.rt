@@ -44,22 +44,21 @@ pub fn write_kind(out: &mut Output, kind: &InnerTypeKind) -> Result<(), Refused>
     match kind {
         InnerTypeKind::Func(function) => {
             out.word("func")?;
-            write_function(out, function)?;
+            write_function(out, function)
         }
         InnerTypeKind::Struct(structure) => {
             out.word("struct")?;
-            write_struct(out, structure)?;
+            write_struct(out, structure)
         }
         InnerTypeKind::Array(array) => {
             out.word("array")?;
-            write_array(out, array)?;
+            write_array(out, array)
         }
         InnerTypeKind::Cont(cont) => {
             out.word("cont")?;
-            write_index(out, &cont.0)?;
+            write_index(out, &cont.0)
         }
     }
-    Ok(())
 }
 
 /// `( word idx )`, where there is an index.
@@ -75,8 +74,7 @@ fn write_link(out: &mut Output, word: &str, index: &Option<Index>) -> Result<(),
             out.open()?;
             out.word(word)?;
             write_index(out, index)?;
-            out.close()?;
-            Ok(())
+            out.close()
         }
         None => Ok(()),
     }
@@ -94,8 +92,7 @@ fn write_described(out: &mut Output, def: &TypeDef) -> Result<(), Refused>
     write_link(out, "descriptor", &def.descriptor)?;
     out.open()?;
     write_kind(out, &def.kind)?;
-    out.close()?;
-    Ok(())
+    out.close()
 }
 
 /// Writes that behind `shared`, where the definition is shared.
@@ -106,14 +103,12 @@ fn write_shared(out: &mut Output, def: &TypeDef) -> Result<(), Refused>
         → fit_described (def_view def.now) ≡ false) }
 {
     if !def.shared {
-        write_described(out, def)?;
-        return Ok(());
+        return write_described(out, def);
     }
     out.open()?;
     out.word("shared")?;
     write_described(out, def)?;
-    out.close()?;
-    Ok(())
+    out.close()
 }
 
 /// Writes indices, one behind the other.
@@ -145,8 +140,7 @@ fn write_sub(out: &mut Output, def: &TypeDef, is_final: bool) -> Result<(), Refu
     write_flag(out, "final", is_final)?;
     write_indices(out, &def.parents)?;
     write_shared(out, def)?;
-    out.close()?;
-    Ok(())
+    out.close()
 }
 
 /// Writes a definition in its parentheses (Text Format, Types, "Recursive Types"). One that is
@@ -162,8 +156,7 @@ pub fn write_def(out: &mut Output, def: &TypeDef) -> Result<(), Refused>
     if !def.parents.is_empty() {
         return Err(Refused::Parents);
     }
-    write_shared(out, def)?;
-    Ok(())
+    write_shared(out, def)
 }
 
 /// Writes a type, without its parentheses (Text Format, Types, "Recursive Types").
@@ -174,8 +167,7 @@ pub fn write_type(out: &mut Output, ty: &Type) -> Result<(), Refused>
 {
     out.word("type")?;
     write_label(out, &ty.id, &ty.name)?;
-    write_def(out, &ty.def)?;
-    Ok(())
+    write_def(out, &ty.def)
 }
 
 /// Writes a type in its parentheses, on a line of its own where the layout has lines.
@@ -187,8 +179,7 @@ fn write_grouped_type(out: &mut Output, ty: &Type) -> Result<(), Refused>
     out.line()?;
     out.open()?;
     write_type(out, ty)?;
-    out.close()?;
-    Ok(())
+    out.close()
 }
 
 /// Writes types in their parentheses, each on a line of its own where the layout has lines.
@@ -212,8 +203,7 @@ pub fn write_rec(out: &mut Output, group: &Rec) -> Result<(), Refused>
     ensures refused { IfErr result (λ e. e ≢ Memory → fit_rec (rec_view group.now) ≡ false) }
 {
     out.word("rec")?;
-    write_types(out, &group.types)?;
-    Ok(())
+    write_types(out, &group.types)
 }
 
 impl Print for ContType<'_> {
@@ -227,8 +217,7 @@ impl Print for ContType<'_> {
 
     #[tactic(auto, using(crate::specs::Laws::Written::puts_put))]
     fn write(&self, out: &mut Output) -> Result<(), Refused> {
-        write_index(out, &self.0)?;
-        Ok(())
+        write_index(out, &self.0)
     }
 }
 

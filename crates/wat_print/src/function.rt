@@ -33,8 +33,7 @@ fn write_param(
     ensures refused { IfErr result (λ e. e ≢ Memory → fit_param (param_view param.now) ≡ false) }
 {
     write_label(out, &param.0, &param.1)?;
-    write_val(out, &param.2)?;
-    Ok(())
+    write_val(out, &param.2)
 }
 
 /// Writes value types, one behind the other.
@@ -80,8 +79,7 @@ fn write_alone(
     out.open()?;
     out.word("param")?;
     write_param(out, param)?;
-    out.close()?;
-    Ok(())
+    out.close()
 }
 
 /// Writes parameters, each in a group of its own.
@@ -135,8 +133,7 @@ fn write_param_groups(
     out.open()?;
     out.word("param")?;
     write_params(out, params)?;
-    out.close()?;
-    Ok(())
+    out.close()
 }
 
 /// Writes results in one group, or none where there is no result.
@@ -153,8 +150,7 @@ fn write_result_groups(out: &mut Output, types: &[ValType]) -> Result<(), Refuse
     out.open()?;
     out.word("result")?;
     write_vals(out, types)?;
-    out.close()?;
-    Ok(())
+    out.close()
 }
 
 /// Writes a function type (Text Format, Types, "Composite Types"): its parameters, and then its
@@ -167,8 +163,7 @@ pub fn write_function(out: &mut Output, function: &FunctionType) -> Result<(), R
         → fit_function (function_view function.now) ≡ false) }
 {
     write_param_groups(out, &function.params)?;
-    write_result_groups(out, &function.results)?;
-    Ok(())
+    write_result_groups(out, &function.results)
 }
 
 impl Print for FunctionType<'_> {
@@ -182,7 +177,6 @@ impl Print for FunctionType<'_> {
 
     #[tactic(auto, using(crate::specs::Laws::Written::puts_put))]
     fn write(&self, out: &mut Output) -> Result<(), Refused> {
-        write_function(out, self)?;
-        Ok(())
+        write_function(out, self)
     }
 }

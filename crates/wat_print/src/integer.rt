@@ -27,7 +27,6 @@ impl Print for Integer<'_> {
         if Integer::of(text).is_none() {
             return Err(Refused::Integer);
         }
-        out.integer(text)?;
-        Ok(())
+        out.integer(text)
     }
 }

@@ -20,8 +20,7 @@ impl Print for kw::func {
 
     #[tactic(auto, using(crate::specs::Laws::Written::puts_put))]
     fn write(&self, out: &mut Output) -> Result<(), Refused> {
-        out.word("func")?;
-        Ok(())
+        out.word("func")
     }
 }
 
@@ -36,8 +35,7 @@ impl Print for kw::table {
 
     #[tactic(auto, using(crate::specs::Laws::Written::puts_put))]
     fn write(&self, out: &mut Output) -> Result<(), Refused> {
-        out.word("table")?;
-        Ok(())
+        out.word("table")
     }
 }
 
@@ -52,8 +50,7 @@ impl Print for kw::memory {
 
     #[tactic(auto, using(crate::specs::Laws::Written::puts_put))]
     fn write(&self, out: &mut Output) -> Result<(), Refused> {
-        out.word("memory")?;
-        Ok(())
+        out.word("memory")
     }
 }
 
@@ -68,8 +65,7 @@ impl Print for kw::global {
 
     #[tactic(auto, using(crate::specs::Laws::Written::puts_put))]
     fn write(&self, out: &mut Output) -> Result<(), Refused> {
-        out.word("global")?;
-        Ok(())
+        out.word("global")
     }
 }
 

@@ -41,8 +41,7 @@ fn write_annotation(out: &mut Output, annotation: &NameAnnotation) -> Result<(),
     out.open()?;
     out.annotation("name")?;
     out.text(annotation.name)?;
-    out.close()?;
-    Ok(())
+    out.close()
 }
 
 /// Writes the annotation of a name, where there is one.
@@ -72,8 +71,7 @@ pub fn write_label(
         → fit_label (label_view id.now name.now) ≡ false) }
 {
     write_id(out, id)?;
-    write_name(out, name)?;
-    Ok(())
+    write_name(out, name)
 }
 
 impl Print for Id<'_> {
@@ -87,8 +85,7 @@ impl Print for Id<'_> {
 
     #[tactic(auto, using(crate::specs::Laws::Written::puts_put))]
     fn write(&self, out: &mut Output) -> Result<(), Refused> {
-        out.id(self.name())?;
-        Ok(())
+        out.id(self.name())
     }
 }
 
@@ -103,7 +100,6 @@ impl Print for NameAnnotation<'_> {
 
     #[tactic(auto, using(crate::specs::Laws::Written::puts_put))]
     fn write(&self, out: &mut Output) -> Result<(), Refused> {
-        write_annotation(out, self)?;
-        Ok(())
+        write_annotation(out, self)
     }
 }

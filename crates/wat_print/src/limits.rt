@@ -16,17 +16,17 @@ use crate::fault::Refused;
 use crate::output::Output;
 use crate::reference::write_ref;
 use crate::traits::Print;
-use std::alloc::AllocError;
 use wat_types::{Limits, MemoryType, TableType};
 
 /// Writes the word, where the flag is set.
-pub fn write_flag(out: &mut Output, word: &str, flag: bool) -> Result<(), AllocError>
-    ensures { OnOk result (out.new ≡ put out.old (spell_flag word.now flag)) }
+pub fn write_flag(out: &mut Output, word: &str, flag: bool) -> Result<(), Refused>
+    ensures written { OnOk result (out.new ≡ put out.old (spell_flag word.now flag)) }
+    ensures refused { IfErr result (λ e. e ≡ Memory) }
 {
-    if flag {
-        out.word(word)?;
+    if !flag {
+        return Ok(());
     }
-    Ok(())
+    out.word(word)
 }
 
 /// Writes limits (Text Format, Types, "Limits"): `i64`, where addresses have 64 bits, and then the
@@ -39,10 +39,10 @@ pub fn write_limits(out: &mut Output, limits: &Limits) -> Result<(), Refused>
 {
     write_flag(out, "i64", limits.is64)?;
     out.number(limits.min)?;
-    if let Some(max) = limits.max {
-        out.number(max)?;
+    match limits.max {
+        Some(max) => out.number(max),
+        None => Ok(()),
     }
-    Ok(())
 }
 
 /// Writes `( pagesize number )`, the number being 2 to the k, where a k is given. A k of 32 or more
@@ -59,8 +59,7 @@ pub fn write_page_size(out: &mut Output, exponent: Option<u32>) -> Result<(), Re
             out.open()?;
             out.word("pagesize")?;
             out.number(2u64.pow(k))?;
-            out.close()?;
-            Ok(())
+            out.close()
         }
         Some(_) => Err(Refused::PageSize),
     }
@@ -76,8 +75,7 @@ pub fn write_memory_type(out: &mut Output, memory: &MemoryType) -> Result<(), Re
 {
     write_limits(out, &memory.limits)?;
     write_flag(out, "shared", memory.shared)?;
-    write_page_size(out, memory.page_size_log2)?;
-    Ok(())
+    write_page_size(out, memory.page_size_log2)
 }
 
 /// Writes a table type (Text Format, Types, "Table Types").
@@ -91,8 +89,7 @@ pub fn write_table_type(out: &mut Output, table: &TableType) -> Result<(), Refus
 {
     write_flag(out, "shared", table.shared)?;
     write_limits(out, &table.limits)?;
-    write_ref(out, &table.elem)?;
-    Ok(())
+    write_ref(out, &table.elem)
 }
 
 impl Print for Limits {
@@ -108,8 +105,7 @@ impl Print for Limits {
 
     #[tactic(auto, using(crate::specs::Laws::Written::puts_put))]
     fn write(&self, out: &mut Output) -> Result<(), Refused> {
-        write_limits(out, self)?;
-        Ok(())
+        write_limits(out, self)
     }
 }
 

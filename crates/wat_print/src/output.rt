@@ -86,8 +86,9 @@ impl Output {
 
     /// Breaks the line, where the layout has lines and a blank may stand; two spaces for each
     /// group and each block that is open follow the break, for 50 at most.
-    pub fn line(&mut self) -> Result<(), AllocError>
-        ensures { OnOk result ((n : ℕ) × (self.new ≡ broken n self.old)) }
+    pub fn line(&mut self) -> Result<(), Refused>
+        ensures written { OnOk result ((n : ℕ) × (self.new ≡ broken n self.old)) }
+        ensures refused { IfErr result (λ e. e ≡ Memory) }
     {
         if !self.lines || self.tight {
             return Ok(());
@@ -133,8 +134,9 @@ impl Output {
     }
 
     /// Writes `(`.
-    pub fn open(&mut self) -> Result<(), AllocError>
-        ensures { OnOk result (self.new ≡ put self.old (LParen ∷ [])) }
+    pub fn open(&mut self) -> Result<(), Refused>
+        ensures written { OnOk result (self.new ≡ put self.old (LParen ∷ [])) }
+        ensures refused { IfErr result (λ e. e ≡ Memory) }
     {
         self.space()?;
         self.text.push_str("(")?;
@@ -144,8 +146,9 @@ impl Output {
     }
 
     /// Writes `)`.
-    pub fn close(&mut self) -> Result<(), AllocError>
-        ensures { OnOk result (self.new ≡ put self.old (RParen ∷ [])) }
+    pub fn close(&mut self) -> Result<(), Refused>
+        ensures written { OnOk result (self.new ≡ put self.old (RParen ∷ [])) }
+        ensures refused { IfErr result (λ e. e ≡ Memory) }
     {
         self.text.push_str(")")?;
         self.tight = false;
@@ -154,8 +157,9 @@ impl Output {
     }
 
     /// Writes a keyword.
-    pub fn word(&mut self, word: &str) -> Result<(), AllocError>
-        ensures { OnOk result (self.new ≡ put self.old (Keyword word.now ∷ [])) }
+    pub fn word(&mut self, word: &str) -> Result<(), Refused>
+        ensures written { OnOk result (self.new ≡ put self.old (Keyword word.now ∷ [])) }
+        ensures refused { IfErr result (λ e. e ≡ Memory) }
     {
         self.space()?;
         self.text.push_str(word)?;
@@ -164,8 +168,9 @@ impl Output {
     }
 
     /// Writes an integer by its text.
-    pub fn integer(&mut self, text: &str) -> Result<(), AllocError>
-        ensures { OnOk result (self.new ≡ put self.old (Integer text.now ∷ [])) }
+    pub fn integer(&mut self, text: &str) -> Result<(), Refused>
+        ensures written { OnOk result (self.new ≡ put self.old (Integer text.now ∷ [])) }
+        ensures refused { IfErr result (λ e. e ≡ Memory) }
     {
         self.space()?;
         self.text.push_str(text)?;
@@ -174,8 +179,9 @@ impl Output {
     }
 
     /// Writes a number in decimal digits.
-    pub fn number(&mut self, number: u64) -> Result<(), AllocError>
-        ensures { OnOk result (self.new ≡ put self.old (Integer (decimal number) ∷ [])) }
+    pub fn number(&mut self, number: u64) -> Result<(), Refused>
+        ensures written { OnOk result (self.new ≡ put self.old (Integer (decimal number) ∷ [])) }
+        ensures refused { IfErr result (λ e. e ≡ Memory) }
     {
         self.space()?;
         write!(self.text, "{number}")?;
@@ -184,8 +190,9 @@ impl Output {
     }
 
     /// Writes a number in decimal digits, behind `-` where it is below 0.
-    pub fn signed(&mut self, value: i64) -> Result<(), AllocError>
-        ensures { OnOk result (self.new ≡ put self.old (Integer (signed_decimal value) ∷ [])) }
+    pub fn signed(&mut self, value: i64) -> Result<(), Refused>
+        ensures written { OnOk result (self.new ≡ put self.old (Integer (signed_decimal value) ∷ [])) }
+        ensures refused { IfErr result (λ e. e ≡ Memory) }
     {
         self.space()?;
         write!(self.text, "{value}")?;
@@ -195,9 +202,10 @@ impl Output {
 
     /// Writes a keyword that ends in a number, as `offset=8`: its front, and behind it the number
     /// in decimal digits.
-    pub fn numbered(&mut self, front: &str, number: u64) -> Result<(), AllocError>
-        ensures { OnOk result (self.new ≡ put self.old (Keyword (front.now ++ decimal number)
+    pub fn numbered(&mut self, front: &str, number: u64) -> Result<(), Refused>
+        ensures written { OnOk result (self.new ≡ put self.old (Keyword (front.now ++ decimal number)
             ∷ [])) }
+        ensures refused { IfErr result (λ e. e ≡ Memory) }
     {
         self.space()?;
         write!(self.text, "{front}{number}")?;
@@ -312,8 +320,9 @@ impl Output {
     }
 
     /// Writes an annotation, given without its `@`, behind a `(`.
-    pub fn annotation(&mut self, name: &str) -> Result<(), AllocError>
-        ensures { OnOk result (self.new ≡ put self.old (Annotation name.now ∷ [])) }
+    pub fn annotation(&mut self, name: &str) -> Result<(), Refused>
+        ensures written { OnOk result (self.new ≡ put self.old (Annotation name.now ∷ [])) }
+        ensures refused { IfErr result (λ e. e ≡ Memory) }
     {
         self.space()?;
         self.text.push_str("@")?;
@@ -323,9 +332,10 @@ impl Output {
     }
 
     /// Writes a string that is UTF-8.
-    pub fn text(&mut self, content: &str) -> Result<(), AllocError>
+    pub fn text(&mut self, content: &str) -> Result<(), Refused>
         ensures written { OnOk result (self.new ≡ put self.old (Text content.now ∷ [])) }
         ensures fit { is_utf8 content.now ≡ true }
+        ensures refused { IfErr result (λ e. e ≡ Memory) }
     {
         self.space()?;
         self.text.push_str("\"")?;
@@ -336,8 +346,9 @@ impl Output {
 
     /// Writes a string. One that is UTF-8 keeps its characters past ASCII, and in any other each byte
     /// past ASCII is `\hh`.
-    pub fn string(&mut self, content: &[u8]) -> Result<(), AllocError>
-        ensures { OnOk result (self.new ≡ put self.old (Text content.now ∷ [])) }
+    pub fn string(&mut self, content: &[u8]) -> Result<(), Refused>
+        ensures written { OnOk result (self.new ≡ put self.old (Text content.now ∷ [])) }
+        ensures refused { IfErr result (λ e. e ≡ Memory) }
     {
         self.space()?;
         self.text.push_str("\"")?;

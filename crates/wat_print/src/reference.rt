@@ -26,10 +26,7 @@ pub fn write_index(out: &mut Output, index: &Index) -> Result<(), Refused>
     ensures refused { IfErr result (λ e. e ≢ Memory → fit_index (index_view index.now) ≡ false) }
 {
     match index {
-        Index::Num(number, _) => {
-            out.number(u64::from(*number))?;
-            Ok(())
-        }
+        Index::Num(number, _) => out.number(u64::from(*number)),
         Index::Id(id) => out.id(id.name()),
     }
 }
@@ -62,14 +59,12 @@ fn write_abstract(out: &mut Output, shared: bool, ty: AbstractHeapType) -> Resul
     ensures refused { IfErr result (λ e. e ≡ Memory) }
 {
     if !shared {
-        out.word(word_of(ty))?;
-        return Ok(());
+        return out.word(word_of(ty));
     }
     out.open()?;
     out.word("shared")?;
     out.word(word_of(ty))?;
-    out.close()?;
-    Ok(())
+    out.close()
 }
 
 /// Writes a heap type.
@@ -85,8 +80,7 @@ pub fn write_heap(out: &mut Output, heap: &HeapType) -> Result<(), Refused>
             out.open()?;
             out.word("exact")?;
             write_index(out, index)?;
-            out.close()?;
-            Ok(())
+            out.close()
         }
         HeapType::Abstract { shared, ty } => write_abstract(out, *shared, *ty),
     }
@@ -128,8 +122,7 @@ fn write_long(out: &mut Output, reference: &RefType) -> Result<(), Refused>
         out.word("null")?;
     }
     write_heap(out, &reference.heap)?;
-    out.close()?;
-    Ok(())
+    out.close()
 }
 
 /// Writes a reference type: by its shorthand, where it has one and isn't shared.
@@ -139,10 +132,7 @@ pub fn write_ref(out: &mut Output, reference: &RefType) -> Result<(), Refused>
     ensures refused { IfErr result (λ e. e ≢ Memory → fit_ref (ref_view reference.now) ≡ false) }
 {
     match (reference.nullable, reference.heap) {
-        (true, HeapType::Abstract { shared: false, ty }) => {
-            out.word(shorthand_of(ty))?;
-            Ok(())
-        }
+        (true, HeapType::Abstract { shared: false, ty }) => out.word(shorthand_of(ty)),
         _ => write_long(out, reference),
     }
 }
@@ -161,8 +151,7 @@ pub fn write_val(out: &mut Output, ty: &ValType) -> Result<(), Refused>
         ValType::V128 => "v128",
         ValType::Ref(reference) => return write_ref(out, reference),
     };
-    out.word(word)?;
-    Ok(())
+    out.word(word)
 }
 
 impl Print for Index<'_> {

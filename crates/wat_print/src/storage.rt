@@ -26,14 +26,8 @@ pub fn write_storage(out: &mut Output, ty: &StorageType) -> Result<(), Refused>
         → fit_storage (storage_view ty.now) ≡ false) }
 {
     match ty {
-        StorageType::I8 => {
-            out.word("i8")?;
-            Ok(())
-        }
-        StorageType::I16 => {
-            out.word("i16")?;
-            Ok(())
-        }
+        StorageType::I8 => out.word("i8"),
+        StorageType::I16 => out.word("i16"),
         StorageType::Val(ty) => write_val(out, ty),
     }
 }
@@ -53,8 +47,7 @@ pub fn write_field(out: &mut Output, mutable: bool, ty: &StorageType) -> Result<
     out.open()?;
     out.word("mut")?;
     write_storage(out, ty)?;
-    out.close()?;
-    Ok(())
+    out.close()
 }
 
 /// Writes an array type (Text Format, Types, "Composite Types").
@@ -64,8 +57,7 @@ pub fn write_array(out: &mut Output, array: &ArrayType) -> Result<(), Refused>
     ensures refused { IfErr result (λ e. e ≢ Memory
         → fit_field (array_view array.now) ≡ false) }
 {
-    write_field(out, array.mutable, &array.ty)?;
-    Ok(())
+    write_field(out, array.mutable, &array.ty)
 }
 
 /// Writes a global type (Text Format, Types, "Global Types").
@@ -84,8 +76,7 @@ pub fn write_global(out: &mut Output, global: &GlobalType) -> Result<(), Refused
     write_flag(out, "shared", global.shared)?;
     write_flag(out, "mut", global.mutable)?;
     write_val(out, &global.ty)?;
-    out.close()?;
-    Ok(())
+    out.close()
 }
 
 impl Print for StorageType<'_> {

@@ -1,23 +1,23 @@
 //! How strings are printed.
 
-ghost use Rattle.std.specs.Prelude.{◌≡◌, List, ℕ, OnOk, true};
+ghost use Rattle.std.specs.Prelude.{◌≡◌, List, ℕ, OnOk, true, IfErr};
 ghost use Rattle.wat_tokens.specs.Strings.{string, text};
 ghost use Rattle.wat_print.specs.Printings.{string_printing, text_printing};
 ghost use Rattle.wat_print.specs.Strings.{spell_string, fit_string};
 ghost use Rattle.wat_print.specs.Text.{put};
+ghost use Rattle.wat_print.specs.declared.fault.Refused.TheVariants.{Memory};
 
 use crate::fault::Refused;
 use crate::output::Output;
 use crate::traits::Print;
-use std::alloc::AllocError;
 
 /// Writes a string of bytes (Text Format, "Strings").
-pub fn write_string(out: &mut Output, content: &[u8]) -> Result<(), AllocError>
+pub fn write_string(out: &mut Output, content: &[u8]) -> Result<(), Refused>
     ensures written { OnOk result (out.new ≡ put out.old (spell_string content.now)) }
     ensures fit { fit_string content.now ≡ true }
+    ensures refused { IfErr result (λ e. e ≡ Memory) }
 {
-    out.string(content)?;
-    Ok(())
+    out.string(content)
 }
 
 impl Print for &[u8] {
@@ -31,8 +31,7 @@ impl Print for &[u8] {
 
     #[tactic(auto, using(crate::specs::Laws::Written::puts_put))]
     fn write(&self, out: &mut Output) -> Result<(), Refused> {
-        write_string(out, self)?;
-        Ok(())
+        write_string(out, self)
     }
 }
 
@@ -47,7 +46,6 @@ impl Print for &str {
 
     #[tactic(auto, using(crate::specs::Laws::Written::puts_put))]
     fn write(&self, out: &mut Output) -> Result<(), Refused> {
-        out.text(self)?;
-        Ok(())
+        out.text(self)
     }
 }

@@ -27,8 +27,7 @@ fn write_member(out: &mut Output, field: &StructField) -> Result<(), Refused>
         → fit_member (member_view field.now) ≡ false) }
 {
     write_label(out, &field.id, &field.name)?;
-    write_field(out, field.mutable, &field.ty)?;
-    Ok(())
+    write_field(out, field.mutable, &field.ty)
 }
 
 /// Writes fields, one behind the other.
@@ -56,8 +55,7 @@ fn write_alone(out: &mut Output, field: &StructField) -> Result<(), Refused>
     out.open()?;
     out.word("field")?;
     write_member(out, field)?;
-    out.close()?;
-    Ok(())
+    out.close()
 }
 
 /// Writes fields, each in a group of its own.
@@ -105,8 +103,7 @@ fn write_fields(out: &mut Output, fields: &[StructField]) -> Result<(), Refused>
     out.open()?;
     out.word("field")?;
     write_members(out, fields)?;
-    out.close()?;
-    Ok(())
+    out.close()
 }
 
 /// Writes a structure type (Text Format, Types, "Composite Types").
@@ -117,8 +114,7 @@ pub fn write_struct(out: &mut Output, structure: &StructType) -> Result<(), Refu
     ensures refused { IfErr result (λ e. e ≢ Memory
         → fit_struct (struct_view structure.now) ≡ false) }
 {
-    write_fields(out, &structure.fields)?;
-    Ok(())
+    write_fields(out, &structure.fields)
 }
 
 impl Print for StructType<'_> {
@@ -132,7 +128,6 @@ impl Print for StructType<'_> {
 
     #[tactic(auto, using(crate::specs::Laws::Written::puts_put))]
     fn write(&self, out: &mut Output) -> Result<(), Refused> {
-        write_struct(out, self)?;
-        Ok(())
+        write_struct(out, self)
     }
 }

@@ -39,8 +39,7 @@ fn write_type_index(out: &mut Output, index: &Option<Index>) -> Result<(), Refus
             out.open()?;
             out.word("type")?;
             write_index(out, index)?;
-            out.close()?;
-            Ok(())
+            out.close()
         }
         None => Ok(()),
     }
@@ -63,13 +62,11 @@ fn write_inline(out: &mut Output, function: &FunctionType) -> Result<(), Refused
         → fit_function (function_view function.now) ≡ false) }
 {
     if !is_bare(function) {
-        write_function(out, function)?;
-        return Ok(());
+        return write_function(out, function);
     }
     out.open()?;
     out.word("param")?;
-    out.close()?;
-    Ok(())
+    out.close()
 }
 
 /// Writes a use of a function type (Text Format, "Type Uses").
@@ -81,10 +78,10 @@ pub fn write_use(out: &mut Output, ty: &TypeUse<FunctionType>) -> Result<(), Ref
         → fit_use (use_view function_view ty.now) ≡ false) }
 {
     write_type_index(out, &ty.index)?;
-    if let Some(function) = &ty.inline {
-        write_inline(out, function)?;
+    match &ty.inline {
+        Some(function) => write_inline(out, function),
+        None => Ok(()),
     }
-    Ok(())
 }
 
 /// Writes a function type without names that is written in line. One that has a label is refused
@@ -99,8 +96,7 @@ fn write_unnamed_inline(out: &mut Output, function: &FunctionTypeNoNames) -> Res
     if !are_unlabelled(&function.0.params) {
         return Err(Refused::Label);
     }
-    write_inline(out, &function.0)?;
-    Ok(())
+    write_inline(out, &function.0)
 }
 
 /// Writes a use of a function type without names (Text Format, "Type Uses"). One whose inline type
@@ -113,10 +109,10 @@ pub fn write_unnamed_use(out: &mut Output, ty: &TypeUse<FunctionTypeNoNames>) ->
         → fit_unnamed_use (use_view unnamed_view ty.now) ≡ false) }
 {
     write_type_index(out, &ty.index)?;
-    if let Some(function) = &ty.inline {
-        write_unnamed_inline(out, function)?;
+    match &ty.inline {
+        Some(function) => write_unnamed_inline(out, function),
+        None => Ok(()),
     }
-    Ok(())
 }
 
 /// Writes a function type without names. One that has a label is refused with Label.
@@ -130,8 +126,7 @@ pub fn write_unnamed(out: &mut Output, function: &FunctionTypeNoNames) -> Result
     if !are_unlabelled(&function.0.params) {
         return Err(Refused::Label);
     }
-    write_function(out, &function.0)?;
-    Ok(())
+    write_function(out, &function.0)
 }
 
 impl Print for FunctionTypeNoNames<'_> {
@@ -145,8 +140,7 @@ impl Print for FunctionTypeNoNames<'_> {
 
     #[tactic(auto, using(crate::specs::Laws::Written::puts_put))]
     fn write(&self, out: &mut Output) -> Result<(), Refused> {
-        write_unnamed(out, self)?;
-        Ok(())
+        write_unnamed(out, self)
     }
 }
 
@@ -194,10 +188,7 @@ impl Print for TagType<'_> {
     #[tactic(auto, using(crate::specs::Laws::Written::puts_put))]
     fn write(&self, out: &mut Output) -> Result<(), Refused> {
         match self {
-            TagType::Exception(ty) => {
-                write_use(out, ty)?;
-                Ok(())
-            }
+            TagType::Exception(ty) => write_use(out, ty),
         }
     }
 }

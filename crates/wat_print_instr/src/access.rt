@@ -33,16 +33,12 @@ fn write_target(out: &mut Output, target: &MemArgTarget) -> Result<(), Refused>
         → fit_target (target_view target.now) ≡ false) }
 {
     match target {
-        MemArgTarget::Memory(index) => {
-            write_index_or_zero(out, index)?;
-            Ok(())
-        }
+        MemArgTarget::Memory(index) => write_index_or_zero(out, index),
         MemArgTarget::Array(index) => {
             out.open()?;
             out.word("type")?;
             write_index(out, index)?;
-            out.close()?;
-            Ok(())
+            out.close()
         }
     }
 }
@@ -70,8 +66,7 @@ fn write_place(out: &mut Output, access: &MemArg, default: u64) -> Result<(), Re
     }
     write_target(out, &access.target)?;
     write_unless(out, access.offset == 0, "offset=", access.offset)?;
-    write_unless(out, access.align == default, "align=", access.align)?;
-    Ok(())
+    write_unless(out, access.align == default, "align=", access.align)
 }
 
 /// Writes what an access is given (Text Format, Instructions, "Memory Instructions"): its target,
@@ -89,8 +84,7 @@ pub fn write_access(out: &mut Output, access: &MemArg, default: u64) -> Result<(
     if access.ordering.is_some() {
         return Err(Refused::Ordering);
     }
-    write_place(out, access, default)?;
-    Ok(())
+    write_place(out, access, default)
 }
 
 /// The word for the ordering.
@@ -108,8 +102,7 @@ pub fn write_ordering(out: &mut Output, ordering: Ordering) -> Result<(), Refuse
     ensures written { OnOk result (out.new ≡ put out.old (spell_ordering ordering)) }
     ensures refused { IfErr result (λ e. e ≡ Memory) }
 {
-    out.word(word_of(ordering))?;
-    Ok(())
+    out.word(word_of(ordering))
 }
 
 /// Whether an atomic instruction can have the ordering; `rmw` says whether it reads, changes and
@@ -132,14 +125,8 @@ fn write_access_ordering(out: &mut Output, ordering: Option<MemArgOrdering>) -> 
 {
     match ordering {
         None => Ok(()),
-        Some(MemArgOrdering::Op(ordering)) => {
-            write_ordering(out, ordering)?;
-            Ok(())
-        }
-        Some(MemArgOrdering::Rmw(ordering)) => {
-            write_ordering(out, ordering)?;
-            Ok(())
-        }
+        Some(MemArgOrdering::Op(ordering)) => write_ordering(out, ordering),
+        Some(MemArgOrdering::Rmw(ordering)) => write_ordering(out, ordering),
     }
 }
 
@@ -167,8 +154,7 @@ pub fn write_atomic(
         return Err(Refused::Ordering);
     }
     write_place(out, access, default)?;
-    write_access_ordering(out, access.ordering)?;
-    Ok(())
+    write_access_ordering(out, access.ordering)
 }
 
 /// Writes a lane.
@@ -177,8 +163,7 @@ fn write_lane(out: &mut Output, lane: &LaneArg) -> Result<(), Refused>
     ensures fit { OnOk result (fit_lane lane.now ≡ true) }
     ensures refused { IfErr result (λ e. e ≡ Memory) }
 {
-    out.number(u64::from(lane.lane))?;
-    Ok(())
+    out.number(u64::from(lane.lane))
 }
 
 /// Writes what an access to one lane is given (Text Format, Instructions, "Memory Instructions"):
@@ -196,8 +181,7 @@ pub fn write_lane_access(
         → fit_lane_access default (lane_access_view lane.now) ≡ false) }
 {
     write_access(out, &lane.memarg, default)?;
-    write_lane(out, &lane.lane)?;
-    Ok(())
+    write_lane(out, &lane.lane)
 }
 
 impl PrintCode for Ordering {
@@ -212,8 +196,7 @@ impl PrintCode for Ordering {
     ghost printing = { ordering_printing };
 
     fn write(&self, out: &mut Output) -> Result<(), Refused> {
-        write_ordering(out, *self)?;
-        Ok(())
+        write_ordering(out, *self)
     }
 }
 
@@ -231,8 +214,7 @@ impl<T: PrintCode> PrintCode for Ordered<T> {
     #[tactic(auto, using(wat_print::specs::Laws::Written::put_both))]
     fn write(&self, out: &mut Output) -> Result<(), Refused> {
         write_ordering(out, self.ordering)?;
-        self.inner.write(out)?;
-        Ok(())
+        self.inner.write(out)
     }
 }
 
@@ -248,7 +230,6 @@ impl PrintCode for LaneArg {
     ghost printing = { lane_printing };
 
     fn write(&self, out: &mut Output) -> Result<(), Refused> {
-        write_lane(out, self)?;
-        Ok(())
+        write_lane(out, self)
     }
 }

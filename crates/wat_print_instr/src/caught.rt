@@ -37,22 +37,14 @@ fn write_catch_kind(out: &mut Output, kind: &TryTableCatchKind) -> Result<(), Re
     match kind {
         CatchKind::Catch(tag) => {
             out.word("catch")?;
-            write_index(out, tag)?;
-            Ok(())
+            write_index(out, tag)
         }
         CatchKind::CatchRef(tag) => {
             out.word("catch_ref")?;
-            write_index(out, tag)?;
-            Ok(())
+            write_index(out, tag)
         }
-        CatchKind::CatchAll => {
-            out.word("catch_all")?;
-            Ok(())
-        }
-        CatchKind::CatchAllRef => {
-            out.word("catch_all_ref")?;
-            Ok(())
-        }
+        CatchKind::CatchAll => out.word("catch_all"),
+        CatchKind::CatchAllRef => out.word("catch_all_ref"),
     }
 }
 
@@ -70,8 +62,7 @@ impl PrintCode for TryTableCatch<'_> {
         out.open()?;
         write_catch_kind(out, &self.kind)?;
         write_index(out, &self.label)?;
-        out.close()?;
-        Ok(())
+        out.close()
     }
 }
 
@@ -87,8 +78,7 @@ impl PrintCode for TryTable<'_> {
     #[tactic(auto, using(wat_print::specs::Laws::Written::put_both))]
     fn write(&self, out: &mut Output) -> Result<(), Refused> {
         write_block(out, &self.block)?;
-        write_each(out, &self.catches)?;
-        Ok(())
+        write_each(out, &self.catches)
     }
 }
 
@@ -109,14 +99,12 @@ impl PrintCode for Handle<'_> {
             Handle::OnLabel { tag, label } => {
                 write_index(out, tag)?;
                 write_index(out, label)?;
-                out.close()?;
-                Ok(())
+                out.close()
             }
             Handle::OnSwitch { tag } => {
                 write_index(out, tag)?;
                 out.word("switch")?;
-                out.close()?;
-                Ok(())
+                out.close()
             }
         }
     }
@@ -130,8 +118,7 @@ fn write_handlers(out: &mut Output, table: &ResumeTable) -> Result<(), Refused>
     ensures refused { IfErr result (λ e. e ≢ Memory
         → fit_resume_table (resume_table_view table.now) ≡ false) }
 {
-    write_each(out, &table.handlers)?;
-    Ok(())
+    write_each(out, &table.handlers)
 }
 
 impl PrintCode for ResumeTable<'_> {
@@ -144,8 +131,7 @@ impl PrintCode for ResumeTable<'_> {
     ghost printing = { resume_table_printing };
 
     fn write(&self, out: &mut Output) -> Result<(), Refused> {
-        write_handlers(out, self)?;
-        Ok(())
+        write_handlers(out, self)
     }
 }
 
@@ -161,8 +147,7 @@ impl PrintCode for Resume<'_> {
     #[tactic(auto, using(wat_print::specs::Laws::Written::put_both))]
     fn write(&self, out: &mut Output) -> Result<(), Refused> {
         write_index(out, &self.type_index)?;
-        write_handlers(out, &self.table)?;
-        Ok(())
+        write_handlers(out, &self.table)
     }
 }
 
@@ -179,8 +164,7 @@ impl PrintCode for ResumeThrow<'_> {
     fn write(&self, out: &mut Output) -> Result<(), Refused> {
         write_index(out, &self.type_index)?;
         write_index(out, &self.tag_index)?;
-        write_handlers(out, &self.table)?;
-        Ok(())
+        write_handlers(out, &self.table)
     }
 }
 
@@ -196,7 +180,6 @@ impl PrintCode for ResumeThrowRef<'_> {
     #[tactic(auto, using(wat_print::specs::Laws::Written::put_both))]
     fn write(&self, out: &mut Output) -> Result<(), Refused> {
         write_index(out, &self.type_index)?;
-        write_handlers(out, &self.table)?;
-        Ok(())
+        write_handlers(out, &self.table)
     }
 }

@@ -59,8 +59,7 @@ fn write_signature(out: &mut Output, ty: &TypeUse<FunctionType>) -> Result<(), R
     if !is_unlabelled(ty) {
         return Err(Refused::Label);
     }
-    write_use(out, ty)?;
-    Ok(())
+    write_use(out, ty)
 }
 
 /// Writes what an instruction says of its block (Text Format, Instructions, "Control
@@ -72,8 +71,7 @@ pub fn write_block(out: &mut Output, block: &BlockType) -> Result<(), Refused>
     ensures refused { IfErr result (λ e. e ≢ Memory → fit_block (block_view block.now) ≡ false) }
 {
     write_label(out, &block.label, &block.label_name)?;
-    write_signature(out, &block.ty)?;
-    Ok(())
+    write_signature(out, &block.ty)
 }
 
 /// Writes a label, and the types that a branch casts from and to.
@@ -93,8 +91,7 @@ fn write_branch(
 {
     write_index(out, label)?;
     write_ref(out, from_type)?;
-    write_ref(out, to_type)?;
-    Ok(())
+    write_ref(out, to_type)
 }
 
 impl PrintCode for BlockType<'_> {
@@ -107,8 +104,7 @@ impl PrintCode for BlockType<'_> {
     ghost printing = { block_printing };
 
     fn write(&self, out: &mut Output) -> Result<(), Refused> {
-        write_block(out, self)?;
-        Ok(())
+        write_block(out, self)
     }
 }
 
@@ -125,8 +121,7 @@ impl PrintCode for CallIndirect<'_> {
     #[tactic(auto, using(wat_print::specs::Laws::Written::put_both))]
     fn write(&self, out: &mut Output) -> Result<(), Refused> {
         write_index_or_zero(out, &self.table)?;
-        write_signature(out, &self.ty)?;
-        Ok(())
+        write_signature(out, &self.ty)
     }
 }
 
@@ -140,8 +135,7 @@ fn write_result(out: &mut Output, types: &[ValType]) -> Result<(), Refused>
     out.open()?;
     out.word("result")?;
     write_vals(out, types)?;
-    out.close()?;
-    Ok(())
+    out.close()
 }
 
 impl PrintCode for SelectTypes<'_> {
@@ -156,10 +150,7 @@ impl PrintCode for SelectTypes<'_> {
     fn write(&self, out: &mut Output) -> Result<(), Refused> {
         match &self.tys {
             None => Ok(()),
-            Some(types) => {
-                write_result(out, types)?;
-                Ok(())
-            }
+            Some(types) => write_result(out, types),
         }
     }
 }

@@ -18,7 +18,7 @@ ghost use Rattle.wat_print_instr.specs.ExpressionForm.{spell_expression, fit_exp
 
 use crate::traits::PrintCode;
 use bumpalo::Bump;
-use std::alloc::{AllocError, Global};
+use std::alloc::Global;
 use wat_expr::{BranchHint, Expression};
 use wat_instr::Instruction;
 use wat_mnemonics::{IndexedOp, LabelOp, Mnemonic, ScalarOp};
@@ -40,8 +40,7 @@ fn write_value(out: &mut Output, value: u8) -> Result<(), Refused>
     out.open()?;
     out.annotation("metadata.code.branch_hint")?;
     out.string(&[value])?;
-    out.close()?;
-    Ok(())
+    out.close()
 }
 
 /// Writes the hint that stands before an instruction, where there is one. It is refused where it is
@@ -54,10 +53,7 @@ fn write_hint(out: &mut Output, hint: Option<u32>, instr: &Instruction) -> Resul
 {
     match hint {
         None => Ok(()),
-        Some(value) if value < 2 && may_branch(instr) => {
-            write_value(out, value as u8)?;
-            Ok(())
-        }
+        Some(value) if value < 2 && may_branch(instr) => write_value(out, value as u8),
         Some(_) => Err(Refused::Hint),
     }
 }
@@ -88,8 +84,9 @@ fn begins_part(head: Mnemonic) -> bool {
 /// Breaks the line in front of an instruction, if it is to stand on a line of its own. One that
 /// ends a part of a block stands as far to the left as the block.
 #[tactic(auto, using(wat_print::specs::Laws::Written::puts_line, wat_print::specs::Laws::Written::puts_put))]
-fn begin_step(out: &mut Output, head: Mnemonic, on_lines: bool) -> Result<(), AllocError>
-    ensures { OnOk result (Writes [] out.old out.new) }
+fn begin_step(out: &mut Output, head: Mnemonic, on_lines: bool) -> Result<(), Refused>
+    ensures written { OnOk result (Writes [] out.old out.new) }
+    ensures refused { IfErr result (λ e. e ≡ Memory) }
 {
     if !on_lines {
         return Ok(());

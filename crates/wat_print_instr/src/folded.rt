@@ -57,8 +57,7 @@ fn write_own(out: &mut Output, instr: &Instruction) -> Result<(), Refused>
 {
     out.open()?;
     instr.write(out)?;
-    out.close()?;
-    Ok(())
+    out.close()
 }
 
 /// Writes instructions, each in a group of its own.
@@ -154,8 +153,7 @@ fn write_behind(out: &mut Output, last: &Instruction, instrs: &[Instruction]) ->
     if catch_first(last, instrs) {
         return write_apart(out, instrs);
     }
-    write_each_own(out, instrs)?;
-    Ok(())
+    write_each_own(out, instrs)
 }
 
 /// The last instruction is in front, and the others are in groups behind it. A hint is refused with
@@ -180,7 +178,6 @@ impl PrintCode for FoldedInstruction<'_> {
         out.open()?;
         last.write(out)?;
         write_behind(out, last, others)?;
-        out.close()?;
-        Ok(())
+        out.close()
     }
 }

@@ -15,8 +15,7 @@ pub fn write_signed(out: &mut Output, number: i64) -> Result<(), Refused>
     ensures written { OnOk result (out.new ≡ put out.old (spell_signed number)) }
     ensures refused { IfErr result (λ e. e ≡ Memory) }
 {
-    out.signed(number)?;
-    Ok(())
+    out.signed(number)
 }
 
 /// Writes a word that ends in the number, unless the number is meant without it.
@@ -30,10 +29,10 @@ pub(crate) fn write_unless(
         number)) }
     ensures refused { IfErr result (λ e. e ≡ Memory) }
 {
-    if !is_meant {
-        out.numbered(front, number)?;
+    if is_meant {
+        return Ok(());
     }
-    Ok(())
+    out.numbered(front, number)
 }
 
 impl PrintCode for i8 {
@@ -50,8 +49,7 @@ impl PrintCode for i8 {
     ghost printing = { i8_printing };
 
     fn write(&self, out: &mut Output) -> Result<(), Refused> {
-        write_signed(out, i64::from(*self))?;
-        Ok(())
+        write_signed(out, i64::from(*self))
     }
 }
 
@@ -69,8 +67,7 @@ impl PrintCode for i16 {
     ghost printing = { i16_printing };
 
     fn write(&self, out: &mut Output) -> Result<(), Refused> {
-        write_signed(out, i64::from(*self))?;
-        Ok(())
+        write_signed(out, i64::from(*self))
     }
 }
 
@@ -88,8 +85,7 @@ impl PrintCode for i32 {
     ghost printing = { i32_printing };
 
     fn write(&self, out: &mut Output) -> Result<(), Refused> {
-        write_signed(out, i64::from(*self))?;
-        Ok(())
+        write_signed(out, i64::from(*self))
     }
 }
 
@@ -127,8 +123,7 @@ impl PrintCode for u8 {
 
     fn write(&self, out: &mut Output) -> Result<(), Refused> {
         let number = u64::from(*self);
-        out.number(number)?;
-        Ok(())
+        out.number(number)
     }
 }
 

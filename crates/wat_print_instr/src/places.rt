@@ -48,8 +48,7 @@ pub fn write_index_or_zero(out: &mut Output, index: &Index) -> Result<(), Refuse
     if is_zero(index) {
         return Ok(());
     }
-    write_index(out, index)?;
-    Ok(())
+    write_index(out, index)
 }
 
 /// Writes two indices.
@@ -62,8 +61,7 @@ fn write_pair(out: &mut Output, first: &Index, second: &Index) -> Result<(), Ref
         → fit_pair (index_view first.now, index_view second.now) ≡ false) }
 {
     write_index(out, first)?;
-    write_index(out, second)?;
-    Ok(())
+    write_index(out, second)
 }
 
 /// Writes a target, unless it is 0, and a segment.
@@ -76,8 +74,7 @@ fn write_init(out: &mut Output, target: &Index, segment: &Index) -> Result<(), R
         → fit_pair (index_view target.now, index_view segment.now) ≡ false) }
 {
     write_index_or_zero(out, target)?;
-    write_index(out, segment)?;
-    Ok(())
+    write_index(out, segment)
 }
 
 /// Writes a destination and a source, or nothing where both are 0.
@@ -92,8 +89,7 @@ fn write_copy(out: &mut Output, destination: &Index, source: &Index) -> Result<(
     if is_zero(destination) && is_zero(source) {
         return Ok(());
     }
-    write_pair(out, destination, source)?;
-    Ok(())
+    write_pair(out, destination, source)
 }
 
 impl PrintCode for Index<'_> {
@@ -106,8 +102,7 @@ impl PrintCode for Index<'_> {
     ghost printing = { index_printing };
 
     fn write(&self, out: &mut Output) -> Result<(), Refused> {
-        write_index(out, self)?;
-        Ok(())
+        write_index(out, self)
     }
 }
 
@@ -303,8 +298,7 @@ impl PrintCode for ArrayNewFixed<'_> {
     #[tactic(auto, using(wat_print::specs::Laws::Written::put_both))]
     fn write(&self, out: &mut Output) -> Result<(), Refused> {
         write_index(out, &self.array)?;
-        out.number(u64::from(self.length))?;
-        Ok(())
+        out.number(u64::from(self.length))
     }
 }
 
@@ -349,7 +343,6 @@ impl PrintCode for BrTableIndices<'_> {
 
     fn write(&self, out: &mut Output) -> Result<(), Refused> {
         write_each(out, &self.labels)?;
-        write_index(out, &self.default)?;
-        Ok(())
+        write_index(out, &self.default)
     }
 }

@@ -49,8 +49,7 @@ impl<T: PrintCode> Print for Code<'_, T> {
 
     #[tactic(auto, using(wat_print::specs::Laws::Written::puts_put))]
     fn write(&self, out: &mut Output) -> Result<(), Refused> {
-        self.0.write(out)?;
-        Ok(())
+        self.0.write(out)
     }
 }
 

@@ -24,23 +24,19 @@ impl PrintCode for V128Const {
         match self {
             V128Const::I8x16(lanes) => {
                 out.word("i8x16")?;
-                write_each(out, lanes)?;
-                Ok(())
+                write_each(out, lanes)
             }
             V128Const::I16x8(lanes) => {
                 out.word("i16x8")?;
-                write_each(out, lanes)?;
-                Ok(())
+                write_each(out, lanes)
             }
             V128Const::I32x4(lanes) => {
                 out.word("i32x4")?;
-                write_each(out, lanes)?;
-                Ok(())
+                write_each(out, lanes)
             }
             V128Const::I64x2(lanes) => {
                 out.word("i64x2")?;
-                write_each(out, lanes)?;
-                Ok(())
+                write_each(out, lanes)
             }
             V128Const::F32x4(_) => Err(Refused::Float),
             V128Const::F64x2(_) => Err(Refused::Float),

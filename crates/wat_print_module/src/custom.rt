@@ -23,10 +23,7 @@ pub fn write_custom(out: &mut Output, section: &Custom) -> Result<(), Refused>
         → fit_custom (custom_view section.now) ≡ false) }
 {
     match section {
-        Custom::Raw(section) => {
-            write_raw(out, section)?;
-            Ok(())
-        }
+        Custom::Raw(section) => write_raw(out, section),
         Custom::Producers(section) => write_producers(out, section),
         Custom::Dylink0(section) => write_dylink(out, section),
     }
@@ -45,7 +42,6 @@ impl PrintPart for Custom<'_> {
     fn write(&self, out: &mut Output) -> Result<(), Refused> {
         out.open()?;
         write_custom(out, self)?;
-        out.close()?;
-        Ok(())
+        out.close()
     }
 }

@@ -37,8 +37,7 @@ pub(crate) fn write_offset(out: &mut Output, offset: &Expression) -> Result<(), 
     out.open()?;
     out.word("offset")?;
     write_constant(out, offset)?;
-    out.close()?;
-    Ok(())
+    out.close()
 }
 
 /// Writes `( memory idx )`, unless it is memory 0.
@@ -54,8 +53,7 @@ fn write_memory(out: &mut Output, memory: &Index) -> Result<(), Refused>
     out.open()?;
     out.word("memory")?;
     write_index(out, memory)?;
-    out.close()?;
-    Ok(())
+    out.close()
 }
 
 /// Writes the memory and the offset of an active segment.
@@ -68,8 +66,7 @@ fn write_active(out: &mut Output, memory: &Index, offset: &Expression) -> Result
         (active (index_view memory.now) (expression_view offset.now)) ≡ false) }
 {
     write_memory(out, memory)?;
-    write_offset(out, offset)?;
-    Ok(())
+    write_offset(out, offset)
 }
 
 /// Writes where a segment is put: nothing for a passive one.
@@ -97,8 +94,7 @@ pub fn write_data(out: &mut Output, segment: &Data) -> Result<(), Refused>
     out.word("data")?;
     write_label(out, &segment.id, &segment.name)?;
     write_data_kind(out, &segment.kind)?;
-    write_data_vals(out, &segment.data)?;
-    Ok(())
+    write_data_vals(out, &segment.data)
 }
 
 /// Writes a data segment in its parentheses.
@@ -110,8 +106,7 @@ pub fn write_grouped_data(out: &mut Output, segment: &Data) -> Result<(), Refuse
 {
     out.open()?;
     write_data(out, segment)?;
-    out.close()?;
-    Ok(())
+    out.close()
 }
 
 /// It is printed in its parentheses: a segment without values is passive by its `)` alone.
@@ -125,7 +120,6 @@ impl PrintPart for Data<'_> {
     ghost printing = { grouped_data_printing };
 
     fn write(&self, out: &mut Output) -> Result<(), Refused> {
-        write_grouped_data(out, self)?;
-        Ok(())
+        write_grouped_data(out, self)
     }
 }

@@ -21,8 +21,7 @@ fn write_byte(out: &mut Output, byte: u8) -> Result<(), Refused>
     ensures fit { OnOk result (is_byte byte ≡ true) }
     ensures refused { IfErr result (λ e. e ≡ Memory) }
 {
-    out.number(u64::from(byte))?;
-    Ok(())
+    out.number(u64::from(byte))
 }
 
 /// Writes each byte as a number.
@@ -45,8 +44,7 @@ fn write_numbers(out: &mut Output, bytes: &[u8]) -> Result<(), Refused>
     out.open()?;
     out.word("i8")?;
     write_bytes(out, bytes)?;
-    out.close()?;
-    Ok(())
+    out.close()
 }
 
 /// Writes a value of a data segment (Text Format, Modules, "Data Segments", with the numbers of the
@@ -59,10 +57,7 @@ pub fn write_data_val(out: &mut Output, value: &DataVal) -> Result<(), Refused>
     ensures refused { IfErr result (λ e. e ≡ Memory) }
 {
     match value {
-        DataVal::String(bytes) => {
-            write_string(out, bytes)?;
-            Ok(())
-        }
+        DataVal::String(bytes) => write_string(out, bytes),
         DataVal::Integral(bytes) => write_numbers(out, bytes),
     }
 }
@@ -90,7 +85,6 @@ impl PrintPart for DataVal<'_> {
 
     #[tactic(auto, using(wat_print::specs::Laws::Written::puts_put))]
     fn write(&self, out: &mut Output) -> Result<(), Refused> {
-        write_data_val(out, self)?;
-        Ok(())
+        write_data_val(out, self)
     }
 }

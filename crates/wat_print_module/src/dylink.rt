@@ -18,14 +18,14 @@ ghost use Rattle.wat_print_module.specs.LinkPrintings.{dylink_printing};
 ghost use Rattle.wat_print.specs.Strings.{spell_string};
 
 use crate::traits::PrintPart;
-use std::alloc::AllocError;
 use wat_links::{Dylink0, Dylink0Subsection};
 use wat_print::{Output, Refused};
 
 /// Writes `( word size alignment )`.
-fn write_sizes(out: &mut Output, word: &str, size: u32, align: u32) -> Result<(), AllocError>
+fn write_sizes(out: &mut Output, word: &str, size: u32, align: u32) -> Result<(), Refused>
     ensures written { OnOk result (out.new ≡ put out.old (spell_sizes word.now size align)) }
     ensures fit { fit_sizes size align ≡ true }
+    ensures refused { IfErr result (λ e. e ≡ Memory) }
 {
     out.open()?;
     out.word(word)?;
@@ -35,8 +35,9 @@ fn write_sizes(out: &mut Output, word: &str, size: u32, align: u32) -> Result<()
 }
 
 /// Writes names, one behind the other.
-fn write_strings(out: &mut Output, names: &[&str]) -> Result<(), AllocError>
-    ensures { OnOk result (Wrote (λ n. n.now) spell_string is_utf8 names.now out.old out.new) }
+fn write_strings(out: &mut Output, names: &[&str]) -> Result<(), Refused>
+    ensures wrote { OnOk result (Wrote (λ n. n.now) spell_string is_utf8 names.now out.old out.new) }
+    ensures refused { IfErr result (λ e. e ≡ Memory) }
 {
     for name in names {
         out.text(name)?;
@@ -45,23 +46,24 @@ fn write_strings(out: &mut Output, names: &[&str]) -> Result<(), AllocError>
 }
 
 /// Writes `( word name* )`.
-fn write_names(out: &mut Output, word: &str, names: &[&str]) -> Result<(), AllocError>
+fn write_names(out: &mut Output, word: &str, names: &[&str]) -> Result<(), Refused>
     ensures written { OnOk result (out.new ≡ put out.old
         (spell_names word.now (map (λ n. n.now) names.now))) }
     ensures fit { OnOk result (each is_utf8 (map (λ n. n.now) names.now) ≡ true) }
+    ensures refused { IfErr result (λ e. e ≡ Memory) }
 {
     out.open()?;
     out.word(word)?;
     write_strings(out, names)?;
-    out.close()?;
-    Ok(())
+    out.close()
 }
 
 /// Writes `( export-info name flags )`, the flags as one number.
-fn write_export(out: &mut Output, entry: &(&str, u32)) -> Result<(), AllocError>
+fn write_export(out: &mut Output, entry: &(&str, u32)) -> Result<(), Refused>
     ensures written { OnOk result (out.new ≡ put out.old
         (spell_export_flags (dylink_export_view entry.now))) }
     ensures fit { OnOk result (fit_export_flags (dylink_export_view entry.now) ≡ true) }
+    ensures refused { IfErr result (λ e. e ≡ Memory) }
 {
     out.open()?;
     out.word("export-info")?;
@@ -71,9 +73,10 @@ fn write_export(out: &mut Output, entry: &(&str, u32)) -> Result<(), AllocError>
 }
 
 /// Writes the entries of exports, one behind the other.
-fn write_exports(out: &mut Output, entries: &[(&str, u32)]) -> Result<(), AllocError>
-    ensures { OnOk result (Wrote dylink_export_view spell_export_flags fit_export_flags entries.now
+fn write_exports(out: &mut Output, entries: &[(&str, u32)]) -> Result<(), Refused>
+    ensures wrote { OnOk result (Wrote dylink_export_view spell_export_flags fit_export_flags entries.now
         out.old out.new) }
+    ensures refused { IfErr result (λ e. e ≡ Memory) }
 {
     for entry in entries {
         write_export(out, entry)?;
@@ -82,10 +85,11 @@ fn write_exports(out: &mut Output, entries: &[(&str, u32)]) -> Result<(), AllocE
 }
 
 /// Writes `( import-info module name flags )`, the flags as one number.
-fn write_import(out: &mut Output, entry: &(&str, &str, u32)) -> Result<(), AllocError>
+fn write_import(out: &mut Output, entry: &(&str, &str, u32)) -> Result<(), Refused>
     ensures written { OnOk result (out.new ≡ put out.old
         (spell_import_flags (dylink_import_view entry.now))) }
     ensures fit { OnOk result (fit_import_flags (dylink_import_view entry.now) ≡ true) }
+    ensures refused { IfErr result (λ e. e ≡ Memory) }
 {
     out.open()?;
     out.word("import-info")?;
@@ -96,9 +100,10 @@ fn write_import(out: &mut Output, entry: &(&str, &str, u32)) -> Result<(), Alloc
 }
 
 /// Writes the entries of imports, one behind the other.
-fn write_imports(out: &mut Output, entries: &[(&str, &str, u32)]) -> Result<(), AllocError>
-    ensures { OnOk result (Wrote dylink_import_view spell_import_flags fit_import_flags entries.now
+fn write_imports(out: &mut Output, entries: &[(&str, &str, u32)]) -> Result<(), Refused>
+    ensures wrote { OnOk result (Wrote dylink_import_view spell_import_flags fit_import_flags entries.now
         out.old out.new) }
+    ensures refused { IfErr result (λ e. e ≡ Memory) }
 {
     for entry in entries {
         write_import(out, entry)?;
@@ -107,10 +112,11 @@ fn write_imports(out: &mut Output, entries: &[(&str, &str, u32)]) -> Result<(), 
 }
 
 /// Writes a subsection: the numbers of `mem-info` all, and the flags of a symbol as one number.
-fn write_subsection(out: &mut Output, subsection: &Dylink0Subsection) -> Result<(), AllocError>
+fn write_subsection(out: &mut Output, subsection: &Dylink0Subsection) -> Result<(), Refused>
     ensures written { OnOk result (out.new ≡ put out.old
         (spell_subsection (subsection_view subsection.now))) }
     ensures fit { OnOk result (fit_subsection (subsection_view subsection.now) ≡ true) }
+    ensures refused { IfErr result (λ e. e ≡ Memory) }
 {
     match subsection {
         Dylink0Subsection::MemInfo {
@@ -139,9 +145,10 @@ fn write_subsection(out: &mut Output, subsection: &Dylink0Subsection) -> Result<
 }
 
 /// Writes subsections, one behind the other.
-fn write_subsections(out: &mut Output, subsections: &[Dylink0Subsection]) -> Result<(), AllocError>
-    ensures { OnOk result (Wrote subsection_view spell_subsection fit_subsection subsections.now
+fn write_subsections(out: &mut Output, subsections: &[Dylink0Subsection]) -> Result<(), Refused>
+    ensures wrote { OnOk result (Wrote subsection_view spell_subsection fit_subsection subsections.now
         out.old out.new) }
+    ensures refused { IfErr result (λ e. e ≡ Memory) }
 {
     for subsection in subsections {
         write_subsection(out, subsection)?;
@@ -200,8 +207,7 @@ pub fn write_dylink(out: &mut Output, section: &Dylink0) -> Result<(), Refused>
         return Err(Refused::Section);
     }
     out.annotation("dylink.0")?;
-    write_subsections(out, &section.subsections)?;
-    Ok(())
+    write_subsections(out, &section.subsections)
 }
 
 /// It is printed in its parentheses, since an annotation stands behind a `(`.
@@ -217,7 +223,6 @@ impl PrintPart for Dylink0<'_> {
     fn write(&self, out: &mut Output) -> Result<(), Refused> {
         out.open()?;
         write_dylink(out, self)?;
-        out.close()?;
-        Ok(())
+        out.close()
     }
 }

@@ -41,8 +41,7 @@ fn write_item(out: &mut Output, item: &Expression) -> Result<(), Refused>
     out.open()?;
     out.word("item")?;
     write_constant(out, item)?;
-    out.close()?;
-    Ok(())
+    out.close()
 }
 
 /// Writes items, one behind the other.
@@ -68,8 +67,7 @@ fn write_typed(out: &mut Output, ty: &RefType, items: &[Expression]) -> Result<(
         (exprs (ref_view ty.now) (map expression_view items.now)) ≡ false) }
 {
     write_ref(out, ty)?;
-    write_items(out, items)?;
-    Ok(())
+    write_items(out, items)
 }
 
 /// Writes indices, one behind the other.
@@ -80,8 +78,7 @@ pub(crate) fn write_indices(out: &mut Output, list: &[Index]) -> Result<(), Refu
     ensures refused { IfErr result (λ e. e ≢ Memory
         → each fit_index (map index_view list.now) ≡ false) }
 {
-    write_each(out, list)?;
-    Ok(())
+    write_each(out, list)
 }
 
 /// Writes `func`, and indices.
@@ -93,8 +90,7 @@ fn write_functions(out: &mut Output, list: &[Index]) -> Result<(), Refused>
         → fit_payload (indices (map index_view list.now)) ≡ false) }
 {
     out.word("func")?;
-    write_indices(out, list)?;
-    Ok(())
+    write_indices(out, list)
 }
 
 /// Writes what an element segment holds (Text Format, Modules, "Element Segments"): `func` and
@@ -108,10 +104,7 @@ pub fn write_payload(out: &mut Output, payload: &ElemPayload) -> Result<(), Refu
         → fit_payload (payload_view payload.now) ≡ false) }
 {
     match payload {
-        ElemPayload::Indices(list) => {
-            write_functions(out, list)?;
-            Ok(())
-        }
+        ElemPayload::Indices(list) => write_functions(out, list),
         ElemPayload::Exprs { ty, exprs } => write_typed(out, ty, exprs),
     }
 }
@@ -129,8 +122,7 @@ fn write_elem_table(out: &mut Output, table: &Option<Index>) -> Result<(), Refus
             out.open()?;
             out.word("table")?;
             write_index(out, table)?;
-            out.close()?;
-            Ok(())
+            out.close()
         }
         None => Ok(()),
     }
@@ -147,8 +139,7 @@ fn write_active(out: &mut Output, table: &Option<Index>, offset: &Expression) ->
         (active (option_view index_view table.now) (expression_view offset.now)) ≡ false) }
 {
     write_elem_table(out, table)?;
-    write_offset(out, offset)?;
-    Ok(())
+    write_offset(out, offset)
 }
 
 /// Writes where a segment is put: nothing for a passive one, `declare`, or a table and an offset.
@@ -162,10 +153,7 @@ fn write_elem_kind(out: &mut Output, kind: &ElemKind) -> Result<(), Refused>
 {
     match kind {
         ElemKind::Passive => Ok(()),
-        ElemKind::Declared => {
-            out.word("declare")?;
-            Ok(())
-        }
+        ElemKind::Declared => out.word("declare"),
         ElemKind::Active { table, offset } => write_active(out, table, offset),
     }
 }
@@ -180,8 +168,7 @@ pub fn write_elem(out: &mut Output, elem: &Elem) -> Result<(), Refused>
     out.word("elem")?;
     write_label(out, &elem.id, &elem.name)?;
     write_elem_kind(out, &elem.kind)?;
-    write_payload(out, &elem.payload)?;
-    Ok(())
+    write_payload(out, &elem.payload)
 }
 
 impl PrintPart for Elem<'_> {

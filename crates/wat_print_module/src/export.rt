@@ -41,8 +41,7 @@ pub fn write_export(out: &mut Output, export: &Export) -> Result<(), Refused>
     out.open()?;
     out.word(word_of(export.kind))?;
     write_index(out, &export.item)?;
-    out.close()?;
-    Ok(())
+    out.close()
 }
 
 /// Writes the type of an export: `export`, its name, and the signature in parentheses.
@@ -55,8 +54,7 @@ pub fn write_export_type(out: &mut Output, export: &ExportType) -> Result<(), Re
 {
     out.word("export")?;
     out.text(export.name)?;
-    write_sig_group(out, &export.item)?;
-    Ok(())
+    write_sig_group(out, &export.item)
 }
 
 impl PrintPart for ExportKind {
@@ -72,8 +70,7 @@ impl PrintPart for ExportKind {
 
     #[tactic(auto, using(wat_print::specs::Laws::Written::puts_put))]
     fn write(&self, out: &mut Output) -> Result<(), Refused> {
-        out.word(word_of(*self))?;
-        Ok(())
+        out.word(word_of(*self))
     }
 }
 
@@ -88,8 +85,7 @@ impl PrintPart for Export<'_> {
 
     #[tactic(auto, using(wat_print::specs::Laws::Written::puts_put))]
     fn write(&self, out: &mut Output) -> Result<(), Refused> {
-        write_export(out, self)?;
-        Ok(())
+        write_export(out, self)
     }
 }
 
@@ -104,7 +100,6 @@ impl PrintPart for ExportType<'_> {
 
     #[tactic(auto, using(wat_print::specs::Laws::Written::puts_put))]
     fn write(&self, out: &mut Output) -> Result<(), Refused> {
-        write_export_type(out, self)?;
-        Ok(())
+        write_export_type(out, self)
     }
 }

@@ -19,7 +19,6 @@ impl PrintPart for Expression<'_> {
     ghost printing = { expression_printing };
 
     fn write(&self, out: &mut Output) -> Result<(), Refused> {
-        write_expression(out, self)?;
-        Ok(())
+        write_expression(out, self)
     }
 }

@@ -37,8 +37,7 @@ pub fn write_start(out: &mut Output, index: &Index) -> Result<(), Refused>
     ensures refused { IfErr result (λ e. e ≢ Memory → fit_index (index_view index.now) ≡ false) }
 {
     out.word("start")?;
-    write_index(out, index)?;
-    Ok(())
+    write_index(out, index)
 }
 
 /// Writes a field without its parentheses.
@@ -79,8 +78,7 @@ pub fn write_field(out: &mut Output, field: &ModuleField) -> Result<(), Refused>
     out.line()?;
     out.open()?;
     write_inside(out, field)?;
-    out.close()?;
-    Ok(())
+    out.close()
 }
 
 /// It is printed in its parentheses, since an annotation stands behind a `(`.
@@ -94,7 +92,6 @@ impl PrintPart for ModuleField<'_> {
     ghost printing = { module_field_printing };
 
     fn write(&self, out: &mut Output) -> Result<(), Refused> {
-        write_field(out, self)?;
-        Ok(())
+        write_field(out, self)
     }
 }

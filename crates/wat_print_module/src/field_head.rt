@@ -30,8 +30,7 @@ fn write_inline_name(out: &mut Output, name: &str) -> Result<(), Refused>
     out.open()?;
     out.word("export")?;
     out.text(name)?;
-    out.close()?;
-    Ok(())
+    out.close()
 }
 
 /// Writes exports in line, one behind the other.
@@ -54,8 +53,7 @@ pub fn write_inline_export(out: &mut Output, exports: &InlineExport) -> Result<(
     ensures fit { OnOk result (fit_inline_export (inline_export_view exports.now) ≡ true) }
     ensures refused { IfErr result (λ e. e ≡ Memory) }
 {
-    write_inline_names(out, &exports.names)?;
-    Ok(())
+    write_inline_names(out, &exports.names)
 }
 
 /// Writes the import that stands in a field (Text Format, Modules, "Imports", Abbreviations):
@@ -70,8 +68,7 @@ pub fn write_inline_import(out: &mut Output, import: &InlineImport) -> Result<()
     out.word("import")?;
     out.text(import.module)?;
     out.text(import.field)?;
-    out.close()?;
-    Ok(())
+    out.close()
 }
 
 /// Writes what is behind the word of a field: what names it, and its exports in line.
@@ -90,8 +87,7 @@ pub fn write_head(
         (field_head (label_view id.now name.now) (inline_export_view exports.now)) ≡ false) }
 {
     write_label(out, id, name)?;
-    write_inline_export(out, exports)?;
-    Ok(())
+    write_inline_export(out, exports)
 }
 
 impl PrintPart for InlineExport<'_> {
@@ -105,8 +101,7 @@ impl PrintPart for InlineExport<'_> {
 
     #[tactic(auto, using(wat_print::specs::Laws::Written::puts_put))]
     fn write(&self, out: &mut Output) -> Result<(), Refused> {
-        write_inline_export(out, self)?;
-        Ok(())
+        write_inline_export(out, self)
     }
 }
 

@@ -39,14 +39,12 @@ fn write_exact_use(
     ensures refused { IfErr result (λ e. e ≢ Memory → fit_use (func_use_view ty.now) ≡ false) }
 {
     if !is_exact {
-        write_use(out, ty)?;
-        return Ok(());
+        return write_use(out, ty);
     }
     out.open()?;
     out.word("exact")?;
     write_use(out, ty)?;
-    out.close()?;
-    Ok(())
+    out.close()
 }
 
 /// Writes an import in line, and the type of the function.
@@ -64,8 +62,7 @@ fn write_imported(
         (func_use_view ty.now, imported (inline_import_view import.now) is_exact) ≡ false) }
 {
     write_inline_import(out, import)?;
-    write_exact_use(out, ty, is_exact)?;
-    Ok(())
+    write_exact_use(out, ty, is_exact)
 }
 
 /// Writes locals and a body.
@@ -78,8 +75,7 @@ fn write_body(out: &mut Output, locals: &[Local], body: &Expression) -> Result<(
         && fit_expression (expression_view body.now) ≡ false) }
 {
     write_locals(out, locals)?;
-    write_expression(out, body)?;
-    Ok(())
+    write_expression(out, body)
 }
 
 /// Writes the type of a function, its locals and its body.
@@ -103,8 +99,7 @@ fn write_inline(
     ) ≡ false) }
 {
     write_use(out, ty)?;
-    write_body(out, locals, body)?;
-    Ok(())
+    write_body(out, locals, body)
 }
 
 /// Writes the type of a function, and how it is defined.
@@ -122,10 +117,7 @@ fn write_defined(
         (func_use_view ty.now, func_kind_view kind.now) ≡ false) }
 {
     match kind {
-        FuncKind::Import(import, is_exact) => {
-            write_imported(out, ty, import, *is_exact)?;
-            Ok(())
-        }
+        FuncKind::Import(import, is_exact) => write_imported(out, ty, import, *is_exact),
         FuncKind::Inline { locals, expression } => write_inline(out, ty, locals, expression),
     }
 }
@@ -140,8 +132,7 @@ pub fn write_func(out: &mut Output, func: &Func) -> Result<(), Refused>
 {
     out.word("func")?;
     write_head(out, &func.id, &func.name, &func.exports)?;
-    write_defined(out, &func.ty, &func.kind)?;
-    Ok(())
+    write_defined(out, &func.ty, &func.kind)
 }
 
 impl PrintPart for Func<'_> {
@@ -154,7 +145,6 @@ impl PrintPart for Func<'_> {
     ghost printing = { func_printing };
 
     fn write(&self, out: &mut Output) -> Result<(), Refused> {
-        write_func(out, self)?;
-        Ok(())
+        write_func(out, self)
     }
 }

@@ -33,8 +33,7 @@ fn write_imported(out: &mut Output, ty: &GlobalType, import: &InlineImport) -> R
         (global_type_view ty.now, imported (inline_import_view import.now)) ≡ false) }
 {
     write_inline_import(out, import)?;
-    write_global(out, ty)?;
-    Ok(())
+    write_global(out, ty)
 }
 
 /// Writes the type of a global, and its first value.
@@ -47,8 +46,7 @@ fn write_inline(out: &mut Output, ty: &GlobalType, value: &Expression) -> Result
         (global_type_view ty.now, inline (expression_view value.now)) ≡ false) }
 {
     write_global(out, ty)?;
-    write_constant(out, value)?;
-    Ok(())
+    write_constant(out, value)
 }
 
 /// Writes the type of a global, and how it is defined.
@@ -62,10 +60,7 @@ fn write_defined(out: &mut Output, ty: &GlobalType, kind: &GlobalKind) -> Result
         (global_type_view ty.now, global_kind_view kind.now) ≡ false) }
 {
     match kind {
-        GlobalKind::Import(import) => {
-            write_imported(out, ty, import)?;
-            Ok(())
-        }
+        GlobalKind::Import(import) => write_imported(out, ty, import),
         GlobalKind::Inline(value) => write_inline(out, ty, value),
     }
 }
@@ -81,8 +76,7 @@ pub fn write_global_field(out: &mut Output, global: &Global) -> Result<(), Refus
 {
     out.word("global")?;
     write_head(out, &global.id, &global.name, &global.exports)?;
-    write_defined(out, &global.ty, &global.kind)?;
-    Ok(())
+    write_defined(out, &global.ty, &global.kind)
 }
 
 impl PrintPart for Global<'_> {
@@ -95,7 +89,6 @@ impl PrintPart for Global<'_> {
     ghost printing = { global_field_printing };
 
     fn write(&self, out: &mut Output) -> Result<(), Refused> {
-        write_global_field(out, self)?;
-        Ok(())
+        write_global_field(out, self)
     }
 }

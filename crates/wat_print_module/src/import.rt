@@ -29,8 +29,7 @@ fn write_typed(out: &mut Output, item: &ImportGroup1Item) -> Result<(), Refused>
     out.word("item")?;
     out.text(item.name)?;
     write_sig_group(out, &item.sig)?;
-    out.close()?;
-    Ok(())
+    out.close()
 }
 
 /// Writes items with their signatures, one behind the other.
@@ -54,8 +53,7 @@ fn write_named(out: &mut Output, item: &ImportGroup2Item) -> Result<(), Refused>
     out.open()?;
     out.word("item")?;
     out.text(item.name)?;
-    out.close()?;
-    Ok(())
+    out.close()
 }
 
 /// Writes items that share a signature, one behind the other.
@@ -78,8 +76,7 @@ fn write_shared(out: &mut Output, sig: &ItemSig) -> Result<(), Refused>
     if sig.id.is_some() {
         return Err(Refused::Label);
     }
-    write_sig_group(out, sig)?;
-    Ok(())
+    write_sig_group(out, sig)
 }
 
 /// Writes what is imported.
@@ -127,8 +124,7 @@ pub fn write_imports(out: &mut Output, imports: &Imports) -> Result<(), Refused>
 {
     out.word("import")?;
     out.text(module_name(&imports.items))?;
-    write_items(out, &imports.items)?;
-    Ok(())
+    write_items(out, &imports.items)
 }
 
 impl PrintPart for Imports<'_> {
@@ -142,7 +138,6 @@ impl PrintPart for Imports<'_> {
 
     #[tactic(auto, using(wat_print::specs::Laws::Written::puts_put))]
     fn write(&self, out: &mut Output) -> Result<(), Refused> {
-        write_imports(out, self)?;
-        Ok(())
+        write_imports(out, self)
     }
 }

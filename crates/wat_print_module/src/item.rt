@@ -41,8 +41,7 @@ fn write_exact(out: &mut Output, ty: &TypeUse<FunctionType>) -> Result<(), Refus
     out.open()?;
     out.word("exact")?;
     write_use(out, ty)?;
-    out.close()?;
-    Ok(())
+    out.close()
 }
 
 /// Writes the type of an item (Text Format, Types, "External Types"), that of a function which has
@@ -73,8 +72,7 @@ pub fn write_sig(out: &mut Output, sig: &ItemSig) -> Result<(), Refused>
 {
     out.word(word_of(&sig.kind))?;
     write_label(out, &sig.id, &sig.name)?;
-    write_kind(out, &sig.kind)?;
-    Ok(())
+    write_kind(out, &sig.kind)
 }
 
 /// Writes a signature in parentheses.
@@ -85,8 +83,7 @@ pub fn write_sig_group(out: &mut Output, sig: &ItemSig) -> Result<(), Refused>
 {
     out.open()?;
     write_sig(out, sig)?;
-    out.close()?;
-    Ok(())
+    out.close()
 }
 
 impl PrintPart for ItemSig<'_> {
@@ -100,7 +97,6 @@ impl PrintPart for ItemSig<'_> {
 
     #[tactic(auto, using(wat_print::specs::Laws::Written::puts_put))]
     fn write(&self, out: &mut Output) -> Result<(), Refused> {
-        write_sig(out, self)?;
-        Ok(())
+        write_sig(out, self)
     }
 }

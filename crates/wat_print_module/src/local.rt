@@ -26,8 +26,7 @@ fn write_listed(out: &mut Output, local: &Local) -> Result<(), Refused>
     ensures refused { IfErr result (λ e. e ≢ Memory → fit_local (local_view local.now) ≡ false) }
 {
     write_label(out, &local.id, &local.name)?;
-    write_val(out, &local.ty)?;
-    Ok(())
+    write_val(out, &local.ty)
 }
 
 /// Writes locals, one behind the other, without a group.
@@ -53,8 +52,7 @@ fn write_local(out: &mut Output, local: &Local) -> Result<(), Refused>
     out.open()?;
     out.word("local")?;
     write_listed(out, local)?;
-    out.close()?;
-    Ok(())
+    out.close()
 }
 
 /// Writes the locals of a function (Text Format, Modules, "Functions"), each in a group of its own.
@@ -107,8 +105,7 @@ pub fn write_local_parser(out: &mut Output, group: &LocalParser) -> Result<(), R
         return Err(Refused::Label);
     }
     out.word("local")?;
-    write_all_listed(out, &group.locals)?;
-    Ok(())
+    write_all_listed(out, &group.locals)
 }
 
 impl PrintPart for LocalParser<'_> {
@@ -122,7 +119,6 @@ impl PrintPart for LocalParser<'_> {
 
     #[tactic(auto, using(wat_print::specs::Laws::Written::puts_put))]
     fn write(&self, out: &mut Output) -> Result<(), Refused> {
-        write_local_parser(out, self)?;
-        Ok(())
+        write_local_parser(out, self)
     }
 }

@@ -32,8 +32,7 @@ fn write_imported(out: &mut Output, import: &InlineImport, ty: &MemoryType) -> R
         (imported (inline_import_view import.now) ty.now) ≡ false) }
 {
     write_inline_import(out, import)?;
-    write_memory_type(out, ty)?;
-    Ok(())
+    write_memory_type(out, ty)
 }
 
 /// Writes `( data DataVal* )`.
@@ -46,8 +45,7 @@ fn write_inline_data(out: &mut Output, values: &[DataVal]) -> Result<(), Refused
     out.open()?;
     out.word("data")?;
     write_data_vals(out, values)?;
-    out.close()?;
-    Ok(())
+    out.close()
 }
 
 /// Writes what a memory holds, in line.
@@ -66,8 +64,7 @@ fn write_inline(
 {
     write_flag(out, "i64", is64)?;
     write_page_size(out, page_size_log2)?;
-    write_inline_data(out, values)?;
-    Ok(())
+    write_inline_data(out, values)
 }
 
 /// Writes how a memory is defined, behind its head.
@@ -100,8 +97,7 @@ pub fn write_memory(out: &mut Output, memory: &Memory) -> Result<(), Refused>
 {
     out.word("memory")?;
     write_head(out, &memory.id, &memory.name, &memory.exports)?;
-    write_memory_kind(out, &memory.kind)?;
-    Ok(())
+    write_memory_kind(out, &memory.kind)
 }
 
 impl PrintPart for Memory<'_> {
@@ -115,7 +111,6 @@ impl PrintPart for Memory<'_> {
 
     #[tactic(auto, using(wat_print::specs::Laws::Written::puts_put))]
     fn write(&self, out: &mut Output) -> Result<(), Refused> {
-        write_memory(out, self)?;
-        Ok(())
+        write_memory(out, self)
     }
 }

@@ -97,10 +97,11 @@ fn write_fields(out: &mut Output, fields: &[ModuleField]) -> Result<(), ModuleRe
 }
 
 /// Writes `binary`, and the pieces of the binary form.
-fn write_binary(out: &mut Output, pieces: &[&[u8]]) -> Result<(), AllocError>
+fn write_binary(out: &mut Output, pieces: &[&[u8]]) -> Result<(), Refused>
     ensures written { OnOk result (out.new ≡ put out.old
         (spell_module_kind (binary (map (λ s. s.now) pieces.now)))) }
     ensures fit { OnOk result (each fit_string (map (λ s. s.now) pieces.now) ≡ true) }
+    ensures refused { IfErr result (λ e. e ≡ Memory) }
 {
     out.word("binary")?;
     write_pieces(out, pieces)
@@ -135,8 +136,7 @@ fn write_content(out: &mut Output, value: &Module) -> Result<(), ModuleRefused>
 {
     out.word("module")?;
     write_label(out, &value.id, &value.name)?;
-    write_kind(out, &value.kind)?;
-    Ok(())
+    write_kind(out, &value.kind)
 }
 
 /// Writes a module in its parentheses (Text Format, "Modules"): each field on a line of its own,

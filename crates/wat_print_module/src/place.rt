@@ -1,6 +1,6 @@
 //! How the places of custom sections are printed.
 
-ghost use Rattle.std.specs.Prelude.{◌≡◌, OnOk};
+ghost use Rattle.std.specs.Prelude.{◌≡◌, OnOk, IfErr};
 ghost use Rattle.wat_links.specs.Place.{section, custom_place};
 ghost use Rattle.wat_print.specs.Text.{put};
 ghost use Rattle.wat_print.specs.declared.fault.Refused.TheVariants.{Memory};
@@ -8,7 +8,6 @@ ghost use Rattle.wat_print_module.specs.LinkPrintings.{section_printing, place_p
 ghost use Rattle.wat_print_module.specs.Place.{section_word, spell_place, spell_place_group};
 
 use crate::traits::PrintPart;
-use std::alloc::AllocError;
 use wat_links::{CustomPlace, CustomPlaceAnchor};
 use wat_print::{Output, Refused};
 
@@ -34,8 +33,9 @@ fn word_of(section: CustomPlaceAnchor) -> &'static str
 
 /// Writes the place of a custom section, without its parentheses (Text Format, "Custom
 /// Annotation").
-pub fn write_place(out: &mut Output, place: CustomPlace) -> Result<(), AllocError>
-    ensures { OnOk result (out.new ≡ put out.old (spell_place place)) }
+pub fn write_place(out: &mut Output, place: CustomPlace) -> Result<(), Refused>
+    ensures written { OnOk result (out.new ≡ put out.old (spell_place place)) }
+    ensures refused { IfErr result (λ e. e ≡ Memory) }
 {
     match place {
         CustomPlace::BeforeFirst => {
@@ -58,8 +58,9 @@ pub fn write_place(out: &mut Output, place: CustomPlace) -> Result<(), AllocErro
 }
 
 /// Writes the place in parentheses; nothing, where it is behind the last section.
-pub fn write_place_group(out: &mut Output, place: CustomPlace) -> Result<(), AllocError>
-    ensures { OnOk result (out.new ≡ put out.old (spell_place_group place)) }
+pub fn write_place_group(out: &mut Output, place: CustomPlace) -> Result<(), Refused>
+    ensures written { OnOk result (out.new ≡ put out.old (spell_place_group place)) }
+    ensures refused { IfErr result (λ e. e ≡ Memory) }
 {
     if matches!(place, CustomPlace::AfterLast) {
         return Ok(());
@@ -82,8 +83,7 @@ impl PrintPart for CustomPlaceAnchor {
 
     #[tactic(auto, using(wat_print::specs::Laws::Written::puts_put))]
     fn write(&self, out: &mut Output) -> Result<(), Refused> {
-        out.word(word_of(*self))?;
-        Ok(())
+        out.word(word_of(*self))
     }
 }
 
@@ -100,7 +100,6 @@ impl PrintPart for CustomPlace {
 
     #[tactic(auto, using(wat_print::specs::Laws::Written::puts_put))]
     fn write(&self, out: &mut Output) -> Result<(), Refused> {
-        write_place(out, *self)?;
-        Ok(())
+        write_place(out, *self)
     }
 }

@@ -15,15 +15,15 @@ ghost use Rattle.wat_print_module.specs.Producers.{field_of_word, fields_behind,
 ghost use Rattle.wat_print_module.specs.Producers.{fit_producers, produced_view};
 
 use crate::traits::PrintPart;
-use std::alloc::AllocError;
 use wat_links::Producers;
 use wat_print::{Output, Refused};
 
 /// Writes an entry: `( word name version )`.
-fn write_produced(out: &mut Output, word: &str, name: &str, version: &str) -> Result<(), AllocError>
+fn write_produced(out: &mut Output, word: &str, name: &str, version: &str) -> Result<(), Refused>
     ensures written { OnOk result (out.new ≡ put out.old
         (spell_produced word.now (name.now, version.now))) }
     ensures fit { OnOk result (fit_versioned (name.now, version.now) ≡ true) }
+    ensures refused { IfErr result (λ e. e ≡ Memory) }
 {
     out.open()?;
     out.word(word)?;
@@ -33,9 +33,10 @@ fn write_produced(out: &mut Output, word: &str, name: &str, version: &str) -> Re
 }
 
 /// Writes the entries of a field.
-fn write_entries(out: &mut Output, word: &str, entries: &[(&str, &str)]) -> Result<(), AllocError>
-    ensures { OnOk result (Wrote (λ e. (e.0.now, e.1.now)) (spell_produced word.now) fit_versioned
+fn write_entries(out: &mut Output, word: &str, entries: &[(&str, &str)]) -> Result<(), Refused>
+    ensures wrote { OnOk result (Wrote (λ e. (e.0.now, e.1.now)) (spell_produced word.now) fit_versioned
         entries.now out.old out.new) }
+    ensures refused { IfErr result (λ e. e ≡ Memory) }
 {
     for entry in entries {
         write_produced(out, word, entry.0, entry.1)?;
@@ -118,7 +119,6 @@ impl PrintPart for Producers<'_> {
     fn write(&self, out: &mut Output) -> Result<(), Refused> {
         out.open()?;
         write_producers(out, self)?;
-        out.close()?;
-        Ok(())
+        out.close()
     }
 }

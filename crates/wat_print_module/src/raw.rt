@@ -1,6 +1,6 @@
 //! How custom sections of any name are printed.
 
-ghost use Rattle.std.specs.Prelude.{◌≡◌, OnOk, true};
+ghost use Rattle.std.specs.Prelude.{◌≡◌, OnOk, true, IfErr};
 ghost use Rattle.wat_tokens.specs.Groups.{paren};
 ghost use Rattle.wat_links.specs.Raw.{RawTy, raw_view, raw_custom};
 ghost use Rattle.wat_print.specs.Parts.{Wrote};
@@ -8,17 +8,18 @@ ghost use Rattle.wat_print.specs.Text.{put};
 ghost use Rattle.wat_print_module.specs.Custom.{spell_raw, fit_raw};
 ghost use Rattle.wat_print_module.specs.LinkPrintings.{raw_printing};
 ghost use Rattle.wat_print.specs.Strings.{spell_string, fit_string};
+ghost use Rattle.wat_print.specs.declared.fault.Refused.TheVariants.{Memory};
 
 use crate::place::write_place_group;
 use crate::traits::PrintPart;
-use std::alloc::AllocError;
 use wat_links::RawCustomSection;
 use wat_print::string::write_string;
 use wat_print::{Output, Refused};
 
 /// Writes strings of bytes, one behind the other.
-pub fn write_pieces(out: &mut Output, pieces: &[&[u8]]) -> Result<(), AllocError>
-    ensures { OnOk result (Wrote (λ s. s.now) spell_string fit_string pieces.now out.old out.new) }
+pub fn write_pieces(out: &mut Output, pieces: &[&[u8]]) -> Result<(), Refused>
+    ensures wrote { OnOk result (Wrote (λ s. s.now) spell_string fit_string pieces.now out.old out.new) }
+    ensures refused { IfErr result (λ e. e ≡ Memory) }
 {
     for piece in pieces {
         write_string(out, piece)?;
@@ -28,9 +29,10 @@ pub fn write_pieces(out: &mut Output, pieces: &[&[u8]]) -> Result<(), AllocError
 
 /// Writes a custom section of any name, without its parentheses (Text Format, "Custom Annotation").
 /// Its place is left out where it is behind the last section.
-pub fn write_raw(out: &mut Output, section: &RawCustomSection) -> Result<(), AllocError>
+pub fn write_raw(out: &mut Output, section: &RawCustomSection) -> Result<(), Refused>
     ensures written { OnOk result (out.new ≡ put out.old (spell_raw (raw_view section.now))) }
     ensures fit { OnOk result (fit_raw (raw_view section.now) ≡ true) }
+    ensures refused { IfErr result (λ e. e ≡ Memory) }
 {
     out.annotation("custom")?;
     out.text(section.name)?;
@@ -51,7 +53,6 @@ impl PrintPart for RawCustomSection<'_> {
     fn write(&self, out: &mut Output) -> Result<(), Refused> {
         out.open()?;
         write_raw(out, self)?;
-        out.close()?;
-        Ok(())
+        out.close()
     }
 }

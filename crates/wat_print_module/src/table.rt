@@ -96,8 +96,7 @@ fn write_functions(out: &mut Output, ty: &RefType, list: &[Index]) -> Result<(),
     if !is_funcref(ty) {
         return Err(Refused::Table);
     }
-    write_indices(out, list)?;
-    Ok(())
+    write_indices(out, list)
 }
 
 /// Whether the type is `funcref`, and there is no expression.
@@ -129,8 +128,7 @@ fn write_listed_items(
     if is_bare_funcref(ty, list) {
         return Err(Refused::Table);
     }
-    write_items(out, list)?;
-    Ok(())
+    write_items(out, list)
 }
 
 /// Writes what a table holds, whose elements have the type: indices, or items.
@@ -143,10 +141,7 @@ fn write_elements(out: &mut Output, ty: &RefType, payload: &ElemPayload) -> Resu
         → fit_elements (ref_view ty.now) (payload_view payload.now) ≡ false) }
 {
     match payload {
-        ElemPayload::Indices(list) => {
-            write_functions(out, ty, list)?;
-            Ok(())
-        }
+        ElemPayload::Indices(list) => write_functions(out, ty, list),
         ElemPayload::Exprs { ty: own, exprs } => write_listed_items(out, ty, own, exprs),
     }
 }
@@ -162,8 +157,7 @@ fn write_elem_group(out: &mut Output, ty: &RefType, payload: &ElemPayload) -> Re
     out.open()?;
     out.word("elem")?;
     write_elements(out, ty, payload)?;
-    out.close()?;
-    Ok(())
+    out.close()
 }
 
 /// Writes what a table holds, behind the type of its elements. One that is both shared and of 64
@@ -188,8 +182,7 @@ fn write_inline(
     write_flag(out, "shared", shared)?;
     write_flag(out, "i64", is64)?;
     write_ref(out, elem)?;
-    write_elem_group(out, elem, payload)?;
-    Ok(())
+    write_elem_group(out, elem, payload)
 }
 
 /// Writes what each element is at first, where that is given. One without an instruction is
@@ -207,8 +200,7 @@ fn write_initial(out: &mut Output, value: &Option<Expression>) -> Result<(), Ref
             if value.instrs.is_empty() {
                 return Err(Refused::Table);
             }
-            write_constant(out, value)?;
-            Ok(())
+            write_constant(out, value)
         }
         None => Ok(()),
     }
@@ -225,8 +217,7 @@ fn write_normal(out: &mut Output, ty: &TableType, value: &Option<Expression>) ->
         (normal (table_type_view ty.now) (option_view expression_view value.now)) ≡ false) }
 {
     write_table_type(out, ty)?;
-    write_initial(out, value)?;
-    Ok(())
+    write_initial(out, value)
 }
 
 /// Writes an import in line, and the type of the table.
@@ -239,8 +230,7 @@ fn write_imported(out: &mut Output, import: &InlineImport, ty: &TableType) -> Re
         (imported (inline_import_view import.now) (table_type_view ty.now)) ≡ false) }
 {
     write_inline_import(out, import)?;
-    write_table_type(out, ty)?;
-    Ok(())
+    write_table_type(out, ty)
 }
 
 /// Writes how a table is defined, behind its head.
@@ -253,10 +243,7 @@ fn write_table_kind(out: &mut Output, kind: &TableKind) -> Result<(), Refused>
         → fit_table_kind (table_kind_view kind.now) ≡ false) }
 {
     match kind {
-        TableKind::Import { import, ty } => {
-            write_imported(out, import, ty)?;
-            Ok(())
-        }
+        TableKind::Import { import, ty } => write_imported(out, import, ty),
         TableKind::Normal { ty, init_expr } => write_normal(out, ty, init_expr),
         TableKind::Inline {
             elem,
@@ -280,8 +267,7 @@ pub fn write_table(out: &mut Output, table: &Table) -> Result<(), Refused>
 {
     out.word("table")?;
     write_head(out, &table.id, &table.name, &table.exports)?;
-    write_table_kind(out, &table.kind)?;
-    Ok(())
+    write_table_kind(out, &table.kind)
 }
 
 impl PrintPart for Table<'_> {

@@ -53,8 +53,7 @@ pub fn write_tag(out: &mut Output, tag: &Tag) -> Result<(), Refused>
     out.word("tag")?;
     write_head(out, &tag.id, &tag.name, &tag.exports)?;
     write_import(out, &tag.kind)?;
-    write_tag_type(out, &tag.ty)?;
-    Ok(())
+    write_tag_type(out, &tag.ty)
 }
 
 impl PrintPart for Tag<'_> {
@@ -68,7 +67,6 @@ impl PrintPart for Tag<'_> {
 
     #[tactic(auto, using(wat_print::specs::Laws::Written::puts_put))]
     fn write(&self, out: &mut Output) -> Result<(), Refused> {
-        write_tag(out, self)?;
-        Ok(())
+        write_tag(out, self)
     }
 }

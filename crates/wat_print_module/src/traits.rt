@@ -47,7 +47,6 @@ impl<T: PrintPart> Print for ModulePart<'_, T> {
     ghost printing = { T.printing };
 
     fn write(&self, out: &mut Output) -> Result<(), Refused> {
-        self.0.write(out)?;
-        Ok(())
+        self.0.write(out)
     }
 }

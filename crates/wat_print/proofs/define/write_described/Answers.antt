@@ -1,3 +1,4 @@
+use Rattle.std.proofs.lemmas.Result.{on_ok_weaker}
 use Rattle.std.specs.Prelude.{◌++◌}
 use Rattle.wat_types.specs.Define.{def_view}
 use Rattle.wat_tokens.specs.Spelled.{in_parens}
@@ -12,7 +13,7 @@ returns-clause-written c =
     let links = spell_option spell_describes d.describes in
     let link = spell_option spell_descriptor d.descriptor in
     let kind = in_parens (spell_kind d.kind) in
-    put_then links (link ++ kind) c.args.out.now _ _ c.in_ok-write_link.ensures.written
-    (put_then link kind _ _ _ c.in_ok-write_link-2.ensures.written
-    (put_parens (spell_kind d.kind) _ _ _ _ c.in_ok-open.ensures c.in_ok-write_kind.ensures.written
-    c.in_ok-close.ensures))
+    on_ok_weaker c.close.result (λ done. put_then links (link ++ kind) c.args.out.now _ _
+    c.in_ok-write_link.ensures.written (put_then link kind _ _ _
+    c.in_ok-write_link-2.ensures.written (put_parens (spell_kind d.kind) _ _ _ _
+    c.in_ok-open.ensures.written c.in_ok-write_kind.ensures.written done))) c.close.ensures.written

@@ -1,3 +1,4 @@
+use Rattle.std.proofs.lemmas.Result.{on_ok_weaker}
 use Rattle.std.proofs.Common.{◌∙◌, ap, sym, append-nil}
 use Rattle.std.specs.Prelude.{codes, List}
 use Rattle.wat_lexer.specs.Token.{Tok}
@@ -11,7 +12,7 @@ use Rattle.wat_print.proofs.function.write_alone.Goals as goal
 pub returns-clause-written : goal.returns-clause-written
 returns-clause-written c =
     let p = param_view c.args.param.now in
-    enclosed (codes "param") (spell_param p) _ _ _ _ _ c.in_ok-open.ensures c.in_ok-word.ensures
-    c.in_ok-write_param.ensures.written c.in_ok-close.ensures
-    ∙ ap (λ (l : List Tok). put c.args.out.now (grouped (codes "param") l))
-    (sym (append-nil (spell_param p)))
+    on_ok_weaker c.close.result (λ done. enclosed (codes "param") (spell_param p) _ _ _ _ _
+    c.in_ok-open.ensures.written c.in_ok-word.ensures.written c.in_ok-write_param.ensures.written
+    done ∙ ap (λ (l : List Tok). put c.args.out.now (grouped (codes "param") l))
+    (sym (append-nil (spell_param p)))) c.close.ensures.written

@@ -1,3 +1,4 @@
+use Rattle.std.proofs.lemmas.Result.{on_ok_weaker}
 use Rattle.std.proofs.Common.{◌∙◌, ap, sym}
 use Rattle.std.specs.Prelude.{codes, flat_map, List}
 use Rattle.wat_lexer.specs.Token.{Tok}
@@ -19,9 +20,10 @@ returns-then-not-are_unlabelled-clause-written c =
 pub returns-clause-written : goal.returns-clause-written
 returns-clause-written c =
     let ps = params_view c.args.params.now in
-    enclosed (codes "param") (flat_map spell_param ps) _ _ _ _ _ c.in_ok-open.ensures
-    c.in_ok-word.ensures c.in_ok-write_params.ensures.wrote.written c.in_ok-close.ensures
-    ∙ put_whole (codes "param") param_label spell_param param_view c.args.params.now
-    c.args.out.now (sym c.is_empty.ensures ∙ c.if-is_empty.false)
-    (sym c.are_unlabelled.ensures ∙ c.if-not-are_unlabelled.false)
-    ∙ ap (λ (l : List Tok). put c.args.out.now l) (params_in_groups ps)
+    on_ok_weaker c.close.result (λ done. enclosed (codes "param") (flat_map spell_param ps) _ _ _ _
+    _ c.in_ok-open.ensures.written c.in_ok-word.ensures.written
+    c.in_ok-write_params.ensures.wrote.written done ∙ put_whole (codes "param") param_label
+    spell_param param_view c.args.params.now c.args.out.now
+    (sym c.is_empty.ensures ∙ c.if-is_empty.false)
+    (sym c.are_unlabelled.ensures ∙ c.if-not-are_unlabelled.false) ∙ ap
+    (λ (l : List Tok). put c.args.out.now l) (params_in_groups ps)) c.close.ensures.written

@@ -1,3 +1,4 @@
+use Rattle.std.proofs.lemmas.Result.{on_ok_weaker}
 use Rattle.std.proofs.Common.{◌∙◌, ap, sym, append-nil}
 use Rattle.std.specs.Prelude.{codes, List}
 use Rattle.wat_lexer.specs.Token.{Tok}
@@ -11,7 +12,7 @@ use Rattle.wat_print.proofs.structure.write_alone.Goals as goal
 pub returns-clause-written : goal.returns-clause-written
 returns-clause-written c =
     let m = member_view c.args.field.now in
-    enclosed (codes "field") (spell_member m) _ _ _ _ _ c.in_ok-open.ensures c.in_ok-word.ensures
-    c.in_ok-write_member.ensures.written c.in_ok-close.ensures
-    ∙ ap (λ (l : List Tok). put c.args.out.now (grouped (codes "field") l))
-    (sym (append-nil (spell_member m)))
+    on_ok_weaker c.close.result (λ done. enclosed (codes "field") (spell_member m) _ _ _ _ _
+    c.in_ok-open.ensures.written c.in_ok-word.ensures.written c.in_ok-write_member.ensures.written
+    done ∙ ap (λ (l : List Tok). put c.args.out.now (grouped (codes "field") l))
+    (sym (append-nil (spell_member m)))) c.close.ensures.written

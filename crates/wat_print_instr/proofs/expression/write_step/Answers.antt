@@ -11,6 +11,6 @@ pub returns-clause-written : goal.returns-clause-written
 returns-clause-written c =
     let h = spell_option spell_hint c.args.hint in
     let i = spell_instruction (instruction_view c.args.instr.now) in
-    puts_both [] (h ++ i) _ _ _ c.in_ok-begin_step.ensures
+    puts_both [] (h ++ i) _ _ _ c.in_ok-begin_step.ensures.written
     (puts_put (h ++ i) _ _ (put_then h i _ _ _ c.in_ok-write_hint.ensures.written
     (c.end_step.ensures ∙ c.in_ok-write.ensures.written)))

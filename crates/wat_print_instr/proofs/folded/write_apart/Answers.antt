@@ -13,8 +13,8 @@ returns-clause-written c =
     let s = c.in-Some in
     apart_written (instruction_view s.instr.now) (map instruction_view s.before.now)
     (map instruction_view s.behind.now) (first_apart [] (map instruction_view c.args.instrs.now))
-    _ _ _ _ _ _ s.ensures.found c.in_ok-open.ensures c.in_ok-write.ensures.written
-    c.in_ok-write_each_own.ensures.wrote.written c.in_ok-close.ensures
+    _ _ _ _ _ _ s.ensures.found c.in_ok-open.ensures.written c.in_ok-write.ensures.written
+    c.in_ok-write_each_own.ensures.wrote.written c.in_ok-close.ensures.written
     c.in_ok-write_each_own-2.ensures.wrote.written
 
 pub returns-in_err-write-clause-refused : goal.returns-in_err-write-clause-refused

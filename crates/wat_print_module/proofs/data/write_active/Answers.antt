@@ -1,3 +1,4 @@
+use Rattle.std.proofs.lemmas.Result.{on_ok_weaker}
 use Rattle.wat_expr.specs.Expression.{expression_view}
 use Rattle.wat_print_module.specs.Segments.{spell_offset, spell_data_memory}
 use Rattle.wat_print_module.proofs.Grouped.{puts_first}
@@ -6,6 +7,7 @@ use Rattle.wat_tokens.specs.Index.{index_view}
 
 pub returns-clause-written : goal.returns-clause-written
 returns-clause-written c =
-    puts_first (spell_data_memory (index_view c.args.memory.now))
-    (spell_offset (expression_view c.args.offset.now)) _ _ _
-    c.in_ok-write_memory.ensures.written c.in_ok-write_offset.ensures.written
+    on_ok_weaker c.write_offset.result (λ done. puts_first
+    (spell_data_memory (index_view c.args.memory.now))
+    (spell_offset (expression_view c.args.offset.now)) _ _ _ c.in_ok-write_memory.ensures.written
+    done) c.write_offset.ensures.written

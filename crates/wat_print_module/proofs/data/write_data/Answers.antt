@@ -1,3 +1,4 @@
+use Rattle.std.proofs.lemmas.Result.{on_ok_weaker}
 use Rattle.std.specs.Prelude.{[], ◌∷◌, ◌++◌, codes}
 use Rattle.wat_lexer.specs.Token.{Keyword}
 use Rattle.wat_fields.specs.Data.{data_view}
@@ -12,7 +13,8 @@ returns-clause-written c =
     let l = spell_label d.label in
     let k = spell_data_kind d.kind in
     let v = spell_data_vals d.vals in
-    puts_first (Keyword (codes "data") ∷ []) (l ++ (k ++ v)) _ _ _ c.in_ok-word.ensures
+    on_ok_weaker c.write_data_vals.result (λ done. puts_first (Keyword (codes "data") ∷ [])
+    (l ++ (k ++ v)) _ _ _ c.in_ok-word.ensures.written
     (puts_first l (k ++ v) _ _ _ c.in_ok-write_label.ensures.written
     (puts_last k v _ _ _ c.in_ok-write_data_kind.ensures.written
-    (rw c.deref.ensures.value at c.in_ok-write_data_vals.ensures.wrote.written)))
+    (rw c.deref.ensures.value at done.written)))) c.write_data_vals.ensures.wrote

@@ -1,3 +1,4 @@
+use Rattle.std.proofs.lemmas.Result.{on_ok_weaker}
 use Rattle.std.specs.Prelude.{[], ◌∷◌, ◌++◌, codes}
 use Rattle.wat_lexer.specs.Token.{Keyword}
 use Rattle.wat_fields.specs.Elem.{elem_view}
@@ -13,7 +14,8 @@ returns-clause-written c =
     let l = spell_label e.label in
     let k = spell_elem_kind e.segment.0 in
     let p = spell_payload e.segment.1 in
-    puts_first (Keyword (codes "elem") ∷ []) (l ++ (k ++ p)) _ _ _ c.in_ok-word.ensures
+    on_ok_weaker c.write_payload.result (λ done. puts_first (Keyword (codes "elem") ∷ [])
+    (l ++ (k ++ p)) _ _ _ c.in_ok-word.ensures.written
     (puts_first l (k ++ p) _ _ _ c.in_ok-write_label.ensures.written
-    (puts_both k p _ _ _ c.in_ok-write_elem_kind.ensures.written
-    c.in_ok-write_payload.ensures.written))
+    (puts_both k p _ _ _ c.in_ok-write_elem_kind.ensures.written done)))
+    c.write_payload.ensures.written

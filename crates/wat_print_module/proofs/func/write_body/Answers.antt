@@ -1,3 +1,4 @@
+use Rattle.std.proofs.lemmas.Result.{on_ok_weaker}
 use Rattle.wat_expr.specs.Expression.{expression_view}
 use Rattle.wat_fields.specs.Local.{locals_view}
 use Rattle.wat_print.specs.Laws.Written.{puts_put, puts_both}
@@ -8,6 +9,7 @@ use Rattle.wat_print_module.proofs.func.write_body.Goals as goal
 pub returns-clause-written : goal.returns-clause-written
 returns-clause-written c =
     let ls = spell_locals (locals_view c.args.locals.now) in
-    puts_both ls (spell_expression (expression_view c.args.body.now)) c.args.out.now _ _
-    (puts_put ls _ _ c.in_ok-write_locals.ensures.wrote.written)
-    c.in_ok-write_expression.ensures.written
+    on_ok_weaker c.write_expression.result (λ done. puts_both ls
+    (spell_expression (expression_view c.args.body.now)) c.args.out.now _ _
+    (puts_put ls _ _ c.in_ok-write_locals.ensures.wrote.written) done)
+    c.write_expression.ensures.written

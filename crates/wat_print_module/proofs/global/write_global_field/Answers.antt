@@ -1,3 +1,4 @@
+use Rattle.std.proofs.lemmas.Result.{on_ok_weaker}
 use Rattle.std.specs.Prelude.{[], ◌∷◌, ◌++◌, codes}
 use Rattle.wat_lexer.specs.Token.{Keyword}
 use Rattle.wat_fields.specs.Global.{global_view}
@@ -12,6 +13,7 @@ returns-clause-written c =
     let w = Keyword (codes "global") ∷ [] in
     let h = spell_head g.head in
     let d = spell_defined_global (g.ty, g.kind) in
-    puts_both w (h ++ d) c.args.out.now _ _ (puts_put w _ _ c.in_ok-word.ensures)
-    (puts_both h d _ _ _ (puts_put h _ _ c.in_ok-write_head.ensures.written)
-    c.in_ok-write_defined.ensures.written)
+    on_ok_weaker c.write_defined.result (λ done. puts_both w (h ++ d) c.args.out.now _ _
+    (puts_put w _ _ c.in_ok-word.ensures.written)
+    (puts_both h d _ _ _ (puts_put h _ _ c.in_ok-write_head.ensures.written) done))
+    c.write_defined.ensures.written

@@ -1,3 +1,4 @@
+use Rattle.std.proofs.lemmas.Result.{on_ok_weaker}
 use Rattle.std.specs.Prelude.{codes}
 use Rattle.wat_fields.specs.Local.{local_view}
 use Rattle.wat_print.specs.Laws.Written.{enclosed}
@@ -6,6 +7,6 @@ use Rattle.wat_print_module.proofs.local.write_local.Goals as goal
 
 pub returns-clause-written : goal.returns-clause-written
 returns-clause-written c =
-    enclosed (codes "local") (spell_listed (local_view c.args.local.now)) _ _ _ _ _
-    c.in_ok-open.ensures c.in_ok-word.ensures c.in_ok-write_listed.ensures.written
-    c.in_ok-close.ensures
+    on_ok_weaker c.close.result (λ done. enclosed (codes "local")
+    (spell_listed (local_view c.args.local.now)) _ _ _ _ _ c.in_ok-open.ensures.written
+    c.in_ok-word.ensures.written c.in_ok-write_listed.ensures.written done) c.close.ensures.written

@@ -1,3 +1,4 @@
+use Rattle.std.proofs.lemmas.Result.{on_ok_weaker}
 use Rattle.std.specs.Prelude.{◌++◌, codes}
 use Rattle.wat_fields.specs.DataVal.{data_vals_view}
 use Rattle.wat_print.specs.Limits.{spell_page_size}
@@ -10,7 +11,7 @@ pub returns-clause-written : goal.returns-clause-written
 returns-clause-written c =
     let s = spell_option spell_page_size c.args.page_size_log2 in
     let v = grouped (codes "data") (spell_data_vals (data_vals_view c.args.values.now)) in
-    put_then (spell_flag (codes "i64") c.args.is64) (s ++ v) _ _ _
-    c.in_ok-write_flag.ensures
-    (put_then s v _ _ _ c.in_ok-write_page_size.ensures.written
-    c.in_ok-write_inline_data.ensures.written)
+    on_ok_weaker c.write_inline_data.result (λ done. put_then (spell_flag (codes "i64") c.args.is64)
+    (s ++ v) _ _ _ c.in_ok-write_flag.ensures.written
+    (put_then s v _ _ _ c.in_ok-write_page_size.ensures.written done))
+    c.write_inline_data.ensures.written

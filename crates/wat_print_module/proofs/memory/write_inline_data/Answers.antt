@@ -1,3 +1,4 @@
+use Rattle.std.proofs.lemmas.Result.{on_ok_weaker}
 use Rattle.std.specs.Prelude.{codes}
 use Rattle.wat_fields.specs.DataVal.{data_vals_view}
 use Rattle.wat_print.specs.Laws.Written.{enclosed}
@@ -6,6 +7,7 @@ use Rattle.wat_print_module.proofs.memory.write_inline_data.Goals as goal
 
 pub returns-clause-written : goal.returns-clause-written
 returns-clause-written c =
-    enclosed (codes "data") (spell_data_vals (data_vals_view c.args.values.now)) _ _ _ _ _
-    c.in_ok-open.ensures c.in_ok-word.ensures c.in_ok-write_data_vals.ensures.wrote.written
-    c.in_ok-close.ensures
+    on_ok_weaker c.close.result (λ done. enclosed (codes "data")
+    (spell_data_vals (data_vals_view c.args.values.now)) _ _ _ _ _ c.in_ok-open.ensures.written
+    c.in_ok-word.ensures.written c.in_ok-write_data_vals.ensures.wrote.written done)
+    c.close.ensures.written

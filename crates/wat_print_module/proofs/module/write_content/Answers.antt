@@ -1,3 +1,4 @@
+use Rattle.std.proofs.lemmas.Result.{on_ok_weaker}
 use Rattle.std.specs.Prelude.{[], ◌∷◌, ◌++◌, codes}
 use Rattle.wat_lexer.specs.Token.{Keyword}
 use Rattle.wat_core.specs.Module.{module_view}
@@ -11,5 +12,6 @@ returns-clause-written c =
     let m = module_view c.args.value.now in
     let l = spell_label m.label in
     let k = spell_module_kind m.kind in
-    puts_first (Keyword (codes "module") ∷ []) (l ++ k) _ _ _ c.in_ok-word.ensures
-    (puts_first l k _ _ _ c.in_ok-write_label.ensures.written c.in_ok-write_kind.ensures.written)
+    on_ok_weaker c.write_kind.result (λ done. puts_first (Keyword (codes "module") ∷ []) (l ++ k) _
+    _ _ c.in_ok-word.ensures.written (puts_first l k _ _ _ c.in_ok-write_label.ensures.written
+    done)) c.write_kind.ensures.written

@@ -5,5 +5,5 @@ use Rattle.wat_print_module.proofs.module.write_module.Goals as goal
 
 pub returns-clause-written : goal.returns-clause-written
 returns-clause-written c =
-    puts_parens (spell_module (module_view c.args.value.now)) _ _ _ _ c.in_ok-open.ensures
-    c.in_ok-write_content.ensures.written c.in_ok-close.ensures
+    puts_parens (spell_module (module_view c.args.value.now)) _ _ _ _ c.in_ok-open.ensures.written
+    c.in_ok-write_content.ensures.written c.in_ok-close.ensures.written

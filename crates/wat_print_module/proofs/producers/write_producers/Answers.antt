@@ -19,7 +19,7 @@ pub returns-clause-written : goal.returns-clause-written
 returns-clause-written c =
     put_then (Annotation (codes "producers") ∷ [])
     (flat_map spell_produced_field (producers_view c.args.section.now)) _ _ _
-    c.in_ok-annotation.ensures
+    c.in_ok-annotation.ensures.written
     (rw c.deref.ensures.value at c.in_ok-write_fields.ensures.written)
 
 pub returns-clause-fit : goal.returns-clause-fit

@@ -1,3 +1,4 @@
+use Rattle.std.proofs.lemmas.Result.{on_ok_weaker}
 use Rattle.std.specs.Prelude.{◌++◌, codes}
 use Rattle.wat_fields.specs.Payload.{payload_view}
 use Rattle.wat_print.specs.Parts.{grouped, spell_flag}
@@ -13,7 +14,7 @@ returns-clause-written c =
     let w = spell_flag (codes "i64") c.args.is64 in
     let r = spell_ref (ref_view c.args.elem.now) in
     let e = grouped (codes "elem") (spell_elements (payload_view c.args.payload.now)) in
-    puts_first s (w ++ (r ++ e)) _ _ _ c.in_ok-write_flag.ensures
-    (puts_first w (r ++ e) _ _ _ c.in_ok-write_flag-2.ensures
-    (puts_first r e _ _ _ c.in_ok-write_ref.ensures.written
-    c.in_ok-write_elem_group.ensures.written))
+    on_ok_weaker c.write_elem_group.result (λ done. puts_first s (w ++ (r ++ e)) _ _ _
+    c.in_ok-write_flag.ensures.written (puts_first w (r ++ e) _ _ _
+    c.in_ok-write_flag-2.ensures.written (puts_first r e _ _ _ c.in_ok-write_ref.ensures.written
+    done))) c.write_elem_group.ensures.written

@@ -1,3 +1,4 @@
+use Rattle.std.proofs.lemmas.Result.{on_ok_weaker}
 use Rattle.wat_expr.specs.Expression.{expression_view}
 use Rattle.wat_print.specs.Limits.{spell_table_type}
 use Rattle.wat_print.specs.Parts.{spell_option}
@@ -9,6 +10,7 @@ use Rattle.wat_types.specs.Limits.{table_type_view}
 
 pub returns-clause-written : goal.returns-clause-written
 returns-clause-written c =
-    puts_first (spell_table_type (table_type_view c.args.ty.now))
+    on_ok_weaker c.write_initial.result (λ done. puts_first
+    (spell_table_type (table_type_view c.args.ty.now))
     (spell_option spell_expression (option_view expression_view c.args.value.now)) _ _ _
-    c.in_ok-write_table_type.ensures.written c.in_ok-write_initial.ensures.written
+    c.in_ok-write_table_type.ensures.written done) c.write_initial.ensures.written

@@ -1,3 +1,4 @@
+use Rattle.std.proofs.lemmas.Result.{on_ok_weaker}
 use Rattle.std.specs.Prelude.{[], ◌∷◌, ◌++◌, codes}
 use Rattle.wat_lexer.specs.Token.{Keyword}
 use Rattle.wat_fields.specs.Table.{table_view}
@@ -11,6 +12,7 @@ returns-clause-written c =
     let t = table_view c.args.table.now in
     let h = spell_head t.head in
     let k = spell_table_kind t.kind in
-    puts_first (Keyword (codes "table") ∷ []) (h ++ k) _ _ _ c.in_ok-word.ensures
-    (puts_first h k _ _ _ c.in_ok-write_head.ensures.written
-    c.in_ok-write_table_kind.ensures.written)
+    on_ok_weaker c.write_table_kind.result (λ done. puts_first (Keyword (codes "table") ∷ [])
+    (h ++ k) _ _ _ c.in_ok-word.ensures.written
+    (puts_first h k _ _ _ c.in_ok-write_head.ensures.written done))
+    c.write_table_kind.ensures.written

@@ -1,10 +1,12 @@
+use Rattle.std.proofs.lemmas.Result.{on_ok_weaker}
 use Rattle.std.specs.Prelude.{◌≡◌, ◌≢◌, false, map}
 use Rattle.std.proofs.Common.{rules, sym, ◌∙◌}
 use Rattle.wat_expr.specs.Expression.{expression_view, hint_view}
 use Rattle.wat_instr.specs.Instruction.{instruction_view}
 use Rattle.wat_print.specs.declared.fault.Refused.TheVariants.{Memory}
 use Rattle.wat_print_instr.specs.FoldedForm.{fit_folded}
-use Rattle.wat_print_instr.proofs.FoldedWritten.{folded_written, folded_fit, last_unfit, others_unfit}
+use Rattle.wat_print_instr.proofs.FoldedWritten.{folded_written, folded_fit}
+use Rattle.wat_print_instr.proofs.FoldedWritten.{last_unfit, others_unfit}
 use Rattle.wat_print_instr.proofs.FoldedWritten.{seen_last, hints_none}
 use Rattle.wat_print_instr.proofs.folded.FoldedInstructionPrintCode.write.Goals as goal
 
@@ -12,20 +14,22 @@ pub returns-clause-written : goal.returns-clause-written
 returns-clause-written c =
     let s = c.in-Some in
     let e = expression_view c.args.self.now.0 in
-    folded_written e (map instruction_view s.others.now) (instruction_view s.last.now)
-    (seen_last instruction_view _ _ s.others.now s.last.now c.deref.ensures.value s.ensures.cases.0)
-    _ _ _ _ _ c.in_ok-open.ensures c.in_ok-write.ensures.written
-    c.in_ok-write_behind.ensures.written c.in_ok-close.ensures c.in_ok-write_behind.ensures.fit
+    on_ok_weaker c.close.result (λ done. folded_written e (map instruction_view s.others.now)
+    (instruction_view s.last.now) (seen_last instruction_view _ _ s.others.now s.last.now
+    c.deref.ensures.value s.ensures.cases.0) _ _ _ _ _ c.in_ok-open.ensures.written
+    c.in_ok-write.ensures.written c.in_ok-write_behind.ensures.written done
+    c.in_ok-write_behind.ensures.fit) c.close.ensures.written
 
 pub returns-clause-fit : goal.returns-clause-fit
 returns-clause-fit c =
     let s = c.in-Some in
     let e = expression_view c.args.self.now.0 in
-    folded_fit e (map instruction_view s.others.now) (instruction_view s.last.now)
+    on_ok_weaker c.close.result
+    (λ done. folded_fit e (map instruction_view s.others.now) (instruction_view s.last.now)
     (seen_last instruction_view _ _ s.others.now s.last.now c.deref.ensures.value s.ensures.cases.0)
     (hints_none hint_view _ c.deref-hints.result.now c.deref-hints.ensures.value
     (sym c.is_empty.ensures ∙ c.if-not-is_empty.false))
-    c.in_ok-write.ensures.fit c.in_ok-write_behind.ensures.fit
+    c.in_ok-write.ensures.fit c.in_ok-write_behind.ensures.fit) c.close.ensures.written
 
 pub returns-in_err-write-clause-refused : goal.returns-in_err-write-clause-refused
 returns-in_err-write-clause-refused c =

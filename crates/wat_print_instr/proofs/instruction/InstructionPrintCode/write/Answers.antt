@@ -14,7 +14,7 @@ returns-clause-written c =
     let h = head_in c.args.self.now in
     let o = operand_in c.args.self.now in
     put_then (Keyword c.mnemonic.result.now ∷ []) ((operand_form h).spell o) c.args.out.now _ _
-    c.in_ok-word.ensures c.in_ok-write_operand.ensures.written
+    c.in_ok-word.ensures.written c.in_ok-write_operand.ensures.written
     ∙ ap (λ (w : List ℕ). put c.args.out.now (Keyword w ∷ (operand_form h).spell o))
     c.mnemonic.ensures
     ∙ ap (λ (l : List Tok). put c.args.out.now l) (sym (spell_of h o))

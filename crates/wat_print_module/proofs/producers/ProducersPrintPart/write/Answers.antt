@@ -1,3 +1,4 @@
+use Rattle.std.proofs.lemmas.Result.{on_ok_weaker}
 use Rattle.wat_links.specs.Producers.{producers_view}
 use Rattle.wat_print.specs.Laws.Written.{put_parens, puts_put}
 use Rattle.wat_print_module.specs.Custom.{spell_producers_group}
@@ -7,7 +8,6 @@ use Rattle.wat_print_module.proofs.producers.ProducersPrintPart.write.Goals as g
 pub returns-clause-written : goal.returns-clause-written
 returns-clause-written c =
     let v = producers_view c.args.self.now in
-    puts_put (spell_producers_group v) _ _
-    (put_parens (spell_producers v) _ _ _ _ c.in_ok-open.ensures
-    c.in_ok-write_producers.ensures.written
-    c.in_ok-close.ensures)
+    on_ok_weaker c.close.result (λ done. puts_put (spell_producers_group v) _ _
+    (put_parens (spell_producers v) _ _ _ _ c.in_ok-open.ensures.written
+    c.in_ok-write_producers.ensures.written done)) c.close.ensures.written
