@@ -1,0 +1,96 @@
+//! Rows of instructions.
+
+use crate::copies::Copier;
+use crate::operand::add_operand;
+use crate::printers::Printer;
+use crate::readers::{Bare, Reader};
+use crate::row::{Row, add, add_refusal};
+use std::alloc::{AllocError, Global};
+use std::fmt;
+use wat_core::{Error, Instruction, Mnemonic, Parse, Parser};
+use wat_print::{Layout, Refused, print};
+use wat_print_instr::Code;
+
+/// An instruction, of which Debug writes its word, its name and its operand.
+#[derive(Drop)]
+struct Whole<'a>(Instruction<'a>);
+
+impl fmt::Debug for Whole<'_> {
+    fn fmt<W: fmt::Write>(&self, f: &mut fmt::Formatter<W>) -> fmt::Result {
+        let word = &self.0;
+        let name = self.0.head();
+        write!(f, "{word:?} {name:?} ")?;
+        add_operand(f, &self.0)
+    }
+}
+
+/// An instruction with its operand.
+struct OfInstructions;
+
+impl<'a> Reader<'a, Whole<'a>> for OfInstructions {
+    fn read(_: &Row<'a>, parser: &mut Parser<'a>) -> Result<Whole<'a>, Error> {
+        match Instruction::parse(parser) {
+            Ok(instruction) => Ok(Whole(instruction)),
+            Err(error) => Err(error),
+        }
+    }
+}
+
+impl<'a> Printer<Whole<'a>> for OfInstructions {
+    fn print(alloc: Global, value: &Whole<'a>, layout: Layout) -> Option<Result<String, Refused>> {
+        Some(print(alloc, &Code(&value.0), layout))
+    }
+}
+
+impl<'a> Copier<Whole<'a>> for OfInstructions {
+    fn copy(value: &Whole<'a>) -> Option<Result<Whole<'a>, Error>> {
+        match value.0.clone() {
+            Ok(copy) => Some(Ok(Whole(copy))),
+            Err(error) => Some(Err(error)),
+        }
+    }
+}
+
+/// Adds the bytes of an opcode, or a dash where there is none.
+fn add_opcode(out: &mut String, row: &Row<'_>, head: Mnemonic) -> Result<(), AllocError> {
+    let mut bytes = Vec::new(row.alloc);
+    match head.opcode().write(&mut bytes) {
+        Ok(Some(count)) if count == bytes.len() => {}
+        Ok(Some(_)) => out.push_str("? miscounted")?,
+        Ok(None) => out.push('-')?,
+        Err(_) => return Err(AllocError),
+    }
+    for byte in &bytes {
+        write!(out, "{byte:02X}")?;
+    }
+    Ok(())
+}
+
+/// Adds the name of an instruction without its operand, its word, and its opcode.
+fn add_mnemonic<'a>(out: &mut String, row: &Row<'a>) -> Result<bool, AllocError> {
+    let taken = match row.parser(row.text, false) {
+        Ok(mut parser) => Mnemonic::take(&mut parser),
+        Err(error) => Err(error),
+    };
+    match taken {
+        Ok(head) => {
+            let word = head.mnemonic();
+            write!(out, "= {head:?} {word} ")?;
+            add_opcode(out, row, head)?;
+            out.push_str("\n")?;
+        }
+        Err(error) => add_refusal(out, error)?,
+    }
+    Ok(true)
+}
+
+/// Adds the answer of a row of an instruction, or of its word alone.
+pub fn add_row<'a>(out: &mut String, row: &Row<'a>) -> Result<bool, AllocError> {
+    match row.kind {
+        "instruction" => {
+            add::<Whole<'a>, OfInstructions, OfInstructions, OfInstructions>(out, row)
+        }
+        "mnemonic" => add_mnemonic(out, row),
+        _ => Ok(false),
+    }
+}

@@ -1,0 +1,86 @@
+//! Rows of what is said of texts: reports, listings, places.
+
+use crate::row::{Row, add_refusal};
+use std::alloc::{AllocError, Global};
+use wat_core::{Error, Module, Parser};
+use wat_report::{add_report, line_at, line_column, nearest_mnemonics};
+use wat_show::{Mode, Shows};
+
+/// Adds lines, each behind a mark.
+fn add_marked(out: &mut String, mark: &str, bytes: &[u8]) -> Result<bool, AllocError> {
+    match str::from_utf8(bytes) {
+        Ok(text) => {
+            for line in text.lines() {
+                write!(out, "{mark} {line}\n")?;
+            }
+        }
+        Err(_) => out.push_str("? not UTF-8\n")?,
+    }
+    Ok(true)
+}
+
+/// Why a text isn't one module in its parentheses.
+fn refusal_of(row: &Row<'_>) -> Result<(), Error> {
+    let mut parser = Parser::new(row.alloc, row.text, row.arena)?;
+    parser.open()?;
+    let _module = Module::parse(&mut parser)?;
+    parser.close()?;
+    if parser.at_end() {
+        return Ok(());
+    }
+    Err(parser.unexpected())
+}
+
+/// Adds the report of a text, where it is no module.
+fn add_said(out: &mut String, row: &Row<'_>) -> Result<bool, AllocError> {
+    let mut said = Vec::new(row.alloc);
+    match refusal_of(row) {
+        Ok(()) => {}
+        Err(error) => add_report(&mut said, "a.wat", row.text, error)?,
+    }
+    add_marked(out, "-", &said)
+}
+
+/// Adds what the program shows of a text in a mode, and its status.
+fn add_shown(out: &mut String, row: &Row<'_>) -> Result<bool, AllocError> {
+    let Some(mode) = Mode::of(row.words) else {
+        out.push_str("? there is no such mode\n")?;
+        return Ok(true);
+    };
+    let (shown, status) = mode.show(row.alloc, row.text.as_bytes())?;
+    add_marked(out, "-", &shown)?;
+    write!(out, "= {status}\n")?;
+    Ok(true)
+}
+
+/// Adds the line, the column and the line's text of an offset, the row's number.
+fn add_place(out: &mut String, row: &Row<'_>) -> Result<bool, AllocError> {
+    let offset = row.number() as usize;
+    let place = line_column(row.text, offset);
+    let (line, column) = (place.line, place.column);
+    let content = line_at(row.text, offset);
+    write!(out, "= {line}:{column} {content:?}\n")?;
+    Ok(true)
+}
+
+/// Adds the mnemonics that are nearest to a word.
+fn add_nearest(out: &mut String, row: &Row<'_>) -> Result<bool, AllocError> {
+    out.push_str("=")?;
+    for mnemonic in &nearest_mnemonics(row.alloc, row.text)? {
+        let word = mnemonic.mnemonic();
+        write!(out, " {word}")?;
+    }
+    out.push_str("\n")?;
+    Ok(true)
+}
+
+/// Adds the answer of a row of what is said of a text.
+pub fn add_row(out: &mut String, row: &Row<'_>) -> Result<bool, AllocError> {
+    match row.kind {
+        "report" => add_said(out, row),
+        "show" => add_shown(out, row),
+        "line" => add_place(out, row),
+        "nearest" => add_nearest(out, row),
+        _ => Ok(false),
+    }
+}
