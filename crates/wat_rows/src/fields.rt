@@ -6,6 +6,7 @@ use crate::readers::{Bare, Grouped, Reader};
 use crate::row::{Row, add};
 use std::alloc::{AllocError, Global};
 use std::fmt;
+use std::mem::forget;
 use wat_core::{
     Data, DataVal, Elem, Error, Expression, FoldedInstruction, Func, Global as GlobalField,
     LocalParser, Memory, Module, ModuleField, Parse, Parser, Table, Tag, VisibleModule,
@@ -106,12 +107,27 @@ impl<'a> Reader<'a, Module<'a>> for AsVisible {
     }
 }
 
+/// The bytes of a data value, put behind the byte 0xaa.
+struct Pushed;
+
+impl<'a> Reader<'a, Vec<u8>> for Pushed {
+    fn read(row: &Row<'a>, parser: &mut Parser<'a>) -> Result<Vec<u8>, Error> {
+        let mut bytes = vec![in row.alloc; 0xaa]?;
+        let value = DataVal::parse(parser)?;
+        let done = value.push_onto(&mut bytes);
+        forget(value);
+        done?;
+        Ok(bytes)
+    }
+}
+
 /// Adds the answer of a row of what is in a field.
 fn add_part<'a>(out: &mut String, row: &Row<'a>) -> Result<bool, AllocError> {
     match row.kind {
         "expression" => add::<Expression<'a>, Bare, OfModules, Uncopied>(out, row),
         "folded" => add::<Folded<'a>, OneGroup, OneGroup, Uncopied>(out, row),
         "locals" => add::<Locals<'a>, Declared, Declared, Uncopied>(out, row),
+        "pushed" => add::<Vec<u8>, Pushed, Unprinted, Uncopied>(out, row),
         "data_value" => add::<DataVal<'a>, Bare, OfModules, Uncopied>(out, row),
         _ => Ok(false),
     }

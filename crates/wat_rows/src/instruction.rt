@@ -1,4 +1,4 @@
-//! Rows of instructions.
+//! Rows of instructions, and of expressions that are printed as one of them.
 
 use crate::copies::Copier;
 use crate::operand::add_operand;
@@ -7,7 +7,8 @@ use crate::readers::{Bare, Reader};
 use crate::row::{Row, add, add_refusal};
 use std::alloc::{AllocError, Global};
 use std::fmt;
-use wat_core::{Error, Instruction, Mnemonic, Parse, Parser};
+use std::mem::forget;
+use wat_core::{Error, Expression, FoldedInstruction, Instruction, Mnemonic, Parse, Parser};
 use wat_print::{Layout, Refused, print};
 use wat_print_instr::Code;
 
@@ -84,13 +85,36 @@ fn add_mnemonic<'a>(out: &mut String, row: &Row<'a>) -> Result<bool, AllocError>
     Ok(true)
 }
 
-/// Adds the answer of a row of an instruction, or of its word alone.
+/// Adds what is printed of an expression as one folded instruction, or why it is none.
+fn add_regrouped<'a>(out: &mut String, row: &Row<'a>) -> Result<bool, AllocError> {
+    let read = match row.parser(row.text, false) {
+        Ok(mut parser) => Expression::parse(&mut parser),
+        Err(error) => Err(error),
+    };
+    match read {
+        Ok(expression) => {
+            let group = FoldedInstruction(expression);
+            let printed = print(row.alloc, &Code(&group), Layout::Line);
+            forget(group);
+            match printed {
+                Ok(text) => write!(out, "> {text}\n")?,
+                Err(refused) => write!(out, "! {refused:?}\n")?,
+            }
+        }
+        Err(error) => add_refusal(out, error)?,
+    }
+    Ok(true)
+}
+
+/// Adds the answer of a row of an instruction, of its word alone, or of an expression that is
+/// printed as one folded instruction.
 pub fn add_row<'a>(out: &mut String, row: &Row<'a>) -> Result<bool, AllocError> {
     match row.kind {
         "instruction" => {
             add::<Whole<'a>, OfInstructions, OfInstructions, OfInstructions>(out, row)
         }
         "mnemonic" => add_mnemonic(out, row),
+        "regrouped" => add_regrouped(out, row),
         _ => Ok(false),
     }
 }

@@ -3,15 +3,20 @@
 //!
 //! A row's answer is the row, and below it, each on lines of its own:
 //!
-//! - `= VALUE`: the value that the text is, as Debug writes it;
-//! - `! FAULT at OFFSET`: why the text is none, and the byte at which;
+//! - `= VALUE`: the value that the text is, as Debug writes it, or what is told of it;
+//! - `! FAULT at OFFSET`: why the text is none, and the byte at which; `! REASON`: why a value isn't
+//!   printed;
 //! - `> TEXT`: what is printed of the value on one line, and `: LINE` of each line where it is
 //!   printed on more than one;
+//! - `- LINE` of a report, or of what the program shows;
 //! - `? WORDS`: what should never be said, as that a printed text isn't read again.
 //!
 //! In a text, `␊` stands for a line feed and `␍` for a carriage return. Behind a row's kind there may
 //! be words: `plain`, for no annotation is known; `spans`, for the spans of instructions are kept; and
-//! a number, where the kind takes one.
+//! a number, where the kind takes one. A line that is no row is passed on.
+//!
+//! A kind is a type, or what its module says of it: of `peek`, `values`, `signatures`, `section`,
+//! `pushed`, `regrouped`, `report`, `show`, `line` and `nearest` it says more than a value.
 #![tactic(auto)]
 
 mod copies;

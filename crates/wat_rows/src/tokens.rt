@@ -7,7 +7,11 @@ use crate::row::{Row, add, add_refusal};
 use std::alloc::AllocError;
 use std::fmt::Debug;
 use wat_core::wat_lexer::cut::cut;
-use wat_core::{F32, F64, Id, Index, Integer, NameAnnotation, Parse, Token, kw};
+use wat_core::{
+    AbstractHeapType, ExportKind, F32, F64, FunctionType, FunctionTypeNoNames, HeapType, Id, Index,
+    InlineExport, InlineImport, Integer, NameAnnotation, Ordering, Parse, Parser, Peek, RefType,
+    Token, Type, ValType, kw,
+};
 
 /// The answer of a row whose values aren't copied.
 fn of<'a, T: Parse<'a> + Debug + Drop, P: Printer<T>>(
@@ -15,6 +19,14 @@ fn of<'a, T: Parse<'a> + Debug + Drop, P: Printer<T>>(
     row: &Row<'a>,
 ) -> Result<bool, AllocError> {
     add::<T, Bare, P, Uncopied>(out, row)
+}
+
+/// Adds what Debug writes of the text that bytes are, or of the bytes where they are none.
+fn add_bytes(out: &mut String, bytes: &[u8]) -> Result<(), AllocError> {
+    match str::from_utf8(bytes) {
+        Ok(text) => write!(out, "{text:?}"),
+        Err(_) => write!(out, "{bytes:?}"),
+    }
 }
 
 /// Adds a token: its sign, where its kind has one, and its content.
@@ -26,7 +38,7 @@ fn add_token(out: &mut String, token: Token<'_>) -> Result<(), AllocError> {
         Token::Id(name) => write!(out, "${name}"),
         Token::Annotation(name) => write!(out, "@{name}"),
         Token::Integer(integer) => write!(out, "#{}", integer.text()),
-        Token::String(bytes) => write!(out, "'{bytes:?}"),
+        Token::String(bytes) => add_bytes(out, bytes),
         Token::Reserved(text) => write!(out, "?{text}"),
     }
 }
@@ -41,6 +53,135 @@ fn add_tokens(out: &mut String, row: &Row<'_>) -> Result<bool, AllocError> {
                 write!(out, " {offset}:")?;
                 add_token(out, tokens.token(at))?;
             }
+            out.push_str("\n")?;
+        }
+        Err(error) => add_refusal(out, error)?,
+    }
+    Ok(true)
+}
+
+/// Adds the numbers that an integer is in a width, read unsigned and signed, or a dash for none.
+fn add_width(
+    out: &mut String,
+    bits: u32,
+    unsigned: Option<u64>,
+    signed: Option<i64>,
+) -> Result<(), AllocError> {
+    match unsigned {
+        Some(number) => write!(out, ", u{bits} {number}")?,
+        None => write!(out, ", u{bits} -")?,
+    }
+    match signed {
+        Some(number) => write!(out, ", i{bits} {number}"),
+        None => write!(out, ", i{bits} -"),
+    }
+}
+
+/// Adds the sign of the integer that a whole text is, and what number it is in each width.
+fn add_values(out: &mut String, row: &Row<'_>) -> Result<bool, AllocError> {
+    match Integer::of(row.text) {
+        Some(integer) => {
+            let sign = integer.sign();
+            write!(out, "= {sign:?}")?;
+            add_width(out, 8, integer.unsigned(8), integer.signed(8))?;
+            add_width(out, 16, integer.unsigned(16), integer.signed(16))?;
+            add_width(out, 32, integer.unsigned(32), integer.signed(32))?;
+            add_width(out, 64, integer.unsigned(64), integer.signed(64))?;
+            out.push_str("\n")?;
+        }
+        None => out.push_str("= no integer\n")?,
+    }
+    Ok(true)
+}
+
+/// What a type is called, and whether a value of it begins in front, or behind the first token.
+fn begun<T: Peek>(parser: &Parser<'_>, is_behind: bool) -> (&'static str, bool) {
+    let begins = if is_behind {
+        parser.peek2::<T>()
+    } else {
+        parser.peek::<T>()
+    };
+    (T::display(), begins)
+}
+
+/// Adds what each type is called of which a value begins: once what several are called, which stand
+/// side by side and have to agree.
+fn add_begun(out: &mut String, types: &[(&str, bool)]) -> Result<(), AllocError> {
+    let mut last = ("", false);
+    for each in types {
+        let (name, begins) = *each;
+        if name == last.0 {
+            if begins != last.1 {
+                write!(out, "\n? of the types {name:?} only some begin\n")?;
+            }
+        } else if begins {
+            write!(out, " {name:?}")?;
+        }
+        last = (name, begins);
+    }
+    Ok(())
+}
+
+/// Adds what of tokens and types begins, in front or behind the first token.
+fn add_begins(out: &mut String, parser: &Parser<'_>, is_behind: bool) -> Result<(), AllocError> {
+    let numbers = [
+        begun::<u8>(parser, is_behind),
+        begun::<u16>(parser, is_behind),
+        begun::<u32>(parser, is_behind),
+        begun::<u64>(parser, is_behind),
+        begun::<i8>(parser, is_behind),
+        begun::<i16>(parser, is_behind),
+        begun::<i32>(parser, is_behind),
+        begun::<i64>(parser, is_behind),
+        begun::<&str>(parser, is_behind),
+        begun::<&[u8]>(parser, is_behind),
+        begun::<Id<'_>>(parser, is_behind),
+        begun::<Index<'_>>(parser, is_behind),
+        begun::<NameAnnotation<'_>>(parser, is_behind),
+    ];
+    add_begun(out, &numbers)?;
+    let types = [
+        begun::<AbstractHeapType>(parser, is_behind),
+        begun::<HeapType<'_>>(parser, is_behind),
+        begun::<RefType<'_>>(parser, is_behind),
+        begun::<ValType<'_>>(parser, is_behind),
+        begun::<FunctionType<'_>>(parser, is_behind),
+        begun::<FunctionTypeNoNames<'_>>(parser, is_behind),
+        begun::<Type<'_>>(parser, is_behind),
+    ];
+    add_begun(out, &types)
+}
+
+/// Adds what of words and of parts of a module begins, in front or behind the first token.
+fn add_other_begins(
+    out: &mut String,
+    parser: &Parser<'_>,
+    is_behind: bool,
+) -> Result<(), AllocError> {
+    let others = [
+        begun::<kw::func>(parser, is_behind),
+        begun::<kw::table>(parser, is_behind),
+        begun::<kw::memory>(parser, is_behind),
+        begun::<kw::global>(parser, is_behind),
+        begun::<kw::tag>(parser, is_behind),
+        begun::<Ordering>(parser, is_behind),
+        begun::<ExportKind>(parser, is_behind),
+        begun::<InlineExport<'_>>(parser, is_behind),
+        begun::<InlineImport<'_>>(parser, is_behind),
+    ];
+    add_begun(out, &others)
+}
+
+/// Adds what begins in front of a text, and, behind a slash, what begins behind its first token.
+fn add_peeks(out: &mut String, row: &Row<'_>) -> Result<bool, AllocError> {
+    match row.parser(row.text, false) {
+        Ok(parser) => {
+            out.push_str("=")?;
+            add_begins(out, &parser, false)?;
+            add_other_begins(out, &parser, false)?;
+            out.push_str(" /")?;
+            add_begins(out, &parser, true)?;
+            add_other_begins(out, &parser, true)?;
             out.push_str("\n")?;
         }
         Err(error) => add_refusal(out, error)?,
@@ -70,6 +211,8 @@ fn add_number<'a>(out: &mut String, row: &Row<'a>) -> Result<bool, AllocError> {
 pub fn add_row<'a>(out: &mut String, row: &Row<'a>) -> Result<bool, AllocError> {
     match row.kind {
         "tokens" => add_tokens(out, row),
+        "values" => add_values(out, row),
+        "peek" => add_peeks(out, row),
         "id" => of::<Id<'a>, OfTypes>(out, row),
         "index" => of::<Index<'a>, OfTypes>(out, row),
         "option_index" => of::<Option<Index<'a>>, Unprinted>(out, row),
