@@ -38,8 +38,9 @@ impl<'a> Parse<'a> for Path<'a> {
 fn a_path_is_read(rt: HostRuntime) -> std::result::Result<(), Fail> {
     let arena = Bump::new(rt.alloc());
     let mut parser = Parser::new(rt.alloc(), "(path $a $b) (path) (path 1)", &arena)?;
-    let [a, b] = ["a", "b"].map(|name| Id::new(name, Span::from_offset(0)));
-    assert_eq!(rt; parser.parse::<Path>()?.0.as_slice(), [a, b].as_slice());
+    let nowhere = Span::from_offset(0);
+    let names = [Id::new("a", nowhere), Id::new("b", nowhere)];
+    assert_eq!(rt; parser.parse::<Path>()?.0.as_slice(), names.as_slice());
     assert!(rt; parser.parse::<Path>()?.0.is_empty());
     match parser.parse::<Path>() {
         Ok(_) => panic!(rt; "a path with a number was read"),
