@@ -1,20 +1,21 @@
-//! Tests of the program's four modes, each a table of texts with what is shown of them. Others are
-//! of an arena that is given back, and of a type of a user's own. They are proved.
+//! Tests of calls, which no contract and no row of `wat_rows` makes needless: runs over readers and
+//! writers that fail, what calls that take memory leave, types of a user's own, values that are
+//! made by hand, and what is written of values. They are proved.
 #![tactic(auto)]
 
 #[cfg(test)]
 mod arena;
 #[cfg(test)]
-mod expressions;
-#[cfg(test)]
-mod folded;
-#[cfg(test)]
-mod function_types;
+mod cut_short;
 #[cfg(test)]
 mod invoke;
 #[cfg(test)]
-mod modules;
+mod path;
+#[cfg(test)]
+mod printed;
 #[cfg(test)]
 mod refused;
 #[cfg(test)]
-mod shown;
+mod streams;
+#[cfg(test)]
+mod words;

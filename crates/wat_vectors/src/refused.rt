@@ -7,7 +7,7 @@ use bumpalo::Bump;
 use std::alloc::{AllocError, Global};
 use std::process::Abort;
 use std::test::Fail;
-use wat_core::{DataVal, Error, Imports, Index, Instruction, Parse, Parser};
+use wat_core::{DataVal, Error, Imports, Index, Instruction, Parse, Parser, Span};
 
 /// What a call leaves.
 #[derive(Drop)]
@@ -43,14 +43,16 @@ fn said(
 }
 
 /// Reads a value of a text.
-fn read<'a, T: Parse<'a>>(alloc: Global, text: &'a str, arena: &'a Bump) -> Result<T, Error> {
+pub fn read<'a, T: Parse<'a>>(alloc: Global, text: &'a str, arena: &'a Bump) -> Result<T, Error> {
     let mut parser = Parser::new(alloc, text, arena)?;
     T::parse(&mut parser)
 }
 
-/// Writes the opcode of an instruction.
-fn write_opcode(alloc: Global, instr: &Instruction) -> Result<Outcome, Error> {
+/// Writes an opcode of two bytes.
+fn written(alloc: Global) -> Result<Outcome, Error> {
+    let arena = Bump::new(alloc);
     let mut list = list_of_one(alloc)?;
+    let instr = read::<Instruction>(alloc, "i8x16.add", &arena)?;
     let parts = match instr.write_opcode(&mut list) {
         Ok(count) => Ok(count.unwrap_or(0)),
         Err(error) => Err(error),
@@ -59,41 +61,25 @@ fn write_opcode(alloc: Global, instr: &Instruction) -> Result<Outcome, Error> {
     Ok(Outcome { parts, list, kept })
 }
 
-/// Writes an opcode of two bytes.
-fn written(alloc: Global) -> Result<Outcome, Error> {
-    let arena = Bump::new(alloc);
-    match read::<Instruction>(alloc, "i8x16.add", &arena) {
-        Ok(instr) => write_opcode(alloc, &instr),
-        Err(error) => Err(error),
-    }
-}
-
 #[test]
 fn an_opcode_is_written_whole(rt: HostRuntime) -> Result<(), Fail> {
     said(&rt, written(rt.alloc()), 2, &[0xaa, 0xfd, 0x6e])
 }
 
-/// Puts what data says behind a list.
-fn push_onto(alloc: Global, value: &DataVal) -> Result<Outcome, Error> {
+/// Puts three bytes behind a list.
+fn pushed(alloc: Global) -> Result<Outcome, Error> {
+    let arena = Bump::new(alloc);
     let mut list = list_of_one(alloc)?;
+    let value = read::<DataVal>(alloc, "(i8 1 2 3)", &arena)?;
     let parts = match value.push_onto(&mut list) {
         Ok(()) => Ok(list.len().saturating_sub(1)),
         Err(error) => Err(error),
     };
-    let kept = match value {
+    let kept = match &value {
         DataVal::Integral(bytes) => bytes.as_slice() == &[1, 2, 3][..],
         DataVal::String(_) => false,
     };
     Ok(Outcome { parts, list, kept })
-}
-
-/// Puts three bytes behind a list.
-fn pushed(alloc: Global) -> Result<Outcome, Error> {
-    let arena = Bump::new(alloc);
-    match read::<DataVal>(alloc, "(i8 1 2 3)", &arena) {
-        Ok(value) => push_onto(alloc, &value),
-        Err(error) => Err(error),
-    }
 }
 
 #[test]
@@ -101,25 +87,18 @@ fn data_is_pushed_whole(rt: HostRuntime) -> Result<(), Fail> {
     said(&rt, pushed(rt.alloc()), 3, &[0xaa, 1, 2, 3])
 }
 
-/// Lists the signatures of imports.
-fn list_sigs(alloc: Global, imports: &Imports) -> Outcome {
+/// Lists the signatures of an import of two items.
+fn listed(alloc: Global) -> Result<Outcome, Error> {
+    let arena = Bump::new(alloc);
+    let text = "import \"m\" (item \"a\") (item \"b\") (func)";
+    let imports = read::<Imports>(alloc, text, &arena)?;
     let parts = match imports.item_sigs(alloc) {
         Ok(sigs) => Ok(sigs.len()),
         Err(error) => Err(error),
     };
     let kept = imports.num_items() == 2 && imports.num_sigs() == 1;
     let list = Vec::new(alloc);
-    Outcome { parts, list, kept }
-}
-
-/// Lists the signatures of an import of two items.
-fn listed(alloc: Global) -> Result<Outcome, Error> {
-    let arena = Bump::new(alloc);
-    let text = "import \"m\" (item \"a\") (item \"b\") (func)";
-    match read::<Imports>(alloc, text, &arena) {
-        Ok(imports) => Ok(list_sigs(alloc, &imports)),
-        Err(error) => Err(error),
-    }
+    Ok(Outcome { parts, list, kept })
 }
 
 #[test]
@@ -127,45 +106,32 @@ fn signatures_are_listed_whole(rt: HostRuntime) -> Result<(), Fail> {
     said(&rt, listed(rt.alloc()), 2, &[])
 }
 
-/// Whether an index is the number.
-fn is_number(index: Option<&Index<'_>>, wanted: u32) -> bool {
-    match index {
-        Some(Index::Num(number, _)) => *number == wanted,
-        _ => false,
-    }
+/// An index, wherever it stands.
+fn number<'a>(number: u32) -> Index<'a> {
+    Index::Num(number, Span::from_offset(0))
 }
 
 /// Whether an instruction is `br_table 0 1 2`.
 fn is_the_table(instr: &Instruction<'_>) -> bool {
     match instr {
         Instruction::br_table(table) => {
-            table.labels.len() == 2
-                && is_number(table.labels.first(), 0)
-                && is_number(table.labels.last(), 1)
-                && is_number(Some(&table.default), 2)
+            table.labels.as_slice() == &[number(0), number(1)][..] && table.default == number(2)
         }
         _ => false,
     }
 }
 
-/// Copies an instruction, which is to be `br_table 0 1 2`.
-fn clone(alloc: Global, instr: &Instruction) -> Outcome {
+/// Copies an instruction with three labels.
+fn copied(alloc: Global) -> Result<Outcome, Error> {
+    let arena = Bump::new(alloc);
+    let instr = read::<Instruction>(alloc, "br_table 0 1 2", &arena)?;
     let parts = match instr.clone() {
         Ok(same) => Ok(if is_the_table(&same) { 3 } else { 0 }),
         Err(error) => Err(error),
     };
-    let kept = is_the_table(instr);
+    let kept = is_the_table(&instr);
     let list = Vec::new(alloc);
-    Outcome { parts, list, kept }
-}
-
-/// Copies an instruction with three labels.
-fn copied(alloc: Global) -> Result<Outcome, Error> {
-    let arena = Bump::new(alloc);
-    match read::<Instruction>(alloc, "br_table 0 1 2", &arena) {
-        Ok(instr) => Ok(clone(alloc, &instr)),
-        Err(error) => Err(error),
-    }
+    Ok(Outcome { parts, list, kept })
 }
 
 #[test]
