@@ -6,7 +6,7 @@ use Rattle.std.specs.List.{list_all}
 use Rattle.std.specs.Io.KnownBytes.{Appends}
 use Rattle.std.proofs.KnownBytes.{Appends-trans}
 use Rattle.std.proofs.lemmas.List.{length-map, map-append, take_more, take-map}
-use Rattle.wat.specs.Outcomes.{SaysOf, SaysOfText, SaysWhy, WasRead}
+use Rattle.wat.specs.Outcomes.{SaysOf, SaysOfText, WasRead}
 use Rattle.wat.specs.Runs.{SaysOfNames, WritesPartOfNames, more}
 use Rattle.wat.specs.declared.command.Task.{Task}
 use Rattle.wat.specs.declared.command.Task.TheVariants.{Print}
@@ -19,6 +19,7 @@ use Rattle.wat_print.specs.Text.{printed_text}
 use Rattle.wat_print.specs.declared.output.Layout.{Layout}
 use Rattle.wat_print.specs.declared.output.Layout.TheVariants.{Line}
 use Rattle.wat_print_module.specs.Module.{spell_module_group}
+use Rattle.wat_report.specs.Report.{IsReport}
 use Rattle.wat_show.specs.Streams.{AppendsBeginning}
 
 -- an item that passes decides nothing
@@ -50,7 +51,7 @@ none_spells S P Q (Ok x) only = tt
 none_spells S P Q (Err e) only = λ other v s. other (only v s)
 
 pub says_fault : {T E : Type 0} (task : Task) (name text : List ℕ) (f : Fault) (offset : ℕ) (said : T → List ℕ) (status : T → ℕ) (r : Result T E)
-    → (f ≢ Memory → (m : ModuleTy) → SpellsModule text m → ⊥) → IfOk r (λ x. f ≢ Memory) → IfOk r (λ x. SaysWhy task name text offset f (said x)) → IfOk r (λ x. status x ≡ 1)
+    → (f ≢ Memory → (m : ModuleTy) → SpellsModule text m → ⊥) → IfOk r (λ x. f ≢ Memory) → IfOk r (λ x. IsReport name text offset f (said x)) → IfOk r (λ x. status x ≡ 1)
     → IfOk r (λ x. SaysOfText task name text (said x) (status x))
 unfolding SaysOfText
 says_fault task name text f offset said status (Ok x) none other is one = inr (none other, (f, offset, other, is), one)

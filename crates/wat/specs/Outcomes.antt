@@ -12,7 +12,6 @@ use Rattle.wat_print_module.specs.Module.{spell_module_group}
 use Rattle.wat_report.specs.Report.{IsReport}
 use Rattle.wat_report.specs.WrongBytes.{wrong_byte_report}
 use Rattle.wat_show.specs.Modules.{module_text}
-use Rattle.wat_show.specs.Shown.{refusal}
 
 -- Of a module: nothing; what `watshow module` lists of it; or a text that spells it, on one line the
 -- text of its tokens, and a line break.
@@ -32,22 +31,17 @@ abbrev pub SaysOfModule : Task → List ℕ → List ℕ → ℕ → Type 0
 SaysOfModule task text said status =
     (m : ModuleTy) × SpellsModule text m × SaysOf task m said × (status ≡ 0)
 
--- of a fault: where the module was to be printed the line of `watshow`, else its report
-unfoldable pub SaysWhy : Task → List ℕ → List ℕ → ℕ → Fault → List ℕ → Type 0
-SaysWhy (Print layout) name text offset f said = said ≡ refusal f offset
-SaysWhy _ name text offset f said = IsReport name text offset f said
-
--- the text spells no module, and a fault other than Memory is said, with status 1
-abbrev pub SaysOfFault : Task → List ℕ → List ℕ → List ℕ → ℕ → Type 0
-SaysOfFault task name text said status =
+-- the text spells no module, and a fault other than Memory is reported, with status 1
+abbrev pub SaysOfFault : List ℕ → List ℕ → List ℕ → ℕ → Type 0
+SaysOfFault name text said status =
     ((m : ModuleTy) → SpellsModule text m → ⊥)
-    × ((f : Fault) × (offset : ℕ) × (f ≢ Memory) × SaysWhy task name text offset f said)
+    × ((f : Fault) × (offset : ℕ) × (f ≢ Memory) × IsReport name text offset f said)
     × (status ≡ 1)
 
 -- the one or the other
 unfoldable pub SaysOfText : Task → List ℕ → List ℕ → List ℕ → ℕ → Type 0
 SaysOfText task name text said status =
-    SaysOfModule task text said status ⊎ SaysOfFault task name text said status
+    SaysOfModule task text said status ⊎ SaysOfFault name text said status
 
 -- the first byte that isn't UTF-8 is reported, with status 1
 abbrev pub SaysOfWrongByte : List ℕ → List ℕ → List ℕ → ℕ → Type 0

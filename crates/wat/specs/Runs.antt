@@ -7,12 +7,13 @@ use Rattle.wat.specs.declared.command.Task.{Task}
 use Rattle.wat.specs.declared.command.Task.TheVariants.{Print}
 use Rattle.wat_show.specs.Streams.{AppendsBeginning}
 
--- Of a name that stands for bytes what is said of them. If they can't be read, or memory runs out,
--- nothing is said, and the status is 2.
-unfoldable pub SaysOfName : (List ℕ → List ℕ → Type 0) → Task → List ℕ → List ℕ → ℕ → Type 0
-SaysOfName gives task name said status =
+-- Of a name that stands for bytes what is said of them. Nothing is said, with status 2, where the read
+-- fails, or where memory runs out behind it.
+unfoldable pub SaysOfName : (List ℕ → List ℕ → Type 0) → (List ℕ → Type 0) → Task → List ℕ → List ℕ
+    → ℕ → Type 0
+SaysOfName gives fails task name said status =
     ((bytes : List ℕ) × gives name bytes × SaysOfBytes task name bytes said status)
-    ⊎ ((said ≡ []) × (status ≡ 2))
+    ⊎ ((fails name ⊎ ((bytes : List ℕ) × gives name bytes)) × (said ≡ []) × (status ≡ 2))
 
 -- what goes to the writer of what is said: why a module isn't printed doesn't
 unfoldable pub written_of : Task → ℕ → List ℕ → List ℕ
@@ -20,9 +21,11 @@ written_of (Print layout) status said = if status == 0 then said else []
 written_of _ status said = said
 
 -- what is written of a name
-unfoldable pub ShowsOfName : (List ℕ → List ℕ → Type 0) → Task → List ℕ → List ℕ → ℕ → Type 0
-ShowsOfName gives task name shown status =
-    (said : List ℕ) × SaysOfName gives task name said status × (shown ≡ written_of task status said)
+unfoldable pub ShowsOfName : (List ℕ → List ℕ → Type 0) → (List ℕ → Type 0) → Task → List ℕ
+    → List ℕ → ℕ → Type 0
+ShowsOfName gives fails task name shown status =
+    (said : List ℕ) × SaysOfName gives fails task name said status
+    × (shown ≡ written_of task status said)
 
 -- What is said of names, one after another. The status is the greatest of theirs, and 0 where there
 -- are none.

@@ -12,6 +12,7 @@ use crate::run::run;
 use crate::source::{Sources, StandardInput, SystemFiles};
 use crate::terminal::Terminal;
 use std::alloc::{AllocError, Global};
+use std::io::Write;
 use std::process::ExitCode;
 use std::rt::Env;
 use std::{env, io};
@@ -47,6 +48,8 @@ const VERSION: &str = "wat of Dilgorza, a port of wast 263.0.0\n";
 
 const NO_MEMORY: &str = "wat: memory ran out\n";
 
+const CANNOT_WRITE: &str = "wat: cannot write\n";
+
 /// The words behind the program's name.
 fn arguments<R: Env + AllocGlobal>(rt: &R) -> io::Result<Vec<String>> {
     let mut words = Vec::new(rt.alloc());
@@ -66,7 +69,7 @@ fn say(rt: &HostRuntime, words: &str) -> ExitCode {
 fn tell(rt: &HostRuntime, words: &str, more: &str) -> ExitCode {
     match print!(rt; "{words}{more}") {
         Ok(()) => ExitCode::SUCCESS,
-        Err(_) => say(rt, "wat: cannot write\n"),
+        Err(_) => say(rt, CANNOT_WRITE),
     }
 }
 
@@ -75,8 +78,11 @@ fn read_named<S: Sources>(rt: &HostRuntime, task: Task, sources: &S, names: &[St
     let mut writer = Watched::new(rt.stdout());
     let mut watcher = Terminal::new(rt);
     match run(rt.alloc(), task, sources, names, &mut writer, &mut watcher) {
-        Ok(status) => ExitCode::from(status),
-        Err(_) => say(rt, "wat: cannot write\n"),
+        Ok(status) => match writer.flush() {
+            Ok(()) => ExitCode::from(status),
+            Err(_) => say(rt, CANNOT_WRITE),
+        },
+        Err(_) => say(rt, CANNOT_WRITE),
     }
 }
 

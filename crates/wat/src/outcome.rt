@@ -1,12 +1,13 @@
 //! What is said of one text.
 
 ghost use Rattle.std.specs.Prelude.{◌≡◌, ◌≢◌, IfOk, IfErr};
-ghost use Rattle.wat.specs.Outcomes.{SaysOfBytes, SaysOfText, SaysOf, SaysWhy, WasRead};
+ghost use Rattle.wat.specs.Outcomes.{SaysOfBytes, SaysOfText, SaysOf, WasRead};
 ghost use Rattle.wat.specs.declared.command.Task.TheVariants.{Print};
 ghost use Rattle.wat_core.specs.Module.{ModuleTy, module_view};
 ghost use Rattle.wat_core.specs.Text.{SpellsModule};
 ghost use Rattle.wat_core.specs.Error.{Memory};
 ghost use Rattle.wat_core.specs.LexerPlace.{offset_of};
+ghost use Rattle.wat_report.specs.Report.{IsReport};
 
 use crate::command::Task;
 use bumpalo::Bump;
@@ -50,23 +51,13 @@ fn said_of_module(alloc: Global, task: Task, module: &Module) -> Result<Vec<u8>,
     Ok(listing)
 }
 
-/// What is said of why a text is refused, and its status. Want of memory has none.
-#[tactic(auto, unfolding(crate::specs::Outcomes::SaysWhy))]
-fn refused(
-    alloc: Global,
-    task: Task,
-    name: &str,
-    text: &str,
-    error: Error,
-) -> Result<(Vec<u8>, u8), AllocError>
+/// The report of why a text is refused, and its status. Want of memory has none.
+fn refused(alloc: Global, name: &str, text: &str, error: Error) -> Result<(Vec<u8>, u8), AllocError>
     ensures fault { IfOk result (λ said. error.fault ≢ Memory) }
-    ensures report { IfOk result (λ said. SaysWhy task name.now text.now (offset_of error.span)
+    ensures report { IfOk result (λ said. IsReport name.now text.now (offset_of error.span)
         error.fault said.0.items) }
     ensures status { IfOk result (λ said. said.1 ≡ 1) }
 {
-    if let Task::Print(_) = task {
-        return wat_show::shown::refused(alloc, error);
-    }
     if error.fault == Fault::Memory {
         return Err(AllocError);
     }
@@ -97,7 +88,7 @@ fn said_of_text(
     let arena = Bump::new(alloc);
     match module_of(alloc, text, &arena) {
         Ok(module) => Ok((said_of_module(alloc, task, &module)?, 0)),
-        Err(error) => refused(alloc, task, name, text, error),
+        Err(error) => refused(alloc, name, text, error),
     }
 }
 

@@ -1,6 +1,6 @@
 //! The reading of texts, one after another.
 
-ghost use Rattle.std.specs.Prelude.{◌≡◌, ℕ, IfOk, IsOkUnless, List, OnErr, map};
+ghost use Rattle.std.specs.Prelude.{◌≡◌, ◌⊎◌, ℕ, IfOk, IfErr, IsOkUnless, List, OnErr, map};
 ghost use Rattle.std.specs.Io.KnownBytes.{Appends};
 ghost use Rattle.std.specs.String.{string_bytes};
 ghost use Rattle.wat.specs.Outcomes.{SaysOfBytes};
@@ -36,8 +36,10 @@ fn said_of_source<S: Sources>(
     sources: &S,
     name: &str,
 ) -> io::Result<(Vec<u8>, u8)>
-    ensures { IfOk result (λ said. (bytes : List ℕ) × S.gives sources.now name.now bytes
+    ensures said { IfOk result (λ said. (bytes : List ℕ) × S.gives sources.now name.now bytes
         × SaysOfBytes task name.now bytes said.0.items said.1) }
+    ensures unread { IfErr result (λ _. S.fails sources.now name.now
+        ⊎ ((bytes : List ℕ) × S.gives sources.now name.now bytes)) }
 {
     let bytes = sources.read(alloc, name)?;
     Ok(said_of_bytes(alloc, task, name, &bytes)?)
@@ -53,7 +55,7 @@ fn said_of_name<S: Sources, T: Watcher>(
     name: &str,
     watcher: &T,
 ) -> (Vec<u8>, u8)
-    ensures { SaysOfName (S.gives sources.now) task name.now result.0.items result.1 }
+    ensures { SaysOfName (S.gives sources.now) (S.fails sources.now) task name.now result.0.items result.1 }
 {
     match said_of_source(alloc, task, sources, name) {
         Ok(said) => said,
@@ -73,7 +75,7 @@ fn shown_of_name<S: Sources, T: Watcher>(
     name: &str,
     watcher: &T,
 ) -> (Vec<u8>, u8)
-    ensures { ShowsOfName (S.gives sources.now) task name.now result.0.items result.1 }
+    ensures { ShowsOfName (S.gives sources.now) (S.fails sources.now) task name.now result.0.items result.1 }
 {
     let (said, status) = said_of_name(alloc, task, sources, name, watcher);
     match task {
@@ -95,10 +97,10 @@ fn say_of_name<S: Sources, W: Write, T: Watcher>(
     watcher: &T,
 ) -> Result<u8, RunError>
     ensures all { IfOk result (λ status. (said : List ℕ)
-        × ShowsOfName (S.gives sources.now) task name.now said status
+        × ShowsOfName (S.gives sources.now) (S.fails sources.now) task name.now said status
         × Appends (W.contents writer.old.inner) (W.contents writer.new.inner) said) }
     ensures part { OnErr result ((said : List ℕ) × (status : ℕ)
-        × ShowsOfName (S.gives sources.now) task name.now said status
+        × ShowsOfName (S.gives sources.now) (S.fails sources.now) task name.now said status
         × AppendsBeginning (W.contents writer.old.inner) (W.contents writer.new.inner) said) }
     ensures only_write { IsOkUnless result RunError.Write }
 {
@@ -119,9 +121,9 @@ pub fn run<S: Sources, W: Write, T: Watcher>(
     writer: &mut Watched<W>,
     watcher: &mut T,
 ) -> Result<u8, RunError>
-    ensures all { IfOk result (WritesOfNames (ShowsOfName (S.gives sources.now) task)
+    ensures all { IfOk result (WritesOfNames (ShowsOfName (S.gives sources.now) (S.fails sources.now) task)
         (map string_bytes names.now) (W.contents writer.old.inner) (W.contents writer.new.inner)) }
-    ensures part { OnErr result (WritesPartOfNames (ShowsOfName (S.gives sources.now) task)
+    ensures part { OnErr result (WritesPartOfNames (ShowsOfName (S.gives sources.now) (S.fails sources.now) task)
         (map string_bytes names.now) (W.contents writer.old.inner) (W.contents writer.new.inner)) }
     ensures only_write { IsOkUnless result RunError.Write }
 {

@@ -1,6 +1,6 @@
 //! Where texts come from.
 
-ghost use Rattle.std.specs.Prelude.{◌≡◌, ⊤, ℕ, List, IfOk, IfSome};
+ghost use Rattle.std.specs.Prelude.{◌≡◌, ⊤, ℕ, List, IfOk, IfErr, IfSome};
 
 use std::alloc::Global;
 use std::fs::File;
@@ -13,9 +13,13 @@ pub trait Sources {
     /// A read of what the name stands for can give these bytes.
     ghost gives: { Self → List ℕ → List ℕ → Type 0 };
 
+    /// A read of what the name stands for can fail.
+    ghost fails: { Self → List ℕ → Type 0 };
+
     /// Reads all bytes that the name stands for.
     fn read(&self, alloc: Global, name: &str) -> io::Result<Vec<u8>>
-        ensures { IfOk result (λ bytes. gives self.now name.now bytes.items) };
+        ensures given { IfOk result (λ bytes. gives self.now name.now bytes.items) }
+        ensures failed { IfErr result (λ _. fails self.now name.now) };
 }
 
 /// All bytes that a reader has left.
@@ -35,8 +39,10 @@ pub struct SystemFiles<'a, R> {
 }
 
 impl<'a, R: Files> Sources for SystemFiles<'a, R> {
-    // No contract can say what a file holds.
+    // No contract can say what a file holds, or when it can't be read.
     ghost gives = { λ _ _ _. ⊤ };
+
+    ghost fails = { λ _ _. ⊤ };
 
     fn read(&self, alloc: Global, name: &str) -> io::Result<Vec<u8>> {
         all_of(alloc, File::open(self.rt, name)?)
@@ -51,6 +57,8 @@ pub struct StandardInput<'a, R> {
 
 impl<'a, R: Input> Sources for StandardInput<'a, R> {
     ghost gives = { λ _ _ _. ⊤ };
+
+    ghost fails = { λ _ _. ⊤ };
 
     fn read(&self, alloc: Global, _name: &str) -> io::Result<Vec<u8>> {
         all_of(alloc, self.rt.reader())

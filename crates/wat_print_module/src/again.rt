@@ -4,6 +4,7 @@ ghost use Rattle.std.specs.Prelude.{◌≡◌, ◌≢◌, IfOk, IfErr};
 ghost use Rattle.wat_core.specs.Module.{module_view, module_};
 ghost use Rattle.wat_print.specs.Printed.{NoneSpells};
 ghost use Rattle.wat_print.specs.declared.fault.Refused.TheVariants.{Memory};
+ghost use Rattle.wat_print_module.specs.Module.{NonePart};
 ghost use Rattle.wat_tokens.specs.Groups.{paren};
 
 use crate::module::{ModuleRefused, print_module};
@@ -26,6 +27,9 @@ pub fn read_again<'a>(
     ensures same { IfOk result (λ again. module_view again ≡ module_view «module».now) }
     ensures refused { IfErr result (λ e. e.reason ≢ Memory
         → NoneSpells (paren module_) (module_view «module».now)) }
+    // No text spells the field of the number, or, where there is none, what names the module.
+    ensures field { IfErr result (λ e. e.reason ≢ Memory
+        → NonePart (module_view «module».now) e.field) }
 {
     let text = print_module(alloc, module, layout)?;
     let kept = arena.try_alloc_str(text.as_str())?;

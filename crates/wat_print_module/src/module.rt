@@ -23,12 +23,14 @@ use crate::field::write_field;
 use crate::raw::write_pieces;
 use crate::traits::PrintPart;
 use std::alloc::{AllocError, Global};
+use thiserror::Error;
 use wat_core::{Module, ModuleField, ModuleKind, ModuleKindOf, VisibleModule};
 use wat_print::label::write_label;
 use wat_print::{Layout, Output, Refused};
 
-/// Why a module isn't printed, and where.
-#[derive(Clone, Copy, Debug, PartialEq, Eq)]
+/// Why a module isn't printed, and where. Display writes the reason.
+#[derive(Clone, Copy, Debug, PartialEq, Eq, Error)]
+#[error("{reason}")]
 pub struct ModuleRefused {
     /// The reason.
     pub reason: Refused,

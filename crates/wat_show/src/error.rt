@@ -3,15 +3,19 @@ ghost use Rattle.std.specs.Prelude.{◌≡◌};
 ghost use Rattle.wat_show.specs.declared.error.RunError.TheVariants.{Memory};
 
 use std::alloc::AllocError;
+use thiserror::Error;
 
 /// Why a run stops short.
-#[derive(Clone, Copy, Debug, PartialEq, Eq)]
+#[derive(Clone, Copy, Debug, PartialEq, Eq, Error)]
 pub enum RunError {
     /// A read failed.
+    #[error("cannot read")]
     Read,
-    /// A write or the flush failed, or a write took nothing.
+    /// A write failed, or took nothing.
+    #[error("cannot write")]
     Write,
     /// Memory ran out.
+    #[error("out of memory")]
     Memory,
 }
 

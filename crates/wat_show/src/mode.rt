@@ -74,8 +74,7 @@ impl Shows for Mode {
 }
 
 /// Reads all bytes, makes the whole output of the mode, and then writes it. Answers the exit
-/// status: 0 where the bytes spell a value of the mode, else 1. What was read isn't given back, since
-/// a program ends behind a run.
+/// status: 0 where the bytes spell a value of the mode, else 1. The writer isn't flushed.
 pub fn run<R: Read, W: Write>(
     alloc: Global,
     mode: Mode,

@@ -7,7 +7,7 @@ use crate::error::RunError;
 use crate::watched::Watched;
 use std::io::Write;
 
-/// Writes all of `out`, and flushes.
+/// Writes all of `out`. The writer isn't flushed.
 pub fn write_all_of<W: Write>(writer: &mut Watched<W>, out: &[u8]) -> Result<(), RunError>
     ensures all { OnOk result
         (Appends (W.contents writer.old.inner) (W.contents writer.new.inner) out.now) }
@@ -24,5 +24,5 @@ pub fn write_all_of<W: Write>(writer: &mut Watched<W>, out: &[u8]) -> Result<(),
             Err(_) => return Err(RunError::Write),
         }
     }
-    writer.flush().map_err(|_| RunError::Write)
+    Ok(())
 }

@@ -19,7 +19,6 @@ use crate::shown::refused;
 use crate::whole::{read_module, read_whole};
 use bumpalo::Bump;
 use std::alloc::{AllocError, Global};
-use std::mem::forget;
 use wat_core::Module;
 use wat_expr::{Expression, FoldedInstruction};
 use wat_listing::expressions::add_expression;
@@ -134,8 +133,6 @@ pub fn show_value<'a, T: Listed<'a> + Drop>(
         Ok(value) => {
             let mut out = Vec::new(alloc);
             value.list(&mut out)?;
-            // The program ends behind its listing, and gives all back at once then.
-            forget(value);
             Ok((out, 0))
         }
         Err(error) => refused(alloc, error),

@@ -1,4 +1,4 @@
-//! A reader or a writer that remembers whether one of its calls failed.
+//! A reader or a writer that remembers whether a read or a write of it failed.
 ghost use Rattle.std.specs.Prelude.{◌≡◌, ◌↔◌, ◌⊎◌, false, IsTrue, IsErr};
 ghost use Rattle.std.specs.Io.{ReadsAtMost, WritesAtMost};
 ghost use Rattle.std.specs.Io.KnownBytes.{Keeps, ReadConsumes, WriteAppends};
@@ -7,7 +7,7 @@ ghost use Rattle.wat_show.specs.Streams.{IsFailedWrite};
 use std::io;
 use std::io::{Read, Write};
 
-/// A reader or a writer, and whether a call of it has failed.
+/// A reader or a writer, and whether a read or a write of it has failed.
 #[derive(Drop)]
 pub struct Watched<T> {
     inner: T,
@@ -15,7 +15,7 @@ pub struct Watched<T> {
 }
 
 impl<T> Watched<T> {
-    /// Watches `inner`, of which no call has failed yet.
+    /// Watches `inner`, of which no read and no write has failed yet.
     pub fn new(inner: T) -> Watched<T>
         ensures inner { result.inner ≡ inner }
         ensures failed { result.failed ≡ false }
@@ -26,7 +26,7 @@ impl<T> Watched<T> {
         }
     }
 
-    /// Whether a call has failed.
+    /// Whether a read or a write has failed.
     pub fn failed(&self) -> bool
         ensures { result ≡ self.now.failed }
     {
@@ -84,16 +84,11 @@ impl<W: Write> Write for Watched<W> {
         outcome
     }
 
-    /// One flush of the inner writer, whose answer is passed on. Sets `failed` where that is an
-    /// error.
+    /// One flush of the inner writer, whose answer is passed on. `failed` stays as it was.
     fn flush(&mut self) -> io::Result<()>
         ensures bytes { Keeps (W.contents self.old.inner) (W.contents self.new.inner) }
-        ensures failed { IsTrue self.new.failed ↔ (IsTrue self.old.failed ⊎ IsErr result) }
+        ensures failed { self.new.failed ≡ self.old.failed }
     {
-        let outcome = self.inner.flush();
-        if outcome.is_err() {
-            self.failed = true;
-        }
-        outcome
+        self.inner.flush()
     }
 }

@@ -1,6 +1,7 @@
 //! The program `watshow MODE`: reads standard input and lists on standard output what it spells.
 #![tactic(auto)]
 
+use std::io::Write;
 use std::process::ExitCode;
 use std::rt::Env;
 use std::{env, io};
@@ -22,9 +23,15 @@ fn mode_of_arguments(rt: &(impl Env + Alloc)) -> io::Result<Option<Mode>> {
     Ok(Mode::of(word.as_str()))
 }
 
-/// Says on standard error why nothing is shown.
-fn failed(rt: &impl Eprint, words: &str) -> ExitCode {
+/// Says a thing on standard error.
+fn say(rt: &impl Eprint, words: &str) -> ExitCode {
     let _ = eprintln!(rt; "{words}");
+    ExitCode::from(2)
+}
+
+/// Says on standard error why nothing is shown.
+fn failed(rt: &impl Eprint, error: RunError) -> ExitCode {
+    let _ = eprintln!(rt; "watshow: {error}");
     ExitCode::from(2)
 }
 
@@ -32,16 +39,17 @@ fn main(rt: HostRuntime) -> ExitCode {
     let mode = match mode_of_arguments(&rt) {
         Ok(Some(mode)) => mode,
         Err(error) if error.kind() == io::ErrorKind::OutOfMemory => {
-            return failed(&rt, "watshow: out of memory");
+            return failed(&rt, RunError::Memory);
         }
-        Ok(None) | Err(_) => return failed(&rt, USAGE),
+        Ok(None) | Err(_) => return say(&rt, USAGE),
     };
     let mut reader = Watched::new(rt.stdin());
     let mut writer = Watched::new(rt.stdout());
     match run(rt.alloc(), mode, &mut reader, &mut writer) {
-        Ok(status) => ExitCode::from(status),
-        Err(RunError::Read) => failed(&rt, "watshow: cannot read"),
-        Err(RunError::Write) => failed(&rt, "watshow: cannot write"),
-        Err(RunError::Memory) => failed(&rt, "watshow: out of memory"),
+        Ok(status) => match writer.flush() {
+            Ok(()) => ExitCode::from(status),
+            Err(_) => failed(&rt, RunError::Write),
+        },
+        Err(error) => failed(&rt, error),
     }
 }
