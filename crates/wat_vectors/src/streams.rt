@@ -64,9 +64,9 @@ impl Write for Target {
     }
 }
 
-/// A run: how many bytes are read and written at most at a time, which read and which write or
-/// flush fails, the first being 1, and then what the run answers, how often the reader and the
-/// writer were called, and what was written.
+/// A run: how many bytes are read and written at most at a time, which read and which write fails,
+/// the first being 1, and then what the run answers, how often the reader and the writer were
+/// called, and what was written.
 type Row<'a> = (
     [usize; 2],
     [usize; 2],
@@ -102,19 +102,18 @@ fn does(rt: &impl Abort, alloc: Global, text: &str, row: Row<'_>, takes_nothing:
 /// Four reads of 16 bytes give it, and the fifth gives nothing.
 const TEXT: &str = "(if (i32.const 1) (then (nop)) (else (unreachable)))";
 
-/// What is listed of it, in one write, or in 5 of 8 bytes. Behind them is the flush.
+/// What is listed of it, in one write, or in 5 of 8 bytes.
 const LISTING: &str = "i32.const 1\nif\nnop\nelse\nunreachable\nend\n";
 
-/// Runs over it, of which a read fails, a write, or the flush.
+/// Runs over it, of which a read fails, or a write.
 const ROWS: &[Row] = &[
-    ([16, 100], [0, 0], Ok(0), [5, 2], LISTING),
+    ([16, 100], [0, 0], Ok(0), [5, 1], LISTING),
     ([16, 100], [1, 0], Err(RunError::Read), [1, 0], ""),
     ([16, 100], [2, 0], Err(RunError::Read), [2, 0], ""),
     ([16, 100], [5, 0], Err(RunError::Read), [5, 0], ""),
-    ([16, 8], [0, 0], Ok(0), [5, 6], LISTING),
+    ([16, 8], [0, 0], Ok(0), [5, 5], LISTING),
     ([16, 8], [0, 2], Err(RunError::Write), [5, 2], "i32.cons"),
     ([16, 100], [0, 1], Err(RunError::Write), [5, 1], ""),
-    ([16, 100], [0, 2], Err(RunError::Write), [5, 2], LISTING),
 ];
 
 #[test]
@@ -133,12 +132,27 @@ fn a_long_text_is_read_whole(rt: HostRuntime) -> Result<(), Fail> {
         text.push_str("nop\n")?;
     }
     for (most, calls) in [
-        ([1, 7], [80_001, 11_430]),
-        ([9_000, 1], [10, 80_001]),
-        ([80_000, 80_000], [3, 2]),
+        ([1, 7], [80_001, 11_429]),
+        ([9_000, 1], [10, 80_000]),
+        ([80_000, 80_000], [3, 1]),
     ] {
         let row = (most, [0, 0], Ok(0), calls, text.as_str());
         does(&rt, rt.alloc(), &text, row, false);
     }
     Ok(())
+}
+
+#[test]
+fn a_flush_is_passed_on(rt: HostRuntime) {
+    let mut writer = Watched::new(Target {
+        taken: Vec::new(rt.alloc()),
+        most: 1,
+        failing: 2,
+        takes_nothing: false,
+        calls: 0,
+    });
+    assert!(rt; writer.flush().is_ok());
+    assert!(rt; writer.flush().is_err());
+    assert!(rt; !writer.failed());
+    assert_eq!(rt; writer.into_inner().calls, 2);
 }
