@@ -32,8 +32,8 @@ fn add_part<T: PrintPart + Drop>(out: &mut String, value: T) -> Result<(), Alloc
     add_reason(out, &ModulePart(&value))
 }
 
-/// Adds the reasons of an identifier without a character, a page size of more bits, a named
-/// parameter where none is named, and a type without `sub` that is below another.
+/// Adds the reasons of an identifier without a character, a page size of more bits, and a named
+/// parameter where none is named.
 fn add_types(out: &mut String, alloc: Global) -> Result<(), Error> {
     let arena = Bump::new(alloc);
     add_reason(out, &Id::new("", Span::from_offset(0)))?;
@@ -45,9 +45,21 @@ fn add_types(out: &mut String, alloc: Global) -> Result<(), Error> {
         index: None,
         inline: Some(FunctionTypeNoNames(function)),
     };
-    add_reason(out, &ty)?;
-    let mut ty = read::<Type>(alloc, "type (sub 0 (func))", &arena)?;
-    ty.def.final_type = None;
+    Ok(add_reason(out, &ty)?)
+}
+
+/// Adds the reason of a type without `sub` that is below another.
+fn add_parents(out: &mut String, alloc: Global) -> Result<(), Error> {
+    let arena = Bump::new(alloc);
+    let found = read::<Type>(alloc, "type (sub 0 (func))", &arena)?;
+    let mut def = found.def;
+    def.final_type = None;
+    let ty = Type {
+        span: found.span,
+        id: found.id,
+        name: found.name,
+        def,
+    };
     Ok(add_reason(out, &ty)?)
 }
 
@@ -109,6 +121,7 @@ Table: a table has a form that no text is read as
 fn values_without_a_text_have_a_reason(rt: HostRuntime) -> Result<(), Fail> {
     let mut out = String::new(rt.alloc());
     add_types(&mut out, rt.alloc())?;
+    add_parents(&mut out, rt.alloc())?;
     add_instructions(&mut out, rt.alloc())?;
     add_fields(&mut out, rt.alloc())?;
     assert_eq!(rt; out.as_str(), REASONS);
@@ -141,13 +154,11 @@ fn nested_blocks_are_read_again(rt: HostRuntime) -> Result<(), Fail> {
 #[test]
 fn a_module_is_read_again(rt: HostRuntime) -> Result<(), Fail> {
     let arena = Bump::new(rt.alloc());
-    let text = "(module $m (start 0) (@custom \"a\"))";
+    let text = "(module $m (start 0)(@custom \"a\"))";
     let found = read_module(rt.alloc(), text, &arena)?;
     let again = read_again(rt.alloc(), &found, Layout::Indented, &arena)?;
-    assert_eq!(rt;
-        print_module(rt.alloc(), &again, Layout::Line)?.as_str(),
-        text
-    );
+    let printed = print_module(rt.alloc(), &again, Layout::Line)?;
+    assert_eq!(rt; printed.as_str(), "(module $m (start 0) (@custom \"a\"))");
     let visible = print(rt.alloc(), &ModulePart(&VisibleModule(again)), Layout::Line)?;
     assert_eq!(rt; visible.as_str(), "module $m (start 0) (@custom \"a\")");
     Ok(())
