@@ -49,11 +49,16 @@ fn word_of(sig: &ItemSig<'_>) -> &'static str {
     }
 }
 
+/// The word and the place of a signature.
+fn told(sig: &ItemSig<'_>) -> (&'static str, usize) {
+    (word_of(sig), sig.span.offset())
+}
+
 /// What an import tells of itself.
 fn tell(alloc: Global, imports: &Imports<'_>) -> Result<Told, Error> {
     let mut item_sigs = Vec::new(alloc);
-    for sig in &imports.item_sigs(alloc)? {
-        item_sigs.push((word_of(sig), sig.span.offset()))?;
+    for sig in imports.item_sigs(alloc)? {
+        item_sigs.push(told(sig))?;
     }
     Ok(Told {
         items: imports.num_items(),
