@@ -50,7 +50,7 @@ fn word_of(sig: &ItemSig<'_>) -> &'static str {
 }
 
 /// The word and the place of a signature.
-fn told(sig: &ItemSig<'_>) -> (&'static str, usize) {
+fn word_and_place(sig: &ItemSig<'_>) -> (&'static str, usize) {
     (word_of(sig), sig.span.offset())
 }
 
@@ -58,7 +58,7 @@ fn told(sig: &ItemSig<'_>) -> (&'static str, usize) {
 fn tell(alloc: Global, imports: &Imports<'_>) -> Result<Told, Error> {
     let mut item_sigs = Vec::new(alloc);
     for sig in imports.item_sigs(alloc)? {
-        item_sigs.push(told(sig))?;
+        item_sigs.push(word_and_place(sig))?;
     }
     Ok(Told {
         items: imports.num_items(),
