@@ -1,3 +1,4 @@
+pub mod Enclosed
 pub mod Ends
 pub mod Fields
 pub mod IndependentOfRest

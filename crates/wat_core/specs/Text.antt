@@ -1,14 +1,23 @@
 -- Modules that a whole text spells.
-use Rattle.std.specs.Prelude.{ℕ, List, [], true}
+use Rattle.std.specs.Prelude.{◌≡◌, ℕ, ◌+◌, List, [], ◌∷◌, ◌++◌, length, true, false}
 use Rattle.wat_core.specs.Module.{ModuleTy, module_}
 use Rattle.wat_lexer.specs.Cut.{IsCut}
-use Rattle.wat_tokens.specs.Groups.{paren}
 use Rattle.wat_tokens.specs.Sight.{visible_tokens}
-use Rattle.wat_lexer.specs.Token.{Placed, tokens_of}
+use Rattle.wat_tokens.specs.State.{behind}
+use Rattle.wat_lexer.specs.Token.{Tok, Placed, LParen, RParen, tokens_of}
 
--- The text is cut, and its tokens, those visible with the five standard annotations known, are
--- one group that spells the module.
+-- Outside the module's group no annotation is known: the first visible token is `(`. Behind it the
+-- five standard annotations are known: there the tokens of the module are visible, then `)`, and
+-- then what comes. Behind that `)` no annotation is known again, and no token is visible.
+pub record IsModule (t : List Tok) (m : ModuleTy) : Type 0 where
+  pub first : List Tok
+  pub opens : visible_tokens false t ≡ LParen ∷ first
+  pub tokens : List Tok
+  pub more : List Tok
+  pub inside : visible_tokens true (behind false 1 t) ≡ tokens ++ RParen ∷ more
+  pub spelled : module_.spells m tokens (RParen ∷ more)
+  pub last : visible_tokens false (behind true (length tokens + 1) (behind false 1 t)) ≡ []
+
+-- the text is cut, and its tokens are one group that spells the module
 abbrev pub SpellsModule : List ℕ → ModuleTy → Type 0
-SpellsModule text m =
-    (ts : List Placed) × IsCut text ts
-    × (paren module_).spells m (visible_tokens true (tokens_of ts)) []
+SpellsModule text m = (ts : List Placed) × IsCut text ts × IsModule (tokens_of ts) m

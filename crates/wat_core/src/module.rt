@@ -91,8 +91,7 @@ fn read_module_kind<'a>(parser: &mut Parser<'a>) -> Result<ModuleKind<'a>>
     ensures reads { ReadsAt turns_too (owning module_kind_view bare_module_kind) module_kind result
         parser.old parser.new }
 {
-    if parser.next_is("binary") {
-        parser.keyword("binary")?;
+    if parser.flag("binary") {
         return Ok(ModuleKind::Binary(all_to_end(parser)?));
     }
     Ok(ModuleKind::Text(all_parts::<_, FieldGroup>(parser)?))
@@ -184,5 +183,26 @@ impl<'a> Module<'a> {
             Ok(named) => Ok(named.0),
             Err(error) => Err(error),
         }
+    }
+
+    /// Where the word `module` begins, its identifier, the name that an annotation gives, and what is
+    /// in it, each as the field was. A field can't be moved out of a module otherwise.
+    pub fn into_parts(
+        self,
+    ) -> (
+        Span,
+        Option<Id<'a>>,
+        Option<NameAnnotation<'a>>,
+        ModuleKind<'a>,
+    )
+        ensures { result ≡ (self.entry.span, self.entry.id, self.entry.name, self.entry.kind) }
+    {
+        let Module {
+            span,
+            id,
+            name,
+            kind,
+        } = self;
+        (span, id, name, kind)
     }
 }

@@ -177,11 +177,16 @@ pub is_none : (b : Bool) (s : List OpenGroup) → MatchBool b (s ≡ []) (s ≡ 
 is_none true s m e = m
 is_none false s m e = absurd cc
 
--- no hint waits in a folded group
+-- folded groups, in which no hint waits
 abbrev pub Unhinted : List OpenGroup → Type 0
 Unhinted [] = Unit {0}
 Unhinted (InFolded i h ∷ s) = (h ≡ None) × Unhinted s
-Unhinted (l ∷ s) = Unhinted s
+Unhinted (l ∷ s) = ⊥
+
+pub innermost : (s : List OpenGroup) → Unhinted s → (s ≡ [] → ⊥) → (i : Instr) × (h : Option ℕ) × (q : List OpenGroup) × (s ≡ InFolded i h ∷ q)
+innermost [] u some = absurd (some refl)
+innermost (InFolded i h ∷ s) u some = (i, h, s, refl)
+innermost (l ∷ s) u some = absurd u
 
 -- From the parser a on, the groups s are open, f was put out, and the parser is b.
 pub record Going (a : State) (s : List OpenGroup) (f : Flat) (b : State) : Type 0 where

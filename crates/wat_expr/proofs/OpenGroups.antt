@@ -1,5 +1,5 @@
 -- The open groups and what they are kept as have the same numbers.
-use Rattle.std.proofs.Common.{◌≡◌, suc, List, [], ◌∷◌, length, Some, refl, ap, ◌∙◌, arith}
+use Rattle.std.proofs.Common.{◌≡◌, ◌<◌, suc, List, [], ◌∷◌, length, Some, refl, ap, ◌∙◌, arith}
 use Rattle.std.proofs.lemmas.List.{length-reverse, length-map}
 use Rattle.std.specs.Prelude.{map, reverse}
 use Rattle.wat_instr.specs.Instruction.{Instr, Instruction, instruction_view}
@@ -36,3 +36,8 @@ pub top_some : (k : Kind) (s : List OpenGroup) → TopIs (Some k) s → s ≡ []
 top_some kind.Folded s t e = let f = t.3 in cc
 top_some kind.If s t e = let f = t.3 in cc
 top_some k s t e = let f = t.1 in cc
+
+-- where something is open there is a kind
+pub some_kind : (ks : List Kind) (hs : List Instruction) (ms : List Mark) → (open_groups (reverse ks) (reverse (seen hs)) (reverse ms) ≡ [] → ⊥) → 0 < length ks
+some_kind [] hs ms some = absurd (some refl)
+some_kind (k ∷ ks) hs ms some = omega arith

@@ -112,18 +112,17 @@ pub close_if : (l : OpenGroup) (gs s : List OpenGroup) (p : Option ℕ) (m : Lis
 close_if (InIf i h) gs s p m f e k = if_close gs s p h i m f e
 close_if l gs s p m f e k = absurd cc
 
+-- what is taken off is the innermost group
+taken_off : (k : Kind) (old new s : List OpenGroup) (l : OpenGroup) (f g : Flat) → Pops (Ok k) old new f g → old ≡ l ∷ s → (new ≡ s) × (g ≡ released l f)
+taken_off k old new s l f g (m, e2, is, q) e = let same : m ≡ l = cc in (cc, q ∙ ap (λ (y : OpenGroup). released y f) same)
+
 -- (then, which an `if` was open for
-pub then_read : {A : Type 0} (res : Result A Error) (l : OpenGroup) (gs s new mid : List OpenGroup) (p : Option ℕ) (m : List Tok) (f g : Flat) → p ≡ None → gs ≡ l ∷ s → kind_of l ≡ kind.If → g ≡ released l f → mid ≡ AfterThen ∷ s → MatchResult res (λ _. new ≡ InArm ∷ mid) (λ e. e.fault ≡ Memory) → TurnAnswers res (at gs p (LParen ∷ keyword (codes "then") ∷ m) f) (at new p m g)
-then_read res (InIf i h) gs s new mid p m f g none e k q n r = turn_then res gs s new mid p h i m f g none e q n r
-then_read res l gs s new mid p m f g none e k q n r = absurd cc
+pub then_read : {A : Type 0} (res : Result A Error) (k : Kind) (gs left s new mid : List OpenGroup) (p h : Option ℕ) (i : Instr) (m : List Tok) (f g : Flat) → p ≡ None → gs ≡ InIf i h ∷ s → Pops (Ok k) gs left f g → mid ≡ AfterThen ∷ left → MatchResult res (λ _. new ≡ InArm ∷ mid) (λ e. e.fault ≡ Memory) → TurnAnswers res (at gs p (LParen ∷ keyword (codes "then") ∷ m) f) (at new p m g)
+then_read res k gs left s new mid p h i m f g none e o n r =
+    let x = taken_off k gs left s (InIf i h) f g o e in
+    turn_then res gs s new mid p h i m f g none e x.1 (n ∙ ap (λ (y : List OpenGroup). AfterThen ∷ y) x.0) r
 
--- behind (then ..) nothing waits
-left_then : (r : Option Kind) (old new s : List OpenGroup) (f g : Flat) → Pops (Ok r) old new f g → old ≡ AfterThen ∷ s → (new ≡ s) × (g ≡ f)
-left_then None old new s f g m e = absurd (let k = m.0 in cc)
-left_then (Some k) old new s f g (AfterThen, e2, is, q) e = (cc, q)
-left_then (Some k) old new s f g (l, e2, is, q) e = absurd cc
-
-pub else_read : {A : Type 0} (res : Result A Error) (k : Option Kind) (gs left s new : List OpenGroup) (p : Option ℕ) (ts m : List Tok) (f mid g : Flat) → p ≡ None → gs ≡ AfterThen ∷ s → ts ≡ keyword (codes "else") ∷ m → Pops (Ok k) gs left f mid → new ≡ InArm ∷ AfterElse ∷ left → MatchResult res (λ _. g ≡ push None else_instr mid) (λ e. e.fault ≡ Memory) → TurnAnswers res (at gs p (LParen ∷ ts) f) (at new p m g)
+pub else_read : {A : Type 0} (res : Result A Error) (k : Kind) (gs left s new : List OpenGroup) (p : Option ℕ) (ts m : List Tok) (f mid g : Flat) → p ≡ None → gs ≡ AfterThen ∷ s → ts ≡ keyword (codes "else") ∷ m → Pops (Ok k) gs left f mid → new ≡ InArm ∷ AfterElse ∷ left → MatchResult res (λ _. g ≡ push None else_instr mid) (λ e. e.fault ≡ Memory) → TurnAnswers res (at gs p (LParen ∷ ts) f) (at new p m g)
 else_read res k gs left s new p ts m f mid g none e taken o n r =
-    let x = left_then k gs left s f mid o e in
+    let x = taken_off k gs left s AfterThen f mid o e in
     turn_else res gs s new p ts m f g none e taken (n ∙ ap (λ (y : List OpenGroup). InArm ∷ AfterElse ∷ y) x.0) (subst (λ (y : Flat). MatchResult res (λ _. g ≡ push None else_instr y) (λ e. e.fault ≡ Memory)) x.1 r)

@@ -1,5 +1,5 @@
 -- What the end of a group does.
-use Rattle.std.specs.Prelude.{◌≡◌, List, [], ◌∷◌, ◌++◌, Option, Some, None, Result, Ok, Err}
+use Rattle.std.specs.Prelude.{◌≡◌, List, [], ◌∷◌, ◌++◌, Result, Ok, Err}
 use Rattle.std.specs.Prelude.{MatchResult}
 use Rattle.wat_tokens.specs.Error.{Error, Memory}
 use Rattle.wat_expr.specs.Flat.{Flat, push}
@@ -14,13 +14,10 @@ released (InFolded i h) f = push h i f
 released (InIf i h) f = push h i f
 released _ f = f
 
--- The innermost group was taken off, its kind is answered, and its instruction is put out; None
--- where nothing is open. Or memory ran out.
-abbrev pub Pops : Result (Option Kind) Error → List OpenGroup → List OpenGroup → Flat → Flat
-    → Type 0
-Pops (Ok None) s t f g = (s ≡ []) × (t ≡ []) × (g ≡ f)
-Pops (Ok (Some k)) s t f g =
-    (l : OpenGroup) × (s ≡ l ∷ t) × (kind_of l ≡ k) × (g ≡ released l f)
+-- The innermost group was taken off, its kind is answered, and its instruction is put out. Or
+-- memory ran out.
+abbrev pub Pops : Result Kind Error → List OpenGroup → List OpenGroup → Flat → Flat → Type 0
+Pops (Ok k) s t f g = (l : OpenGroup) × (s ≡ l ∷ t) × (kind_of l ≡ k) × (g ≡ released l f)
 Pops (Err e) s t f g = e.fault ≡ Memory
 
 -- the last of the instructions that wait was taken off, with its mark, and put out, or memory ran

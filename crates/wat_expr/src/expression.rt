@@ -126,6 +126,18 @@ impl<'a> Expression<'a> {
         })
     }
 
+    /// Its instructions, its branch hints and its spans, each as the field was.
+    pub fn into_parts(self) -> (Vec<Instruction<'a>>, Vec<BranchHint>, Option<Vec<Span>>)
+        ensures { result ≡ (self.entry.instrs, self.entry.branch_hints, self.entry.instr_spans) }
+    {
+        let Expression {
+            instrs,
+            branch_hints,
+            instr_spans,
+        } = self;
+        (instrs, branch_hints, instr_spans)
+    }
+
     /// Puts an instruction behind the others, without a hint, and its span, where spans are kept.
     /// Memory refuses it, and then the expression is as it was.
     pub fn put_last(&mut self, instr: Instruction<'a>, span: Span) -> Result<()>

@@ -1,12 +1,13 @@
 //! Folded instructions of any kind, as element segments and inline tables have them.
 
-ghost use Rattle.std.specs.Prelude.{◌≡◌, List, IfOk};
+ghost use Rattle.std.specs.Prelude.{◌≡◌, ◌∷◌, ℕ, List, Option, IfOk};
 ghost use Rattle.wat_expr.specs.Expression.{Expr, expression_view, bare_expression, SpansAre};
 ghost use Rattle.wat_expr.specs.Flat.{flat};
 ghost use Rattle.wat_expr.specs.Folded.{Groups, folded_value, is_folded};
 ghost use Rattle.wat_expr.specs.FoldedProduction.{folded_instruction};
 ghost use Rattle.wat_expr.specs.GroupTurn.{GroupTurn, OpensBehind, group_state};
 ghost use Rattle.wat_expr.specs.Listed.{IsFolded};
+ghost use Rattle.wat_expr.specs.OpenGroups.{OpenGroup, InFolded};
 ghost use Rattle.wat_instr.specs.Instruction.{Instr};
 ghost use Rattle.wat_tokens.specs.Cost.{turns_too};
 ghost use Rattle.wat_tokens.specs.Counts.{Counted, SameSettings};
@@ -37,13 +38,15 @@ fn open_group<'a>(open_groups: &mut OpenGroups<'a>, parser: &mut Parser<'a>) -> 
     }
 }
 
-/// One turn: a group opens, or the innermost one closes and its instruction is put behind the
-/// others.
+/// One turn in a folded group: a group opens, or the innermost one closes and its instruction is put
+/// behind the others.
 fn turn<'a>(
     open_groups: &mut OpenGroups<'a>,
     out: &mut Expression<'a>,
     parser: &mut Parser<'a>,
 ) -> Result<()>
+    requires { (i : Instr) × (h : Option ℕ) × (s : List OpenGroup)
+        × (open_groups.old ≡ InFolded i h ∷ s) }
     ensures turned { GroupTurn result (group_state open_groups.old parser.old.left (flat out.old))
         (group_state open_groups.new parser.new.left (flat out.new)) }
     ensures steady { Steady parser.old parser.new }
@@ -54,11 +57,8 @@ fn turn<'a>(
     if !take_close(parser) {
         return Err(parser.unexpected());
     }
-    match open_groups.pop(out) {
-        Ok(Some(Kind::Folded)) => Ok(()),
-        Ok(_) => Err(parser.unexpected()),
-        Err(refused) => Err(refused),
-    }
+    open_groups.pop(out)?;
+    Ok(())
 }
 
 impl<'a> Expression<'a> {

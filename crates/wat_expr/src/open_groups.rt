@@ -163,20 +163,20 @@ impl<'a> OpenGroups<'a> {
     /// Takes the innermost group off, and answers its kind. The instruction that waited in it is put
     /// behind the others of `out`; Memory may refuse that.
     #[inline(always)]
-    pub fn pop(&mut self, out: &mut Expression<'a>) -> Result<Option<Kind>>
+    #[tactic(auto, using(crate::proofs::OpenGroups::some_kind))]
+    pub fn pop(&mut self, out: &mut Expression<'a>) -> Result<Kind>
+        requires { self.old ≡ [] → ⊥ }
         ensures { Pops result self.old self.new (flat out.old) (flat out.new) }
     {
         make_room(&mut out.instrs)?;
-        let Some(kind) = self.kinds.pop() else {
-            return Ok(None);
-        };
+        let kind = self.kinds.pop().unwrap();
         if kind.holds() {
             match release(&mut self.heads, &mut self.marks, out) {
-                Ok(()) => return Ok(Some(kind)),
+                Ok(()) => return Ok(kind),
                 Err(refused) => return Err(refused),
             }
         }
-        Ok(Some(kind))
+        Ok(kind)
     }
 
     /// Opens a group of a kind that holds no instruction, or refuses with Memory.

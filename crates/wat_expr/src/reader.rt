@@ -174,13 +174,12 @@ impl<'a> Reader<'a> {
             return Err(Error::at(Fault::HintPlace, span));
         }
         match self.open_groups.pop(&mut self.out) {
-            Ok(Some(Kind::Folded)) => Ok(()),
-            Ok(Some(Kind::Arm)) => Ok(()),
-            Ok(Some(Kind::Block)) => self.out.push_end(span),
-            Ok(Some(Kind::AfterThen)) => self.out.push_end(span),
-            Ok(Some(Kind::AfterElse)) => self.out.push_end(span),
-            Ok(Some(Kind::If)) => Err(Error::at(Fault::IfWithoutThen, span)),
-            Ok(None) => Err(Error::at(Fault::Unexpected, span)),
+            Ok(Kind::Folded) => Ok(()),
+            Ok(Kind::Arm) => Ok(()),
+            Ok(Kind::Block) => self.out.push_end(span),
+            Ok(Kind::AfterThen) => self.out.push_end(span),
+            Ok(Kind::AfterElse) => self.out.push_end(span),
+            Ok(Kind::If) => Err(Error::at(Fault::IfWithoutThen, span)),
             Err(refused) => Err(refused),
         }
     }
@@ -214,14 +213,9 @@ impl<'a> Reader<'a> {
         if let Some(_) = self.pending {
             return Err(Error::at(Fault::HintPlace, span));
         }
-        match self.open_groups.pop(&mut self.out) {
-            Ok(Some(Kind::If)) => {
-                self.open_groups.enter(Kind::AfterThen)?;
-                self.open_groups.enter(Kind::Arm)
-            }
-            Ok(_) => Err(Error::at(Fault::Unexpected, span)),
-            Err(refused) => Err(refused),
-        }
+        self.open_groups.pop(&mut self.out)?;
+        self.open_groups.enter(Kind::AfterThen)?;
+        self.open_groups.enter(Kind::Arm)
     }
 
     /// A turn at `(` behind `( then .. )`.

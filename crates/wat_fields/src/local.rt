@@ -2,7 +2,7 @@
 
 ghost use Rattle.std.specs.Prelude.{◌≡◌, List};
 ghost use Rattle.wat_tokens.specs.Cost.{tokens_alone};
-ghost use Rattle.wat_tokens.specs.Many.{after_front};
+ghost use Rattle.wat_tokens.specs.Many.{after_front, Extends};
 ghost use Rattle.wat_tokens.specs.Reads.{Call, Reads};
 ghost use Rattle.wat_tokens.specs.Tests.{more};
 ghost use Rattle.wat_tokens.specs.Views.{plain, owning, no_items};
@@ -66,6 +66,7 @@ fn read_labelled<'a>(parser: &mut Parser<'a>, out: &mut Vec<Local<'a>>) -> Resul
     ensures reads { Call tokens_alone (owning (λ _. locals_view out.new.items) no_items)
         (after_front (locals_view out.old.items) (labelled_local.reads parser.old.left)) result
         parser.old parser.new }
+    ensures kept { Extends out.old.items out.new.items }
 {
     let id = Option::<Id>::parse(parser)?;
     let name = Option::<NameAnnotation>::parse(parser)?;
@@ -80,6 +81,7 @@ fn read_listed<'a>(parser: &mut Parser<'a>, out: &mut Vec<Local<'a>>) -> Result<
     ensures reads { Call tokens_alone (owning (λ _. locals_view out.new.items) no_items)
         (after_front (locals_view out.old.items) (listed_locals.reads parser.old.left)) result
         parser.old parser.new }
+    ensures kept { Extends out.old.items out.new.items }
 {
     if parser.peek::<Id>() || parser.peek::<NameAnnotation>() {
         return read_labelled(parser, out);

@@ -192,12 +192,10 @@ fn read_other<'a>(parser: &mut Parser<'a>) -> Result<Vec<u8>>
     ensures reads { Reads (owning (λ v. v.items) no_items) other_numbers result parser.old
         parser.new }
 {
-    if parser.next_is("f32") {
-        parser.keyword("f32")?;
+    if parser.flag("f32") {
         return all_groups::<u8, F32Bytes>(parser);
     }
-    if parser.next_is("f64") {
-        parser.keyword("f64")?;
+    if parser.flag("f64") {
         return all_groups::<u8, F64Bytes>(parser);
     }
     parser.keyword("v128")?;
@@ -209,12 +207,10 @@ fn read_other<'a>(parser: &mut Parser<'a>) -> Result<Vec<u8>>
 fn read_wide<'a>(parser: &mut Parser<'a>) -> Result<Vec<u8>>
     ensures reads { Reads (owning (λ v. v.items) no_items) wide_numbers result parser.old parser.new }
 {
-    if parser.next_is("i32") {
-        parser.keyword("i32")?;
+    if parser.flag("i32") {
         return all_groups::<u8, I32Bytes>(parser);
     }
-    if parser.next_is("i64") {
-        parser.keyword("i64")?;
+    if parser.flag("i64") {
         return all_groups::<u8, I64Bytes>(parser);
     }
     read_other(parser)
@@ -229,12 +225,10 @@ fn read_wide<'a>(parser: &mut Parser<'a>) -> Result<Vec<u8>>
 pub(crate) fn read_numbers<'a>(parser: &mut Parser<'a>) -> Result<Vec<u8>>
     ensures reads { Reads (owning (λ v. v.items) no_items) number_list result parser.old parser.new }
 {
-    if parser.next_is("i8") {
-        parser.keyword("i8")?;
+    if parser.flag("i8") {
         return all_groups::<u8, I8Bytes>(parser);
     }
-    if parser.next_is("i16") {
-        parser.keyword("i16")?;
+    if parser.flag("i16") {
         return all_groups::<u8, I16Bytes>(parser);
     }
     read_wide(parser)

@@ -59,8 +59,7 @@ pub(crate) fn read_offset<'a>(parser: &mut Parser<'a>) -> Result<Expression<'a>>
     ensures spans { IfOk result (λ e. OffsetSpansAre (begins_word (codes "offset") parser.old.left)
         parser.old.tracks e) }
 {
-    if parser.next_is("offset") {
-        parser.keyword("offset")?;
+    if parser.flag("offset") {
         return Expression::parse(parser);
     }
     read_head_last(parser)

@@ -211,8 +211,7 @@ pub(crate) fn read_payload<'a>(parser: &mut Parser<'a>) -> Result<ElemPayload<'a
         parser.new }
     ensures spans { IfOk result (λ p. PayloadSpansAre parser.old.tracks p) }
 {
-    if parser.next_is("func") {
-        parser.keyword("func")?;
+    if parser.flag("func") {
         return read_indices(parser).map(ElemPayload::Indices);
     }
     read_typed_items(parser)
@@ -225,8 +224,7 @@ pub(crate) fn read_payload_or_indices<'a>(parser: &mut Parser<'a>) -> Result<Ele
         parser.old parser.new }
     ensures spans { IfOk result (λ p. PayloadSpansAre parser.old.tracks p) }
 {
-    if parser.next_is("func") {
-        parser.keyword("func")?;
+    if parser.flag("func") {
         return read_indices(parser).map(ElemPayload::Indices);
     }
     if parser.peek::<RefType>() {

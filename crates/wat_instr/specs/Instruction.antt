@@ -1,11 +1,11 @@
 -- Instructions.
 use Rattle.std.specs.Global.{Box}
-use Rattle.std.specs.Prelude.{ℕ, Bool, ◌||◌, ◌==◌, Option, Some, None, is_some}
+use Rattle.std.specs.Prelude.{ℕ, Bool, ◌||◌, ◌==◌, Option, Some, None}
 use Rattle.wat_tokens.specs.Index.{name_of, index_view}
 use Rattle.wat_tokens.specs.Production.{Production}
 use Rattle.wat_tokens.specs.Parts.{made}
 use Rattle.wat_types.specs.Heap.{heap_view}
-use Rattle.wat_types.specs.Label.{no_label, labelled}
+use Rattle.wat_types.specs.Label.{no_label}
 use Rattle.wat_types.specs.Use.{use_of}
 use Rattle.wat_operands.specs.Aggregates.{struct_access_view, cont_bind_view, switch_view}
 use Rattle.wat_operands.specs.Aggregates.{array_fill_view, array_copy_view, array_init_view}
@@ -121,9 +121,6 @@ head_in (code.br_on_cast_desc_eq_fail x) = head.br_on_cast_desc_eq_fail
 -- a block of which nothing is said: it has neither a label nor a name nor a type
 abbrev pub no_block : BlockTy
 no_block = block_of no_label (use_of None None)
-
-abbrev pub says_something : BlockTy → Bool
-says_something b = labelled b.label || (is_some b.ty.index || is_some b.ty.inline)
 
 -- what is said of a block, which is in a box unless that is nothing
 abbrev pub block_in : Option (Box BlockType) → BlockTy

@@ -1,5 +1,5 @@
 -- What follows the word of an instruction.
-use Rattle.std.specs.Prelude.{ℕ, ℤ, Bool, true, false, List, Option}
+use Rattle.std.specs.Prelude.{ℕ, ℤ, Bool, true, false, not, ◌||◌, List, Option, is_some}
 use Rattle.wat_tokens.specs.Production.{Production}
 use Rattle.wat_tokens.specs.Parts.{made, opt}
 use Rattle.wat_tokens.specs.Index.{Idx, identifier, index}
@@ -7,6 +7,7 @@ use Rattle.wat_tokens.specs.Tests.{begins_id}
 use Rattle.wat_tokens.specs.Integers.{signed}
 use Rattle.wat_tokens.specs.Floats.{none}
 use Rattle.wat_types.specs.Heap.{HeapTy, heap_type}
+use Rattle.wat_types.specs.Label.{labelled}
 use Rattle.wat_types.specs.Reference.{RefTy, ref_type}
 use Rattle.wat_types.specs.Value.{ValTy}
 use Rattle.wat_operands.specs.Aggregates.{array_of_length}
@@ -88,10 +89,15 @@ pub data Operand : Type 0 where
   -- a type, a tag and handlers
   thrown : ThrowTy → Operand
 
--- it holds no memory: no box, and no vector that has an item
+-- something is said of a block: it has a label, a name or a type
+abbrev pub says_something : BlockTy → Bool
+says_something b = labelled b.label || (is_some b.ty.index || is_some b.ty.inline)
+
+-- it holds no memory: no box, and no vector that has an item; a block of which nothing is said needs
+-- no box
 abbrev pub bare_operand : Operand → Bool
 bare_operand nothing = true
-bare_operand (block x) = false
+bare_operand (block x) = not (says_something x)
 bare_operand (label x) = true
 bare_operand (one_index x) = true
 bare_operand (two_indices x) = true

@@ -1,17 +1,26 @@
 -- When an instruction is another one once more.
-use Rattle.std.specs.Prelude.{◌≡◌}
-use Rattle.wat_operands.specs.Block.{SameBlock}
-use Rattle.wat_types.specs.Use.{SameOption}
+use Rattle.std.specs.Global.{Box}
+use Rattle.std.specs.Prelude.{◌≡◌, true, false, Option, Some, None}
+use Rattle.wat_operands.specs.Block.{SameBlock, block_view}
+use Rattle.wat_operands.specs.declared.block.BlockType.{BlockType}
 use Rattle.wat_operands.specs.Call.{SameCall}
 use Rattle.wat_operands.specs.Catches.{SameTry}
 use Rattle.wat_operands.specs.Select.{SameTypes}
-use Rattle.wat_instr.specs.Instruction.{Instruction}
+use Rattle.wat_instr.specs.Instruction.{Instruction, block_in}
+use Rattle.wat_instr.specs.Operand.{says_something}
 use Rattle.wat_instr.specs.declared.instruction.InstructionOf.TheVariants as code
+
+-- what is said of a block is the same, and is in a box only where that is something
+abbrev pub SameSaid : Option (Box BlockType) → Option (Box BlockType) → Type 0
+SameSaid (Some x) (Some y) =
+    (says_something (block_view x.value) ≡ true) × SameBlock x.value y.value
+SameSaid x None = says_something (block_in x) ≡ false
+SameSaid None (Some y) = ⊥
 
 -- every part is the same, the places too: boxes and lists hold the same, and any other instruction
 -- is that one
 abbrev pub SameInstruction : Instruction → Instruction → Type 0
-SameInstruction (code.Block op x) (code.Block op' y) = (op' ≡ op) × SameOption (λ a b. SameBlock a.value b.value) x y
+SameInstruction (code.Block op x) (code.Block op' y) = (op' ≡ op) × SameSaid x y
 SameInstruction (code.CallIndirect op x) (code.CallIndirect op' y) =
     (op' ≡ op) × SameCall x.value y.value
 SameInstruction (code.br_table x) (code.br_table y) =

@@ -6,6 +6,7 @@ ghost use Rattle.wat_instr.specs.Instruction.{instruction_view, bare_instruction
 ghost use Rattle.wat_instr.specs.Same.{SameInstruction};
 ghost use Rattle.wat_instr.specs.declared.instruction.InstructionOf.TheVariants as code;
 
+use crate::families::says_something;
 use crate::instruction::Instruction;
 use wat_mnemonics::{BlockOp, CallIndirectOp, IndexedOp, LabelOp};
 use wat_operands::{
@@ -15,8 +16,8 @@ use wat_operands::{
 use wat_tokens::{Error, Id, Index, Result};
 
 impl<'a> Instruction<'a> {
-    /// The same instruction once more. Memory may be answered where its operand is in a box or has
-    /// a list that isn't empty.
+    /// The same instruction once more; a block of which nothing is said has no box in it. Memory may
+    /// be answered where the operand is in a box or has a list that isn't empty.
     pub fn clone(&self) -> Result<Instruction<'a>>
         ensures copies { Copies SameInstruction (owning instruction_view bare_instruction) result
             self.now }
@@ -174,16 +175,17 @@ impl<'a> Instruction<'a> {
 }
 
 /// `block`, `loop`, `if` or `try`, and what is said of the block, once more.
+#[tactic(auto, using(crate::proofs::Blocks::nothing_said))]
 fn clone_block<'a>(op: BlockOp, x: &Option<Box<BlockType<'a>>>) -> Result<Instruction<'a>>
     ensures copies { Copies SameInstruction (owning instruction_view bare_instruction) result
         (code.Block op x.now) }
 {
     match x {
-        Some(x) => {
+        Some(x) if says_something(x) => {
             let same = BlockType::clone(x)?;
             Ok(Instruction::Block(op, Some(Box::new(*Box::allocator(x), same)?)))
         }
-        None => Ok(Instruction::Block(op, None)),
+        _ => Ok(Instruction::Block(op, None)),
     }
 }
 

@@ -1,9 +1,9 @@
 //! The operands of instructions that share their kind of operand.
 #![tactic(auto, unfolding(crate::specs::Reading::ReadsOperand, crate::specs::Operand::operand))]
 
-ghost use Rattle.std.specs.Prelude.{◌≡◌, IfOk, IfErr, refl};
-ghost use Rattle.wat_instr.specs.Instruction.{says_something, block_in};
-ghost use Rattle.wat_instr.specs.Operand.{operand};
+ghost use Rattle.std.specs.Prelude.{◌≡◌, IfOk, IfErr, refl, true};
+ghost use Rattle.wat_instr.specs.Instruction.{block_in};
+ghost use Rattle.wat_instr.specs.Operand.{operand, says_something};
 ghost use Rattle.wat_instr.specs.Operand as operands;
 ghost use Rattle.wat_instr.specs.Reading.{ReadsOperand};
 ghost use Rattle.wat_mnemonics.specs.declared.mnemonic.Mnemonic.TheVariants as head;
@@ -30,7 +30,7 @@ use wat_tokens::ownership::discard;
 use wat_tokens::{Fault, Id, Index, Parse, Parser, Result};
 
 /// Whether a block has a label, a name or a type.
-fn says_something(block: &BlockType) -> bool
+pub(crate) fn says_something(block: &BlockType) -> bool
     ensures { result ≡ says_something (block_view block.now) }
 {
     let names = block.label.is_some() || block.label_name.is_some();
@@ -41,7 +41,8 @@ fn says_something(block: &BlockType) -> bool
 #[tactic(auto, using(crate::proofs::Blocks::nothing_said))]
 fn boxed<'a>(alloc: Global, block: BlockType<'a>) -> Result<Option<Box<BlockType<'a>>>>
     ensures value { IfOk result (λ b. block_in b ≡ block_view block.entry) }
-    ensures memory { IfErr result (λ e. e.fault ≡ Fault.Memory) }
+    ensures memory { IfErr result (λ e. (e.fault ≡ Fault.Memory)
+        × (says_something (block_view block.entry) ≡ true)) }
 {
     if says_something(&block) {
         return Ok(Some(Box::new(alloc, block)?));
@@ -52,6 +53,7 @@ fn boxed<'a>(alloc: Global, block: BlockType<'a>) -> Result<Option<Box<BlockType
 
 /// `block`, `loop`, `if` or `try`, and what is said of the block.
 #[inline(always)]
+#[tactic(auto, unfolding(crate::specs::Reading::ReadsOperand, crate::specs::Operand::operand), using(crate::proofs::Blocks::not_bare))]
 pub(crate) fn read_block<'a, P: Place<'a>>(
     op: BlockOp,
     parser: &mut Parser<'a>,

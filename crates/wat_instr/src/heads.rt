@@ -122,13 +122,6 @@ impl Instruction<'_> {
         self.head().opcode().write(out)
     }
 
-    /// Whether it is `block`, `loop` or `try_table`, which stand before the items of a block.
-    pub fn is_block(&self) -> bool
-        ensures { result ≡ is_block (instruction_view self.now).row }
-    {
-        opens_block(self.head())
-    }
-
     /// Whether it is `if`.
     pub fn is_if(&self) -> bool
         ensures { result ≡ is_if (instruction_view self.now).row }

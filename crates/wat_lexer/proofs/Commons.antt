@@ -15,9 +15,9 @@ use Rattle.wat_lexer.specs.Scan.{all_idchars, class, string_at, with_front, rest
 use Rattle.wat_lexer.specs.View.{PieceIs}
 use Rattle.wat_lexer.specs.declared.lexeme.Kind.TheVariants as kinds
 use Rattle.wat_lexer.specs.declared.lexeme.SideEntry.{SideEntry}
-use Rattle.wat_lexer.proofs.Classes.{idchars_sound, class_complete}
-use Rattle.wat_lexer.proofs.Fronts.{in_run_front}
-use Rattle.wat_lexer.proofs.Pieces.{ends_here}
+use Rattle.wat_lexer.specs.Laws.Classes.{idchars_sound, class_complete}
+use Rattle.wat_lexer.specs.Laws.Fronts.{in_run_front}
+use Rattle.wat_lexer.specs.Laws.Pieces.{ends_here}
 use Rattle.wat_lexer.proofs.Places.{front_step, run_token}
 use Rattle.wat_lexer.proofs.Plain.{slice_front, all_tail}
 use Rattle.wat_lexer.proofs.Steps.{at_front, run_over, run_quote, slice_none, string_step}

@@ -14,8 +14,8 @@ use Rattle.wat_lexer.specs.View.{entry_tok, toks, IfFault, WrongIs, FailsAt}
 use Rattle.wat_lexer.specs.declared.fault.Error.{Error}
 use Rattle.wat_lexer.specs.declared.fault.Fault.{Fault}
 use Rattle.wat_lexer.proofs.Entries.{has_more}
-use Rattle.wat_lexer.proofs.Strings.{if_cases}
-use Rattle.wat_lexer.proofs.Fronts.{cut_front, front_cut, front_fails}
+use Rattle.wat_lexer.specs.Laws.Strings.{if_either}
+use Rattle.wat_lexer.specs.Laws.Fronts.{cut_front, front_cut, front_fails}
 
 -- the text's cuts are the tokens so far with the cuts of the rest, and where the rest fails the text fails
 pub record CutSoFar (text : List ℕ) (ts : List Placed) (behind : Bool) (rest : List ℕ) : Type 0 where
@@ -40,7 +40,7 @@ space_front behind b t e = rw e
 spaces_fewer : (t : List ℕ) → length (behind_spaces t) ≤ length t
 unfolding behind_spaces
 spaces_fewer [] = omega arith
-spaces_fewer (b ∷ t) = if_cases (λ s. length s ≤ suc (length t)) (is_space b) (behind_spaces t) (b ∷ t) (λ _. omega (arith, spaces_fewer t)) (λ _. omega arith)
+spaces_fewer (b ∷ t) = if_either (λ s. length s ≤ suc (length t)) (is_space b) (behind_spaces t) (b ∷ t) (λ _. omega (arith, spaces_fewer t)) (λ _. omega arith)
 
 -- spaces in front are blanks, as many as are there
 spaces : {text : List ℕ} {ts : List Placed} {behind : Bool} (rest : List ℕ) → CutSoFar text ts behind rest → CutSoFar text ts (behind && (length (behind_spaces rest) == length rest)) (behind_spaces rest)

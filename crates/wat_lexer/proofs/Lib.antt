@@ -1,17 +1,13 @@
-pub mod Classes
 pub mod Closing
 pub mod Commons
 pub mod CutSoFar
 pub mod Entries
-pub mod Fronts
 pub mod Outcomes
-pub mod Pieces
 pub mod Places
 pub mod Plain
 pub mod Rows
 pub mod Skips
 pub mod Steps
-pub mod Strings
 pub mod Tables
 pub mod Values
 pub mod Whole

@@ -12,7 +12,7 @@ use Rattle.wat_lexer.specs.declared.fault.Fault.TheVariants.{LexAnnotation}
 use Rattle.wat_lexer.specs.Laws.Kinds.{tokens_of-placed}
 use Rattle.wat_lexer.specs.Cut.{Cuts, IsCut, Closed, Unclosed, FirstUnclosed, FirstFault, cutting, closing}
 use Rattle.wat_lexer.specs.declared.fault.Fault.{Fault}
-use Rattle.wat_lexer.proofs.Fronts as fronts
+use Rattle.wat_lexer.specs.Laws.Fronts as fronts
 
 -- of two places each of which is the first, neither comes before the other
 same_place : (P : ℕ → Type 0) (i j : ℕ) → P i → P j → ((k : ℕ) → k < i → P k → ⊥) → ((k : ℕ) → k < j → P k → ⊥) → i ≡ j

@@ -8,7 +8,7 @@ use Rattle.wat_lexer.specs.Bytes.{is_idchar, between}
 use Rattle.wat_lexer.specs.Number.{is_integer, read, begins_hex}
 use Rattle.wat_lexer.specs.Token.{Keyword, Id, Annotation, Integer, Reserved}
 use Rattle.wat_lexer.specs.Scan.{all_idchars, name_behind, or_reserved, class}
-use Rattle.wat_lexer.proofs.Pieces.{excluded}
+use Rattle.wat_lexer.specs.Laws.Pieces.{excluded}
 use Rattle.wat_lexer.proofs.Steps.{at_front, at_front_two, idchar_ascii}
 use Rattle.wat_lexer.proofs.Values.{read_step, read_over}
 

@@ -14,7 +14,7 @@ use Rattle.wat_lexer.specs.Number.{read}
 use Rattle.wat_lexer.specs.Scan.{Beginning, Nothing, BlankTo, TokenTo, Wrong, front, behind_comment, behind_run, behind_line, string_at, step, all_idchars, string_of, name_behind, class}
 use Rattle.wat_lexer.specs.Sight.{begins_annotation_group, behind_group, visible, visible_tokens, hidden_count_at, hidden_count}
 use Rattle.wat_lexer.specs.Rows.{Comments, Strings, QuotedNames, Spoiled, Integers, Values, HiddenGroups, Faults, UnclosedGroup}
-use Rattle.wat_lexer.proofs.Fronts.{CutBy, front_cut, front_fails}
+use Rattle.wat_lexer.specs.Laws.Fronts.{CutBy, front_cut, front_fails}
 
 -- CUTS
 

@@ -9,7 +9,7 @@ use lib.Utf8.{scalar}
 use Rattle.wat_lexer.specs.Cut.{is_raw, is_hex, short_escape}
 use Rattle.wat_lexer.specs.Bytes.{is_idchar, is_space, is_line_end}
 use Rattle.wat_lexer.specs.Scan.{behind_line, behind_spaces, behind_run, all_idchars, behind_comment, step, emitted, string_at, after_step, with_front, rest_at, closing, Step, Bad, Close, Into, Emit, Encode, Between, Ends, Mode, Raw, Escape, Byte, Brace, Digits}
-use Rattle.wat_lexer.proofs.Pieces.{excluded, run_cons, then_run, rest_front}
+use Rattle.wat_lexer.specs.Laws.Pieces.{excluded, run_cons, then_run, rest_front}
 
 -- the byte at i, and what follows it
 pub at_front : (i : ℕ) (s : List ℕ) → i < length s → drop i s ≡ get_or s i 0 ∷ drop (i + 1) s

@@ -6,7 +6,7 @@ use Rattle.std.proofs.Math.ListN.{drop_of_length-le}
 use Rattle.std.proofs.lemmas.Bool.Decides.{nat_tests}
 use Rattle.wat_lexer.specs.Number.{read, up_to}
 use Rattle.wat_lexer.proofs.Steps.{at_front}
-use Rattle.wat_lexer.proofs.Strings.{read_up}
+use Rattle.wat_lexer.specs.Laws.Strings.{read_up}
 
 pub read_step : (base : ℕ) (behind : Bool) (n i : ℕ) (s : List ℕ) → i < length s → read base behind n (drop i s) ≡
     (if nat_lt (digit_value (get_or s i 0)) base then read base true (n * base + digit_value (get_or s i 0)) (drop (i + 1) s)

@@ -10,10 +10,10 @@ use Rattle.wat_lexer.specs.Bytes.{is_idchar}
 use Rattle.wat_lexer.specs.Cut.{begins}
 use Rattle.wat_lexer.specs.Token.{Tok, Id, Annotation, String, Reserved}
 use Rattle.wat_lexer.specs.Scan.{all_idchars, name_behind, or_reserved, class, string_at, string_of, text_name, whole, rest_at, Raw}
-use Rattle.wat_lexer.proofs.Pieces.{excluded}
+use Rattle.wat_lexer.specs.Laws.Pieces.{excluded}
 use Rattle.wat_lexer.proofs.Plain.{slice_front, all_tail}
 use Rattle.wat_lexer.proofs.Steps.{slice_none}
-use Rattle.wat_lexer.proofs.Strings.{string_sound, string_complete}
+use Rattle.wat_lexer.specs.Laws.Strings.{string_sound, string_complete}
 
 pub ruleset name_steps = (IsUtf8-from_is_utf8, is_utf8-from_IsUtf8, nat_tests)
 

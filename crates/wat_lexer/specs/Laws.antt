@@ -1,3 +1,7 @@
 -- Laws of the definitions: lemmas that other crates rest on.
+pub mod Classes
+pub mod Fronts
 pub mod Kinds
+pub mod Pieces
+pub mod Strings
 pub mod VisibleFrom

@@ -96,8 +96,8 @@ fn read_func_kind<'a>(parser: &mut Parser<'a>) -> Result<ItemKind<'a>>
 fn read_global_or_tag<'a>(parser: &mut Parser<'a>) -> Result<ItemSig<'a>>
     ensures reads { Reads (owning sig_view bare_sig) global_or_tag result parser.old parser.new }
 {
-    if parser.next_is("global") {
-        let span = parser.keyword("global")?;
+    if parser.flag("global") {
+        let span = parser.prev_span();
         let (id, name) = take_label(parser)?;
         let kind = ItemKind::Global(GlobalType::parse(parser)?);
         return Ok(ItemSig {
@@ -130,8 +130,8 @@ impl<'a> Parse<'a> for ItemSig<'a> {
 
     #[tactic(auto, unfolding(crate::specs::Item::item_sig))]
     fn parse(parser: &mut Parser<'a>) -> Result<Self> {
-        if parser.next_is("func") {
-            let span = parser.keyword("func")?;
+        if parser.flag("func") {
+            let span = parser.prev_span();
             let (id, name) = take_label(parser)?;
             let kind = read_func_kind(parser)?;
             return Ok(ItemSig {
@@ -141,8 +141,8 @@ impl<'a> Parse<'a> for ItemSig<'a> {
                 kind,
             });
         }
-        if parser.next_is("table") {
-            let span = parser.keyword("table")?;
+        if parser.flag("table") {
+            let span = parser.prev_span();
             let (id, name) = take_label(parser)?;
             let kind = ItemKind::Table(TableType::parse(parser)?);
             return Ok(ItemSig {
@@ -152,8 +152,8 @@ impl<'a> Parse<'a> for ItemSig<'a> {
                 kind,
             });
         }
-        if parser.next_is("memory") {
-            let span = parser.keyword("memory")?;
+        if parser.flag("memory") {
+            let span = parser.prev_span();
             let (id, name) = take_label(parser)?;
             let kind = ItemKind::Memory(MemoryType::parse(parser)?);
             return Ok(ItemSig {

@@ -97,8 +97,7 @@ fn read_before<'a>(parser: &mut Parser<'a>) -> Result<CustomPlace>
     ensures reads { Reads (plain (λ p. p)) before result parser.old parser.new }
 {
     parser.keyword("before")?;
-    if parser.next_is("first") {
-        parser.keyword("first")?;
+    if parser.flag("first") {
         return Ok(CustomPlace::BeforeFirst);
     }
     CustomPlaceAnchor::parse(parser).map(CustomPlace::Before)
@@ -110,8 +109,7 @@ fn read_after<'a>(parser: &mut Parser<'a>) -> Result<CustomPlace>
     ensures reads { Reads (plain (λ p. p)) after result parser.old parser.new }
 {
     parser.keyword("after")?;
-    if parser.next_is("last") {
-        parser.keyword("last")?;
+    if parser.flag("last") {
         return Ok(CustomPlace::AfterLast);
     }
     CustomPlaceAnchor::parse(parser).map(CustomPlace::After)

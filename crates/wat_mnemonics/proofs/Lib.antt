@@ -1,11 +1,12 @@
+mod Halves
 mod Heads
+mod KeyOrder
 mod Lent
 mod Prefix
 mod RmwTable
 mod Rows
 mod RowsBelow
 mod ScalarTables
-mod ToldPlaces
 mod VectorTables
 mod WordOrder
 mod WordReads

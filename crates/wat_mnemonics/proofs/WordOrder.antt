@@ -1,6 +1,8 @@
 -- Where a word is among words in order.
-use Rattle.std.proofs.Common.{◌≡◌, ℕ, ◌+◌, ◌<◌, ◌≤◌, List, [], length, get_or, sym, ◌∙◌, ap, arith, IsTrue, inl, inr, ◌⊎◌}
-use Rattle.std.specs.Ordering.{ordering_reverse}
+use Rattle.std.proofs.Common.{◌≡◌, ℕ, zero, suc, ◌+◌, ◌<◌, ◌≤◌, List, [], ◌∷◌, length, get_or, refl, sym, ◌∙◌, ap, arith, IsTrue, inl, inr, ◌⊎◌}
+use Rattle.std.specs.Cmp.{nat_cmp_is}
+use Rattle.std.specs.Ordering.{nat_cmp, ordering_reverse, ordering_then}
+use Rattle.std.specs.declared.cmp.Ordering.{Ordering}
 use Rattle.std.proofs.lemmas.Cmp.{nat_list_cmp_total}
 use Rattle.std.specs.declared.cmp.Ordering.TheVariants.{Less, Equal, Greater}
 use Rattle.wat_mnemonics.specs.Order.{cmp, rises}
@@ -48,3 +50,18 @@ absent xs t low high h less more k l e =
   where
     split : (k low : ℕ) → (k < low) ⊎ (low ≤ k)
     split k low = grind arith
+
+-- ---- how lists compare whose first n bytes are the same, where those that the second lacks are 0
+
+pub same_so_far : (n : ℕ) (a b : List ℕ) → length b ≤ n → ((k : ℕ) → k < n → get_or a k 0 ≡ get_or b k 0) → cmp a b ≡ nat_cmp (length a) (length b)
+same_so_far n [] [] l e = refl
+same_so_far n [] (y ∷ b) l e = nat_cmp_is 0 (length (y ∷ b)) Less (omega arith)
+same_so_far n (x ∷ a) [] l e = nat_cmp_is (length (x ∷ a)) 0 Greater (omega arith)
+same_so_far zero (x ∷ a) (y ∷ b) l e = absurd (omega (arith, l))
+same_so_far (suc n) (x ∷ a) (y ∷ b) l e =
+    ap (λ (o : Ordering). ordering_then o (cmp a b)) (sym (nat_cmp_is x y Equal (e 0 (omega arith))))
+    ∙ same_so_far n a b (omega (arith, l)) (λ k s. e (suc k) (omega (arith, s)))
+    ∙ cmp-suc (length a) (length b)
+  where
+    cmp-suc : (m n : ℕ) → nat_cmp m n ≡ nat_cmp (suc m) (suc n)
+    cmp-suc m n = grind arith

@@ -1,8 +1,10 @@
 pub use Rattle.wat_tokens.specs.Counts
 pub use Rattle.wat_tokens.specs.Token
 pub mod Access
+pub mod Halves
 pub mod Heads
 pub mod Indexed
+pub mod Keys
 pub mod Laws
 pub mod Mnemonic
 pub mod Opcodes
@@ -11,7 +13,6 @@ pub mod Ordered
 pub mod Places
 pub mod Probes
 pub mod Scalar
-pub mod Slots
 pub mod Table
 pub mod Vector
 pub mod Word

@@ -1,30 +1,21 @@
 //! The search for a word.
 
 ghost use Rattle.std.specs.Prelude.{◌≡◌, ◌≢◌, ◌<◌, ◌≤◌, ◌+◌, ◌∷◌, ℕ, List, IfSome, IfNone, IfErr};
-ghost use Rattle.std.specs.Prelude.{slice_index_or};
 ghost use Rattle.wat_tokens.specs.Token.{Tok, Keyword};
 ghost use Rattle.wat_mnemonics.specs.Heads.{mnemonic_word};
-ghost use Rattle.wat_mnemonics.specs.Order.{first};
 ghost use Rattle.wat_mnemonics.specs.Probes.{ReadsWord, AtMostTen};
-ghost use Rattle.wat_mnemonics.specs.Table.{all_mnemonics};
 ghost use Rattle.wat_mnemonics.specs.declared.mnemonic.Mnemonic.{Mnemonic as AnyMnemonic};
 ghost use Rattle.wat_tokens.specs.Counts.{Carries};
 
+use crate::keys::{KEYS, key_of};
 use crate::mnemonic::Mnemonic;
-use crate::slots::place_of;
-use crate::table::MNEMONICS;
+use crate::whole::find_whole;
 use wat_tokens::{Error, Fault, Parser, Result};
 
-/// An entry of the table.
-fn mnemonic_at(place: usize) -> Mnemonic
-    requires { place < 623 }
-    ensures { result ≡ slice_index_or all_mnemonics place first }
-{
-    MNEMONICS[place]
-}
-
-/// The mnemonic of a word, or None if the word is none. The parser counts the comparison with an
-/// entry of the table, and changes in nothing else.
+/// The mnemonic of a word, or None if the word is none.
+///
+/// The table of words, in strict order of their bytes, is searched by halves. The parser counts
+/// each comparison with an entry, of which there are 1 to 10, and changes in nothing else.
 pub fn find(parser: &mut Parser<'_>, text: &str) -> Option<Mnemonic>
     ensures found { IfSome result (λ h. mnemonic_word h ≡ text.now) }
     ensures missing { IfNone result ((h : AnyMnemonic) → mnemonic_word h ≢ text.now) }
@@ -33,13 +24,21 @@ pub fn find(parser: &mut Parser<'_>, text: &str) -> Option<Mnemonic>
     ensures probed { parser.old.probes + 1 ≤ parser.new.probes }
     ensures probes { parser.new.probes ≤ parser.old.probes + 10 }
 {
-    let entry = mnemonic_at(place_of(text));
-    parser.probe();
-    if entry.mnemonic() == text {
-        Some(entry)
-    } else {
-        None
+    let key = key_of(text);
+    let mut base = 0;
+    let mut size = 624;
+    // (the entries before the base are less, and those from base + size - 1 on are greater)
+    'halves: while size > 1 {
+        let half = size / 2;
+        let entry = KEYS[base + half - 1];
+        if entry == key {
+            return find_whole(parser, base, size, key, text);
+        }
+        size -= half;
+        parser.probe();
+        base = if entry < key { base + half } else { base };
     }
+    None
 }
 
 impl Mnemonic {

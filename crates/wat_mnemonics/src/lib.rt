@@ -1,21 +1,22 @@
 //! The words of the 623 instructions of the WebAssembly text format, without what follows them.
 //!
-//! A [`Mnemonic`](mnemonic::Mnemonic) is an instruction without its operand. A word is looked up in
-//! one step ([`find`](find::find)). A mnemonic has its word, and its opcode if Core Specification
-//! 2.0 gives it one.
+//! A [`Mnemonic`](mnemonic::Mnemonic) is an instruction without its operand. A word is looked up by
+//! binary search ([`find`](find::find)). A mnemonic has its word, and its opcode if Core
+//! Specification 2.0 gives it one.
 #![tactic(auto)]
 
 pub mod access;
 pub mod find;
 pub mod indexed;
+mod keys;
 pub mod laws;
 pub mod mnemonic;
 pub mod opcode;
 pub mod ordered;
 pub mod scalar;
-mod slots;
 pub mod table;
 pub mod vector;
+mod whole;
 
 pub use access::{AccessOp, AtomicAccessOp, LaneAccessOp, RmwAccessOp};
 pub use indexed::{

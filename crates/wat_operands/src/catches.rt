@@ -75,16 +75,13 @@ fn read_catch_kind<'a>(parser: &mut Parser<'a>) -> Result<TryTableCatchKind<'a>>
     ensures reads { Reads (plain (catch_kind_view index_view)) catch_kind result parser.old
         parser.new }
 {
-    if parser.next_is("catch") {
-        parser.keyword("catch")?;
+    if parser.flag("catch") {
         return Index::parse(parser).map(CatchKind::Catch);
     }
-    if parser.next_is("catch_ref") {
-        parser.keyword("catch_ref")?;
+    if parser.flag("catch_ref") {
         return Index::parse(parser).map(CatchKind::CatchRef);
     }
-    if parser.next_is("catch_all") {
-        parser.keyword("catch_all")?;
+    if parser.flag("catch_all") {
         return Ok(CatchKind::CatchAll);
     }
     parser.keyword("catch_all_ref")?;

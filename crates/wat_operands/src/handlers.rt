@@ -107,8 +107,7 @@ impl<'a> Part<'a, Handle<'a>> for Handler {
         parser.open()?;
         parser.keyword("on")?;
         let tag = Index::parse(parser)?;
-        let found = if parser.next_is("switch") {
-            parser.keyword("switch")?;
+        let found = if parser.flag("switch") {
             Handle::OnSwitch { tag }
         } else {
             let label = Index::parse(parser)?;

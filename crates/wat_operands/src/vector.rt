@@ -115,8 +115,7 @@ fn sixteen<'a, T: Parse<'a> + Copy>(parser: &mut Parser<'a>) -> Result<[T; 16]>
 fn read_floats<'a>(parser: &mut Parser<'a>) -> Result<V128Const>
     ensures reads { Reads (plain (λ v. v)) float_const result parser.old parser.new }
 {
-    if parser.next_is("f32x4") {
-        parser.keyword("f32x4")?;
+    if parser.flag("f32x4") {
         return Ok(V128Const::F32x4(four::<F32>(parser)?));
     }
     parser.keyword("f64x2")?;
@@ -128,12 +127,10 @@ fn read_floats<'a>(parser: &mut Parser<'a>) -> Result<V128Const>
 fn read_wide<'a>(parser: &mut Parser<'a>) -> Result<V128Const>
     ensures reads { Reads (plain (λ v. v)) wide_const result parser.old parser.new }
 {
-    if parser.next_is("i32x4") {
-        parser.keyword("i32x4")?;
+    if parser.flag("i32x4") {
         return Ok(V128Const::I32x4(four::<i32>(parser)?));
     }
-    if parser.next_is("i64x2") {
-        parser.keyword("i64x2")?;
+    if parser.flag("i64x2") {
         return Ok(V128Const::I64x2(two::<i64>(parser)?));
     }
     read_floats(parser)
@@ -154,12 +151,10 @@ impl<'a> Parse<'a> for V128Const {
 
     #[tactic(auto, using(crate::proofs::Again::items_again), unfolding(crate::specs::Vector::v128_const))]
     fn parse(parser: &mut Parser<'a>) -> Result<Self> {
-        if parser.next_is("i8x16") {
-            parser.keyword("i8x16")?;
+        if parser.flag("i8x16") {
             return Ok(V128Const::I8x16(sixteen::<i8>(parser)?));
         }
-        if parser.next_is("i16x8") {
-            parser.keyword("i16x8")?;
+        if parser.flag("i16x8") {
             return Ok(V128Const::I16x8(eight::<i16>(parser)?));
         }
         read_wide(parser)

@@ -3,6 +3,7 @@ pub use Rattle.wat_lexer.specs.Sight
 pub use Rattle.wat_lexer.specs.Token
 pub use Rattle.wat_tokens.specs.NameAnnotation
 pub use Rattle.wat_tokens.specs.Production
+pub use Rattle.wat_tokens.specs.Whole
 pub use Rattle.wat_tokens.specs.Views
 pub use Rattle.wat_types.specs.FieldType
 pub use Rattle.wat_types.specs.FunctionNoNames

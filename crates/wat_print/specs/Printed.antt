@@ -15,12 +15,6 @@ abbrev pub may_break : Layout → Bool
 may_break Line = false
 may_break Indented = true
 
--- the text is cut, and its tokens, visible with the five names known, spell the value to the last
--- one
-abbrev pub ReadsBack : {A : Type 0} → Production A → A → List ℕ → Type 0
-ReadsBack g v x =
-    (ps : List Placed) × IsCut x ps × g.spells v (visible_tokens true (tokens_of ps)) []
-
 -- wherever they stand in a text, no tokens spell the value
 abbrev pub NoneSpells : {A : Type 0} → Production A → A → Type 0
 NoneSpells g v =

@@ -8,13 +8,14 @@ ghost use Rattle.wat_expr.specs.ExpressionProduction.{expression};
 ghost use Rattle.wat_expr.specs.Items.{is_branch};
 ghost use Rattle.wat_print.specs.Layout.{Writes};
 ghost use Rattle.wat_print.specs.Parts.{spell_option, if_some};
-ghost use Rattle.wat_print.specs.Printed.{ReadsBack, NoneSpells};
+ghost use Rattle.wat_print.specs.Printed.{NoneSpells};
 ghost use Rattle.wat_print.specs.Text.{put, printed_text};
 ghost use Rattle.wat_print.specs.declared.fault.Refused.TheVariants.{Memory};
 ghost use Rattle.wat_print.specs.declared.output.Layout.TheVariants.{Line};
 ghost use Rattle.wat_print_instr.specs.ExpressionForm.{step_of, spell_hint, fit_hint, spell_step};
 ghost use Rattle.wat_print_instr.specs.ExpressionForm.{fit_step, hint_for, hints_after};
 ghost use Rattle.wat_print_instr.specs.ExpressionForm.{spell_expression, fit_expression};
+ghost use Rattle.wat_tokens.specs.Whole.{TextSpells};
 
 use crate::traits::PrintCode;
 use bumpalo::Bump;
@@ -213,8 +214,8 @@ pub fn print_expression(
     value: &Expression,
     layout: Layout,
 ) -> Result<String, Refused>
-    ensures reads_back { IfOk result (λ s. ReadsBack expression (expression_view value.now)
-        (string_bytes s)) }
+    ensures reads_back { IfOk result (λ s. TextSpells true expression (string_bytes s)
+        (expression_view value.now)) }
     ensures line { IfOk result (λ s. layout ≡ Line
         → string_bytes s ≡ printed_text (spell_expression (expression_view value.now))) }
     ensures refused { IfErr result (λ e. e ≢ Memory

@@ -2,7 +2,7 @@
 
 use crate::row::{Row, add_refusal};
 use std::alloc::{AllocError, Global};
-use wat_core::{Error, Module, Parser};
+use wat_core::read_module;
 use wat_report::{add_report, line_at, line_column, nearest_mnemonics};
 use wat_show::{Mode, Shows};
 
@@ -19,23 +19,11 @@ fn add_marked(out: &mut String, mark: &str, bytes: &[u8]) -> Result<bool, AllocE
     Ok(true)
 }
 
-/// Why a text isn't one module in its parentheses.
-fn refusal_of(row: &Row<'_>) -> Result<(), Error> {
-    let mut parser = Parser::new(row.alloc, row.text, row.arena)?;
-    parser.open()?;
-    let _module = Module::parse(&mut parser)?;
-    parser.close()?;
-    if parser.at_end() {
-        return Ok(());
-    }
-    Err(parser.unexpected())
-}
-
 /// Adds the report of a text, where it is no module.
 fn add_said(out: &mut String, row: &Row<'_>) -> Result<bool, AllocError> {
     let mut said = Vec::new(row.alloc);
-    match refusal_of(row) {
-        Ok(()) => {}
+    match read_module(row.alloc, row.text, row.arena) {
+        Ok(_module) => {}
         Err(error) => add_report(&mut said, "a.wat", row.text, error)?,
     }
     add_marked(out, "-", &said)

@@ -1,4 +1,2 @@
-pub mod Begun
-pub mod Enclosed
 pub mod Lists
 pub mod Showing

@@ -1,6 +1,7 @@
 pub use Rattle.wat_tokens.specs.Error
 pub use Rattle.wat_tokens.specs.Place
 pub use Rattle.wat_tokens.specs.Token
+pub use Rattle.wat_tokens.specs.Whole
 pub use Rattle.wat_types.specs.Function
 pub use Rattle.wat_types.specs.Group
 pub use Rattle.wat_expr.specs.Expression
@@ -8,6 +9,7 @@ pub use Rattle.wat_expr.specs.ExpressionProduction
 pub use Rattle.wat_expr.specs.FoldedProduction
 pub use Rattle.wat_core.specs.Field
 pub use Rattle.wat_core.specs.Module
+pub use Rattle.wat_core.specs.Text
 pub use Rattle.wat_listing.specs.Expressions
 pub use Rattle.wat_listing.specs.Listing
 pub mod Fields
@@ -16,4 +18,3 @@ pub mod Modules
 pub mod Run
 pub mod Shown
 pub mod Streams
-pub mod Whole

@@ -1,15 +1,16 @@
 -- The modes of the program, and what it writes in each.
-use Rattle.std.specs.Prelude.{ℕ, List, Option, Some, None, codes, if◌then◌else◌}
+use Rattle.std.specs.Prelude.{ℕ, false, List, Option, Some, None, codes, if◌then◌else◌}
 use Rattle.std.specs.Str.{bytes_eq}
+use Rattle.wat_core.specs.Text.{SpellsModule}
 use Rattle.wat_expr.specs.FoldedProduction.{folded_instruction}
 use Rattle.wat_expr.specs.ExpressionProduction.{expression}
 use Rattle.wat_listing.specs.Expressions.{expression_text}
 use Rattle.wat_listing.specs.Listing.{function_text}
 use Rattle.wat_show.specs.Modules.{module_text}
 use Rattle.wat_show.specs.Shown.{ShowsText, ShowsBytes}
-use Rattle.wat_show.specs.Whole.{TextSpells, SpelledModule}
 use Rattle.wat_show.specs.declared.mode.Mode.{Mode}
 use Rattle.wat_show.specs.declared.mode.Mode.TheVariants.{FuncType, Expr, Folded, «Module»}
+use Rattle.wat_tokens.specs.Whole.{TextSpells}
 use Rattle.wat_types.specs.Function.{function_type}
 
 -- the mode that a word names
@@ -24,11 +25,12 @@ mode_of word =
 -- The output and the status are right for the text.
 abbrev pub ShownText : Mode → List ℕ → List ℕ → ℕ → Type 0
 ShownText FuncType text out status =
-    ShowsText (TextSpells function_type) function_text text out status
-ShownText Expr text out status = ShowsText (TextSpells expression) expression_text text out status
+    ShowsText (TextSpells false function_type) function_text text out status
+ShownText Expr text out status =
+    ShowsText (TextSpells false expression) expression_text text out status
 ShownText Folded text out status =
-    ShowsText (TextSpells folded_instruction) expression_text text out status
-ShownText «Module» text out status = ShowsText SpelledModule module_text text out status
+    ShowsText (TextSpells false folded_instruction) expression_text text out status
+ShownText «Module» text out status = ShowsText SpellsModule module_text text out status
 
 -- The output and the status are right for the bytes.
 abbrev pub ModeShows : Mode → List ℕ → List ℕ → ℕ → Type 0

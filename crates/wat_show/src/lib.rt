@@ -13,7 +13,6 @@ pub mod show;
 pub mod shown;
 pub mod value;
 pub mod watched;
-pub mod whole;
 
 pub use error::RunError;
 pub use mode::{Mode, run};

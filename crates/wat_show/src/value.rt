@@ -1,7 +1,8 @@
 //! What is shown of a text that is to be a value.
 
-ghost use Rattle.std.specs.Prelude.{◌≡◌, ◌≢◌, ◌++◌, ℕ, List, OnOk, IfOk, IfErr};
+ghost use Rattle.std.specs.Prelude.{◌≡◌, ◌++◌, ℕ, List, false, OnOk, IfOk, MatchResult};
 ghost use Rattle.wat_core.specs.Module.{ModuleTy, module_view};
+ghost use Rattle.wat_core.specs.Text.{SpellsModule};
 ghost use Rattle.wat_expr.specs.Expression.{Expr, expression_view};
 ghost use Rattle.wat_expr.specs.FoldedProduction.{folded_instruction};
 ghost use Rattle.wat_expr.specs.ExpressionProduction.{expression};
@@ -9,21 +10,21 @@ ghost use Rattle.wat_listing.specs.Expressions.{expression_text};
 ghost use Rattle.wat_listing.specs.Listing.{function_text};
 ghost use Rattle.wat_show.specs.Modules.{module_text};
 ghost use Rattle.wat_show.specs.Shown.{ShowsText};
-ghost use Rattle.wat_show.specs.Whole.{TextSpells, SpelledModule};
 ghost use Rattle.wat_tokens.specs.Error.{Memory};
+ghost use Rattle.wat_tokens.specs.Whole.{TextSpells};
 ghost use Rattle.wat_types.specs.Function.{function_view, function_type};
 ghost use Rattle.wat_types.specs.Group.{FuncTy};
 
 use crate::modules::add_module;
 use crate::shown::refused;
-use crate::whole::{read_module, read_whole};
 use bumpalo::Bump;
 use std::alloc::{AllocError, Global};
-use wat_core::Module;
+use wat_core::{Module, read_module};
 use wat_expr::{Expression, FoldedInstruction};
 use wat_listing::expressions::add_expression;
 use wat_listing::listing::add_function;
 use wat_tokens::Error;
+use wat_tokens::text::read_text;
 use wat_types::FunctionType;
 
 /// A type whose values are read from a text and listed.
@@ -42,7 +43,8 @@ pub trait Listed<'a>: Sized {
     /// Reads the value that the text spells. It is refused with the first fault that is met.
     fn read(alloc: Global, text: &'a str, arena: &'a Bump) -> Result<Self, Error>
         ensures found { IfOk result (λ v. spelled text.now (view v)) }
-        ensures none { IfErr result (λ e. e.fault ≢ Memory → (v : View) → spelled text.now v → ⊥) };
+        ensures only { (v : View) → spelled text.now v
+            → MatchResult result (λ w. view w ≡ v) (λ e. e.fault ≡ Memory) };
 
     /// Adds the listing of the value.
     fn list(&self, out: &mut Vec<u8>) -> Result<(), AllocError>
@@ -54,12 +56,12 @@ impl<'a> Listed<'a> for FunctionType<'a> {
 
     ghost view = { function_view };
 
-    ghost spelled = { TextSpells function_type };
+    ghost spelled = { TextSpells false function_type };
 
     ghost listing = { function_text };
 
     fn read(alloc: Global, text: &'a str, arena: &'a Bump) -> Result<Self, Error> {
-        read_whole(alloc, text, arena)
+        read_text(alloc, text, arena, false)
     }
 
     fn list(&self, out: &mut Vec<u8>) -> Result<(), AllocError> {
@@ -72,12 +74,12 @@ impl<'a> Listed<'a> for Expression<'a> {
 
     ghost view = { expression_view };
 
-    ghost spelled = { TextSpells expression };
+    ghost spelled = { TextSpells false expression };
 
     ghost listing = { expression_text };
 
     fn read(alloc: Global, text: &'a str, arena: &'a Bump) -> Result<Self, Error> {
-        read_whole(alloc, text, arena)
+        read_text(alloc, text, arena, false)
     }
 
     fn list(&self, out: &mut Vec<u8>) -> Result<(), AllocError> {
@@ -90,12 +92,12 @@ impl<'a> Listed<'a> for FoldedInstruction<'a> {
 
     ghost view = { λ folded. expression_view folded.0 };
 
-    ghost spelled = { TextSpells folded_instruction };
+    ghost spelled = { TextSpells false folded_instruction };
 
     ghost listing = { expression_text };
 
     fn read(alloc: Global, text: &'a str, arena: &'a Bump) -> Result<Self, Error> {
-        read_whole(alloc, text, arena)
+        read_text(alloc, text, arena, false)
     }
 
     fn list(&self, out: &mut Vec<u8>) -> Result<(), AllocError> {
@@ -108,7 +110,7 @@ impl<'a> Listed<'a> for Module<'a> {
 
     ghost view = { module_view };
 
-    ghost spelled = { SpelledModule };
+    ghost spelled = { SpellsModule };
 
     ghost listing = { module_text };
 

@@ -41,3 +41,4 @@ pub mod Steady
 pub mod Strings
 pub mod Tests
 pub mod Views
+pub mod Whole

@@ -1,5 +1,5 @@
 -- Any number of parts, and what a loop that reads them keeps.
-use Rattle.std.specs.Prelude.{◌≤◌, Bool, List, ◌++◌, Some}
+use Rattle.std.specs.Prelude.{◌≡◌, ◌≤◌, Bool, List, ◌++◌, Some}
 use Rattle.wat_lexer.specs.Token.{Tok}
 use Rattle.wat_tokens.specs.Production.{Read, bind, Production}
 use Rattle.wat_tokens.specs.ManySpells.{many_spells, many_reads}
@@ -23,3 +23,9 @@ many begins g consumes = record {
 
 abbrev pub after_front : {A : Type 0} → List A → Read (List A) → Read (List A)
 after_front before read = bind read (λ vs r. Some (before ++ vs, r))
+
+-- ---- what a call leaves of a list that it puts values into, also where it is refused
+
+-- what was there is there, in front of whatever came behind it
+abbrev pub Extends : {X : Type 0} → List X → List X → Type 0
+Extends {X} before after = (more : List X) × (after ≡ before ++ more)

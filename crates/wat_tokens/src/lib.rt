@@ -17,6 +17,7 @@ pub mod repeat;
 mod sight;
 pub mod strings;
 pub mod tally;
+pub mod text;
 pub mod traits;
 pub mod whole;
 pub mod words;

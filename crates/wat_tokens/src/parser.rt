@@ -416,6 +416,7 @@ impl<'a> Parser<'a> {
     #[inline(always)]
     pub fn flag(&mut self, word: &str) -> bool
         ensures reads { Reads (plain (λ b. b)) (flag word.now) (Ok result) self.old self.new }
+        ensures stands { result ≡ begins_word word.now self.old.left }
     {
         let stands = self.next_is(word);
         if stands {

@@ -4,7 +4,7 @@ ghost use Rattle.std.specs.Prelude.{◌≡◌, ◌≤◌, [], map, List, Bool};
 ghost use Rattle.wat_lexer.specs.Token.{Tok};
 ghost use Rattle.wat_tokens.specs.Cost.{Cost, tokens_alone};
 ghost use Rattle.wat_tokens.specs.Joined.{joined_behind};
-ghost use Rattle.wat_tokens.specs.Many.{after_front};
+ghost use Rattle.wat_tokens.specs.Many.{after_front, Extends};
 ghost use Rattle.wat_tokens.specs.ManySpells.{many_reads};
 ghost use Rattle.wat_tokens.specs.Production.{Production};
 ghost use Rattle.wat_tokens.specs.Reads.{Call, ReadsAt};
@@ -42,7 +42,8 @@ pub trait Part<'a, V> {
         ensures reads { ReadsAt cost view grammar result parser.old parser.new };
 }
 
-/// Takes parts as long as one has to follow, each put behind those that are there.
+/// Takes parts as long as one has to follow, each put behind those that are there. These stay, also
+/// where it is refused.
 pub fn parts<'a, V: Drop, P: Part<'a, V>>(
     parser: &mut Parser<'a>,
     out: &mut Vec<V>,
@@ -51,6 +52,7 @@ pub fn parts<'a, V: Drop, P: Part<'a, V>>(
     ensures reads { Call P.cost (owning (λ _. map P.view.of out.new.items) no_items)
         (after_front (map P.view.of out.old.items) (many_reads P.follows P.grammar parser.old.left))
         result parser.old parser.new }
+    ensures kept { Extends out.old.items out.new.items }
 {
     'parts: while P::follows(parser) {
         push_into(out, P::take(parser)?)?;
@@ -80,14 +82,16 @@ pub trait Group<'a, V> {
         ensures { result ≡ follows parser.now.left };
 
     /// Takes the group that is in front, each part put behind those that are there, or refuses as
-    /// [`Parse::parse`] does.
+    /// [`Parse::parse`] does. Those that were there stay, also where it is refused.
     fn take(parser: &mut Parser<'a>, out: &mut Vec<V>) -> Result<(), Error>
         ensures reads { Call cost (owning (λ _. map view.of out.new.items) no_items)
             (after_front (map view.of out.old.items) (grammar.reads parser.old.left)) result
-            parser.old parser.new };
+            parser.old parser.new }
+        ensures kept { Extends out.old.items out.new.items };
 }
 
 /// Takes groups as long as one has to follow, the parts of each put behind those that are there.
+/// These stay, also where it is refused.
 pub fn groups<'a, V: Drop, G: Group<'a, V>>(
     parser: &mut Parser<'a>,
     out: &mut Vec<V>,
@@ -96,6 +100,7 @@ pub fn groups<'a, V: Drop, G: Group<'a, V>>(
     ensures reads { Call G.cost (owning (λ _. map G.view.of out.new.items) no_items)
         (joined_behind (map G.view.of out.old.items) (many_reads G.follows G.grammar
         parser.old.left)) result parser.old parser.new }
+    ensures kept { Extends out.old.items out.new.items }
 {
     'groups: while G::follows(parser) {
         G::take(parser, out)?;
@@ -149,7 +154,8 @@ impl<'a, T: Parse<'a> + Peek> Part<'a, T> for WhileBegun {
     }
 }
 
-/// Takes values up to the end of the group, each put behind those that are there.
+/// Takes values up to the end of the group, each put behind those that are there. These stay, also
+/// where it is refused.
 pub fn rest_of_group<'a, T: Parse<'a> + Drop>(
     parser: &mut Parser<'a>,
     out: &mut Vec<T>,
@@ -158,11 +164,13 @@ pub fn rest_of_group<'a, T: Parse<'a> + Drop>(
     ensures reads { Call T.cost (owning (λ _. map T.view.of out.new.items) no_items)
         (after_front (map T.view.of out.old.items) (many_reads more T.grammar parser.old.left))
         result parser.old parser.new }
+    ensures kept { Extends out.old.items out.new.items }
 {
     parts::<T, ToEnd>(parser, out)
 }
 
-/// Takes values as long as one begins, each put behind those that are there.
+/// Takes values as long as one begins, each put behind those that are there. These stay, also where
+/// it is refused.
 pub fn while_begun<'a, T: Parse<'a> + Peek + Drop>(
     parser: &mut Parser<'a>,
     out: &mut Vec<T>,
@@ -171,6 +179,7 @@ pub fn while_begun<'a, T: Parse<'a> + Peek + Drop>(
     ensures reads { Call T.cost (owning (λ _. map T.view.of out.new.items) no_items)
         (after_front (map T.view.of out.old.items) (many_reads T.begins T.grammar parser.old.left))
         result parser.old parser.new }
+    ensures kept { Extends out.old.items out.new.items }
 {
     parts::<T, WhileBegun>(parser, out)
 }

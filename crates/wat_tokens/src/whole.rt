@@ -7,7 +7,7 @@ ghost use Rattle.wat_tokens.specs.Cost.{dearer};
 ghost use Rattle.wat_tokens.specs.Groups.{paren};
 ghost use Rattle.wat_tokens.specs.Parts.{seq};
 ghost use Rattle.wat_tokens.specs.Reads.{ReadsAt};
-ghost use Rattle.wat_tokens.specs.Views.{paired};
+ghost use Rattle.wat_tokens.specs.Views.{paired, holding};
 
 use crate::parser::Parser;
 use crate::traits::Parse;
@@ -21,6 +21,25 @@ pub fn in_parens<'a, T: Parse<'a> + Drop>(parser: &mut Parser<'a>) -> Result<T, 
     let value = T::parse(parser)?;
     parser.close()?;
     Ok(value)
+}
+
+/// A value in a group of its own: what [`in_parens`] takes, where a type is wanted.
+#[derive(Drop)]
+pub struct Grouped<T>(pub T);
+
+/// `(` T `)`
+impl<'a, T: Parse<'a> + Drop> Parse<'a> for Grouped<T> {
+    ghost View = { T.View };
+
+    ghost view = { holding T.view (λ g. T.view.of g.0) T.view.bare };
+
+    ghost cost = { T.cost };
+
+    ghost grammar = { paren T.grammar };
+
+    fn parse(parser: &mut Parser<'a>) -> Result<Self, Error> {
+        Ok(Grouped(in_parens::<T>(parser)?))
+    }
 }
 
 /// A value, and another one directly behind it.

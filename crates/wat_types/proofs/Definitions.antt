@@ -1,12 +1,13 @@
 -- Where a definition without `sub` isn't bare, the one with `sub` around it isn't either.
 use Rattle.std.proofs.lemmas.Bool.{and_right}
 use Rattle.std.proofs.Common.{◌≡◌, Bool, true, false, List, [], ◌∷◌, Some, None, refl, sym, ap, ◌∙◌, inl, inr}
-use Rattle.std.specs.Prelude.{◌&&◌, codes}
-use Rattle.wat_tokens.specs.Token.{Tok, RParen}
+use Rattle.std.specs.Prelude.{ℕ, ◌&&◌, codes}
+use Rattle.wat_tokens.specs.Token.{Tok, Keyword, RParen}
 use Rattle.wat_tokens.specs.Tests.{begins_word}
 use Rattle.wat_tokens.specs.Groups.{paren}
-use Rattle.wat_tokens.specs.Production.{Read}
-use Rattle.wat_tokens.specs.Laws.Production.{by_read}
+use Rattle.wat_tokens.specs.Production.{Read, some_of}
+use Rattle.wat_tokens.specs.Laws.Loops.{front_of_none}
+use Rattle.wat_tokens.specs.Laws.Production.{by_read, some_is}
 use Rattle.wat_tokens.specs.Parts.{word, flag}
 use Rattle.wat_tokens.specs.Many.{after_front}
 use Rattle.wat_tokens.specs.ManySpells.{many_reads}
@@ -33,6 +34,28 @@ bare_left (p ∷ ps) b e f = absurd cc
 front_is : {A : Type 0} (x : Read (List A)) (y : List A × List Tok) → after_front [] x ≡ Some y → x ≡ Some y
 front_is (Some x) y e = e
 front_is None y e = absurd cc
+
+pub taken_word : (w : List ℕ) (t r : List Tok) (b : Bool) → begins_word w t ≡ true → (flag w).reads t ≡ Some (b, r) → (word w).reads t ≡ Some (tt, r)
+taken_word w [] r b k e = absurd cc
+taken_word w (Keyword n ∷ t) r b k e =
+    let f : some_of (true, t) ≡ Some (b, r) = rw k at e in
+    rw k (ap (λ (l : List Tok). some_of (tt, l)) (ap (λ (p : Bool × List Tok). p.1) (some_is (true, t) (b, r) f)))
+taken_word w (_ ∷ t) r b k e = absurd cc
+
+module _ (b : Bool) (t t1 t2 : List Tok) (k : begins_word (codes "sub") t ≡ true) (e : (word (codes "sub")).reads t ≡ Some (tt, t1)) (f : (flag (codes "final")).reads t1 ≡ Some (b, t2)) where
+  abbrev parents : Read (List Idx)
+  parents = many_reads begins_index index t2
+
+  pub parents_fail : after_front [] parents ≡ None → type_def.reads t ≡ None
+  unfolding type_def
+  parents_fail n = rw (k, e, f, sym (front_of_none parents) ∙ n) refl
+
+  pub parents_not_bare : NotBare no_items (after_front [] parents) → NotBare bare_def (type_def.reads t)
+  unfolding type_def
+  parents_not_bare n = rw (k, e, f) (by_read parents
+      (λ y m. (let some : no_items y.0 ≡ false = rw (front_of_none parents, m) at n in
+      rw m (by_read ((paren maybe_shared).reads y.1) (λ z q. rw (q, some) refl) (λ q. rw q tt))))
+      (λ m. rw m tt))
 
 module _ (b : Bool) (ps : List Idx) (t t1 t2 t3 : List Tok) (k : begins_word (codes "sub") t ≡ true) (e : (word (codes "sub")).reads t ≡ Some (tt, t1)) (f : (flag (codes "final")).reads t1 ≡ Some (b, t2)) (g : after_front [] (many_reads begins_index index t2) ≡ Some (ps, t3)) where
   pub sub_fails : (paren maybe_shared).reads t3 ≡ None → type_def.reads t ≡ None

@@ -122,10 +122,9 @@ fn read_link<'a>(parser: &mut Parser<'a>, word: &str) -> Result<Option<Index<'a>
     ensures reads { Reads (plain (option_view index_view)) (linked word.now) result parser.old
         parser.new }
 {
-    if !parser.next_is(word) {
+    if !parser.flag(word) {
         return Ok(None);
     }
-    parser.keyword(word)?;
     let index = Index::parse(parser)?;
     parser.close()?;
     parser.open()?;
@@ -176,10 +175,9 @@ impl<'a> Parse<'a> for MaybeShared<'a> {
 
     #[tactic(auto, unfolding(crate::specs::Define::maybe_shared))]
     fn parse(parser: &mut Parser<'a>) -> Result<Self> {
-        if !parser.next_is("shared") {
+        if !parser.flag("shared") {
             return Ok(MaybeShared(Described::parse(parser)?.0));
         }
-        parser.keyword("shared")?;
         let mut def = in_parens::<Described>(parser)?.0;
         def.shared = true;
         Ok(MaybeShared(def))
@@ -197,10 +195,9 @@ impl<'a> Parse<'a> for TypeDef<'a> {
 
     #[tactic(auto, unfolding(crate::specs::Define::type_def))]
     fn parse(parser: &mut Parser<'a>) -> Result<Self> {
-        if !parser.next_is("sub") {
+        if !parser.flag("sub") {
             return Ok(MaybeShared::parse(parser)?.0);
         }
-        parser.keyword("sub")?;
         let is_final = parser.flag("final");
         let mut parents = Vec::new(parser.alloc());
         while_begun::<Index>(parser, &mut parents)?;

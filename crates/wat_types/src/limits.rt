@@ -50,8 +50,7 @@ pub struct MemoryType {
 pub fn take_is64<'a>(parser: &mut Parser<'a>) -> Result<bool>
     ensures reads { Reads (plain (λ b. b)) is_64 result parser.old parser.new }
 {
-    if parser.next_is("i64") {
-        parser.keyword("i64")?;
+    if parser.flag("i64") {
         return Ok(true);
     }
     parser.flag("i32");

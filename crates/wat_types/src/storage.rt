@@ -42,12 +42,10 @@ impl<'a> Parse<'a> for StorageType<'a> {
 
     #[tactic(auto, using(crate::proofs::Begun::no_value_type), unfolding(crate::specs::Storage::storage_type))]
     fn parse(parser: &mut Parser<'a>) -> Result<Self> {
-        if parser.next_is("i8") {
-            parser.keyword("i8")?;
+        if parser.flag("i8") {
             return Ok(StorageType::I8);
         }
-        if parser.next_is("i16") {
-            parser.keyword("i16")?;
+        if parser.flag("i16") {
             return Ok(StorageType::I16);
         }
         if parser.peek::<ValType>() {

@@ -3,7 +3,7 @@
 ghost use Rattle.std.specs.Prelude.{◌≡◌, List};
 ghost use Rattle.wat_tokens.specs.Copies.{Copies};
 ghost use Rattle.wat_tokens.specs.Cost.{tokens_alone};
-ghost use Rattle.wat_tokens.specs.Many.{after_front};
+ghost use Rattle.wat_tokens.specs.Many.{after_front, Extends};
 ghost use Rattle.wat_tokens.specs.Reads.{Call};
 ghost use Rattle.wat_tokens.specs.Tests.{more};
 ghost use Rattle.wat_tokens.specs.Views.{plain, owning, no_items};
@@ -99,6 +99,7 @@ fn read_fields<'a>(parser: &mut Parser<'a>, out: &mut Vec<StructField<'a>>) -> R
     ensures reads { Call tokens_alone (owning (λ _. members_view out.new.items) no_items)
         (after_front (members_view out.old.items) (members.reads parser.old.left)) result parser.old
         parser.new }
+    ensures kept { Extends out.old.items out.new.items }
 {
     if parser.peek::<Id>() || parser.peek::<NameAnnotation>() {
         let (id, name) = take_label(parser)?;

@@ -1,13 +1,15 @@
 -- Laws: what printing promises, of what was written.
 use Rattle.std.specs.Prelude.{◌≡◌, ℕ, Bool, true, false, List, []}
 use Rattle.std.proofs.Common.{ap, subst, sym, ◌∙◌}
+use Rattle.wat_lexer.specs.Cut.{IsCut}
 use Rattle.wat_lexer.specs.Sight.{visible_tokens}
-use Rattle.wat_lexer.specs.Token.{Tok}
+use Rattle.wat_lexer.specs.Token.{Tok, Placed, tokens_of}
 use Rattle.wat_tokens.specs.Production.{Production}
+use Rattle.wat_tokens.specs.Whole.{TextSpells}
 use Rattle.wat_print.specs.Layout.{Writes}
 use Rattle.wat_print.specs.Neat.{is_given, Neat}
 use Rattle.wat_print.specs.Parts.{each}
-use Rattle.wat_print.specs.Printed.{may_break, ReadsBack, NoneSpells}
+use Rattle.wat_print.specs.Printed.{may_break, NoneSpells}
 use Rattle.wat_print.specs.Text.{Page, put, printed_text, blank_page}
 use Rattle.wat_print.specs.declared.output.Layout.{Layout}
 use Rattle.wat_print.specs.declared.output.Layout.TheVariants.{Line}
@@ -24,14 +26,22 @@ on_one_line layout ts p q x l e w b =
     b ∙ ap (λ (k : Page). k.bytes) (put_puts ts p q whole w)
     ∙ ap (λ (k : Page). (put k ts).bytes) start
 
+-- it is cut into these tokens
+pub cut_back : (ts : List Tok) (lines : Bool) (p q : Page) (x : List ℕ) → Neat ts
+    → p ≡ blank_page lines → Writes ts p q → x ≡ q.bytes
+    → (ps : List Placed) × IsCut x ps × (tokens_of ps ≡ ts)
+cut_back ts lines p q x n e w b =
+    subst (λ (y : List ℕ). (ps : List Placed) × IsCut y ps × (tokens_of ps ≡ ts)) (sym b)
+    (neat_cut ts lines q n (subst (λ (k : Page). Writes ts k q) e w))
+
 module _ {A : Type 0} (g : Production A) (v : A) where
   pub reads_back : (ts : List Tok) (lines : Bool) (p q : Page) (x : List ℕ) → Neat ts
-      → g.spells v ts [] → p ≡ blank_page lines → Writes ts p q → x ≡ q.bytes → ReadsBack g v x
+      → g.spells v ts [] → p ≡ blank_page lines → Writes ts p q → x ≡ q.bytes
+      → TextSpells true g x v
   reads_back ts lines p q x n s e w b =
-      let c = neat_cut ts lines q n (subst (λ (k : Page). Writes ts k q) e w) in
+      let c = cut_back ts lines p q x n e w b in
       let seen : visible_tokens true _ ≡ ts =
       ap (λ (l : List Tok). visible_tokens true l) c.2 ∙ neat_visible ts n in
-      subst (λ (y : List ℕ). ReadsBack g v y) (sym b)
       (c.0, c.1, subst (λ (l : List Tok). g.spells v l []) (sym seen) s)
 
   -- where what a text spells can be written, and the value can't be, no text spells it

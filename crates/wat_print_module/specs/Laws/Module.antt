@@ -16,6 +16,11 @@ use Rattle.wat_core.specs.FieldGroup.{field_group}
 use Rattle.wat_core.specs.Laws.Module.{field_group_consumes}
 use Rattle.wat_core.specs.Module.{ModuleKindTy, text, binary, ModuleTy, module_with, fields, pieces}
 use Rattle.wat_core.specs.Module.{module_kind, module_}
+use Rattle.wat_core.specs.Text.{IsModule, SpellsModule}
+use Rattle.wat_core.specs.Laws.Text.{is_module}
+use Rattle.wat_print.specs.Layout.{Writes}
+use Rattle.wat_print.specs.Text.{Page, blank_page}
+use Rattle.wat_print.specs.Laws.Nesting.{neat_visible}
 use Rattle.wat_print.specs.Label.{spell_label, fit_label}
 use Rattle.wat_print.specs.Neat.{Neat}
 use Rattle.wat_print.specs.Parts.{each}
@@ -25,7 +30,7 @@ use Rattle.wat_print.specs.Laws.Only.{only_after}
 use Rattle.wat_print.specs.Laws.Only.{only_weaker, only_paren}
 use Rattle.wat_print.specs.Laws.Parts.{Spells, paren_here, many_here, neat_word, neat_both}
 use Rattle.wat_print.specs.Laws.Parts.{neat_each, neat_paren}
-use Rattle.wat_print.specs.Laws.Printed.{unspelled}
+use Rattle.wat_print.specs.Laws.Printed.{cut_back, unspelled}
 use Rattle.wat_print.specs.Laws.Define.{after_here}
 use Rattle.wat_print_instr.specs.Laws.Places.{both_here}
 use Rattle.wat_print_module.specs.Field.{spell_module_field, fit_module_field, spell_field_group}
@@ -153,6 +158,17 @@ module_neat m f =
 
 pub module_group_neat : (m : ModuleTy) → fit_module m ≡ true → Neat (spell_module_group m)
 module_group_neat m f = neat_paren (spell_module m) (module_neat m f)
+
+-- the text of what was written on a new page
+pub module_reads_back : (m : ModuleTy) (lines : Bool) (p q : Page) (x : List ℕ)
+    → fit_module m ≡ true → p ≡ blank_page lines → Writes (spell_module_group m) p q
+    → x ≡ q.bytes → SpellsModule x m
+module_reads_back m lines p q x f e w b =
+    let ts = spell_module_group m in
+    let n = module_group_neat m f in
+    let c = cut_back ts lines p q x n e w b in
+    let s = is_module m ts refl (neat_visible ts n) (module_group_here m f []) in
+    (c.0, c.1, subst (λ (t : List Tok). IsModule t m) (sym c.2) s)
 
 -- ---- what a text spells can be written
 

@@ -1,5 +1,7 @@
--- Laws: lists that have an item, with another list behind them or before.
-use Rattle.std.proofs.Common.{◌≡◌, false, List, [], ◌∷◌, ◌++◌, refl}
+-- Laws: lists that have an item, and lists with another one behind them.
+use Rattle.std.proofs.Common.{◌≡◌, false, List, [], ◌∷◌, ◌++◌, refl, sym, ap, ◌∙◌, append_assoc}
+use Rattle.std.proofs.lemmas.List.{append-nil}
+use Rattle.wat_tokens.specs.Many.{Extends}
 use Rattle.wat_tokens.specs.Views.{no_items}
 
 pub filled_before : {A : Type 0} (xs ys : List A) → no_items xs ≡ false
@@ -11,3 +13,14 @@ pub filled_behind : {A : Type 0} (xs ys : List A) → no_items ys ≡ false
     → no_items (xs ++ ys) ≡ false
 filled_behind [] ys e = e
 filled_behind (x ∷ xs) ys e = refl
+
+pub extends_same : {X : Type 0} (xs : List X) → Extends xs xs
+extends_same xs = ([], sym (append-nil xs))
+
+pub extends_then : {X : Type 0} (xs ys zs : List X) → Extends xs ys → Extends ys zs
+    → Extends xs zs
+extends_then {X} xs ys zs (more, is) (last, so) =
+    (more ++ last, so ∙ ap (λ (l : List X). l ++ last) is ∙ append_assoc xs more last)
+
+pub extends_is : {X : Type 0} (xs ys zs : List X) → Extends xs ys → zs ≡ ys → Extends xs zs
+extends_is xs ys zs (more, is) same = (more, same ∙ is)

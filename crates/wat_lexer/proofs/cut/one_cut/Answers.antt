@@ -1,4 +1,4 @@
-use Rattle.wat_lexer.proofs.Fronts as fronts
+use Rattle.wat_lexer.specs.Laws.Fronts as fronts
 use Rattle.wat_lexer.proofs.cut.one_cut.Goals as goal
 
 pub returns : goal.returns

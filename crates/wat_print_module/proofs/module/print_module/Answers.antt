@@ -1,20 +1,19 @@
-use Rattle.std.proofs.Common.{rules, ◌≢◌, []}
+use Rattle.std.proofs.Common.{rules, ◌≢◌}
 use Rattle.wat_tokens.specs.Groups.{paren}
 use Rattle.wat_core.specs.Module.{module_view, module_}
 use Rattle.wat_print.specs.Printed.{may_break, NoneSpells}
 use Rattle.wat_print.specs.declared.fault.Refused.TheVariants.{Memory}
-use Rattle.wat_print.specs.Laws.Printed.{on_one_line, reads_back, unspelled}
+use Rattle.wat_print.specs.Laws.Printed.{on_one_line, unspelled}
 use Rattle.wat_print_module.specs.Module.{spell_module_group, fit_module, NonePart}
-use Rattle.wat_print_module.specs.Laws.Module.{module_group_here, module_group_neat}
-use Rattle.wat_print_module.specs.Laws.Module.{module_group_only, part_unfit, part_none}
+use Rattle.wat_print_module.specs.Laws.Module.{module_reads_back, module_group_only}
+use Rattle.wat_print_module.specs.Laws.Module.{part_unfit, part_none}
 use Rattle.wat_print_module.proofs.module.print_module.Goals as goal
 
 pub returns-clause-reads_back : goal.returns-clause-reads_back
 returns-clause-reads_back c =
     let v = module_view c.args.value.now in
     let fits = c.in_ok-write_module.ensures.fit in
-    reads_back (paren module_) v (spell_module_group v) (may_break c.args.layout) c.new-out.result
-    c.write_module.new.out _ (module_group_neat v fits) (module_group_here v fits [])
+    module_reads_back v (may_break c.args.layout) c.new-out.result c.write_module.new.out _ fits
     c.new-out.ensures c.in_ok-write_module.ensures.written c.into_text.ensures
 
 pub returns-clause-line : goal.returns-clause-line

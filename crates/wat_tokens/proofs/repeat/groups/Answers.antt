@@ -2,6 +2,7 @@ use Rattle.std.proofs.Common.{rules, map, sym, ◌∙◌}
 use Rattle.std.proofs.lemmas.Result.{err_from_is_err_and}
 use Rattle.wat_tokens.specs.Laws.Cost.{costs_then, quiet_costs}
 use Rattle.wat_tokens.specs.Joined.{join}
+use Rattle.wat_tokens.specs.Laws.Filled.{extends_then}
 use Rattle.wat_tokens.specs.Laws.Many.{adding_goes_on, adding_ends, adding_fails, adding_takes}
 use Rattle.wat_tokens.proofs.Joined.{joined_not_bare}
 use Rattle.wat_tokens.proofs.repeat.groups.Goals as goal
@@ -16,6 +17,7 @@ groups-preserved g c = record {
   turned = search rules;
   cost = search (rules, costs_then, quiet_costs);
   settings = search rules;
+  kept = extends_then _ _ _ c.groups.invariant.kept c.in_ok-take.ensures.kept;
 }
 
 pub returns : goal.returns
@@ -26,6 +28,7 @@ returns g c = record {
     cost = search (rules, costs_then, quiet_costs);
     settings = search rules;
   };
+  kept = c.groups.invariant.kept;
 }
 
 pub returns-in_err-take : goal.returns-in_err-take
@@ -40,4 +43,5 @@ returns-in_err-take g c =
         cost = search (rules, costs_then, quiet_costs);
         settings = search rules;
       };
+      kept = extends_then _ _ _ c.groups.invariant.kept c.in_err-take.ensures.kept;
     }

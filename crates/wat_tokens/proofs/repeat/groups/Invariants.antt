@@ -3,6 +3,7 @@ use Rattle.std.specs.Prelude.{map, ◌≤◌, ◌+◌}
 use Rattle.wat_tokens.specs.Cost.{Costs}
 use Rattle.wat_tokens.specs.Counts.{Carries, SameSettings}
 use Rattle.wat_tokens.specs.Joined.{joined_behind}
+use Rattle.wat_tokens.specs.Many.{Extends}
 use Rattle.wat_tokens.specs.ManySpells.{many_reads}
 use Rattle.wat_tokens.proofs.repeat.groups.Given as goal
 
@@ -13,6 +14,7 @@ invariant-groups g l = record {
   turned : l.parser.turns + l.fn.parser.taken ≤ l.fn.parser.turns + l.parser.taken;
   cost : Costs g.G.Group.cost l.fn.parser l.parser;
   settings : SameSettings l.fn.parser l.parser;
+  kept : Extends l.fn.out.items l.out.items;
 }
 
 abbrev pub decreases-groups : goal.decreases-groups

@@ -3,6 +3,7 @@ use Rattle.std.proofs.lemmas.Result.{err_from_is_err_and}
 use Rattle.std.proofs.lemmas.List.{map_push}
 use Rattle.wat_tokens.specs.Laws.Cost.{costs_then, quiet_costs}
 use Rattle.wat_tokens.specs.Error.{Error}
+use Rattle.wat_tokens.specs.Laws.Filled.{extends_is, extends_then}
 use Rattle.wat_tokens.specs.Laws.Loops.{loop_goes_on, loop_ends, loop_fails, not_bare}
 use Rattle.wat_tokens.specs.Laws.Refuses.{refused_read}
 use Rattle.wat_tokens.proofs.repeat.parts.Goals as goal
@@ -17,6 +18,7 @@ parts-preserved g c =
       turned = search rules;
       cost = search (rules, costs_then, quiet_costs);
       settings = search rules;
+      kept = extends_then _ _ _ c.parts.invariant.kept (v ∷ [], c.in_ok-push_into.ensures);
     }
 
 pub returns : goal.returns
@@ -27,6 +29,7 @@ returns g c = record {
     cost = search (rules, costs_then, quiet_costs);
     settings = search rules;
   };
+  kept = c.parts.invariant.kept;
 }
 
 pub returns-in_err-take : goal.returns-in_err-take
@@ -40,6 +43,7 @@ returns-in_err-take g c =
         cost = search (rules, costs_then, quiet_costs);
         settings = search rules;
       };
+      kept = c.parts.invariant.kept;
     }
 
 pub returns-in_err-push_into : goal.returns-in_err-push_into
@@ -52,4 +56,5 @@ returns-in_err-push_into g c =
         cost = search (rules, costs_then, quiet_costs);
         settings = search rules;
       };
+      kept = extends_is _ _ _ c.parts.invariant.kept c.in_err-push_into.ensures.1;
     }

@@ -2,7 +2,7 @@ use Rattle.std.proofs.Common.{◌≡◌, length}
 use Rattle.std.specs.Prelude.{map, ◌≤◌, ◌+◌}
 use Rattle.wat_tokens.specs.Cost.{Costs}
 use Rattle.wat_tokens.specs.Counts.{Carries}
-use Rattle.wat_tokens.specs.Many.{after_front}
+use Rattle.wat_tokens.specs.Many.{after_front, Extends}
 use Rattle.wat_tokens.specs.ManySpells.{many_reads}
 use Rattle.wat_tokens.proofs.repeat.parts.Given as goal
 
@@ -13,6 +13,7 @@ invariant-parts g l = record {
   turned : l.parser.turns + l.fn.parser.taken ≤ l.fn.parser.turns + l.parser.taken;
   cost : Costs g.P.Part.cost l.fn.parser l.parser;
   settings : (l.parser.known ≡ l.fn.parser.known) × (l.parser.tracks ≡ l.fn.parser.tracks);
+  kept : Extends l.fn.out.items l.out.items;
 }
 
 abbrev pub decreases-parts : goal.decreases-parts

@@ -2,7 +2,7 @@ use Rattle.std.proofs.Common.{rules, Ok, ap, ◌∙◌}
 use Rattle.std.proofs.lemmas.Result.{err_from_is_err_and}
 use Rattle.wat_expr.specs.Flat.{no_output}
 use Rattle.wat_expr.specs.FoldedProduction.{folded_instruction}
-use Rattle.wat_expr.proofs.FoldedLoop.{is_some, is_none, going_begins, going_on, going_smaller, going_halts, going_ends, folded_found, refused_first, refused_later, begun, not_begun, no_word, read_folded, read_not_bare}
+use Rattle.wat_expr.proofs.FoldedLoop.{is_some, is_none, going_begins, going_on, going_smaller, innermost, going_halts, going_ends, folded_found, refused_first, refused_later, begun, not_begun, no_word, read_folded, read_not_bare}
 use Rattle.wat_expr.proofs.Whole.{read_accepted}
 use Rattle.wat_expr.proofs.expression.Expression.parse_folded_instruction.Goals as goal
 
@@ -51,6 +51,9 @@ pub groups-init : goal.groups-init
 groups-init c =
     let x = c.in_ok-open_group.ensures.exact in
     going_begins _ _ _ _ _ x.0 _ _ _ _ (rw c.new-open_groups.ensures at x.2) (c.empty-out.ensures ∙ ap no_output c.tracks.ensures) c.height.ensures c.note_height.ensures c.held.ensures c.note_held.ensures.only (begun _ _ _ c.in_ok-open.ensures.reads.exact) c.in_ok-open.ensures.reads.counts.0 c.in_ok-open.ensures.reads.cost c.in_ok-open.ensures.reads.settings x.1 c.in_ok-open_group.ensures.steady.counts c.in_ok-open_group.ensures.steady.stays c.in_ok-open_group.ensures.steady.settings c.note_held.ensures.counts
+
+pub turn-requires : goal.turn-requires
+turn-requires c = innermost _ c.groups.invariant.unhinted (is_some _ _ c.is_empty.ensures c.groups-test.true)
 
 pub groups-smaller : goal.groups-smaller
 groups-smaller c =

@@ -11,9 +11,9 @@ use Rattle.wat_lexer.specs.Number.{read}
 use Rattle.wat_lexer.specs.Cut.{is_raw, is_hex, short_escape, Element, raw_byte, short_form, hex_byte, code_point, Str, close, more}
 use Rattle.wat_lexer.specs.Scan.{step, string_at, with_front, emitted, after_step, Mode, Raw, Escape, Byte, Brace, Digits, Step, Bad, Close, Into, Emit, Encode}
 
-pub if_cases : {A : Type 0} (P : A → Type 0) (b : Bool) (x y : A) → (b ≡ true → P x) → (b ≡ false → P y) → P (if b then x else y)
-if_cases P true x y t f = t refl
-if_cases P false x y t f = f refl
+pub if_either : {A : Type 0} (P : A → Type 0) (b : Bool) (x y : A) → (b ≡ true → P x) → (b ≡ false → P y) → P (if b then x else y)
+if_either P true x y t f = t refl
+if_either P false x y t f = f refl
 
 -- what was read of a string where the reader is in a mode
 abbrev pub Reached : Mode → List ℕ → Type 0
@@ -38,26 +38,26 @@ pub reach : (m : Mode) (p : List ℕ) (b : ℕ) → Reached m p → StepsTo (ste
 unfolding step read
 reach Raw p b r =
     let P : Step → Type 0 = λ st. StepsTo st (p ++ b ∷ []) in
-    if_cases P (b == 34) _ _ (λ e. rw (r, eqb-true b 34 e))
-    (λ _. if_cases P (b == 92) _ _ (λ e. rw (r, eqb-true b 92 e))
-    (λ _. if_cases P (is_raw b) _ _ (λ e. rw r (raw_byte b e)) (λ _. tt)))
+    if_either P (b == 34) _ _ (λ e. rw (r, eqb-true b 34 e))
+    (λ _. if_either P (b == 92) _ _ (λ e. rw (r, eqb-true b 92 e))
+    (λ _. if_either P (is_raw b) _ _ (λ e. rw r (raw_byte b e)) (λ _. tt)))
 reach Escape p b r =
     let P : Step → Type 0 = λ st. StepsTo st (p ++ b ∷ []) in
-    if_cases P (is_hex b) _ _ (λ h. (b, rw r, h, refl))
-    (λ _. if_cases P (b == 117) _ _ (λ e. rw (r, eqb-true b 117 e)) (λ _. rw r (short_step b (short_escape b) refl)))
+    if_either P (is_hex b) _ _ (λ h. (b, rw r, h, refl))
+    (λ _. if_either P (b == 117) _ _ (λ e. rw (r, eqb-true b 117 e)) (λ _. rw r (short_step b (short_escape b) refl)))
 reach (Byte h) p b (c, e, hex, value) =
-    if_cases (λ st. StepsTo st (p ++ b ∷ [])) (is_hex b) _ _ (λ k. rw (value, e) (hex_byte c b hex k)) (λ _. tt)
+    if_either (λ st. StepsTo st (p ++ b ∷ [])) (is_hex b) _ _ (λ k. rw (value, e) (hex_byte c b hex k)) (λ _. tt)
 reach Brace p b r =
-    if_cases (λ st. StepsTo st (p ++ b ∷ [])) (b == 123) _ _ (λ e. ([], rw (r, eqb-true b 123 e), λ y. refl)) (λ _. tt)
+    if_either (λ st. StepsTo st (p ++ b ∷ [])) (b == 123) _ _ (λ e. ([], rw (r, eqb-true b 123 e), λ y. refl)) (λ _. tt)
 reach (Digits n behind) p b (x, e, reads) =
     let P : Step → Type 0 = λ st. StepsTo st (p ++ b ∷ []) in
     let here : p ++ b ∷ [] ≡ 92 ∷ 117 ∷ 123 ∷ (x ++ b ∷ []) = rw e in
     let next : (y : List ℕ) → read 16 false 0 ((x ++ b ∷ []) ++ y) ≡ read 16 behind n (b ∷ y) = λ y. rw append_assoc (reads (b ∷ y)) in
-    if_cases P (is_hex b) _ _
-    (λ h. if_cases P (nat_lt (n * 16 + digit_value b) 1114112) _ _ (λ _. (x ++ b ∷ [], here, λ y. next y ∙ rw h)) (λ _. tt))
-    (λ h. if_cases P (behind && (b == 95)) _ _
+    if_either P (is_hex b) _ _
+    (λ h. if_either P (nat_lt (n * 16 + digit_value b) 1114112) _ _ (λ _. (x ++ b ∷ [], here, λ y. next y ∙ rw h)) (λ _. tt))
+    (λ h. if_either P (behind && (b == 95)) _ _
     (λ u. (x ++ b ∷ [], here, λ y. next y ∙ rw (h, u)))
-    (λ _. if_cases P (behind && ((b == 125) && scalar n)) _ _
+    (λ _. if_either P (behind && ((b == 125) && scalar n)) _ _
     (λ u. let (after, end) = and_parts behind ((b == 125) && scalar n) u in let (is_end, valid) = and_parts (b == 125) (scalar n) end in
     rw (here, eqb-true b 125 is_end) (code_point x n (ap (read 16 false 0) (sym (append-nil x)) ∙ reads [] ∙ rw after) valid))
     (λ _. tt)))

@@ -11,9 +11,9 @@ use Rattle.wat_lexer.specs.Cut.{Classed, Token, Inside, Str, Blank, space, line,
 use Rattle.wat_lexer.specs.declared.fault.Fault.{Fault}
 use Rattle.wat_lexer.specs.declared.fault.Fault.TheVariants.{LexChar}
 use Rattle.wat_lexer.specs.Scan.{Beginning, Nothing, BlankTo, TokenTo, Wrong, front, run_front, comment_front, tail, behind_comment, behind_line, behind_run, class, string_at, RunEnd, Ends, Stuck, Between, Raw}
-use Rattle.wat_lexer.proofs.Strings.{if_cases, string_sound, string_complete}
-use Rattle.wat_lexer.proofs.Pieces.{comment_sound, comment_complete, line_sound, line_complete, RunUpTo, run_sound, run_complete, run_stuck, ends_here, excluded}
-use Rattle.wat_lexer.proofs.Classes.{class_complete, class_right, class_reserved, class_none, KnownRight, no_integer}
+use Rattle.wat_lexer.specs.Laws.Strings.{if_either, string_sound, string_complete}
+use Rattle.wat_lexer.specs.Laws.Pieces.{comment_sound, comment_complete, line_sound, line_complete, RunUpTo, run_sound, run_complete, run_stuck, ends_here, excluded}
+use Rattle.wat_lexer.specs.Laws.Classes.{class_complete, class_right, class_reserved, class_none, KnownRight, no_integer}
 
 -- SOUND
 
@@ -57,7 +57,7 @@ run_right behind b t piece (Stuck q) (x, s, r, (u, quote, none_there)) =
     rw (s, quote) (wrong_string x u r (λ y c rest s h. let found : string_at Raw u ≡ Some (c, rest) = rw s (string_complete y c rest h) in cc))
 run_right behind b t piece (Ends rest) (x, s, r, ends) =
     let size : length (b ∷ t) ≡ length x + length rest = omega (arith, ap length s, length-append x rest) in
-    if_cases (FrontIs behind (b ∷ t)) (length rest == length (b ∷ t)) (Wrong LexChar (b ∷ t)) _
+    if_either (FrontIs behind (b ∷ t)) (length rest == length (b ∷ t)) (Wrong LexChar (b ∷ t)) _
     (λ same. nothing_run b t x rest piece s (omega (arith, size, eqb-true (length rest) (length (b ∷ t)) same)) ends)
     (λ longer. let some_bytes : 0 < length x = grind (arith, nat_tests) in
     (x, s, rw (front_of (b ∷ t) x rest s) (token_of behind x rest (class behind x) refl some_bytes r ends (class_right behind x))))
@@ -67,23 +67,23 @@ unfolding front
 front_right behind [] = refl
 front_right behind (b ∷ t) =
     let P : Beginning → Type 0 = FrontIs behind (b ∷ t) in
-    if_cases P (is_space b) (BlankTo t) _ (λ e. (b ∷ [], refl, space b t e))
-    (λ no_space. if_cases P (b == 40) (if begins 59 t then comment_front (b ∷ t) (behind_comment 0 (tail t)) else TokenTo LParen t) _
+    if_either P (is_space b) (BlankTo t) _ (λ e. (b ∷ [], refl, space b t e))
+    (λ no_space. if_either P (b == 40) (if begins 59 t then comment_front (b ∷ t) (behind_comment 0 (tail t)) else TokenTo LParen t) _
     (λ e. let is_paren = eqb-true b 40 e in
-    if_cases P (begins 59 t) _ _
+    if_either P (begins 59 t) _ _
     (λ c. subst (λ s. FrontIs behind s (comment_front s (behind_comment 0 (tail t)))) (λ i. sym is_paren i ∷ sym (begins_is 59 t c) i) (comment_right behind (tail t) (behind_comment 0 (tail t)) refl))
     (λ c. (b ∷ [], refl, (rw is_paren, begins_not t c))))
-    (λ no_open. if_cases P (b == 41) (TokenTo RParen t) _ (λ e. (b ∷ [], refl, rw (eqb-true b 41 e)))
-    (λ no_close. if_cases P (b == 59) (if begins 59 t then BlankTo (behind_line (tail t)) else Wrong LexChar (b ∷ t)) _
+    (λ no_open. if_either P (b == 41) (TokenTo RParen t) _ (λ e. (b ∷ [], refl, rw (eqb-true b 41 e)))
+    (λ no_close. if_either P (b == 59) (if begins 59 t then BlankTo (behind_line (tail t)) else Wrong LexChar (b ∷ t)) _
     (λ e. let is_mark = eqb-true b 59 e in
-    if_cases P (begins 59 t) _ _
+    if_either P (begins 59 t) _ _
     (λ c. let (x, s, all, ends) = line_sound (tail t) in (59 ∷ 59 ∷ x, (λ i. is_mark i ∷ (begins_is 59 t c ∙ ap (λ l. 59 ∷ l) s) i), line x (behind_line (tail t)) all ends))
     (λ c. rw is_mark (wrong_char 59 t refl refl refl refl c)))
     (λ no_mark. run_right behind b t (no_space, no_open, no_close, no_mark) (behind_run Between (b ∷ t)) (run_sound (length (b ∷ t)) (b ∷ t) (omega arith))))))
 
 -- COMPLETE
 
-blank_front : (behind : Bool) (text x rest : List ℕ) → text ≡ x ++ rest → Blank x rest → front behind text ≡ BlankTo rest
+pub blank_front : (behind : Bool) (text x rest : List ℕ) → text ≡ x ++ rest → Blank x rest → front behind text ≡ BlankTo rest
 unfolding front
 blank_front behind text x rest s (space b r e) = rw (s, e)
 blank_front behind text x rest s (line y r all ends) = rw s (ap BlankTo (line_complete y r all ends))
@@ -122,7 +122,7 @@ classed_some behind x (Integer n) (e, all, h) = some_integer x h
 classed_some behind x (String n) (y, s, h) = omega (arith, ap length s)
 classed_some behind x _ h = absurd h
 
-token_front : (behind : Bool) (text x rest : List ℕ) (t : Tok) → text ≡ x ++ rest → Token behind x rest t → front behind text ≡ TokenTo t rest
+pub token_front : (behind : Bool) (text x rest : List ℕ) (t : Tok) → text ≡ x ++ rest → Token behind x rest t → front behind text ≡ TokenTo t rest
 unfolding front
 token_front behind text x rest LParen s h = rw (s, h.0, not_begins rest h.1)
 token_front behind text x rest RParen s h = rw (s, h)
@@ -159,7 +159,7 @@ CutBy n s (BlankTo rest) ts = Cuts n false rest ts
 CutBy n s (TokenTo t rest) ts = (us : List Placed) × (ts ≡ record { token = t; offset = n - length s } ∷ us) × Cuts n (is_open t) rest us
 CutBy n s (Wrong f at) ts = ⊥
 
-front_nothing : (behind : Bool) → front behind [] ≡ Nothing
+pub front_nothing : (behind : Bool) → front behind [] ≡ Nothing
 unfolding front
 front_nothing behind = refl
 

@@ -1,53 +1,21 @@
 -- A module in its group: what is visible around it where no annotation is known, and where the five names are.
-use Rattle.std.proofs.Common.{◌≡◌, ◌≢◌, ℕ, ◌+◌, Bool, true, false, List, [], ◌∷◌, ◌++◌, length, drop, Some, None, refl, sym, ap, ◌∙◌, arith, subst, inl, inr}
-use Rattle.std.specs.Prelude.{Option, Result, Ok, Err, IfOk, suc, ◌&&◌, not}
+use Rattle.std.proofs.Common.{◌≡◌, ◌≢◌, ℕ, ◌+◌, Bool, true, false, List, [], ◌∷◌, ◌++◌, length, drop, Some, None, refl, sym, ap, ◌∙◌, subst, inl, inr}
+use Rattle.std.specs.Prelude.{Option, Result, Ok, Err, IfOk, IfErr, MatchResult, suc}
 use Rattle.std.proofs.lemmas.Bool.{cases_Bool}
 use Rattle.wat_core.specs.Module.{ModuleTy, module_}
-use Rattle.wat_show.specs.Whole.{IsModule, SpelledModule}
+use Rattle.wat_core.specs.Text.{IsModule, SpellsModule}
+use Rattle.wat_core.specs.Laws.Sight.{seen_behind, begins_hidden_anyway, none_seen}
 use Rattle.wat_tokens.specs.Cut.{IsCut}
 use Rattle.wat_tokens.specs.PartSpells.{one_reads}
 use Rattle.wat_tokens.specs.Production.{Front}
 use Rattle.wat_tokens.specs.Laws.Production.{some_is}
-use Rattle.wat_tokens.specs.Sight.{begins_hidden_group, begins_annotation_group, annotation_name, is_standard, shuts, deeper, visible, visible_tokens, hidden_count_at, hidden_count}
+use Rattle.wat_tokens.specs.Sight.{begins_hidden_group, shuts, deeper, visible, visible_tokens, hidden_count_at, hidden_count}
 use Rattle.wat_tokens.specs.State.{State, IsFresh, behind, annotated}
 use Rattle.wat_tokens.specs.Laws.State.{behind_then}
 use Rattle.wat_tokens.specs.Tests.{as_lparen, ends}
 use Rattle.wat_tokens.specs.Token.{Tok, Placed, LParen, RParen, tokens_of}
 
--- ---- what is visible behind a token
-
-past : (n : ℕ) (x : Tok) (r : List Tok) → drop (suc n + 1) (x ∷ r) ≡ drop (n + 1) r
-past n x r = ap (λ (k : ℕ). drop k (x ∷ r)) {x = suc n + 1} {y = suc (n + 1)} (omega arith)
-
-seen_behind_at : (known : Bool) (place : Option ℕ) (t : List Tok) (x : Tok) (l : List Tok) → visible known place t ≡ x ∷ l → visible known None (drop (hidden_count_at known place t + 1) t) ≡ l
-unfolding visible hidden_count_at
-seen_behind_at known None [] x l e = cc
-seen_behind_at known (Some d) [] x l e = cc
-seen_behind_at known None (y ∷ r) x l e = elim (cases_Bool (begins_hidden_group known (y ∷ r))) [
-  | inl h ↦ (let f : visible known (Some 0) r ≡ x ∷ l = rw h at e in
-      rw h (ap (visible known None) (past (hidden_count_at known (Some 0) r) y r) ∙ seen_behind_at known (Some 0) r x l f))
-  | inr h ↦ (let f : y ∷ visible known None r ≡ x ∷ l = rw h at e in rw h cc)
-]
-seen_behind_at known (Some d) (y ∷ r) x l e = elim (cases_Bool (shuts y d)) [
-  | inl h ↦ (let f : visible known None r ≡ x ∷ l = rw h at e in
-      rw h (ap (visible known None) (past (hidden_count_at known None r) y r) ∙ seen_behind_at known None r x l f))
-  | inr h ↦ (let f : visible known (Some (deeper y d)) r ≡ x ∷ l = rw h at e in
-      rw h (ap (visible known None) (past (hidden_count_at known (Some (deeper y d)) r) y r) ∙ seen_behind_at known (Some (deeper y d)) r x l f))
-]
-
--- behind the first visible token is what is visible behind it
-pub seen_behind : (known : Bool) (t : List Tok) (x : Tok) (l : List Tok) → visible_tokens known t ≡ x ∷ l → visible_tokens known (behind known 1 t) ≡ l
-unfolding visible_tokens hidden_count behind
-seen_behind known t x l e = seen_behind_at known None t x l e
-
 -- ---- a `)` that is visible with the five names is visible without, and at the same place
-
-first_so : (a b : Bool) → (a && b) ≡ true → a ≡ true
-first_so true b e = refl
-first_so false b e = cc
-
-begins_hidden_anyway : (t : List Tok) → begins_hidden_group true t ≡ true → begins_hidden_group false t ≡ true
-begins_hidden_anyway t h = rw (first_so (begins_annotation_group t) (not (true && is_standard (annotation_name t))) h) refl
 
 -- the same tokens are hidden before it
 record SameClose (place : Option ℕ) (t : List Tok) : Type 0 where
@@ -76,24 +44,6 @@ close_at (Some d) (y ∷ r) l e = elim (cases_Bool (shuts y d)) [
       let p = close_at (Some (deeper y d)) r l f in
       record { at = rw h (ap (λ (n : ℕ). suc n) p.at); more = p.more; seen = rw h p.seen })
 ]
-
--- where no token is visible with the five names, none is visible without
-none_at : (place : Option ℕ) (t : List Tok) → visible true place t ≡ [] → visible false place t ≡ []
-unfolding visible
-none_at None [] e = refl
-none_at (Some d) [] e = refl
-none_at None (y ∷ r) e = elim (cases_Bool (begins_hidden_group true (y ∷ r))) [
-  | inl h ↦ (let f : visible true (Some 0) r ≡ [] = rw h at e in rw (begins_hidden_anyway (y ∷ r) h) (none_at (Some 0) r f))
-  | inr h ↦ (let f : y ∷ visible true None r ≡ [] = rw h at e in absurd cc)
-]
-none_at (Some d) (y ∷ r) e = elim (cases_Bool (shuts y d)) [
-  | inl h ↦ (let f : visible true None r ≡ [] = rw h at e in rw h (none_at None r f))
-  | inr h ↦ (let f : visible true (Some (deeper y d)) r ≡ [] = rw h at e in rw h (none_at (Some (deeper y d)) r f))
-]
-
-pub none_seen : (t : List Tok) → visible_tokens true t ≡ [] → visible_tokens false t ≡ []
-unfolding visible_tokens
-none_seen t e = none_at None t e
 
 pub record ClosesAlike (t : List Tok) : Type 0 where
   pub more : List Tok
@@ -167,7 +117,7 @@ module _ (text : List ℕ) (q e : State) (o : Opened text q) where
   next : (c : List Tok) → e.rest ≡ behind true (length c) q.rest → behind true 1 e.rest ≡ behind true (length c + 1) (behind false 1 (tokens_of o.all))
   next c s = ap (λ (r : List Tok). behind true 1 r) (s ∙ ap (λ (r : List Tok). behind true (length c) r) o.rest) ∙ behind_then true (length c) 1 (behind false 1 (tokens_of o.all))
 
-  pub module_found : (m : ModuleTy) → Front module_.spells (annotated q).left (m, (annotated e).left) → ends (annotated e).left ≡ true → ((c : List Tok) → (annotated q).left ≡ c ++ (annotated e).left → e.rest ≡ behind true (length c) q.rest) → e.known ≡ q.known → e.left ≡ visible_tokens e.known e.rest → e.left ≡ RParen ∷ [] → SpelledModule text m
+  pub module_found : (m : ModuleTy) → Front module_.spells (annotated q).left (m, (annotated e).left) → ends (annotated e).left ≡ true → ((c : List Tok) → (annotated q).left ≡ c ++ (annotated e).left → e.rest ≡ behind true (length c) q.rest) → e.known ≡ q.known → e.left ≡ visible_tokens e.known e.rest → e.left ≡ RParen ∷ [] → SpellsModule text m
   module_found m (c, cut, spells) end follows known seen alone =
       let (more, is, none) = last_seen e.rest end (sym (off_too known seen) ∙ alone) in (
         o.all,
@@ -183,20 +133,20 @@ module _ (text : List ℕ) (q e : State) (o : Opened text q) where
         },
       )
 
-  this_cut : (v : ModuleTy) → OneCut → SpelledModule text v → IsModule (tokens_of o.all) v
+  this_cut : (v : ModuleTy) → OneCut → SpellsModule text v → IsModule (tokens_of o.all) v
   this_cut v one (ts, cut, s) = subst (λ (us : List Placed). IsModule (tokens_of us) v) (one text ts o.all cut o.cut) s
 
   inside_is : (v : ModuleTy) (s : IsModule (tokens_of o.all) v) → (annotated q).left ≡ s.tokens ++ RParen ∷ s.more
   inside_is v s = ap (λ (r : List Tok). visible_tokens true r) o.rest ∙ s.inside
 
-  -- where the text spells a module, its tokens aren't refused
-  pub module_stands : (v : ModuleTy) → OneCut → SpelledModule text v → ((w : ModuleTy) (c r : List Tok) → (annotated q).left ≡ c ++ r → module_.spells w c r → ⊥) → ⊥
-  module_stands v one spelled refused =
+  -- where the text spells a module, its tokens are in front
+  pub module_stands : {P : Type 0} (v : ModuleTy) → OneCut → SpellsModule text v → ((c r : List Tok) → (annotated q).left ≡ c ++ r → module_.spells v c r → P) → P
+  module_stands v one spelled f =
       let s = this_cut v one spelled in
-      refused v s.tokens (RParen ∷ s.more) (inside_is v s) s.spelled
+      f s.tokens (RParen ∷ s.more) (inside_is v s) s.spelled
 
   -- and behind them `)` alone is visible
-  pub module_closes : (v : ModuleTy) → OneCut → SpelledModule text v → ((c r : List Tok) → (annotated q).left ≡ c ++ r → module_.spells v c r → (annotated e).left ≡ r) → ((c : List Tok) → (annotated q).left ≡ c ++ (annotated e).left → e.rest ≡ behind true (length c) q.rest) → e.known ≡ q.known → e.left ≡ visible_tokens e.known e.rest → e.left ≡ RParen ∷ []
+  pub module_closes : (v : ModuleTy) → OneCut → SpellsModule text v → ((c r : List Tok) → (annotated q).left ≡ c ++ r → module_.spells v c r → (annotated e).left ≡ r) → ((c : List Tok) → (annotated q).left ≡ c ++ (annotated e).left → e.rest ≡ behind true (length c) q.rest) → e.known ≡ q.known → e.left ≡ visible_tokens e.known e.rest → e.left ≡ RParen ∷ []
   module_closes v one spelled accepts follows known seen =
       let s = this_cut v one spelled in
       let is : (annotated e).left ≡ RParen ∷ s.more = accepts s.tokens (RParen ∷ s.more) (inside_is v s) s.spelled in
@@ -207,3 +157,8 @@ module _ (text : List ℕ) (q e : State) (o : Opened text q) where
 pub passed_on : {X E : Type 0} (r : Result X E) (x : X) (P : X → Type 0) (Q : Type 0) → IfOk r (λ v. v ≡ x) → IfOk r (λ _. Q) → (Q → P x) → IfOk r P
 passed_on (Ok y) x P Q is q f = subst P (sym is) (f q)
 passed_on (Err e) x P Q is q f = tt
+
+-- where it isn't refused, it is passed on
+pub passed_only : {X E : Type 0} (r : Result X E) (x : X) (P : X → Type 0) (Q : E → Type 0) (S : Type 0) → IfOk r (λ v. v ≡ x) → IfErr r (λ _. S → ⊥) → S → P x → MatchResult r P Q
+passed_only (Ok y) x P Q S is apart s p = subst P (sym is) p
+passed_only (Err e) x P Q S is apart s p = absurd (apart s)

@@ -10,7 +10,7 @@ use Rattle.wat_lexer.specs.Number.{is_integer, read}
 use Rattle.wat_lexer.specs.Token.{Tok, Keyword, Id, Annotation, Integer, String, Reserved}
 use Rattle.wat_lexer.specs.Cut.{Idchars, Classed, IsString}
 use Rattle.wat_lexer.specs.Scan.{string_at, all_idchars, whole, string_of, text_name, name_behind, or_reserved, class, Raw}
-use Rattle.wat_lexer.proofs.Strings.{if_cases, some_same, string_sound, string_complete}
+use Rattle.wat_lexer.specs.Laws.Strings.{if_either, some_same, string_sound, string_complete}
 
 pub idchars_sound : (x : List ℕ) → all_idchars x ≡ true → Idchars x
 unfolding all_idchars
@@ -31,7 +31,7 @@ pub string_of_sound : (x c : List ℕ) → string_of x ≡ Some c → IsString x
 unfolding string_of
 string_of_sound [] c h = cc
 string_of_sound (b ∷ t) c h =
-    if_cases (λ o. o ≡ Some c → IsString (b ∷ t) c) (b == 34) (whole (string_at Raw t)) None
+    if_either (λ o. o ≡ Some c → IsString (b ∷ t) c) (b == 34) (whole (string_at Raw t)) None
     (λ e h. let (y, s, str) = string_sound t Raw [] c [] refl (whole_is (string_at Raw t) c h) in (y, (λ i. eqb-true b 34 e i ∷ (s ∙ append-nil y) i), str))
     (λ _ h. cc) h
 
@@ -46,7 +46,7 @@ text_name_is : (y : List ℕ) (o : Option (List ℕ)) (n : List ℕ) → string_
 text_name_is y None n e h = cc
 text_name_is y (Some []) n e h = cc
 text_name_is y (Some (b ∷ t)) n e h =
-    if_cases (λ o. o ≡ Some n → NameBody y n) (is_utf8 (b ∷ t)) (Some (b ∷ t)) None
+    if_either (λ o. o ≡ Some n → NameBody y n) (is_utf8 (b ∷ t)) (Some (b ∷ t)) None
     (λ u h. subst (NameBody y) (some_same h) (omega arith, inr (string_of_sound y (b ∷ t) e, IsUtf8-from_is_utf8 (b ∷ t) u)))
     (λ _ h. cc) h
 
@@ -54,7 +54,7 @@ name_sound : (y n : List ℕ) → name_behind y ≡ Some n → NameBody y n
 unfolding name_behind
 name_sound [] n h = cc
 name_sound (b ∷ t) n h =
-    if_cases (λ o. o ≡ Some n → NameBody (b ∷ t) n) (all_idchars (b ∷ t)) (Some (b ∷ t)) _
+    if_either (λ o. o ≡ Some n → NameBody (b ∷ t) n) (all_idchars (b ∷ t)) (Some (b ∷ t)) _
     (λ e h. subst (NameBody (b ∷ t)) (some_same h) (omega arith, inl (refl, idchars_sound (b ∷ t) e)))
     (λ _ h. text_name_is (b ∷ t) (string_of (b ∷ t)) n refl h) h
 
@@ -134,12 +134,12 @@ unfolding class
 class_right behind [] = refl
 class_right behind (b ∷ t) =
     let P : Tok → Type 0 = KnownRight behind (b ∷ t) in
-    if_cases P (b == 34) _ _ (λ e. string_right behind (b ∷ t) (string_of (b ∷ t)) refl)
-    (λ _. if_cases P (b == 36) _ _ (λ e. id_right behind b t (name_behind t) (eqb-true b 36 e) refl)
-    (λ _. if_cases P (behind && (b == 64)) _ _ (λ e. annotation_right behind b t (name_behind t) (and_parts behind (b == 64) e) refl)
-    (λ _. if_cases P (all_idchars (b ∷ t) && between 97 122 b) _ _
+    if_either P (b == 34) _ _ (λ e. string_right behind (b ∷ t) (string_of (b ∷ t)) refl)
+    (λ _. if_either P (b == 36) _ _ (λ e. id_right behind b t (name_behind t) (eqb-true b 36 e) refl)
+    (λ _. if_either P (behind && (b == 64)) _ _ (λ e. annotation_right behind b t (name_behind t) (and_parts behind (b == 64) e) refl)
+    (λ _. if_either P (all_idchars (b ∷ t) && between 97 122 b) _ _
     (λ e. let (all, low) = and_parts (all_idchars (b ∷ t)) (between 97 122 b) e in (refl, idchars_sound (b ∷ t) all, b, t, refl, low))
-    (λ _. if_cases P (all_idchars (b ∷ t) && is_integer (b ∷ t)) _ _
+    (λ _. if_either P (all_idchars (b ∷ t) && is_integer (b ∷ t)) _ _
     (λ e. let (all, integer) = and_parts (all_idchars (b ∷ t)) (is_integer (b ∷ t)) e in (refl, idchars_sound (b ∷ t) all, integer))
     (λ _. refl)))))
 

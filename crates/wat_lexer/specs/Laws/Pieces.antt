@@ -7,7 +7,7 @@ use Rattle.std.proofs.lemmas.Bool.Decides.{nat_tests}
 use Rattle.wat_lexer.specs.Bytes.{is_idchar, is_line_end}
 use Rattle.wat_lexer.specs.Cut.{Inside, last, closed, opened, other, Begins, Run, none, idchar, string, in_no_run}
 use Rattle.wat_lexer.specs.Scan.{step, string_at, with_front, after_step, behind_comment, behind_run, behind_line, rest_at, run_step, Between, Within, RunEnd, Ends, Stuck, Mode, Raw, Step, Bad, Close, Into, Emit, Encode}
-use Rattle.wat_lexer.proofs.Strings.{if_cases, some_same, string_sound, string_complete}
+use Rattle.wat_lexer.specs.Laws.Strings.{if_either, some_same, string_sound, string_complete}
 
 -- COMMENTS
 
@@ -24,13 +24,13 @@ comment_sound [] depth rest h = cc
 comment_sound (a ∷ []) depth rest h = cc
 comment_sound (a ∷ b ∷ t) depth rest h =
     let P : Option (List ℕ) → Type 0 = λ o. o ≡ Some rest → Comment depth (a ∷ b ∷ t) rest in
-    if_cases P ((a == 40) && (b == 59)) _ _
+    if_either P ((a == 40) && (b == 59)) _ _
     (λ e h. let parts = and_parts (a == 40) (b == 59) e in
     let (x, s, inside) = comment_sound t (depth + 1) rest h in
     (40 ∷ 59 ∷ x, (λ i. eqb-true a 40 parts.0 i ∷ (eqb-true b 59 parts.1 i ∷ s i)), opened depth x inside))
-    (λ no. if_cases P ((a == 59) && (b == 41)) _ _
+    (λ no. if_either P ((a == 59) && (b == 41)) _ _
     (λ e. let parts = and_parts (a == 59) (b == 41) e in
-    if_cases P (depth == 0) _ _
+    if_either P (depth == 0) _ _
     (λ z h. (59 ∷ 41 ∷ [], (λ i. eqb-true a 59 parts.0 i ∷ (eqb-true b 41 parts.1 i ∷ some_same h i)), rw (eqb-true depth 0 z) last))
     (λ z h. let (x, s, inside) = comment_sound t (depth - 1) rest h in
     let back : depth - 1 + 1 ≡ depth = grind (arith, nat_tests) in
@@ -53,7 +53,7 @@ pub line_sound : (s : List ℕ) → (x : List ℕ) × (s ≡ x ++ behind_line s)
 unfolding behind_line
 line_sound [] = ([], refl, tt, tt)
 line_sound (b ∷ t) =
-    if_cases (λ r. (x : List ℕ) × (b ∷ t ≡ x ++ r) × AllByRecursion (λ b. is_line_end b ≡ false) x × Begins is_line_end r) (is_line_end b) (b ∷ t) (behind_line t)
+    if_either (λ r. (x : List ℕ) × (b ∷ t ≡ x ++ r) × AllByRecursion (λ b. is_line_end b ≡ false) x × Begins is_line_end r) (is_line_end b) (b ∷ t) (behind_line t)
     (λ e. ([], refl, tt, e))
     (λ e. let (x, s, all, ends) = line_sound t in (b ∷ x, ap (λ l. b ∷ l) s, (e, all), ends))
 
@@ -71,12 +71,12 @@ end_of (Ends rest) = rest
 end_of (Stuck q) = q
 
 -- why it was left there
-abbrev pub Stops : RunEnd → Type 0
-Stops (Ends rest) = Begins in_no_run rest
-Stops (Stuck q) = (t : List ℕ) × (q ≡ 34 ∷ t) × (string_at Raw t ≡ None)
+abbrev pub RunStops : RunEnd → Type 0
+RunStops (Ends rest) = Begins in_no_run rest
+RunStops (Stuck q) = (t : List ℕ) × (q ≡ 34 ∷ t) × (string_at Raw t ≡ None)
 
 abbrev pub RunUpTo : List ℕ → RunEnd → Type 0
-RunUpTo s e = (x : List ℕ) × (s ≡ x ++ end_of e) × Run x × Stops e
+RunUpTo s e = (x : List ℕ) × (s ≡ x ++ end_of e) × Run x × RunStops e
 
 -- within a string a run goes on behind the string
 abbrev pub then_run : List ℕ → Option (List ℕ) → RunEnd
@@ -120,9 +120,9 @@ unfolding behind_run rest_at
 run_sound n [] le = ([], refl, none, tt)
 run_sound zero (b ∷ t) le = absurd (omega arith)
 run_sound (suc n) (b ∷ t) le =
-    subst (RunUpTo (b ∷ t)) (sym (run_cons b t)) (if_cases (RunUpTo (b ∷ t)) (b == 34) _ _
+    subst (RunUpTo (b ∷ t)) (sym (run_cons b t)) (if_either (RunUpTo (b ∷ t)) (b == 34) _ _
     (λ e. from_quote b t (string_at Raw t) (eqb-true b 34 e) refl (λ r small. run_sound n r (omega arith)))
-    (λ no. if_cases (RunUpTo (b ∷ t)) (is_idchar b) _ _
+    (λ no. if_either (RunUpTo (b ∷ t)) (is_idchar b) _ _
     (λ e. let (x, s, r, stops) = run_sound n t (omega arith) in (b ∷ x, ap (λ l. b ∷ l) s, idchar b x e r, stops))
     (λ e. ([], refl, none, rw (e, no)))))
 

@@ -1,0 +1,75 @@
+-- Laws: modules that a whole text spells.
+use Rattle.std.proofs.Common.{◌≡◌, ℕ, Bool, true, false, List, [], ◌∷◌, ◌++◌, refl}
+use Rattle.std.proofs.Common.{ap, sym, ◌∙◌, subst, append_assoc, append-nil}
+use Rattle.std.proofs.lemmas.List.{length-append}
+use Rattle.wat_core.specs.Module.{ModuleTy, module_}
+use Rattle.wat_core.specs.Text.{IsModule}
+use Rattle.wat_core.specs.Laws.Sight.{seen_behind, seen_behind_all, none_seen, shown_too}
+use Rattle.wat_tokens.specs.Groups.{paren}
+use Rattle.wat_tokens.specs.Sight.{begins_annotation_group, visible, visible_tokens}
+use Rattle.wat_tokens.specs.Sight.{hidden_count, hidden_count_at}
+use Rattle.wat_tokens.specs.State.{behind}
+use Rattle.wat_tokens.specs.Token.{Tok, LParen, RParen}
+
+-- ---- tokens that all are visible
+
+one_behind : (known : Bool) (x : Tok) (r : List Tok) → begins_annotation_group (x ∷ r) ≡ false
+    → behind known 1 (x ∷ r) ≡ r
+unfolding behind hidden_count hidden_count_at
+one_behind known x r h = rw h refl
+
+opens_so : (x : Tok) (r : List Tok) → begins_annotation_group (x ∷ r) ≡ false
+    → visible_tokens false (x ∷ r) ≡ x ∷ visible_tokens false r
+unfolding visible_tokens visible
+opens_so x r h = rw h refl
+
+group_is : (m : ModuleTy) (r d : List Tok) → begins_annotation_group (LParen ∷ r) ≡ false
+    → visible_tokens true (LParen ∷ r) ≡ LParen ∷ (d ++ RParen ∷ [])
+    → module_.spells m d (RParen ∷ []) → IsModule (LParen ∷ r) m
+group_is m r d h e s =
+    let q = behind false 1 (LParen ∷ r) in
+    let here : q ≡ r = one_behind false LParen r h in
+    let inside : visible_tokens true q ≡ d ++ RParen ∷ [] =
+    ap (λ (t : List Tok). visible_tokens true t) (here ∙ sym (one_behind true LParen r h))
+    ∙ seen_behind true (LParen ∷ r) LParen (d ++ RParen ∷ []) e in
+    let none =
+    seen_behind_all true (d ++ RParen ∷ []) q []
+    (inside ∙ sym (append-nil (d ++ RParen ∷ []))) in
+    record {
+      first = visible_tokens false r;
+      opens = opens_so LParen r h;
+      tokens = d;
+      more = [];
+      inside = inside;
+      spelled = s;
+      last = none_seen _ (subst (λ (n : ℕ). visible_tokens true (behind true n q) ≡ [])
+          (length-append d (RParen ∷ [])) none);
+    }
+
+-- Tokens that are one group which spells a module, all of them visible with the five names, and the
+-- group no annotation's.
+pub is_module : (m : ModuleTy) (t : List Tok) → begins_annotation_group t ≡ false
+    → visible_tokens true t ≡ t → (paren module_).spells m t [] → IsModule t m
+is_module m t h e (d, is, s) =
+    subst (λ (u : List Tok). IsModule u m) (sym is)
+    (group_is m (d ++ RParen ∷ []) d
+    (subst (λ (u : List Tok). begins_annotation_group u ≡ false) is h)
+    (subst (λ (u : List Tok). visible_tokens true u ≡ u) is e) s)
+
+-- ---- tokens of which some are hidden
+
+-- the group that spells the module is among those that are visible with the five names
+pub group_stands : (m : ModuleTy) (t : List Tok) → IsModule t m
+    → (b : List Tok) × (c : List Tok) × (r : List Tok) × (visible_tokens true t ≡ b ++ (c ++ r))
+    × (paren module_).spells m c r
+group_stands m t s =
+    let c = LParen ∷ (s.tokens ++ RParen ∷ []) in
+    let (b, e) = shown_too t LParen s.first s.opens in
+    let all : LParen ∷ (s.tokens ++ RParen ∷ s.more) ≡ c ++ s.more =
+    ap (λ (l : List Tok). LParen ∷ l) (sym (append_assoc s.tokens (RParen ∷ []) s.more)) in (
+      b,
+      c,
+      s.more,
+      e ∙ ap (λ (l : List Tok). b ++ LParen ∷ l) s.inside ∙ ap (λ (l : List Tok). b ++ l) all,
+      (s.tokens, refl, s.spelled),
+    )

@@ -1,0 +1,55 @@
+-- A search by halves.
+use Rattle.std.proofs.Common.{◌≡◌, ℕ, zero, suc, ◌+◌, ◌-◌, ◌*◌, ◌/◌, ◌<◌, ◌≤◌, List, [], length, get_or, arith, ap, ◌∙◌}
+use Rattle.std.specs.declared.cmp.Ordering.TheVariants.{Less, Greater}
+use Rattle.wat_tokens.specs.State.{State}
+use Rattle.wat_mnemonics.specs.Halves.{IsWithin, IsFew}
+use Rattle.wat_mnemonics.specs.Laws.Places.{words_rise, words_length}
+use Rattle.wat_mnemonics.specs.Order.{cmp, words}
+use Rattle.wat_mnemonics.specs.Heads.{mnemonic_word}
+use Rattle.wat_mnemonics.specs.declared.mnemonic.Mnemonic.{Mnemonic}
+use Rattle.wat_mnemonics.proofs.RowsBelow.{found_at}
+use Rattle.wat_mnemonics.proofs.WordOrder.{below_less, above_greater, absent}
+
+-- ---- the halves of a stretch, by how the entry between them and the text compare
+
+pub upper_half : (base size : ℕ) (t : List ℕ) → 1 < size → IsWithin base size t → cmp (get_or words (base + size / 2 - 1) []) t ≡ Less → IsWithin (base + size / 2) (size - size / 2) t
+upper_half base size t l w e =
+    let b : base + size / 2 - 1 < length words = let s = words_length in omega (arith, w.bound) in
+    record {
+      bound = omega (arith, w.bound);
+      less = λ k u. below_less words t (base + size / 2 - 1) words_rise b e k (omega (arith, u, l));
+      more = λ k u v. w.more k (omega (arith, u)) v;
+    }
+
+pub lower_half : (base size : ℕ) (t : List ℕ) → 1 < size → IsWithin base size t → cmp (get_or words (base + size / 2 - 1) []) t ≡ Greater → IsWithin base (size - size / 2) t
+lower_half base size t l w e = record {
+  bound = omega (arith, w.bound);
+  less = w.less;
+  more = λ k u v. above_greater words t (base + size / 2 - 1) words_rise e k (omega (arith, u, l)) (let s = words_length in omega (arith, v));
+}
+
+-- a text in a stretch with no entry is no word
+pub no_place : (base size : ℕ) (t : List ℕ) → size ≤ 1 → IsWithin base size t → (h : Mnemonic) → mnemonic_word h ≡ t → ⊥
+no_place base size t l w h e =
+    let p : (k : ℕ) × (k < 623) × (get_or words k [] ≡ mnemonic_word h) = found_at h in
+    let s : length words ≡ 623 = words_length in
+    absent words t base base (omega arith) w.less (λ k u v. w.more k (omega (arith, u, l)) (omega (arith, v, s))) p.0 (omega (arith, p.1, s)) (p.2 ∙ e)
+
+-- ---- how often a stretch can be halved
+
+-- its greater half is short enough after one comparison more
+pub few_left : (size n p most : ℕ) → 1 < size → n ≡ p + 1 → IsFew size p most → IsFew (size - size / 2) n most
+few_left size n p most l e (zero, f, s) = absurd (omega (arith, l, s))
+few_left size n p most l e (suc k, f, s) = (k, omega (arith, e, f), omega (arith, s))
+
+-- the comparisons that are made are not too many
+pub few_made : (size p most : ℕ) → IsFew size p most → p ≤ most
+few_made size p most (k, f, s) = omega (arith, f)
+
+-- a comparison was made, or the whole table is left
+pub made_one : (n p q a b : ℕ) → q ≡ p + 1 → a ≤ 624 → 624 + 624 * n ≤ a + 624 * p → 624 + 624 * n ≤ b + 624 * q
+made_one n p q a b e l h = omega (arith, e, l, h)
+
+-- where only the count of comparisons had changed, it still is all
+pub probed_only : (a b e : State) (n : ℕ) → b ≡ record a { probes = b.probes } → e ≡ record b { probes = n } → e ≡ record a { probes = e.probes }
+probed_only a b e n p q = rw (q) (ap (λ (s : State). record s { probes = n }) p)

@@ -1,0 +1,17 @@
+use Rattle.std.proofs.Common.{◌+◌, ◌*◌, ◌≡◌, ◌≤◌}
+use Rattle.wat_mnemonics.specs.Halves.{IsWithin, IsFew}
+use Rattle.wat_tokens.specs.Counts.{Carries}
+use Rattle.wat_mnemonics.proofs.find.find.Given as goal
+
+abbrev pub invariant-halves : goal.invariant-halves
+invariant-halves l = record {
+  left : 1 ≤ l.size;
+  within : IsWithin l.base l.size l.text;
+  only : l.parser ≡ record l.fn.parser { probes = l.parser.probes };
+  counts : Carries l.fn.parser l.parser;
+  some : 624 + 624 * l.fn.parser.probes ≤ l.size + 624 * l.parser.probes;
+  few : IsFew l.size l.parser.probes (l.fn.parser.probes + 10);
+}
+
+abbrev pub decreases-halves : goal.decreases-halves
+decreases-halves l = l.size

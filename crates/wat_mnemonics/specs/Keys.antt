@@ -1,0 +1,12 @@
+-- Words by their first eight bytes.
+use Rattle.std.specs.Prelude.{ℕ, zero, suc, ◌+◌, ◌*◌, List}
+use Rattle.std.proofs.Common.{get_or}
+
+-- the first n bytes as one number, the first the most significant; a 0 stands for each that lacks
+abbrev pub number_of : List ℕ → ℕ → ℕ
+number_of bytes zero = 0
+number_of bytes (suc n) = number_of bytes n * 256 + get_or bytes n 0
+
+-- the first eight
+abbrev pub key : List ℕ → ℕ
+key bytes = number_of bytes 8

@@ -1,0 +1,12 @@
+-- Values that a whole text spells.
+use Rattle.std.specs.Prelude.{ℕ, Bool, List, []}
+use Rattle.wat_lexer.specs.Cut.{IsCut}
+use Rattle.wat_lexer.specs.Sight.{visible_tokens}
+use Rattle.wat_lexer.specs.Token.{Placed, tokens_of}
+use Rattle.wat_tokens.specs.Production.{Production}
+
+-- the text is cut, and its tokens, visible with the five standard annotations known or not, spell
+-- the value to the last one
+abbrev pub TextSpells : {A : Type 0} → Bool → Production A → List ℕ → A → Type 0
+TextSpells known g text v =
+    (ts : List Placed) × IsCut text ts × g.spells v (visible_tokens known (tokens_of ts)) []
