@@ -1,0 +1,66 @@
+-- The bytes of gaps.
+use Rattle.std.proofs.Common.{◌≡◌, ℕ, zero, suc, ◌+◌, ◌-◌, ◌<◌, List, [], ◌∷◌, ◌++◌, length, refl, ap, sym, ◌∙◌, arith, append_assoc}
+use Rattle.std.specs.Prelude.{Bool, true, false, nat_lt, ◌==◌, ◌&&◌}
+use Rattle.std.proofs.lemmas.Bool.Decides.{nat_tests}
+use Rattle.wat_lexer.specs.Bytes.{is_space}
+use Rattle.wat_format.specs.Shapes.{repeated, gap_bytes, no_gap, gap_first, no_bytes, follows, Follows, is_opening, AllSpaces, Separates}
+use Rattle.wat_format.specs.declared.piece.Shape.{Shape}
+use Rattle.wat_format.specs.declared.piece.Shape.TheVariants as of
+
+repeated_spaces : (n b : ℕ) → is_space b ≡ true → AllSpaces (repeated n b)
+repeated_spaces zero b h = tt
+repeated_spaces (suc n) b h = (h, repeated_spaces n b h)
+
+gap_spaces : (lines spaces : ℕ) → AllSpaces (gap_bytes lines spaces)
+gap_spaces zero spaces = repeated_spaces spaces 32 refl
+gap_spaces (suc n) spaces = (refl, gap_spaces n spaces)
+
+some_lt : (n : ℕ) → nat_lt 0 (suc n) ≡ true
+some_lt n = grind (arith, nat_tests)
+
+some_ne : (n : ℕ) → (suc n == 0) ≡ false
+some_ne n = grind (arith, nat_tests)
+
+gap_none : (lines spaces : ℕ) → no_bytes (gap_bytes lines spaces) ≡ no_gap lines spaces
+gap_none zero zero = refl
+gap_none zero (suc n) = rw (some_ne n) refl
+gap_none (suc n) spaces = rw (some_ne n) refl
+
+none_eq : (x : List ℕ) → no_bytes x ≡ (length x == 0)
+none_eq [] = refl
+none_eq (_ ∷ x) = rw (some_ne (length x)) refl
+
+gap_follows : (s : Shape) (lines spaces b : ℕ) → follows s (gap_first lines spaces b) ≡ true → Follows s (gap_bytes lines spaces ++ (b ∷ []))
+gap_follows s zero zero b h = h
+gap_follows s zero (suc n) b h = rw (some_lt n) at h
+gap_follows s (suc n) spaces b h = rw (some_lt n) at h
+
+pub gap_separates : (s : Shape) (blanks : List ℕ) (lines spaces b : ℕ) (directly : Bool) → directly ≡ (length blanks == 0) → follows s (gap_first lines spaces b) ≡ true → (b ≡ 64 → no_gap lines spaces && is_opening s ≡ directly && is_opening s) → Separates s blanks b (gap_bytes lines spaces)
+gap_separates s blanks lines spaces b directly d h flag =
+    (gap_spaces lines spaces, gap_follows s lines spaces b h, λ e. ap (λ v. v && is_opening s) (gap_none lines spaces) ∙ flag e ∙ ap (λ v. v && is_opening s) (d ∙ sym (none_eq blanks)))
+
+-- where a byte may follow, a text that begins with it may
+pub follows_more : (s : Shape) (x y : List ℕ) (b : ℕ) → Follows s (x ++ b ∷ []) → Follows s (x ++ b ∷ y)
+follows_more s [] y b h = h
+follows_more s (_ ∷ _) y b h = h
+
+pub follows_less : (s : Shape) (x y : List ℕ) (b : ℕ) → Follows s (x ++ b ∷ y) → Follows s (x ++ b ∷ [])
+follows_less s [] y b h = h
+follows_less s (_ ∷ _) y b h = h
+
+pub block_followed : (x : List ℕ) → Follows of.Block x
+block_followed [] = tt
+block_followed (_ ∷ _) = refl
+
+-- one byte more, of so many that are still to be written
+pub one_more : (old now new : List ℕ) (b n i : ℕ) → i < n → new ≡ now ++ b ∷ [] → now ++ repeated (n - i) b ≡ old ++ repeated n b → new ++ repeated (n - (i + 1)) b ≡ old ++ repeated n b
+one_more old now new b n i lt e h =
+    let left : n - i ≡ suc (n - (i + 1)) = omega arith in
+    rw (e, append_assoc) (rw left at h)
+
+pub line_follows : (s : Shape) → follows s 10 ≡ true
+line_follows of.Line = refl
+line_follows of.Block = refl
+line_follows of.Open = refl
+line_follows of.Close = refl
+line_follows of.Word = refl

@@ -1,0 +1,92 @@
+-- Pieces of a text by their shapes.
+use Rattle.std.specs.Prelude.{◌≡◌, ◌≤◌, ◌<◌, ◌+◌, ◌-◌, ℕ, zero, suc, nat_lt, if◌then◌else◌, Bool}
+use Rattle.std.specs.Prelude.{true, false, not, ◌==◌, ◌&&◌, ◌⊎◌, List, [], ◌∷◌, ◌++◌, length}
+use Rattle.std.specs.Prelude.{drop, slice_index}
+use Rattle.std.specs.List.{AllByRecursion}
+use Rattle.wat_lexer.specs.Bytes.{is_space, is_line_end}
+use Rattle.wat_lexer.specs.Cut.{Inside, Begins, Run, in_no_run, Broken}
+use Rattle.wat_lexer.specs.Place.{offset_of}
+use Rattle.wat_lexer.specs.Scan.{class}
+use Rattle.wat_lexer.specs.Token.{LParen, RParen}
+use Rattle.wat_lexer.specs.declared.fault.Error.{Error}
+use Rattle.wat_format.specs.Parts.{Part, a_token, a_comment}
+use Rattle.wat_format.specs.declared.piece.Shape.{Shape}
+use Rattle.wat_format.specs.declared.piece.Shape.TheVariants as of
+
+abbrev pub is_opening : Shape → Bool
+is_opening of.Open = true
+is_opening _ = false
+
+-- bytes of the shape
+abbrev pub IsOfShape : Shape → List ℕ → Type 0
+IsOfShape of.Line x =
+    (y : List ℕ) × (x ≡ 59 ∷ 59 ∷ y) × AllByRecursion (λ b. is_line_end b ≡ false) y
+IsOfShape of.Block x = (y : List ℕ) × (x ≡ 40 ∷ 59 ∷ y) × Inside 0 y
+IsOfShape of.Open x = x ≡ 40 ∷ []
+IsOfShape of.Close x = x ≡ 41 ∷ []
+IsOfShape of.Word x = (0 < length x) × Run x
+
+-- the part that they are; the flag says that a `(` is directly before them
+abbrev pub part_of : Bool → Shape → List ℕ → Part
+part_of behind of.Line x = a_comment x
+part_of behind of.Block x = a_comment x
+part_of behind of.Open x = a_token x LParen
+part_of behind of.Close x = a_token x RParen
+part_of behind of.Word x = a_token x (class behind x)
+
+-- a byte may be directly behind them
+abbrev pub follows : Shape → ℕ → Bool
+follows of.Line b = is_line_end b
+follows of.Block b = true
+follows of.Open b = not (b == 59)
+follows of.Close b = true
+follows of.Word b = in_no_run b
+
+-- a text may
+abbrev pub Follows : Shape → List ℕ → Type 0
+Follows s rest = Begins (follows s) rest
+
+-- a character ends there, since an ASCII byte is before it or behind it
+abbrev pub IsEdge : List ℕ → ℕ → Type 0
+IsEdge text i = (slice_index text (i - 1) < 128) ⊎ (i < length text → slice_index text i < 128)
+
+-- nothing stands at the place, for this reason
+abbrev pub WrongAt : List ℕ → ℕ → Error → Type 0
+WrongAt text at e =
+    (offset_of e.span ≤ length text) × Broken (drop at text) e.fault (drop (offset_of e.span) text)
+
+abbrev pub repeated : ℕ → ℕ → List ℕ
+repeated zero b = []
+repeated (suc n) b = b ∷ repeated n b
+
+-- line breaks, and spaces behind them
+abbrev pub gap_bytes : ℕ → ℕ → List ℕ
+gap_bytes lines spaces = repeated lines 10 ++ repeated spaces 32
+
+-- there are neither
+abbrev pub no_gap : ℕ → ℕ → Bool
+no_gap lines spaces = (lines == 0) && (spaces == 0)
+
+-- the first byte of these and of a byte behind them
+abbrev pub gap_first : ℕ → ℕ → ℕ → ℕ
+gap_first lines spaces b = if nat_lt 0 lines then 10 else (if nat_lt 0 spaces then 32 else b)
+
+abbrev pub no_bytes : List ℕ → Bool
+no_bytes [] = true
+no_bytes (_ ∷ _) = false
+
+abbrev pub AllSpaces : List ℕ → Type 0
+AllSpaces x = AllByRecursion (λ b. is_space b ≡ true) x
+
+-- Blanks that may be between a piece and the byte that begins the next, where the text has other
+-- blanks: a `@` stays directly behind a `(`, or away from it.
+abbrev pub Separates : Shape → List ℕ → ℕ → List ℕ → Type 0
+Separates last blanks first x =
+    AllSpaces x × Follows last (x ++ first ∷ [])
+    × (first ≡ 64 → no_bytes x && is_opening last ≡ no_bytes blanks && is_opening last)
+
+-- how many groups are open behind a piece
+abbrev pub groups_behind : Shape → ℕ → ℕ
+groups_behind of.Open depth = depth + 1
+groups_behind of.Close depth = depth - 1
+groups_behind _ depth = depth

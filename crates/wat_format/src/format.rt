@@ -1,0 +1,107 @@
+//! Formats a text.
+//!
+//! Its pieces, tokens and comments, are read one after another and written with other white space
+//! between them. Of what was read only the open groups are kept.
+
+ghost use Rattle.std.specs.Prelude.{◌≡◌, ◌+◌, ◌≤◌, ◌<◌, IfOk, IfErr, ℕ, List, length, string_bytes};
+ghost use Rattle.std.specs.Prelude.{slice_range};
+ghost use Rattle.std.specs.Str.{IsCharBoundary};
+ghost use Rattle.wat_lexer.specs.Cut.{FirstFault, IsCut};
+ghost use Rattle.wat_lexer.specs.Place.{offset_of};
+ghost use Rattle.wat_lexer.specs.Token.{Placed, tokens_of};
+ghost use Rattle.wat_lexer.specs.View.{IfFault, FailsAt};
+ghost use Rattle.wat_format.specs.Parts.{SameButSpaces};
+
+use crate::gap::put_blanks;
+use crate::layout::Layout;
+use crate::piece::{Shape, piece_at};
+use bumpalo::Bump;
+use std::alloc::Global;
+use wat_lexer::cut::cut;
+use wat_lexer::fault::Error;
+use wat_lexer::scan::spaces_end;
+
+/// Part of a text.
+fn part(text: &str, from: usize, end: usize) -> &str
+    requires order { from ≤ end }
+    requires begins { IsCharBoundary text.now from }
+    requires ends { IsCharBoundary text.now end }
+    ensures { result.now ≡ slice_range text.now from end }
+{
+    &text[from..end]
+}
+
+/// What was written, and how many groups are open at its end.
+#[derive(Drop)]
+struct Written {
+    text: String,
+    groups: usize,
+}
+
+/// Writes the text's pieces with other blanks between them. Where no group is open at its end, each
+/// annotation's group is closed.
+fn write(alloc: Global, text: &str) -> Result<Written, Error>
+    ensures same { IfOk result (λ w. SameButSpaces text.now (string_bytes w.text)) }
+    ensures closed { IfOk result (λ w. w.groups ≡ 0 → (ts : List Placed) × IsCut text.now ts) }
+    ensures fails { IfErr result (λ e. IfFault e (FailsAt text.now e)) }
+{
+    let bytes = text.as_bytes();
+    let mut out = String::new(alloc);
+    let mut layout = Layout::new(alloc);
+    let mut last = Shape::Block;
+    let mut end = 0;
+    'pieces: loop {
+        let at = spaces_end(bytes, end);
+        if at >= bytes.len() {
+            break;
+        }
+        let piece = match piece_at(bytes, at) {
+            Err(e) => return Err(e),
+            Ok(piece) => piece,
+        };
+        let blanks = part(text, end, at);
+        let gap = layout.gap(bytes, blanks.as_bytes(), at, piece);
+        put_blanks(&mut out, gap, blanks, last, bytes[at])?;
+        out.push_str(part(text, at, piece.end))?;
+        layout.pass(bytes, at, piece)?;
+        last = piece.shape;
+        end = piece.end;
+    }
+    if end > 0 {
+        out.push_str("\n")?;
+    }
+    Ok(Written {
+        text: out,
+        groups: layout.groups(),
+    })
+}
+
+/// Formats a text: its tokens and comments stay, byte for byte and in their order, and only the
+/// white space between them changes. The author's line breaks stay, lines are indented by the
+/// groups and flat blocks that are open, and an answer that isn't empty ends in one LF.
+///
+/// The faults are those of `cut`, each with its place: LexChar, LexString, LexComment,
+/// LexAnnotation and Memory. A text is read once, or twice if it ends in an open group. WebAssembly
+/// Core Specification, Text Format, Lexical Format ("White Space", "Comments", "Annotations").
+pub fn format(alloc: Global, text: &str) -> Result<String, Error>
+    ensures same { IfOk result (λ a. SameButSpaces text.now (string_bytes a)) }
+    // Both texts are cut, into the same tokens.
+    ensures tokens { IfOk result (λ a. (ts : List Placed) × (us : List Placed) × IsCut text.now ts
+        × IsCut (string_bytes a) us × (tokens_of us ≡ tokens_of ts)) }
+    // The text has no cut, and the fault is its first from the left.
+    ensures refused { IfErr result (λ e. IfFault e (FirstFault text.now e.fault (offset_of e.span)
+        × ((ts : List Placed) → IsCut text.now ts → ⊥))) }
+{
+    let written = match write(alloc, text) {
+        Err(e) => return Err(e),
+        Ok(written) => written,
+    };
+    if written.groups > 0 {
+        let arena = Bump::new(alloc);
+        match cut(alloc, text, &arena) {
+            Err(e) => return Err(e),
+            Ok(_) => {}
+        }
+    }
+    Ok(written.text)
+}

@@ -1,0 +1,28 @@
+//! Laws of the definitions.
+
+ghost use Rattle.std.specs.Prelude.{◌≡◌, ℕ, List, Bool, false};
+ghost use Rattle.wat_lexer.specs.Cut.{IsCut};
+ghost use Rattle.wat_lexer.specs.Token.{Placed, tokens_of};
+ghost use Rattle.wat_format.specs.Parts.{Part, HasParts, SameButSpaces, toks_in};
+
+/// A text is read in one way at most, and where it has a cut in one: its tokens are those of the
+/// cut.
+pub fn one_reading()
+    ensures one { (text : List ℕ) (ps qs : List Part) → HasParts false text ps
+        → HasParts false text qs → ps ≡ qs }
+    ensures read { (text : List ℕ) (ts : List Placed) → IsCut text ts
+        → (ps : List Part) × HasParts false text ps × (toks_in ps ≡ tokens_of ts) }
+{}
+
+/// Texts that differ in spaces alone are cut into the same tokens.
+pub fn same_tokens()
+    ensures { (text answer : List ℕ) (ts : List Placed) → SameButSpaces text answer
+        → IsCut text ts → (us : List Placed) × IsCut answer us × (tokens_of us ≡ tokens_of ts) }
+{}
+
+/// Texts that differ in spaces alone have the same tokens and comments, byte for byte, each comment
+/// between the same two tokens.
+pub fn same_parts()
+    ensures { (text answer : List ℕ) (ps qs : List Part) → SameButSpaces text answer
+        → HasParts false text ps → HasParts false answer qs → ps ≡ qs }
+{}
