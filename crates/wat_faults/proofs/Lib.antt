@@ -1,0 +1,4 @@
+pub mod Heads
+pub mod Places
+pub mod Stands
+pub mod Telling

@@ -1,0 +1,4 @@
+pub mod Faults
+pub mod Front
+pub mod Groups
+pub mod Head

@@ -1,0 +1,34 @@
+-- Small tokens and their twins, by computation.
+use Rattle.std.proofs.Common.{refl}
+use Rattle.wat_lexer.specs.Sight.{visible_tokens, visible}
+use Rattle.wat_twin.specs.Float.{is_float, place_after}
+use Rattle.wat_twin.specs.Tokens.{takes_floats, is_type, changes}
+use Rattle.wat_twin.specs.Rows.{Floats, NoFloats, Constant, Data, Row, Hidden, Unchanged}
+
+pub floats : Floats
+unfolding is_float place_after
+floats = (refl, refl, refl, refl, refl, refl, refl)
+
+pub no_floats : NoFloats
+unfolding is_float place_after
+no_floats = (refl, refl, refl, refl, refl, refl, refl, refl)
+
+pub constant : Constant
+unfolding is_float place_after takes_floats is_type changes visible_tokens visible
+constant = refl
+
+pub data_row : Data
+unfolding is_float place_after takes_floats is_type changes visible_tokens visible
+data_row = refl
+
+pub row_ends : Row
+unfolding is_float place_after takes_floats is_type changes visible_tokens visible
+row_ends = refl
+
+pub hidden : Hidden
+unfolding is_float place_after takes_floats is_type changes visible_tokens visible
+hidden = refl
+
+pub unchanged : Unchanged
+unfolding is_float place_after takes_floats is_type changes visible_tokens visible
+unchanged = refl

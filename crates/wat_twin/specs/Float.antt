@@ -1,0 +1,92 @@
+-- What a float literal is, by its spelling. It is a sign, if there is one, and then `inf`, `nan`,
+-- `nan:0x` with hex digits behind it, or a number. A number is digits, a point, if there is one,
+-- with or without digits behind it, and an exponent, if there is one: `e` or `E`, a sign, if there
+-- is one, and decimal digits. Or it is `0x` and the same with hex digits and `p` or `P`. Single `_`
+-- are between digits only.
+use Rattle.std.specs.Prelude.{ℕ, Bool, true, false, List, [], ◌∷◌, take, drop, ◌==◌, ◌&&◌, ◌||◌}
+use Rattle.std.specs.Prelude.{nat_lt, if◌then◌else◌, codes}
+use Rattle.std.specs.Char.{digit_value}
+use Rattle.std.specs.Str.{bytes_eq}
+use Rattle.wat_lexer.specs.Number.{begins_hex, without_sign}
+use Rattle.wat_twin.specs.declared.float.Place.{Place}
+use Rattle.wat_twin.specs.declared.float.Place.TheVariants as at
+
+-- a digit, hexadecimal or decimal
+abbrev pub is_digit : Bool → ℕ → Bool
+is_digit hex c = if hex then nat_lt (digit_value c) 16 else nat_lt (digit_value c) 10
+
+-- what begins an exponent: `p` or `P` behind hexadecimal digits, else `e` or `E`
+abbrev pub is_mark : Bool → ℕ → Bool
+is_mark hex c = if hex then (c == 112) || (c == 80) else (c == 101) || (c == 69)
+
+-- whether digits there are hexadecimal: those of an exponent are decimal
+abbrev pub is_hex_at : Bool → Place → Bool
+is_hex_at hex at.Mark = false
+is_hex_at hex at.Sign = false
+is_hex_at hex at.Exponent = false
+is_hex_at hex at.ExponentGap = false
+is_hex_at hex _ = hex
+
+-- where a digit leads to
+abbrev pub behind_digit : Place → Place
+behind_digit at.Start = at.Whole
+behind_digit at.Whole = at.Whole
+behind_digit at.WholeGap = at.Whole
+behind_digit at.Point = at.Fraction
+behind_digit at.Fraction = at.Fraction
+behind_digit at.FractionGap = at.Fraction
+behind_digit at.Mark = at.Exponent
+behind_digit at.Sign = at.Exponent
+behind_digit at.Exponent = at.Exponent
+behind_digit at.ExponentGap = at.Exponent
+behind_digit at.Wrong = at.Wrong
+
+-- where any other byte leads to: `_` is 95, `.` 46, `+` 43 and `-` 45
+abbrev pub behind_other : Bool → Place → ℕ → Place
+behind_other hex at.Whole c =
+    if c == 95 then at.WholeGap else (if c == 46 then at.Point
+    else (if is_mark hex c then at.Mark else at.Wrong))
+behind_other hex at.Point c = if is_mark hex c then at.Mark else at.Wrong
+behind_other hex at.Fraction c =
+    if c == 95 then at.FractionGap else (if is_mark hex c then at.Mark else at.Wrong)
+behind_other hex at.Mark c = if (c == 43) || (c == 45) then at.Sign else at.Wrong
+behind_other hex at.Exponent c = if c == 95 then at.ExponentGap else at.Wrong
+behind_other hex _ c = at.Wrong
+
+-- where a byte leads to
+abbrev pub next : Bool → Place → ℕ → Place
+next hex p c = if is_digit (is_hex_at hex p) c then behind_digit p else behind_other hex p c
+
+-- a number may end there: behind a digit, or behind the point
+abbrev pub is_last : Place → Bool
+is_last at.Whole = true
+is_last at.Point = true
+is_last at.Fraction = true
+is_last at.Exponent = true
+is_last _ = false
+
+-- behind a digit in front of the point
+abbrev pub is_whole : Place → Bool
+is_whole at.Whole = true
+is_whole _ = false
+
+-- where bytes lead to from a place
+unfoldable pub place_after : Bool → Place → List ℕ → Place
+place_after hex p [] = p
+place_after hex p (c ∷ t) = place_after hex (next hex p c) t
+
+-- `nan:0x` and hexadecimal digits
+abbrev pub is_nan : List ℕ → Bool
+is_nan x =
+    bytes_eq (take 6 x) (codes "nan:0x") && is_whole (place_after true at.Start (drop 6 x))
+
+-- a float without a sign
+abbrev pub is_magnitude : List ℕ → Bool
+is_magnitude x =
+    bytes_eq x (codes "inf") || (bytes_eq x (codes "nan") || (is_nan x
+    || (if begins_hex x then is_last (place_after true at.Start (drop 2 x))
+    else is_last (place_after false at.Start x))))
+
+-- a float of the standard: an integer is one too
+unfoldable pub is_float : List ℕ → Bool
+is_float x = is_magnitude (without_sign x)

@@ -1,0 +1,54 @@
+-- The twin of a text: its bytes with some exchanged.
+use Rattle.std.specs.Prelude.{◌≡◌, ℕ, zero, suc, ◌+◌, ◌-◌, List, [], ◌∷◌, ◌++◌, length, take, drop}
+use Rattle.std.specs.Prelude.{map}
+use Rattle.wat_lexer.specs.Cut.{IsCut}
+use Rattle.wat_lexer.specs.Token.{Placed, tokens_of}
+use Rattle.wat_twin.specs.Tokens.{changes_of, twin_tokens}
+use Rattle.wat_twin.specs.declared.change.Change.{Change}
+use Rattle.wat_twin.specs.declared.change.Change.TheVariants as of
+
+-- other bytes, and how many bytes of the text stand before the place where they go
+pub record Patch : Type 0 where
+  pub at : ℕ
+  pub bytes : List ℕ
+
+abbrev pub spaces : ℕ → List ℕ
+spaces zero = []
+spaces (suc n) = 32 ∷ spaces n
+
+-- `0` and spaces, so many bytes in all
+abbrev pub zero_bytes : ℕ → List ℕ
+zero_bytes n = 48 ∷ spaces (n - 1)
+
+-- of a token at the place; an `i` is 105
+abbrev pub patch_of : Change → ℕ → List Patch
+patch_of of.Keep at = []
+patch_of of.Word at = record { at = at; bytes = 105 ∷ [] } ∷ []
+patch_of (of.Literal n) at = record { at = at; bytes = zero_bytes n } ∷ []
+
+-- what is exchanged at tokens, by what becomes of each
+abbrev pub patches : List Change → List Placed → List Patch
+patches (c ∷ cs) (p ∷ ps) = patch_of c p.offset ++ patches cs ps
+patches _ _ = []
+
+-- The end of a text, with what is exchanged in it; so many bytes of the text stand before it.
+unfoldable pub rebuilt : ℕ → List ℕ → List Patch → List ℕ
+rebuilt from s [] = s
+rebuilt from s (p ∷ ps) =
+    take (p.at - from) s ++ (p.bytes ++ rebuilt (p.at + length p.bytes)
+    (drop (p.at - from + length p.bytes) s) ps)
+
+-- the text with all that is exchanged at its tokens
+abbrev pub twin_text : List ℕ → List Placed → List ℕ
+twin_text text ts = rebuilt 0 text (patches (changes_of (tokens_of ts)) ts)
+
+abbrev pub offsets_of : List Placed → List ℕ
+offsets_of ps = map (λ p. p.offset) ps
+
+-- The answer is cut into the twin of the text's tokens, each at the same place; and its bytes are
+-- the text's, but for those that are exchanged there.
+abbrev pub IsTwin : List ℕ → List ℕ → Type 0
+IsTwin text answer =
+    (ts : List Placed) × (us : List Placed) × IsCut text ts × IsCut answer us
+    × (tokens_of us ≡ twin_tokens (tokens_of ts)) × (offsets_of us ≡ offsets_of ts)
+    × (answer ≡ twin_text text ts)

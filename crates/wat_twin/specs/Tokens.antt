@@ -1,0 +1,99 @@
+-- The twin of tokens.
+use Rattle.std.specs.Prelude.{ℕ, Bool, true, false, List, [], ◌∷◌, length, ◌&&◌, ◌||◌, not, codes}
+use Rattle.std.specs.Prelude.{if◌then◌else◌, Option, Some, None}
+use Rattle.std.specs.Str.{bytes_eq}
+use Rattle.wat_lexer.specs.Sight.{begins_hidden_group, visible_tokens, shuts, deeper}
+use Rattle.wat_lexer.specs.Token.{Tok, Keyword, Integer}
+use Rattle.wat_lexer.specs.Token.{Reserved, is_open}
+use Rattle.wat_twin.specs.Float.{is_float}
+use Rattle.wat_twin.specs.declared.change.Change.{Change}
+use Rattle.wat_twin.specs.declared.change.Change.TheVariants as of
+
+-- WORDS AND LITERALS
+
+-- the bytes of a keyword, an integer or a reserved run
+abbrev pub bytes_of : Tok → List ℕ
+bytes_of (Keyword k) = k
+bytes_of (Integer k) = k
+bytes_of (Reserved k) = k
+bytes_of _ = []
+
+abbrev pub is_literal : Tok → Bool
+is_literal t = is_float (bytes_of t)
+
+-- a float literal is in front
+abbrev pub begins_literal : List Tok → Bool
+begins_literal [] = false
+begins_literal (t ∷ _) = is_literal t
+
+-- a word behind which floats stand
+unfoldable pub takes_floats : List ℕ → Bool
+takes_floats k =
+    bytes_eq k (codes "f32.const") || (bytes_eq k (codes "f64.const")
+    || (bytes_eq k (codes "f32x4") || bytes_eq k (codes "f64x2")))
+
+-- a word behind which floats stand where it is behind a `(`
+unfoldable pub is_type : List ℕ → Bool
+is_type k = bytes_eq k (codes "f32") || bytes_eq k (codes "f64")
+
+-- the keyword is such a word; the flag says that it is behind a `(`
+abbrev pub is_float_word : Bool → Tok → Bool
+is_float_word opened (Keyword k) = takes_floats k || (opened && is_type k)
+is_float_word opened _ = false
+
+-- CHANGES
+
+-- What becomes of a visible token. The flags: it is behind a `(`; it is behind a word that was
+-- changed, or a literal that was; a float literal is behind it.
+abbrev pub change_of : Bool → Bool → Bool → Tok → Change
+change_of opened row followed t =
+    if row && is_literal t then of.Literal (length (bytes_of t))
+    else (if is_float_word opened t && followed then of.Word else of.Keep)
+
+abbrev pub is_changed : Change → Bool
+is_changed of.Keep = false
+is_changed of.Word = true
+is_changed (of.Literal _) = true
+
+-- What becomes of tokens behind others. The flags are those of the first that is visible. `Some
+-- depth` is within a hidden group, in which `depth` more groups lie open: what is in it stays, and
+-- the flags too. No annotation is known, so each annotation's group is hidden. The five standard
+-- ones may be known where the text is read; but by the grammar no float literal is in their groups.
+unfoldable pub changes : Bool → Bool → Option ℕ → List Tok → List Change
+changes opened row place [] = []
+changes opened row None (t ∷ ts) =
+    if begins_hidden_group false (t ∷ ts) then of.Keep ∷ changes opened row (Some 0) ts
+    else (let change = change_of opened row (begins_literal (visible_tokens false ts)) t in
+    change ∷ changes (is_open t) (is_changed change) None ts)
+changes opened row (Some depth) (t ∷ ts) =
+    of.Keep ∷ changes opened row (if shuts t depth then None else Some (deeper t depth)) ts
+
+-- what becomes of the tokens of a text
+abbrev pub changes_of : List Tok → List Change
+changes_of ts = changes false false None ts
+
+-- TWINS
+
+-- the word with an `i` for its first letter
+abbrev pub with_i : Tok → Tok
+with_i (Keyword (_ ∷ k)) = Keyword (105 ∷ k)
+with_i t = t
+
+abbrev pub changed : Change → Tok → Tok
+changed of.Keep t = t
+changed of.Word t = with_i t
+changed (of.Literal _) t = Integer (codes "0")
+
+-- each token with what becomes of it
+abbrev pub all_changed : List Change → List Tok → List Tok
+all_changed (c ∷ cs) (t ∷ ts) = changed c t ∷ all_changed cs ts
+all_changed _ _ = []
+
+abbrev pub twin_tokens : List Tok → List Tok
+twin_tokens ts = all_changed (changes_of ts) ts
+
+-- of visible tokens: no float literal is behind a word behind which floats stand
+unfoldable pub has_none : Bool → List Tok → Bool
+has_none opened [] = true
+has_none opened (t ∷ ts) =
+    not (is_float_word opened t && begins_literal ts) && has_none (is_open t) ts

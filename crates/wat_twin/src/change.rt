@@ -1,0 +1,96 @@
+//! What becomes of a token.
+
+ghost use Rattle.std.specs.Prelude.{◌≡◌, ◌<◌, Bool, drop, length};
+ghost use Rattle.std.proofs.Math.ListN.{get_or};
+ghost use Rattle.std.specs.Str.{bytes_eq};
+ghost use Rattle.wat_lexer.specs.View.{view, toks, no_entry};
+ghost use Rattle.wat_twin.specs.Tokens.{bytes_of, is_literal, begins_literal, takes_floats, is_type};
+ghost use Rattle.wat_twin.specs.Tokens.{is_float_word, change_of, is_changed};
+
+use crate::float::is_float;
+use wat_lexer::token::Token;
+use wat_lexer::tokens::Tokens;
+
+/// What becomes of a token.
+#[derive(Clone, Copy)]
+pub enum Change {
+    /// It stays.
+    Keep,
+    /// An `i` for its first letter.
+    Word,
+    /// `0` for a literal of so many bytes, and spaces behind it.
+    Literal(usize),
+}
+
+/// The text of a keyword, an integer or a reserved run.
+fn bytes_of<'a>(token: Token<'a>) -> &'a str
+    ensures { result.now ≡ bytes_of (view token.entry) }
+{
+    match token {
+        Token::Keyword(word) => word,
+        Token::Integer(integer) => integer.text(),
+        Token::Reserved(run) => run,
+        _ => "",
+    }
+}
+
+/// Whether a word is one behind which floats stand.
+#[tactic(auto, unfolding(crate::specs::Tokens::takes_floats))]
+fn takes_floats(word: &str) -> bool
+    ensures { result ≡ takes_floats word.now }
+{
+    word == "f32.const" || word == "f64.const" || word == "f32x4" || word == "f64x2"
+}
+
+/// Whether a word is one behind which floats stand where it is behind a `(`.
+#[tactic(auto, unfolding(crate::specs::Tokens::is_type))]
+fn is_type(word: &str) -> bool
+    ensures { result ≡ is_type word.now }
+{
+    word == "f32" || word == "f64"
+}
+
+fn is_float_word(token: Token, opened: bool) -> bool
+    ensures { result ≡ is_float_word opened (view token.entry) }
+{
+    match token {
+        Token::Keyword(word) => takes_floats(word) || opened && is_type(word),
+        _ => false,
+    }
+}
+
+fn is_literal(token: Token) -> bool
+    ensures { result ≡ is_literal (view token.entry) }
+{
+    is_float(bytes_of(token).as_bytes())
+}
+
+/// Whether a float literal is at a place.
+fn is_literal_at(tokens: &Tokens, at: usize) -> bool
+    ensures { result ≡ begins_literal (toks (drop at tokens.now)) }
+{
+    at < tokens.len() && is_literal(tokens.token(at))
+}
+
+/// What becomes of a visible token, where the next visible one is at another place. The flags: it
+/// is behind a `(`; it is behind a word that was changed, or a literal that was.
+pub fn change_of(tokens: &Tokens, at: usize, next: usize, opened: bool, row: bool) -> Change
+    requires { at < length tokens.now }
+    ensures { result ≡ change_of opened row (begins_literal (toks (drop next tokens.now)))
+        ((get_or tokens.now at no_entry).token) }
+{
+    let token = tokens.token(at);
+    if row && is_literal(token) {
+        Change::Literal(bytes_of(token).len())
+    } else if is_float_word(token, opened) && is_literal_at(tokens, next) {
+        Change::Word
+    } else {
+        Change::Keep
+    }
+}
+
+pub fn is_changed(change: Change) -> bool
+    ensures { result ≡ is_changed change }
+{
+    !matches!(change, Change::Keep)
+}

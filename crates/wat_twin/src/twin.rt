@@ -1,0 +1,124 @@
+//! The twin of a text.
+
+ghost use Rattle.std.specs.Prelude.{◌≡◌, ◌+◌, ◌++◌, ◌≤◌, ◌<◌, ℕ, List, IfOk, IfErr, OnOk, true};
+ghost use Rattle.std.specs.Prelude.{length, string_bytes, slice_range};
+ghost use Rattle.std.specs.Str.{IsCharBoundary};
+ghost use Rattle.wat_lexer.specs.Cut.{FirstFault, IsCut};
+ghost use Rattle.wat_lexer.specs.Place.{offset_of};
+ghost use Rattle.wat_lexer.specs.Token.{Placed};
+ghost use Rattle.wat_lexer.specs.View.{AreSkips, IfFault, placed};
+ghost use Rattle.wat_twin.specs.Text.{spaces, twin_text, IsTwin};
+ghost use Rattle.wat_twin.specs.Tokens.{is_changed};
+ghost use Rattle.wat_twin.specs.Written.{written, written_to, size_of};
+
+use crate::change::{Change, change_of, is_changed};
+use bumpalo::Bump;
+use std::alloc::{AllocError, Global};
+use wat_lexer::cut::cut;
+use wat_lexer::fault::Error;
+use wat_lexer::sight::next_visible;
+use wat_lexer::tokens::Tokens;
+
+/// Part of a text.
+fn part(text: &str, from: usize, end: usize) -> &str
+    requires order { from ≤ end }
+    requires begins { IsCharBoundary text.now from }
+    requires ends { IsCharBoundary text.now end }
+    ensures { result.now ≡ slice_range text.now from end }
+{
+    &text[from..end]
+}
+
+fn put_spaces(out: &mut String, times: usize) -> Result<(), AllocError>
+    ensures { OnOk result (string_bytes out.new ≡ string_bytes out.old ++ spaces times) }
+{
+    'turns: for _ in 0..times {
+        out.push_str(" ")?;
+    }
+    Ok(())
+}
+
+/// Writes the text up to a token, and what the token becomes, where it changes. Answers up to where
+/// the text is written.
+fn put(
+    out: &mut String,
+    text: &str,
+    done: usize,
+    at: usize,
+    change: Change,
+) -> Result<usize, AllocError>
+    requires order { done ≤ at }
+    requires begins { IsCharBoundary text.now done }
+    requires ends { is_changed change ≡ true → IsCharBoundary text.now at }
+    requires within { at + size_of change ≤ length text.now }
+    requires some { is_changed change ≡ true → 0 < size_of change }
+    ensures place { IfOk result (λ d. d ≡ written_to done at change) }
+    ensures wrote { OnOk result (string_bytes out.new ≡ string_bytes out.old
+        ++ written text.now done at change) }
+{
+    match change {
+        Change::Keep => Ok(done),
+        Change::Word => {
+            out.push_str(part(text, done, at))?;
+            out.push_str("i")?;
+            Ok(at + 1)
+        }
+        Change::Literal(len) => {
+            out.push_str(part(text, done, at))?;
+            out.push_str("0")?;
+            put_spaces(out, len - 1)?;
+            Ok(at + len)
+        }
+    }
+}
+
+/// Writes the text with what its tokens become.
+fn rebuild(alloc: Global, text: &str, tokens: &Tokens) -> Result<String, AllocError>
+    requires found { IsCut text.now (placed tokens.now) }
+    requires skips { AreSkips tokens.now }
+    ensures { IfOk result (λ a. string_bytes a ≡ twin_text text.now (placed tokens.now)) }
+{
+    let mut out = String::new(alloc);
+    let mut done = 0;
+    let mut opened = false;
+    let mut row = false;
+    let mut i = next_visible(tokens, 0, false);
+    while i < tokens.len() {
+        let next = next_visible(tokens, i + 1, false);
+        let change = change_of(tokens, i, next, opened, row);
+        done = put(&mut out, text, done, tokens.offset(i), change)?;
+        opened = tokens.opens(i);
+        row = is_changed(change);
+        i = next;
+    }
+    out.push_str(part(text, done, text.len()))?;
+    Ok(out)
+}
+
+/// The twin of a text: a text of the same length that has integers where the text has float
+/// literals. `f32.const`, `f64.const`, `f32x4`, `f64x2`, and `f32` and `f64` behind a `(` have an
+/// `i` for the `f` where a float literal follows; that literal and those behind it are `0` and
+/// spaces. All else stays, and each token has its offset, in bytes. Integers are float literals
+/// too, and no literal's range is looked at.
+///
+/// Blanks, comments and annotations' groups may stand between the word and the literals. No
+/// annotation is known: all groups are hidden, and what is in them stays. The five standard
+/// annotations may be known where the text is read, but no float literal is in their groups, by
+/// the grammar.
+///
+/// The faults are those of `cut`, each with its place: LexChar, LexString, LexComment,
+/// LexAnnotation and Memory. The time is linear in the text's length. WebAssembly Core
+/// Specification, Text Format, "Floating-Point" and "Annotations".
+pub fn twin(alloc: Global, text: &str) -> Result<String, Error>
+    ensures twin { IfOk result (λ a. IsTwin text.now (string_bytes a)) }
+    ensures size { IfOk result (λ a. length (string_bytes a) ≡ length text.now) }
+    // The text has no cut, and the fault is its first from the left.
+    ensures refused { IfErr result (λ e. IfFault e (FirstFault text.now e.fault (offset_of e.span)
+        × ((ts : List Placed) → IsCut text.now ts → ⊥))) }
+{
+    let arena = Bump::new(alloc);
+    match cut(alloc, text, &arena) {
+        Err(e) => Err(e),
+        Ok(tokens) => Ok(rebuild(alloc, text, &tokens)?),
+    }
+}
