@@ -1,3 +1,3 @@
 pub mod Commands
-pub mod Outcomes
+pub mod Formats
 pub mod Runs

@@ -2,9 +2,9 @@
 use Rattle.std.specs.Prelude.{◌≡◌, ◌⊎◌, ℕ, ◌≤◌, ◌==◌, if◌then◌else◌, List, [], ◌∷◌, ◌++◌, length}
 use Rattle.std.specs.Prelude.{max, take, Option}
 use Rattle.std.specs.Io.KnownBytes.{Appends}
-use Rattle.wat.specs.Outcomes.{SaysOfBytes}
-use Rattle.wat.specs.declared.command.Task.{Task}
-use Rattle.wat.specs.declared.command.Task.TheVariants.{Print}
+use Rattle.wat_text.specs.Outcomes.{SaysOfBytes}
+use Rattle.wat_text.specs.declared.task.Task.{Task}
+use Rattle.wat_text.specs.declared.task.Task.TheVariants.{Print}
 use Rattle.wat_show.specs.Streams.{AppendsBeginning}
 
 -- Of a name that stands for bytes what is said of them. Nothing is said, with status 2, where the read
@@ -27,24 +27,24 @@ ShowsOfName gives fails task name shown status =
     (said : List ℕ) × SaysOfName gives fails task name said status
     × (shown ≡ written_of task status said)
 
--- What is said of names, one after another. The status is the greatest of theirs, and 0 where there
--- are none.
-pub data SaysOfNames (says : List ℕ → List ℕ → ℕ → Type 0)
-    : List (List ℕ) → List ℕ → ℕ → Type 0 where
-  none : SaysOfNames says [] [] 0
-  more : (names : List (List ℕ)) (name out said : List ℕ) (status own : ℕ)
-      → SaysOfNames says names out status → says name said own
-      → SaysOfNames says (names ++ name ∷ []) (out ++ said) (max own status)
+-- What is said of names, one after another, from the one state of what they stand for to the other.
+-- The status is the greatest of theirs, and 0 where there are none.
+pub data SaysOfNames {S : Type 0} (says : S → S → List ℕ → List ℕ → ℕ → Type 0) (start : S)
+    : S → List (List ℕ) → List ℕ → ℕ → Type 0 where
+  none : SaysOfNames says start start [] [] 0
+  more : (mid end : S) (names : List (List ℕ)) (name out said : List ℕ) (status own : ℕ)
+      → SaysOfNames says start mid names out status → says mid end name said own
+      → SaysOfNames says start end (names ++ name ∷ []) (out ++ said) (max own status)
 
 -- all that is said of the names was written
-abbrev pub WritesOfNames : (List ℕ → List ℕ → ℕ → Type 0) → List (List ℕ) → Option (List ℕ)
-    → Option (List ℕ) → ℕ → Type 0
-WritesOfNames says names old new status =
-    (out : List ℕ) × SaysOfNames says names out status × Appends old new out
+abbrev pub WritesOfNames : {S : Type 0} → (S → S → List ℕ → List ℕ → ℕ → Type 0) → S → S
+    → List (List ℕ) → Option (List ℕ) → Option (List ℕ) → ℕ → Type 0
+WritesOfNames says start end names old new status =
+    (out : List ℕ) × SaysOfNames says start end names out status × Appends old new out
 
 -- a beginning of what is said of the first so many names was written
-abbrev pub WritesPartOfNames : (List ℕ → List ℕ → ℕ → Type 0) → List (List ℕ) → Option (List ℕ)
-    → Option (List ℕ) → Type 0
-WritesPartOfNames says names old new =
+abbrev pub WritesPartOfNames : {S : Type 0} → (S → S → List ℕ → List ℕ → ℕ → Type 0) → S → S
+    → List (List ℕ) → Option (List ℕ) → Option (List ℕ) → Type 0
+WritesPartOfNames says start end names old new =
     (n : ℕ) × (out : List ℕ) × (status : ℕ) × (n ≤ length names)
-    × SaysOfNames says (take n names) out status × AppendsBeginning old new out
+    × SaysOfNames says start end (take n names) out status × AppendsBeginning old new out

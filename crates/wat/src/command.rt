@@ -2,26 +2,19 @@
 
 ghost use Rattle.std.specs.Prelude.{◌≡◌, ◌∷◌, map};
 ghost use Rattle.std.specs.String.{string_bytes};
-ghost use Rattle.wat.specs.Commands.{are_files, command_of, is_file, print_of, printing_of};
+ghost use Rattle.wat.specs.Commands.{are_files, command_of, format_of, formatting_of, is_file};
+ghost use Rattle.wat.specs.Commands.{print_of, printing_of};
 
 use wat_print::Layout;
-
-/// What is to be said of texts.
-#[derive(Clone, Copy, Debug, PartialEq, Eq)]
-pub enum Task {
-    /// Nothing, if it is a module.
-    Check,
-    /// The listing of the module.
-    Show,
-    /// A text of the module, laid out as said.
-    Print(Layout),
-}
+use wat_text::Task;
 
 /// What the program is asked for.
 #[derive(Clone, Copy, Debug, PartialEq, Eq)]
 pub enum Command {
     /// To read the files that the words name behind so many, or standard input if there are none.
     Read(Task, usize),
+    /// To format them, or if it is so only to say which would change.
+    Format(bool, usize),
     /// How the program is called.
     Help,
     /// Which program it is.
@@ -68,6 +61,26 @@ fn printing_of(words: &[String]) -> Option<Command>
     }
 }
 
+/// What formatting asks for, with the words behind those before the names.
+fn format_with(check: bool, before: usize, files: &[String]) -> Option<Command>
+    ensures { result ≡ format_of check before (map string_bytes files.now) }
+{
+    if !are_files(files) {
+        return None;
+    }
+    Some(Command::Format(check, before))
+}
+
+/// What `fmt` asks for, with the words behind it.
+fn formatting_of(words: &[String]) -> Option<Command>
+    ensures { result ≡ formatting_of (map string_bytes words.now) }
+{
+    match words.split_first() {
+        Some((first, files)) if first.as_str() == "--check" => format_with(true, 2, files),
+        _ => format_with(false, 1, words),
+    }
+}
+
 /// What a first word asks for, with further words behind it.
 fn command_with(first: &str, further: &[String]) -> Option<Command>
     ensures { result ≡ command_of (first.now ∷ map string_bytes further.now) }
@@ -76,6 +89,7 @@ fn command_with(first: &str, further: &[String]) -> Option<Command>
         "check" if are_files(further) => Some(Command::Read(Task::Check, 1)),
         "list" if further.len() == 1 && are_files(further) => Some(Command::Read(Task::Show, 1)),
         "print" => printing_of(further),
+        "fmt" => formatting_of(further),
         "--help" if further.is_empty() => Some(Command::Help),
         "--version" if further.is_empty() => Some(Command::Version),
         _ => None,

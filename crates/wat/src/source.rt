@@ -2,6 +2,7 @@
 
 ghost use Rattle.std.specs.Prelude.{◌≡◌, ⊤, ℕ, List, IfOk, IfErr, IfSome};
 
+use crate::replace::replace_file;
 use std::alloc::Global;
 use std::fs::File;
 use std::io;
@@ -20,6 +21,17 @@ pub trait Sources {
     fn read(&self, alloc: Global, name: &str) -> io::Result<Vec<u8>>
         ensures given { IfOk result (λ bytes. gives self.now name.now bytes.items) }
         ensures failed { IfErr result (λ _. fails self.now name.now) };
+}
+
+/// Sources of which each can be replaced.
+pub trait Places: Sources {
+    /// From the one to the other, these bytes were put in the place of what the name stands for.
+    ghost puts: { Self → Self → List ℕ → List ℕ → Type 0 };
+
+    /// Puts a text in the place of what the name stands for. If that fails, all is as it was.
+    fn replace(&mut self, alloc: Global, name: &str, text: &str) -> io::Result<()>
+        ensures put { IfOk result (λ _. puts self.old self.new name.now text.now) }
+        ensures kept { IfErr result (λ _. self.new ≡ self.old) };
 }
 
 /// All bytes that a reader has left.
@@ -49,6 +61,14 @@ impl<'a, R: Files> Sources for SystemFiles<'a, R> {
     }
 }
 
+impl<'a, R: Files> Places for SystemFiles<'a, R> {
+    ghost puts = { λ _ _ _ _. ⊤ };
+
+    fn replace(&mut self, alloc: Global, name: &str, text: &str) -> io::Result<()> {
+        replace_file(self.rt, alloc, name, text)
+    }
+}
+
 /// Standard input, whatever its name.
 #[derive(Drop)]
 pub struct StandardInput<'a, R> {
@@ -62,5 +82,14 @@ impl<'a, R: Input> Sources for StandardInput<'a, R> {
 
     fn read(&self, alloc: Global, _name: &str) -> io::Result<Vec<u8>> {
         all_of(alloc, self.rt.reader())
+    }
+}
+
+impl<'a, R: Input> Places for StandardInput<'a, R> {
+    ghost puts = { λ _ _ _ _. ⊤ };
+
+    /// Standard input is in no place.
+    fn replace(&mut self, _alloc: Global, _name: &str, _text: &str) -> io::Result<()> {
+        Err(io::Error::from(io::ErrorKind::Unsupported))
     }
 }

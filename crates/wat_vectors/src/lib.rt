@@ -10,6 +10,10 @@ mod cut_short;
 #[cfg(test)]
 mod invoke;
 #[cfg(test)]
+mod module;
+#[cfg(test)]
+mod parts;
+#[cfg(test)]
 mod path;
 #[cfg(test)]
 mod printed;

@@ -4,12 +4,14 @@ use crate::refused::read;
 use bumpalo::Bump;
 use std::alloc::{AllocError, Global};
 use std::test::Fail;
+use wat_core::whole::Grouped;
 use wat_core::{
-    BlockOp, BranchHint, Error, Expression, F32, FoldedInstruction, FunctionType,
-    FunctionTypeNoNames, Id, Instruction, LabelOp, MemArgOrdering, MemoryType, Ordering, Producers,
-    ScalarOp, Span, Table, TableKind, Type, TypeUse, VisibleModule, read_module,
+    BlockOp, BranchHint, Custom, Data, Dylink0, Error, Expression, F32, FoldedInstruction,
+    FunctionType, FunctionTypeNoNames, Id, Instruction, LabelOp, MemArgOrdering, MemoryType,
+    ModuleField, Ordering, Parse, Producers, RawCustomSection, ScalarOp, Span, Table, TableKind,
+    Type, TypeUse, VisibleModule, read_module,
 };
-use wat_print::{Layout, Print, print};
+use wat_print::{Layout, Print, print, read_value};
 use wat_print_instr::expression::{expression_read_again, print_expression};
 use wat_print_instr::{Code, PrintCode};
 use wat_print_module::{ModulePart, PrintPart, print_module, read_again};
@@ -161,5 +163,38 @@ fn a_module_is_read_again(rt: HostRuntime) -> Result<(), Fail> {
     assert_eq!(rt; printed.as_str(), "(module $m (start 0) (@custom \"a\"))");
     let visible = print(rt.alloc(), &ModulePart(&VisibleModule(again)), Layout::Line)?;
     assert_eq!(rt; visible.as_str(), "module $m (start 0) (@custom \"a\")");
+    Ok(())
+}
+
+/// What is printed of the value that a text spells in its parentheses.
+fn printed_group<'a, T: Parse<'a> + PrintPart + Drop>(
+    alloc: Global,
+    text: &'a str,
+    arena: &'a Bump,
+) -> Result<String, Fail> {
+    let Grouped(value) = read_value::<Grouped<T>>(alloc, text, arena)?;
+    Ok(print(alloc, &ModulePart(&value), Layout::Line)?)
+}
+
+// What is printed in its parentheses is read in them.
+#[test]
+fn groups_are_read_again(rt: HostRuntime) -> Result<(), Fail> {
+    let arena = Bump::new(rt.alloc());
+    let alloc = rt.alloc();
+    let field = printed_group::<ModuleField>(alloc, "(start 0)", &arena)?;
+    assert_eq!(rt; field.as_str(), "(start 0)");
+    let custom = printed_group::<Custom>(alloc, "(@custom \"a\" \"b\")", &arena)?;
+    assert_eq!(rt; custom.as_str(), "(@custom \"a\" \"b\")");
+    let raw = "(@custom \"a\" (after func) \"b\")";
+    let section = printed_group::<RawCustomSection>(alloc, raw, &arena)?;
+    assert_eq!(rt; section.as_str(), raw);
+    let entries = "(@producers (sdk \"a\" \"1\"))";
+    let producers = printed_group::<Producers>(alloc, entries, &arena)?;
+    assert_eq!(rt; producers.as_str(), entries);
+    let needed = "(@dylink.0 (needed \"a\"))";
+    let dylink = printed_group::<Dylink0>(alloc, needed, &arena)?;
+    assert_eq!(rt; dylink.as_str(), needed);
+    let data = printed_group::<Data>(alloc, "(data \"ab\")", &arena)?;
+    assert_eq!(rt; data.as_str(), "(data \"ab\")");
     Ok(())
 }

@@ -1,7 +1,7 @@
 use Rattle.std.proofs.Common.{ap, ℕ, Vec, Global}
 use Rattle.std.specs.String.{string_bytes}
-use Rattle.wat.proofs.Saying.{says_print, some_spells}
-use Rattle.wat.proofs.outcome.printed.Goals as goal
+use Rattle.wat_text.proofs.Saying.{says_print, some_spells}
+use Rattle.wat_text.proofs.outcome.printed.Goals as goal
 use Rattle.wat_core.specs.Module.{module_view}
 
 pub returns-in_ok-push_str-in-Ok : goal.returns-in_ok-push_str-in-Ok

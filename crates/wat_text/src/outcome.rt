@@ -1,15 +1,16 @@
 //! What is said of one text.
 
 ghost use Rattle.std.specs.Prelude.{◌≡◌, ◌≢◌, IfOk, IfErr};
-ghost use Rattle.wat.specs.Outcomes.{SaysOfBytes, SaysOfText, SaysOf, WasRead};
-ghost use Rattle.wat.specs.declared.command.Task.TheVariants.{Print};
+ghost use Rattle.wat_text.specs.Outcomes.{SaysOfBytes, SaysOfText, SaysOfRead, SaysOf, WasRead};
+ghost use Rattle.wat_text.specs.declared.task.Task.TheVariants.{Print};
 ghost use Rattle.wat_core.specs.Module.{ModuleTy, module_view};
 ghost use Rattle.wat_core.specs.Text.{SpellsModule};
 ghost use Rattle.wat_core.specs.Error.{Memory};
 ghost use Rattle.wat_core.specs.LexerPlace.{offset_of};
 ghost use Rattle.wat_report.specs.Report.{IsReport};
 
-use crate::command::Task;
+use crate::checked::said_of_checked;
+use crate::task::Task;
 use bumpalo::Bump;
 use std::alloc::{AllocError, Global};
 use wat_core::{Error, Fault, Module, read_module};
@@ -52,7 +53,12 @@ fn said_of_module(alloc: Global, task: Task, module: &Module) -> Result<Vec<u8>,
 }
 
 /// The report of why a text is refused, and its status. Want of memory has none.
-fn refused(alloc: Global, name: &str, text: &str, error: Error) -> Result<(Vec<u8>, u8), AllocError>
+pub(crate) fn refused(
+    alloc: Global,
+    name: &str,
+    text: &str,
+    error: Error,
+) -> Result<(Vec<u8>, u8), AllocError>
     ensures fault { IfOk result (λ said. error.fault ≢ Memory) }
     ensures report { IfOk result (λ said. IsReport name.now text.now (offset_of error.span)
         error.fault said.0.items) }
@@ -67,12 +73,33 @@ fn refused(alloc: Global, name: &str, text: &str, error: Error) -> Result<(Vec<u
 }
 
 /// Reads the module that the text is.
-fn module_of<'a>(alloc: Global, text: &'a str, arena: &'a Bump) -> Result<Module<'a>, Error>
+pub(crate) fn module_of<'a>(
+    alloc: Global,
+    text: &'a str,
+    arena: &'a Bump,
+) -> Result<Module<'a>, Error>
     ensures found { IfOk result (λ m. SpellsModule text.now (module_view m)) }
     ensures none { IfErr result (λ e. e.fault ≢ Memory → (m : ModuleTy)
         → SpellsModule text.now m → ⊥) }
 {
     read_module(alloc, text, arena)
+}
+
+/// What is said of a text that is listed or printed, and its status: 0 if it is a module, else 1.
+#[tactic(auto, unfolding(crate::specs::Outcomes::SaysOfRead))]
+fn said_of_read(
+    alloc: Global,
+    task: Task,
+    name: &str,
+    text: &str,
+) -> Result<(Vec<u8>, u8), AllocError>
+    ensures { IfOk result (λ said. SaysOfRead task name.now text.now said.0.items said.1) }
+{
+    let arena = Bump::new(alloc);
+    match module_of(alloc, text, &arena) {
+        Ok(module) => Ok((said_of_module(alloc, task, &module)?, 0)),
+        Err(error) => refused(alloc, name, text, error),
+    }
 }
 
 /// What is said of a text of that name, and its status: 0 if it is a module, else 1.
@@ -85,10 +112,9 @@ fn said_of_text(
 ) -> Result<(Vec<u8>, u8), AllocError>
     ensures { IfOk result (λ said. SaysOfText task name.now text.now said.0.items said.1) }
 {
-    let arena = Bump::new(alloc);
-    match module_of(alloc, text, &arena) {
-        Ok(module) => Ok((said_of_module(alloc, task, &module)?, 0)),
-        Err(error) => refused(alloc, name, text, error),
+    match task {
+        Task::Check => said_of_checked(alloc, name, text),
+        Task::Show | Task::Print(_) => said_of_read(alloc, task, name, text),
     }
 }
 

@@ -1,8 +1,8 @@
 -- What is said of texts.
 use Rattle.std.specs.Prelude.{◌≡◌, ◌≢◌, ◌⊎◌, ◌∷◌, ◌++◌, ℕ, List, []}
 use Rattle.std.specs.Str.{IsUtf8, IsValidUpTo}
-use Rattle.wat.specs.declared.command.Task.{Task}
-use Rattle.wat.specs.declared.command.Task.TheVariants.{Check, Show, Print}
+use Rattle.wat_text.specs.declared.task.Task.{Task}
+use Rattle.wat_text.specs.declared.task.Task.TheVariants.{Check, Show, Print}
 use Rattle.wat_core.specs.Error.{Fault, Memory}
 use Rattle.wat_core.specs.Module.{ModuleTy}
 use Rattle.wat_core.specs.Text.{SpellsModule}
@@ -12,6 +12,7 @@ use Rattle.wat_print_module.specs.Module.{spell_module_group}
 use Rattle.wat_report.specs.Report.{IsReport}
 use Rattle.wat_report.specs.WrongBytes.{wrong_byte_report}
 use Rattle.wat_show.specs.Modules.{module_text}
+use Rattle.wat_text.specs.Checked.{SaysOfChecked}
 
 -- Of a module: nothing; what `watshow module` lists of it; or a text that spells it, on one line the
 -- text of its tokens, and a line break.
@@ -39,9 +40,16 @@ SaysOfFault name text said status =
     × (status ≡ 1)
 
 -- the one or the other
-unfoldable pub SaysOfText : Task → List ℕ → List ℕ → List ℕ → ℕ → Type 0
-SaysOfText task name text said status =
+unfoldable pub SaysOfRead : Task → List ℕ → List ℕ → List ℕ → ℕ → Type 0
+SaysOfRead task name text said status =
     SaysOfModule task text said status ⊎ SaysOfFault name text said status
+
+-- A text is checked by its twin, which has integers in place of float literals. It is listed and
+-- printed as it is.
+unfoldable pub SaysOfText : Task → List ℕ → List ℕ → List ℕ → ℕ → Type 0
+SaysOfText Check name text said status = SaysOfChecked name text said status
+SaysOfText Show name text said status = SaysOfRead Show name text said status
+SaysOfText (Print layout) name text said status = SaysOfRead (Print layout) name text said status
 
 -- the first byte that isn't UTF-8 is reported, with status 1
 abbrev pub SaysOfWrongByte : List ℕ → List ℕ → List ℕ → ℕ → Type 0

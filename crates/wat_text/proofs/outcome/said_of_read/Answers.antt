@@ -1,5 +1,5 @@
-use Rattle.wat.proofs.Saying.{says_fault}
-use Rattle.wat.proofs.outcome.said_of_text.Goals as goal
+use Rattle.wat_text.proofs.Saying.{says_fault}
+use Rattle.wat_text.proofs.outcome.said_of_read.Goals as goal
 use Rattle.wat_core.specs.LexerPlace.{offset_of}
 
 pub returns : goal.returns

@@ -1,0 +1,31 @@
+-- What a call for C answers.
+use Rattle.std.specs.Prelude.{◌≡◌, ◌≤◌, ◌<◌, ◌⊎◌, ◌++◌, Bool, ℕ, ℤ, pos, List, length, drop}
+use Rattle.std.specs.Prelude.{if◌then◌else◌}
+use Rattle.wat_print.specs.declared.output.Layout.{Layout}
+use Rattle.wat_print.specs.declared.output.Layout.TheVariants.{Line, Indented}
+use Rattle.wat_text.specs.Formatted.{IsFormatted, ReportsBytes}
+
+-- The length of what is said is told. Where the room holds it, the room begins with it, and behind
+-- that it is as before; else all of it is as before.
+abbrev pub Filled : List ℕ → List ℕ → List ℕ → ℕ → Type 0
+Filled said before after needed =
+    (needed ≡ length said)
+    × (length said ≤ length before → after ≡ said ++ drop (length said) before)
+    × (length before < length said → after ≡ before)
+
+-- Something is said, and its status answered; or memory ran out, which is answered as 2, and nothing
+-- was written.
+abbrev pub Answered : (List ℕ → ℕ → Type 0) → ℤ → List ℕ → List ℕ → ℕ → ℕ → Type 0
+Answered says result before after needed_before needed =
+    ((said : List ℕ) × (status : ℕ) × says said status × (result ≡ pos status)
+    × Filled said before after needed)
+    ⊎ ((result ≡ pos 2) × (after ≡ before) × (needed ≡ needed_before))
+
+-- bytes are formatted, with status 0, or it is reported why they can't be, with status 1
+unfoldable pub FormatsBytes : List ℕ → List ℕ → List ℕ → ℕ → Type 0
+FormatsBytes name bytes said status =
+    (IsFormatted bytes said × (status ≡ 0)) ⊎ (ReportsBytes name bytes said × (status ≡ 1))
+
+-- on one line, or its instructions one a line
+abbrev pub layout_of : Bool → Layout
+layout_of line = if line then Line else Indented

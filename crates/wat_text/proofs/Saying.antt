@@ -1,0 +1,40 @@
+-- What a refusal means, and what is printed.
+use Rattle.std.proofs.Common.{◌≡◌, ℕ, ◌+◌, List, [], ◌∷◌, ◌++◌, ◌∙◌, Ok, Err, inr}
+use Rattle.std.specs.Prelude.{true, ◌≢◌, Result, IfOk, IfErr, MatchResult}
+use Rattle.wat_text.specs.Outcomes.{SaysOf, SaysOfRead, WasRead}
+use Rattle.wat_text.specs.declared.task.Task.{Task}
+use Rattle.wat_text.specs.declared.task.Task.TheVariants.{Print}
+use Rattle.wat_core.specs.Error.{Fault, Memory}
+use Rattle.wat_core.specs.Groups.{paren}
+use Rattle.wat_core.specs.Module.{ModuleTy, module_}
+use Rattle.wat_core.specs.Text.{SpellsModule}
+use Rattle.wat_core.specs.Laws.Text.{group_stands}
+use Rattle.wat_core.specs.Token.{tokens_of}
+use Rattle.wat_print.specs.Printed.{NoneSpells}
+use Rattle.wat_print.specs.Text.{printed_text}
+use Rattle.wat_print.specs.declared.output.Layout.{Layout}
+use Rattle.wat_print.specs.declared.output.Layout.TheVariants.{Line}
+use Rattle.wat_print_module.specs.Module.{spell_module_group}
+use Rattle.wat_report.specs.Report.{IsReport}
+
+-- a fault that isn't the one that a text which spells a value may have
+pub none_spells : {T E V : Type 0} (S : V → Type 0) (P : V → T → Type 0) (Q : E → Type 0) (r : Result T E) → ((v : V) → S v → MatchResult r (P v) Q) → IfErr r (λ e. (Q e → ⊥) → (v : V) → S v → ⊥)
+none_spells S P Q (Ok x) only = tt
+none_spells S P Q (Err e) only = λ other v s. other (only v s)
+
+pub says_fault : {T E : Type 0} (task : Task) (name text : List ℕ) (f : Fault) (offset : ℕ) (said : T → List ℕ) (status : T → ℕ) (r : Result T E)
+    → (f ≢ Memory → (m : ModuleTy) → SpellsModule text m → ⊥) → IfOk r (λ x. f ≢ Memory) → IfOk r (λ x. IsReport name text offset f (said x)) → IfOk r (λ x. status x ≡ 1)
+    → IfOk r (λ x. SaysOfRead task name text (said x) (status x))
+unfolding SaysOfRead
+says_fault task name text f offset said status (Ok x) none other is one = inr (none other, (f, offset, other, is), one)
+says_fault task name text f offset said status (Err e) none other is one = tt
+
+pub says_print : (layout : Layout) (m : ModuleTy) (text new said : List ℕ) → SpellsModule text m → (layout ≡ Line → text ≡ printed_text (spell_module_group m)) → new ≡ text ++ 10 ∷ [] → said ≡ new → SaysOf (Print layout) m said
+unfolding SaysOf
+says_print layout m text new said spells line added is = (text, spells, line, is ∙ added)
+
+-- tokens of a text spell what was read
+pub some_spells : (m : ModuleTy) → WasRead m → NoneSpells (paren module_) m → ⊥
+some_spells m (text, u, (ts, cut, s)) none =
+    let (b, c, r, e, spells) = group_stands m (tokens_of ts) s in
+    none text ts true b c r u cut e spells

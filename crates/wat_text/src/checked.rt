@@ -1,0 +1,177 @@
+//! What is said of a text that is checked.
+
+ghost use Rattle.std.specs.Prelude.{◌≡◌, ◌++◌, List, IfOk, OnOk};
+ghost use Rattle.std.specs.Option.{option_to_list};
+ghost use Rattle.wat_core.specs.Cut.{IsCut};
+ghost use Rattle.wat_core.specs.LexerPlace.{offset_of};
+ghost use Rattle.wat_core.specs.Token.{Placed};
+ghost use Rattle.wat_text.specs.Checked.{AddsReports, SaysOfChecked, SaysOfFaults, SaysOfTwin};
+ghost use Rattle.wat_text.specs.Checked.{IsSaidOf, beside_of, is_told, lead_of, more_line};
+
+use crate::outcome::{module_of, refused};
+use bumpalo::Bump;
+use std::alloc::{AllocError, Global};
+use wat_core::{Error, Fault, ModuleField};
+use wat_faults::fields::{FieldFaults, field_faults};
+use wat_report::add_report;
+use wat_twin::twin::twin;
+
+/// How many fields of a text are reported.
+const MOST: usize = 20;
+
+/// Whether one of the errors is at the offset.
+#[tactic(auto, using(crate::proofs::Reporting::none_told))]
+fn is_told(errors: &[Error], offset: usize) -> bool
+    ensures { result ≡ is_told errors.now offset }
+{
+    for error in errors {
+        if error.span.offset() == offset {
+            return true;
+        }
+    }
+    false
+}
+
+/// The error for which the text is no module, unless it is one of those of the fields.
+fn lead_of(first: Error, errors: &[Error]) -> Option<Error>
+    ensures { result ≡ lead_of first errors.now }
+{
+    if is_told(errors, first.span.offset()) {
+        return None;
+    }
+    Some(first)
+}
+
+/// What is wrong beside the fields, unless it is told already.
+fn beside_of(first: Error, errors: &[Error], beside: Option<Error>) -> Option<Error>
+    ensures { result ≡ beside_of first errors.now beside }
+{
+    let error = beside?;
+    let offset = error.span.offset();
+    if first.span.offset() == offset || is_told(errors, offset) {
+        return None;
+    }
+    Some(error)
+}
+
+/// Adds the report of an error, if there is one.
+#[tactic(auto, using(crate::proofs::Reporting::adds_one))]
+fn add_one(
+    out: &mut Vec<u8>,
+    name: &str,
+    text: &str,
+    error: Option<Error>,
+) -> Result<(), AllocError>
+    ensures { OnOk result (AddsReports name.now text.now (option_to_list error) out.old.items
+        out.new.items) }
+{
+    match error {
+        Some(error) => add_report(out, name, text, error),
+        None => Ok(()),
+    }
+}
+
+/// Adds the reports of errors, one behind the other.
+#[tactic(auto, using(crate::proofs::Reporting::adds_none))]
+fn add_reports(
+    out: &mut Vec<u8>,
+    name: &str,
+    text: &str,
+    errors: &[Error],
+) -> Result<(), AllocError>
+    ensures { OnOk result (AddsReports name.now text.now errors.now out.old.items out.new.items) }
+{
+    for error in errors {
+        add_report(out, name, text, *error)?;
+    }
+    Ok(())
+}
+
+/// Adds a line that says how many more fields are refused, if any is.
+fn add_more(out: &mut Vec<u8>, name: &str, count: usize) -> Result<(), AllocError>
+    ensures { OnOk result (out.new.items ≡ out.old.items ++ more_line name.now count) }
+{
+    if count == 0 {
+        return Ok(());
+    }
+    let line = format!(in *out.allocator(); "{name}: error: {count} more fields are refused\n")?;
+    out.extend_from_slice(line.as_bytes())
+}
+
+/// What is said of the faults that were found.
+fn said_of_found(
+    alloc: Global,
+    name: &str,
+    text: &str,
+    first: Error,
+    found: &FieldFaults,
+) -> Result<Vec<u8>, AllocError>
+    ensures { IfOk result (λ said. IsSaidOf name.now text.now first found.now said.items) }
+{
+    let faults = found.faults.as_slice();
+    let mut out = Vec::new(alloc);
+    add_one(&mut out, name, text, lead_of(first, faults))?;
+    add_reports(&mut out, name, text, faults)?;
+    add_more(&mut out, name, found.count.saturating_sub(faults.len()))?;
+    let beside = beside_of(first, faults, found.beside);
+    add_one(&mut out, name, text, beside)?;
+    Ok(out)
+}
+
+/// What is said of a text whose twin is refused with that error first.
+fn said_of_faults(
+    alloc: Global,
+    name: &str,
+    text: &str,
+    read: &str,
+    first: Error,
+) -> Result<Vec<u8>, AllocError>
+    requires cut { (ts : List Placed) × IsCut read.now ts }
+    ensures { IfOk result (λ said. SaysOfFaults name.now text.now read.now first said.items) }
+{
+    let arena = Bump::new(alloc);
+    match field_faults::<ModuleField>(alloc, read, &arena, MOST) {
+        Ok(found) => said_of_found(alloc, name, text, first, &found),
+        Err(error) => match error.fault {
+            Fault::Memory => Err(AllocError),
+            // (it is cut, so it is refused for no other reason)
+            _ => unreachable!(),
+        },
+    }
+}
+
+/// What is said of a text with that twin, and its status.
+#[tactic(auto, unfolding(crate::specs::Checked::SaysOfTwin))]
+fn said_of_twin(
+    alloc: Global,
+    name: &str,
+    text: &str,
+    read: &str,
+) -> Result<(Vec<u8>, u8), AllocError>
+    requires cut { (ts : List Placed) × IsCut read.now ts }
+    ensures { IfOk result (λ said. SaysOfTwin name.now text.now read.now said.0.items said.1) }
+{
+    let arena = Bump::new(alloc);
+    match module_of(alloc, read, &arena) {
+        Ok(_) => Ok((Vec::new(alloc), 0)),
+        Err(first) => match first.fault {
+            Fault::Memory => Err(AllocError),
+            _ => Ok((said_of_faults(alloc, name, text, read, first)?, 1)),
+        },
+    }
+}
+
+/// What is said of a text of that name, and its status: nothing and 0 if its twin is a module.
+#[tactic(auto, unfolding(crate::specs::Checked::SaysOfChecked))]
+pub(crate) fn said_of_checked(
+    alloc: Global,
+    name: &str,
+    text: &str,
+) -> Result<(Vec<u8>, u8), AllocError>
+    ensures { IfOk result (λ said. SaysOfChecked name.now text.now said.0.items said.1) }
+{
+    match twin(alloc, text) {
+        Ok(read) => said_of_twin(alloc, name, text, read.as_str()),
+        Err(error) => refused(alloc, name, text, error),
+    }
+}
