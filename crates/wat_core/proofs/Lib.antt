@@ -1,5 +1,9 @@
 pub mod Enclosed
 pub mod Ends
 pub mod Fields
+pub mod Heads
 pub mod IndependentOfRest
+pub mod Places
 pub mod Rows
+pub mod Stands
+pub mod Telling

@@ -134,5 +134,9 @@ pub mod FieldGroup
 pub mod FieldOf
 pub mod Laws
 pub mod Module
+pub mod ModuleGroups
+pub mod ModuleHead
 pub mod Rows
 pub mod Text
+pub mod Visible
+pub mod WrongFields

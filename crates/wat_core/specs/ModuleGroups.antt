@@ -1,0 +1,39 @@
+-- The groups of a text.
+use Rattle.std.specs.Prelude.{◌≡◌, ◌≤◌, ℕ, true, false, List, [], ◌∷◌, Option, None, slice_range}
+use Rattle.std.specs.Str.{IsCharBoundary}
+use Rattle.wat_lexer.specs.Token.{Placed, LParen}
+use Rattle.wat_tokens.specs.Tests.{begins_lparen}
+use Rattle.wat_core.specs.Visible.{shown, seen, closing, end_by, rest_by}
+use Rattle.wat_core.specs.ModuleHead.{behind_head, has_head, wrong_end}
+use Rattle.wat_core.specs.declared.module_group.Group.{Group}
+
+-- the bytes of a group
+abbrev pub bytes_of : List ℕ → Group → List ℕ
+bytes_of text g = slice_range text g.from g.end
+
+-- it is a part of the text that begins and ends with a character
+pub record IsPart (text : List ℕ) (g : Group) : Type 0 where
+  pub order : g.from ≤ g.end
+  pub begins : IsCharBoundary text g.from
+  pub ends : IsCharBoundary text g.end
+
+-- In a text of so many bytes the group is next, from its `(` to behind its `)`, or to the end of the
+-- text where it isn't closed; the rest are the tokens behind it.
+abbrev pub IsNext : ℕ → List Placed → Group → List Placed → Type 0
+IsNext size ts g rest =
+    (inner : List Placed) × (shown true ts ≡ record { token = LParen; offset = g.from } ∷ inner)
+    × (g.end ≡ end_by size (closing 0 inner)) × (rest ≡ rest_by (closing 0 inner))
+
+-- The tokens begin with the groups, one behind the other; no further `(` is next in what is left.
+pub data GroupsTo : ℕ → List Placed → List Group → List Placed → Type 0 where
+  none : (size : ℕ) (ts : List Placed) → begins_lparen (seen true ts) ≡ false
+      → GroupsTo size ts [] ts
+  next : (size : ℕ) (ts rest left : List Placed) (g : Group) (gs : List Group)
+      → IsNext size ts g rest → GroupsTo size rest gs left → GroupsTo size ts (g ∷ gs) left
+
+-- The groups behind the module's head, and what is wrong behind them; a text without a head has no
+-- groups.
+pub data HasGroups : ℕ → List Placed → List Group → Option ℕ → Type 0 where
+  headless : (size : ℕ) (ts : List Placed) → has_head ts ≡ false → HasGroups size ts [] None
+  headed : (size : ℕ) (ts left : List Placed) (gs : List Group) → has_head ts ≡ true
+      → GroupsTo size (behind_head ts) gs left → HasGroups size ts gs (wrong_end size left)

@@ -1,0 +1,73 @@
+//! The groups of a text, each from its `(` to behind its `)`.
+
+ghost use Rattle.std.specs.Prelude.{◌≡◌, ◌≤◌, ◌<◌, ◌+◌, MatchOption, IfSome, None, Some, true, false};
+ghost use Rattle.std.specs.Prelude.{length, drop};
+ghost use Rattle.std.proofs.Math.ListN.{get_or};
+ghost use Rattle.wat_lexer.specs.Cut.{IsCut};
+ghost use Rattle.wat_lexer.specs.View.{placed, AreSkips, no_entry};
+ghost use Rattle.wat_tokens.specs.Tests.{begins_lparen};
+ghost use Rattle.wat_core.specs.Visible.{seen, closing};
+ghost use Rattle.wat_core.specs.ModuleGroups.{IsNext, IsPart};
+
+use crate::visible::{first_shown, opens_at};
+use wat_lexer::tokens::Tokens;
+
+/// Where a group begins and ends, in bytes from the start of the text.
+#[derive(Clone, Copy, Debug)]
+pub struct Group {
+    pub from: usize,
+    pub end: usize,
+}
+
+/// The place of the `)` that closes the group within which a place is; None where none does.
+#[tactic(auto, using(crate::proofs::Places::closing_steps))]
+pub(crate) fn closing(tokens: &Tokens, from: usize) -> Option<usize>
+    requires { from ≤ length tokens.now }
+    ensures value { MatchOption result (closing 0 (drop from (placed tokens.now)) ≡ None)
+        (λ i. closing 0 (drop from (placed tokens.now))
+        ≡ Some ((get_or tokens.now i no_entry).offset, drop (i + 1) (placed tokens.now))) }
+    ensures within { IfSome result (λ i. (from ≤ i) × (i < length tokens.now)
+        × (i < 9223372036854775807)) }
+{
+    let mut depth: usize = 0;
+    for i in from..tokens.len() {
+        if tokens.closes(i) {
+            if depth == 0 {
+                return Some(i);
+            }
+            depth -= 1;
+        } else if tokens.opens(i) {
+            depth += 1;
+        }
+    }
+    None
+}
+
+/// The group that is next from a place on, and the place behind it; None where no `(` is. A group
+/// that isn't closed goes to the end of the text.
+pub(crate) fn next_group(text: &str, tokens: &Tokens, at: usize) -> Option<(Group, usize)>
+    requires within { at ≤ length tokens.now }
+    requires skips { AreSkips tokens.now }
+    requires cut { IsCut text.now (placed tokens.now) }
+    ensures next { MatchOption result (begins_lparen (seen true (drop at (placed tokens.now)))
+        ≡ false) (λ r. IsNext (length text.now) (drop at (placed tokens.now)) r.0
+        (drop r.1 (placed tokens.now))) }
+    ensures place { IfSome result (λ r. (at < r.1) × (r.1 ≤ length tokens.now)) }
+    ensures part { IfSome result (λ r. IsPart text.now r.0) }
+{
+    let open = first_shown(tokens, at, true);
+    if !opens_at(tokens, open) {
+        return None;
+    }
+    let from = tokens.offset(open);
+    match closing(tokens, open + 1) {
+        Some(close) => {
+            let end = tokens.offset(close) + 1;
+            Some((Group { from, end }, close + 1))
+        }
+        None => {
+            let end = text.len();
+            Some((Group { from, end }, tokens.len()))
+        }
+    }
+}

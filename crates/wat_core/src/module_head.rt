@@ -1,0 +1,99 @@
+//! What a module has besides its fields: its head, and what stands behind them (Text Format,
+//! "Modules").
+
+ghost use Rattle.std.specs.Prelude.{◌≡◌, ◌≤◌, MatchOption, IfSome, true, false};
+ghost use Rattle.std.specs.Prelude.{length, drop};
+ghost use Rattle.wat_lexer.specs.View.{placed, AreSkips};
+ghost use Rattle.wat_lexer.specs.Place.{offset_of};
+ghost use Rattle.wat_tokens.specs.Error.{Unexpected};
+ghost use Rattle.wat_core.specs.ModuleHead.{place_of, wrong_end, IsUnexpected};
+ghost use Rattle.wat_core.specs.ModuleHead.{behind_id, behind_name, behind_head, has_head};
+
+use crate::module_group::closing;
+use crate::visible::{closes_at, first_shown, id_at, name_at, opens_at, word_at};
+use wat_lexer::fault::{Error, Fault, fault_at};
+use wat_lexer::tokens::Tokens;
+
+/// The place behind an identifier, where one is next.
+fn behind_id(tokens: &Tokens, at: usize) -> usize
+    requires within { at ≤ length tokens.now }
+    requires skips { AreSkips tokens.now }
+    ensures value { drop result (placed tokens.now) ≡ behind_id (drop at (placed tokens.now)) }
+    ensures within { result ≤ length tokens.now }
+{
+    let first = first_shown(tokens, at, true);
+    if !id_at(tokens, first) {
+        return at;
+    }
+    first + 1
+}
+
+/// The place behind a group that begins with the annotation `@name`, where one is next.
+fn behind_name(tokens: &Tokens, at: usize) -> usize
+    requires within { at ≤ length tokens.now }
+    requires skips { AreSkips tokens.now }
+    ensures value { drop result (placed tokens.now) ≡ behind_name (drop at (placed tokens.now)) }
+    ensures within { result ≤ length tokens.now }
+{
+    let first = first_shown(tokens, at, true);
+    if !name_at(tokens, first) {
+        return at;
+    }
+    match closing(tokens, first + 1) {
+        Some(close) => close + 1,
+        None => tokens.len(),
+    }
+}
+
+/// The place behind the module's head; None where none is there, or that of a module in binary.
+pub fn behind_head(tokens: &Tokens) -> Option<usize>
+    requires { AreSkips tokens.now }
+    ensures head { MatchOption result (has_head (placed tokens.now) ≡ false)
+        (λ at. (has_head (placed tokens.now) ≡ true)
+        × (drop at (placed tokens.now) ≡ behind_head (placed tokens.now))) }
+    ensures within { IfSome result (λ at. at ≤ length tokens.now) }
+{
+    let open = first_shown(tokens, 0, false);
+    if !opens_at(tokens, open) {
+        return None;
+    }
+    let word = first_shown(tokens, open + 1, true);
+    if !word_at(tokens, word, "module") {
+        return None;
+    }
+    let named = behind_id(tokens, word + 1);
+    let at = behind_name(tokens, named);
+    let next = first_shown(tokens, at, true);
+    if word_at(tokens, next, "binary") {
+        return None;
+    }
+    Some(at)
+}
+
+/// The fault Unexpected at the token at a place, or at the end of the text where none is there.
+fn unexpected(tokens: &Tokens, at: usize, end: usize) -> Error
+    ensures fault { result.fault ≡ Unexpected }
+    ensures place { offset_of result.span ≡ place_of end (drop at (placed tokens.now)) }
+{
+    if at >= tokens.len() {
+        return fault_at(Fault::Unexpected, end);
+    }
+    fault_at(Fault::Unexpected, tokens.offset(at))
+}
+
+/// What is wrong behind the groups, from a place on in a text of `end` bytes.
+pub fn wrong_end(tokens: &Tokens, at: usize, end: usize) -> Option<Error>
+    requires within { at ≤ length tokens.now }
+    requires skips { AreSkips tokens.now }
+    ensures { IsUnexpected result (wrong_end end (drop at (placed tokens.now))) }
+{
+    let close = first_shown(tokens, at, true);
+    if !closes_at(tokens, close) {
+        return Some(unexpected(tokens, close, end));
+    }
+    let next = first_shown(tokens, close + 1, false);
+    if next >= tokens.len() {
+        return None;
+    }
+    Some(unexpected(tokens, next, end))
+}

@@ -1,0 +1,91 @@
+//! What stands at a place of the tokens.
+
+ghost use Rattle.std.specs.Prelude.{◌≡◌, ◌≤◌, ◌<◌, true, length, drop, codes};
+ghost use Rattle.wat_lexer.specs.Token.{tokens_of};
+ghost use Rattle.wat_lexer.specs.View.{placed, AreSkips};
+ghost use Rattle.wat_tokens.specs.Tests.{begins_lparen, begins_word, begins_id, begins_annotation};
+ghost use Rattle.wat_core.specs.Visible.{shown};
+ghost use Rattle.wat_core.specs.ModuleHead.{begins_rparen};
+
+use wat_lexer::sight::next_visible;
+use wat_lexer::token::Token;
+use wat_lexer::tokens::Tokens;
+
+/// The place of the first token from a place on that is visible.
+#[tactic(auto, using(crate::proofs::Places::shown_from))]
+pub fn first_shown(tokens: &Tokens, at: usize, known: bool) -> usize
+    requires within { at ≤ length tokens.now }
+    requires skips { AreSkips tokens.now }
+    ensures value { drop result (placed tokens.now) ≡ shown known (drop at (placed tokens.now)) }
+    ensures order { at ≤ result }
+    ensures within { result ≤ length tokens.now }
+{
+    next_visible(tokens, at, known)
+}
+
+/// Whether a `(` is at the place.
+#[tactic(auto, using(crate::proofs::Places::at_place))]
+pub fn opens_at(tokens: &Tokens, at: usize) -> bool
+    ensures value { result ≡ begins_lparen (tokens_of (drop at (placed tokens.now))) }
+    ensures within { result ≡ true → (at < length tokens.now) × (at < 9223372036854775807) }
+{
+    at < tokens.len() && tokens.opens(at)
+}
+
+/// Whether a `)` is at the place.
+#[tactic(auto, using(crate::proofs::Places::at_place))]
+pub fn closes_at(tokens: &Tokens, at: usize) -> bool
+    ensures value { result ≡ begins_rparen (tokens_of (drop at (placed tokens.now))) }
+    ensures within { result ≡ true → (at < length tokens.now) × (at < 9223372036854775807) }
+{
+    at < tokens.len() && tokens.closes(at)
+}
+
+/// Whether the keyword is at the place.
+#[tactic(auto, using(crate::proofs::Places::at_place))]
+pub fn word_at(tokens: &Tokens, at: usize, word: &str) -> bool
+    ensures value { result ≡ begins_word word.now (tokens_of (drop at (placed tokens.now))) }
+    ensures within { result ≡ true → (at < length tokens.now) × (at < 9223372036854775807) }
+{
+    if at >= tokens.len() {
+        return false;
+    }
+    match tokens.token(at) {
+        Token::Keyword(text) => text == word,
+        _ => false,
+    }
+}
+
+/// Whether an identifier is at the place.
+#[tactic(auto, using(crate::proofs::Places::at_place))]
+pub fn id_at(tokens: &Tokens, at: usize) -> bool
+    ensures value { result ≡ begins_id (tokens_of (drop at (placed tokens.now))) }
+    ensures within { result ≡ true → (at < length tokens.now) × (at < 9223372036854775807) }
+{
+    if at >= tokens.len() {
+        return false;
+    }
+    matches!(tokens.token(at), Token::Id(_))
+}
+
+/// Whether a group that begins with the annotation `@name` is at the place.
+#[tactic(auto, using(crate::proofs::Places::at_place, crate::proofs::Places::no_open, crate::proofs::Places::one_left, crate::proofs::Places::two_left))]
+pub fn name_at(tokens: &Tokens, at: usize) -> bool
+    ensures value { result ≡ begins_annotation (codes "name")
+        (tokens_of (drop at (placed tokens.now))) }
+    ensures within { result ≡ true → (at < length tokens.now) × (at < 9223372036854775807) }
+{
+    if at >= tokens.len() {
+        return false;
+    }
+    if !tokens.opens(at) {
+        return false;
+    }
+    if at + 1 >= tokens.len() {
+        return false;
+    }
+    match tokens.token(at + 1) {
+        Token::Annotation(name) => name == "name",
+        _ => false,
+    }
+}

@@ -1,4 +1,0 @@
-pub mod Heads
-pub mod Places
-pub mod Stands
-pub mod Telling

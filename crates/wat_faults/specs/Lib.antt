@@ -1,4 +1,0 @@
-pub mod Faults
-pub mod Front
-pub mod Groups
-pub mod Head

@@ -1,3 +1,0 @@
-mod Digits
-pub mod InstructionText
-pub mod Lines

@@ -1,5 +1,0 @@
-use Rattle.wat_listing.specs.Laws.Written.{added_both}
-use Rattle.wat_listing.proofs.fields.add_global.Goals as goal
-
-pub returns-in_ok-add-in-Inline : goal.returns-in_ok-add-in-Inline
-returns-in_ok-add-in-Inline c = rw c.in-Inline.is (added_both c.add_below.result _ _ _ _ _ c.in_ok-add-in-Inline.ensures c.add_below.ensures)

@@ -1,5 +1,0 @@
-use Rattle.wat_listing.proofs.text.+add_number.Given as goal
-
--- without its last digit a number is less
-abbrev pub decreases-add_number : goal.decreases-add_number
-decreases-add_number l = l.number

@@ -1,2 +1,0 @@
--- Laws of the definitions: lemmas that other crates rest on.
-pub mod Written
