@@ -4,7 +4,7 @@ use crate::row::{Row, add_refusal};
 use std::alloc::{AllocError, Global};
 use wat_core::read_module;
 use wat_report::{add_report, line_at, line_column, nearest_mnemonics};
-use wat_show::{Mode, Shows};
+use wat_show::Mode;
 
 /// Adds lines, each behind a mark.
 fn add_marked(out: &mut String, mark: &str, bytes: &[u8]) -> Result<bool, AllocError> {

@@ -1,2 +1,5 @@
-pub mod Lists
+mod Added
+mod Digits
+pub mod InstructionText
+pub mod Lines
 pub mod Showing

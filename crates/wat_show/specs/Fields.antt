@@ -1,11 +1,148 @@
 -- How the fields of a module are listed.
-use Rattle.std.specs.Prelude.{ℕ, List, length, codes}
+use Rattle.std.specs.Prelude.{ℕ, List, [], ◌++◌, Option, Some, None, length, map, flat_map, sum_by}
+use Rattle.std.specs.Prelude.{codes}
 use Rattle.wat_core.specs.Field.{ModuleFieldTy, a_type, a_rec, an_import, a_func, a_table, a_memory}
 use Rattle.wat_core.specs.Field.{a_global, an_export, a_start, an_elem, a_data, a_tag, a_custom}
-use Rattle.wat_listing.specs.Fields.{import_text, export_text, func_text, global_text, tag_text}
-use Rattle.wat_listing.specs.Fields.{table_text, elem_text, start_text, memory_text, data_text}
-use Rattle.wat_listing.specs.Fields.{custom_text}
-use Rattle.wat_listing.specs.Written.{counted}
+use Rattle.wat_links.specs.Custom.{CustomTy, raw, produced, linked}
+use Rattle.wat_expr.specs.Expression.{Expr}
+use Rattle.wat_fields.specs.Data.{DataKindTy}
+use Rattle.wat_fields.specs.Data as segments
+use Rattle.wat_fields.specs.DataVal.{DataValTy, bytes_in}
+use Rattle.wat_fields.specs.Elem.{ElemKindTy, Segment}
+use Rattle.wat_fields.specs.Elem as elems
+use Rattle.wat_fields.specs.Func.{FuncKindTy}
+use Rattle.wat_fields.specs.Func as funcs
+use Rattle.wat_fields.specs.Global.{GlobalKindTy}
+use Rattle.wat_fields.specs.Global as globals
+use Rattle.wat_fields.specs.Memory.{MemoryKindTy}
+use Rattle.wat_fields.specs.Memory as memories
+use Rattle.wat_fields.specs.Payload.{PayloadTy, indices, exprs}
+use Rattle.wat_fields.specs.Table.{TableKindTy}
+use Rattle.wat_fields.specs.Table as tables
+use Rattle.wat_links.specs.Import.{ItemsTy, single, group1, group2}
+use Rattle.wat_links.specs.declared.export.ExportKind.{ExportKind}
+use Rattle.wat_links.specs.declared.export.ExportKind.TheVariants as kind
+use Rattle.wat_tokens.specs.Index.{Idx}
+use Rattle.wat_show.specs.Expressions.{below}
+use Rattle.wat_show.specs.Types.{index_text}
+use Rattle.wat_show.specs.Words.{counted}
+
+-- ---- what lines are made of
+
+-- how many bytes the pieces have together
+abbrev pub byte_count : List (List ℕ) → ℕ
+byte_count pieces = sum_by length pieces
+
+-- the lines of expressions, in order
+abbrev pub all_below : List Expr → List ℕ
+all_below es = flat_map below es
+
+-- ---- imports and exports
+
+-- `single 1`, or which group it is and how many items are in it
+abbrev pub import_text : ItemsTy → List ℕ
+import_text (single n s) = counted (codes "import single ") 1
+import_text (group1 is) = counted (codes "import group1 ") (length is)
+import_text (group2 s is) = counted (codes "import group2 ") (length is)
+
+-- the word of what is exported
+abbrev pub export_text : ExportKind → List ℕ
+export_text kind.Func = codes "export func\n"
+export_text kind.Table = codes "export table\n"
+export_text kind.Memory = codes "export memory\n"
+export_text kind.Global = codes "export global\n"
+export_text kind.Tag = codes "export tag\n"
+
+-- ---- functions, globals and tags
+
+-- `import`; or `inline`, how many locals, and the body
+abbrev pub func_text : FuncKindTy → List ℕ
+func_text (funcs.imported i exact) = codes "func import\n"
+func_text (funcs.inline ls body) = counted (codes "func inline ") (length ls) ++ below body
+
+-- `import`; or `inline`, and the first value
+abbrev pub global_text : GlobalKindTy → List ℕ
+global_text (globals.imported i) = codes "global import\n"
+global_text (globals.inline e) = codes "global inline\n" ++ below e
+
+-- `import`, where it is imported from somewhere; else `inline`
+abbrev pub tag_text : Option (List ℕ × List ℕ) → List ℕ
+tag_text (Some i) = codes "tag import\n"
+tag_text None = codes "tag inline\n"
+
+-- ---- tables and element segments
+
+-- `indices` or `exprs`, and how many
+abbrev pub payload_line : PayloadTy → List ℕ
+payload_line (indices is) = counted (codes "indices ") (length is)
+payload_line (exprs t es) = counted (codes "exprs ") (length es)
+
+-- the lines of its expressions
+abbrev pub payload_lines : PayloadTy → List ℕ
+payload_lines (indices is) = []
+payload_lines (exprs t es) = all_below es
+
+-- the lines of an expression, where one is written
+abbrev pub optional_lines : Option Expr → List ℕ
+optional_lines (Some e) = below e
+optional_lines None = []
+
+-- `import`; `normal`, and the first value of each element; or `inline`, and what it holds
+abbrev pub table_text : TableKindTy → List ℕ
+table_text (tables.imported i t) = codes "table import\n"
+table_text (tables.normal t e) = codes "table normal\n" ++ optional_lines e
+table_text (tables.inline t is64 shared p) =
+    codes "table inline " ++ (payload_line p ++ payload_lines p)
+
+-- the word of where it is put
+abbrev pub elem_word : ElemKindTy → List ℕ
+elem_word elems.passive = codes "elem passive "
+elem_word elems.declared = codes "elem declared "
+elem_word (elems.active t offset) = codes "elem active "
+
+-- the lines of its offset
+abbrev pub offset_lines : ElemKindTy → List ℕ
+offset_lines elems.passive = []
+offset_lines elems.declared = []
+offset_lines (elems.active t offset) = below offset
+
+-- where it is put and what it holds; below that, first the offset
+abbrev pub elem_text : Segment → List ℕ
+elem_text s = elem_word s.0 ++ (payload_line s.1 ++ (offset_lines s.0 ++ payload_lines s.1))
+
+-- ---- memories and data segments
+
+-- how many bytes the values have together
+abbrev pub vals_count : List DataValTy → ℕ
+vals_count vs = byte_count (map bytes_in vs)
+
+-- `import`; `normal`; or `inline`, and how many bytes
+abbrev pub memory_text : MemoryKindTy → List ℕ
+memory_text (memories.imported i t) = codes "memory import\n"
+memory_text (memories.normal t) = codes "memory normal\n"
+memory_text (memories.inline is64 page vs) = counted (codes "memory inline ") (vals_count vs)
+
+-- `passive`, or `active` and below that the offset; and how many bytes
+abbrev pub data_text : DataKindTy → List DataValTy → List ℕ
+data_text segments.passive vs = counted (codes "data passive ") (vals_count vs)
+data_text (segments.active i offset) vs =
+    counted (codes "data active ") (vals_count vs) ++ below offset
+
+-- ---- custom sections
+
+-- `raw` and how many bytes; `producers` and how many fields; or `dylink.0` and how many subsections
+abbrev pub custom_text : CustomTy → List ℕ
+custom_text (raw r) = counted (codes "custom raw ") (byte_count r.«data»)
+custom_text (produced fs) = counted (codes "custom producers ") (length fs)
+custom_text (linked ss) = counted (codes "custom dylink.0 ") (length ss)
+
+-- ---- the start function
+
+-- `start` and the index
+abbrev pub start_text : Idx → List ℕ
+start_text i = codes "start " ++ (index_text i ++ codes "\n")
+
+-- ---- a field
 
 -- its line, and below that the lines of its expressions
 unfoldable pub field_text : ModuleFieldTy → List ℕ

@@ -4,8 +4,8 @@ use Rattle.std.specs.Str.{bytes_eq}
 use Rattle.wat_core.specs.Text.{SpellsModule}
 use Rattle.wat_expr.specs.FoldedProduction.{folded_instruction}
 use Rattle.wat_expr.specs.ExpressionProduction.{expression}
-use Rattle.wat_listing.specs.Expressions.{expression_text}
-use Rattle.wat_listing.specs.Listing.{function_text}
+use Rattle.wat_show.specs.Expressions.{expression_text}
+use Rattle.wat_show.specs.Types.{function_text}
 use Rattle.wat_show.specs.Modules.{module_text}
 use Rattle.wat_show.specs.Shown.{ShowsText, ShowsBytes}
 use Rattle.wat_show.specs.declared.mode.Mode.{Mode}

@@ -1,10 +1,8 @@
 -- How modules are listed.
-use Rattle.std.specs.Prelude.{List, ℕ, ◌++◌, length, map, flat_map, codes}
+use Rattle.std.specs.Prelude.{List, ℕ, ◌++◌, length, flat_map, codes}
 use Rattle.wat_core.specs.Module.{ModuleTy, ModuleKindTy, text, binary}
-use Rattle.wat_core.specs.declared.module.ModuleKindOf.{ModuleKindOf}
-use Rattle.wat_core.specs.declared.module.ModuleKindOf.TheVariants as code
-use Rattle.wat_listing.specs.Fields.{byte_count}
-use Rattle.wat_listing.specs.Written.{counted}
+use Rattle.wat_show.specs.Fields.{byte_count}
+use Rattle.wat_show.specs.Words.{counted}
 use Rattle.wat_show.specs.Fields.{field_text}
 
 -- `text`, how many fields, and below that what is listed of them
@@ -22,9 +20,3 @@ kind_text (binary pieces) = binary_line pieces
 
 abbrev pub module_text : ModuleTy → List ℕ
 module_text m = kind_text m.kind
-
--- the same of values in the code: `line` is what is added of a field, and `bytes` are those of a
--- piece
-abbrev pub kind_listing : {F P : Type 0} → (F → List ℕ) → (P → List ℕ) → ModuleKindOf F P → List ℕ
-kind_listing line bytes (code.Text fs) = text_lines (length fs.items) (flat_map line fs.items)
-kind_listing line bytes (code.Binary ps) = binary_line (map bytes ps.items)

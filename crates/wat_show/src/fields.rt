@@ -1,16 +1,278 @@
 //! How the fields of a module are listed.
 
-ghost use Rattle.std.specs.Prelude.{◌≡◌, ◌++◌, OnOk};
+ghost use Rattle.std.specs.Prelude.{◌≡◌, ◌++◌, ℕ, List, OnOk, length, map};
 ghost use Rattle.wat_core.specs.Field.{field_view};
-ghost use Rattle.wat_show.specs.Fields.{field_text};
+ghost use Rattle.wat_fields.specs.DataVal.{bytes_in, data_val_view, data_vals_view};
+ghost use Rattle.wat_expr.specs.Expression.{expression_view};
+ghost use Rattle.wat_links.specs.Custom.{custom_view};
+ghost use Rattle.wat_fields.specs.Data.{data_kind_view};
+ghost use Rattle.wat_fields.specs.Elem.{elem_kind_view};
+ghost use Rattle.wat_fields.specs.Func.{func_kind_view};
+ghost use Rattle.wat_fields.specs.Global.{global_kind_view};
+ghost use Rattle.wat_fields.specs.Memory.{memory_kind_view};
+ghost use Rattle.wat_fields.specs.Payload.{payload_view};
+ghost use Rattle.wat_fields.specs.Table.{table_kind_view};
+ghost use Rattle.wat_fields.specs.Tag.{tag_kind_view};
+ghost use Rattle.wat_links.specs.Import.{items_view};
+ghost use Rattle.wat_tokens.specs.Index.{index_view};
+ghost use Rattle.wat_show.specs.Fields.{import_text, export_text, func_text, global_text, tag_text};
+ghost use Rattle.wat_show.specs.Fields.{all_below, payload_line, payload_lines, table_text};
+ghost use Rattle.wat_show.specs.Fields.{elem_word, offset_lines, elem_text, start_text};
+ghost use Rattle.wat_show.specs.Fields.{memory_text, data_text, custom_text};
+ghost use Rattle.wat_show.specs.Fields.{byte_count, field_text};
 
+use crate::expressions::add_below;
+use crate::types::add_index;
+use crate::words::{add, add_counted};
 use std::alloc::AllocError;
 use wat_core::ModuleField;
-use wat_listing::fields::{
-    add_custom, add_data, add_elem, add_export, add_func, add_global, add_import, add_memory,
-    add_start, add_table, add_tag,
+use wat_expr::Expression;
+use wat_fields::{
+    DataKind, DataVal, ElemKind, ElemPayload, FuncKind, GlobalKind, MemoryKind, TableKind, TagKind,
 };
-use wat_listing::text::{add, add_counted};
+use wat_links::{Custom, ExportKind, ImportItems};
+use wat_tokens::Index;
+
+/// A piece that holds bytes.
+pub trait Piece {
+    /// Its bytes.
+    ghost bytes: { Self → List ℕ };
+
+    /// How many they are.
+    fn count(&self) -> usize
+        ensures { result ≡ length (bytes self.now) };
+}
+
+impl Piece for &[u8] {
+    ghost bytes = { λ piece. piece.now };
+
+    fn count(&self) -> usize {
+        self.len()
+    }
+}
+
+impl<'a> Piece for DataVal<'a> {
+    ghost bytes = { λ value. bytes_in (data_val_view value) };
+
+    fn count(&self) -> usize {
+        self.len()
+    }
+}
+
+/// How many bytes the pieces have together. Pieces may share their bytes, so they may be more than
+/// memory has.
+pub fn total<P: Piece>(pieces: &[P]) -> u128
+    ensures { result ≡ byte_count (map P.bytes pieces.now) }
+{
+    let mut count = 0;
+    for piece in pieces {
+        count += piece.count() as u128;
+    }
+    count
+}
+
+/// Adds the line of imports.
+pub fn add_import(out: &mut Vec<u8>, items: &ImportItems) -> Result<(), AllocError>
+    ensures { OnOk result (out.new.items ≡ out.old.items ++ import_text (items_view items.now)) }
+{
+    match items {
+        ImportItems::Single { .. } => add_counted(out, "import single ", 1),
+        ImportItems::Group1 { items, .. } => {
+            add_counted(out, "import group1 ", items.len() as u128)
+        }
+        ImportItems::Group2 { items, .. } => {
+            add_counted(out, "import group2 ", items.len() as u128)
+        }
+    }
+}
+
+/// Adds the line of an export.
+pub fn add_export(out: &mut Vec<u8>, kind: ExportKind) -> Result<(), AllocError>
+    ensures { OnOk result (out.new.items ≡ out.old.items ++ export_text kind) }
+{
+    match kind {
+        ExportKind::Func => add(out, "export func\n"),
+        ExportKind::Table => add(out, "export table\n"),
+        ExportKind::Memory => add(out, "export memory\n"),
+        ExportKind::Global => add(out, "export global\n"),
+        ExportKind::Tag => add(out, "export tag\n"),
+    }
+}
+
+/// Adds the line of a function, and below it the lines of its body.
+pub fn add_func(out: &mut Vec<u8>, kind: &FuncKind) -> Result<(), AllocError>
+    ensures { OnOk result (out.new.items ≡ out.old.items ++ func_text (func_kind_view kind.now)) }
+{
+    match kind {
+        FuncKind::Import(_, _) => add(out, "func import\n"),
+        FuncKind::Inline { locals, expression } => {
+            add_counted(out, "func inline ", locals.len() as u128)?;
+            add_below(out, expression)
+        }
+    }
+}
+
+/// Adds the line of a global, and below it the lines of its first value.
+pub fn add_global(out: &mut Vec<u8>, kind: &GlobalKind) -> Result<(), AllocError>
+    ensures { OnOk result (out.new.items ≡ out.old.items ++ global_text
+        (global_kind_view kind.now)) }
+{
+    match kind {
+        GlobalKind::Import(_) => add(out, "global import\n"),
+        GlobalKind::Inline(expression) => {
+            add(out, "global inline\n")?;
+            add_below(out, expression)
+        }
+    }
+}
+
+/// Adds the line of a tag.
+pub fn add_tag(out: &mut Vec<u8>, kind: &TagKind) -> Result<(), AllocError>
+    ensures { OnOk result (out.new.items ≡ out.old.items ++ tag_text (tag_kind_view kind.now)) }
+{
+    match kind {
+        TagKind::Import(_) => add(out, "tag import\n"),
+        TagKind::Inline() => add(out, "tag inline\n"),
+    }
+}
+
+/// Adds what a payload holds, indices or expressions, and how many.
+fn add_payload_line(out: &mut Vec<u8>, payload: &ElemPayload) -> Result<(), AllocError>
+    ensures { OnOk result (out.new.items ≡ out.old.items ++ payload_line
+        (payload_view payload.now)) }
+{
+    match payload {
+        ElemPayload::Indices(indices) => add_counted(out, "indices ", indices.len() as u128),
+        ElemPayload::Exprs { exprs, .. } => add_counted(out, "exprs ", exprs.len() as u128),
+    }
+}
+
+/// Adds the lines of expressions below another line, in order.
+fn add_all_below(out: &mut Vec<u8>, expressions: &[Expression]) -> Result<(), AllocError>
+    ensures { OnOk result (out.new.items ≡ out.old.items ++ all_below
+        (map expression_view expressions.now)) }
+{
+    for expression in expressions {
+        add_below(out, expression)?;
+    }
+    Ok(())
+}
+
+/// Adds the lines of a payload's expressions.
+fn add_payload_lines(out: &mut Vec<u8>, payload: &ElemPayload) -> Result<(), AllocError>
+    ensures { OnOk result (out.new.items ≡ out.old.items ++ payload_lines
+        (payload_view payload.now)) }
+{
+    match payload {
+        ElemPayload::Indices(_) => Ok(()),
+        ElemPayload::Exprs { exprs, .. } => add_all_below(out, exprs),
+    }
+}
+
+/// Adds the line of a table, and below it the lines of its expressions.
+pub fn add_table(out: &mut Vec<u8>, kind: &TableKind) -> Result<(), AllocError>
+    ensures { OnOk result (out.new.items ≡ out.old.items ++ table_text (table_kind_view kind.now)) }
+{
+    match kind {
+        TableKind::Import { .. } => add(out, "table import\n"),
+        TableKind::Normal { init_expr, .. } => {
+            add(out, "table normal\n")?;
+            match init_expr {
+                Some(expression) => add_below(out, expression),
+                None => Ok(()),
+            }
+        }
+        TableKind::Inline { payload, .. } => {
+            add(out, "table inline ")?;
+            add_payload_line(out, payload)?;
+            add_payload_lines(out, payload)
+        }
+    }
+}
+
+/// Adds the word of where a segment is put.
+fn add_elem_word(out: &mut Vec<u8>, kind: &ElemKind) -> Result<(), AllocError>
+    ensures { OnOk result (out.new.items ≡ out.old.items ++ elem_word (elem_kind_view kind.now)) }
+{
+    match kind {
+        ElemKind::Passive => add(out, "elem passive "),
+        ElemKind::Declared => add(out, "elem declared "),
+        ElemKind::Active { .. } => add(out, "elem active "),
+    }
+}
+
+/// Adds the lines of a segment's offset.
+fn add_elem_offset(out: &mut Vec<u8>, kind: &ElemKind) -> Result<(), AllocError>
+    ensures { OnOk result (out.new.items ≡ out.old.items ++ offset_lines
+        (elem_kind_view kind.now)) }
+{
+    match kind {
+        ElemKind::Passive | ElemKind::Declared => Ok(()),
+        ElemKind::Active { offset, .. } => add_below(out, offset),
+    }
+}
+
+/// Adds the line of an element segment, and below it the lines of its expressions, the
+/// offset first.
+pub fn add_elem(out: &mut Vec<u8>, kind: &ElemKind, payload: &ElemPayload) -> Result<(), AllocError>
+    ensures { OnOk result (out.new.items ≡ out.old.items ++ elem_text
+        (elem_kind_view kind.now, payload_view payload.now)) }
+{
+    add_elem_word(out, kind)?;
+    add_payload_line(out, payload)?;
+    add_elem_offset(out, kind)?;
+    add_payload_lines(out, payload)
+}
+
+/// Adds the line of a memory.
+pub fn add_memory(out: &mut Vec<u8>, kind: &MemoryKind) -> Result<(), AllocError>
+    ensures { OnOk result (out.new.items ≡ out.old.items ++ memory_text
+        (memory_kind_view kind.now)) }
+{
+    match kind {
+        MemoryKind::Import { .. } => add(out, "memory import\n"),
+        MemoryKind::Normal(_) => add(out, "memory normal\n"),
+        MemoryKind::Inline { data, .. } => add_counted(out, "memory inline ", total(data)),
+    }
+}
+
+/// Adds the line of a data segment, and below it the lines of its offset.
+pub fn add_data(out: &mut Vec<u8>, kind: &DataKind, values: &[DataVal]) -> Result<(), AllocError>
+    ensures { OnOk result (out.new.items ≡ out.old.items ++ data_text (data_kind_view kind.now)
+        (data_vals_view values.now)) }
+{
+    match kind {
+        DataKind::Passive => add_counted(out, "data passive ", total(values)),
+        DataKind::Active { offset, .. } => {
+            add_counted(out, "data active ", total(values))?;
+            add_below(out, offset)
+        }
+    }
+}
+
+/// Adds the line of a custom section.
+pub fn add_custom(out: &mut Vec<u8>, custom: &Custom) -> Result<(), AllocError>
+    ensures { OnOk result (out.new.items ≡ out.old.items ++ custom_text (custom_view custom.now)) }
+{
+    match custom {
+        Custom::Raw(raw) => add_counted(out, "custom raw ", total(&raw.data)),
+        Custom::Producers(producers) => {
+            add_counted(out, "custom producers ", producers.fields.len() as u128)
+        }
+        Custom::Dylink0(dylink) => {
+            add_counted(out, "custom dylink.0 ", dylink.subsections.len() as u128)
+        }
+    }
+}
+
+/// Adds the line of a start function.
+pub fn add_start(out: &mut Vec<u8>, index: &Index) -> Result<(), AllocError>
+    ensures { OnOk result (out.new.items ≡ out.old.items ++ start_text (index_view index.now)) }
+{
+    add(out, "start ")?;
+    add_index(out, index)?;
+    add(out, "\n")
+}
 
 /// Adds the line of a field, and below it the lines of its expressions.
 #[tactic(auto, unfolding(crate::specs::Fields::field_text))]

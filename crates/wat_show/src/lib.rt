@@ -1,20 +1,26 @@
 //! What the program `watshow` shows: it reads all bytes, makes its whole output from them, and
-//! writes that. Beside the run over a reader and a writer there is the listing of a module.
+//! writes that. Beside the run over a reader and a writer there is the listing of a module and of
+//! its parts.
 #![tactic(auto)]
 
-pub mod entries;
-pub mod error;
+// The listing: what is added to an output.
+pub mod expressions;
 pub mod fields;
-pub mod input;
-pub mod mode;
 pub mod modules;
+pub mod types;
+pub mod words;
+
+// What is read from and written to.
+pub mod input;
 pub mod output;
-pub mod show;
+pub mod watched;
+
+// The run.
+pub mod error;
+pub mod mode;
 pub mod shown;
 pub mod value;
-pub mod watched;
 
 pub use error::RunError;
 pub use mode::{Mode, run};
-pub use show::{Shows, run_shows};
 pub use watched::Watched;

@@ -5,7 +5,8 @@ ghost use Rattle.wat_show.specs.Modes.{mode_of, ModeShows, ShownText};
 ghost use Rattle.wat_show.specs.Run.{Runs};
 
 use crate::error::RunError;
-use crate::show::{Shows, run_shows};
+use crate::input::read_all;
+use crate::output::write_all_of;
 use crate::shown::refused;
 use crate::value::show_value;
 use crate::watched::Watched;
@@ -43,6 +44,21 @@ impl Mode {
             _ => None,
         }
     }
+
+    /// Makes the whole output of the mode, and the exit status: 0 where the bytes spell a value of
+    /// the mode, else 1.
+    pub fn show(self, alloc: Global, bytes: &[u8]) -> Result<(Vec<u8>, u8), AllocError>
+        ensures { IfOk result (λ made. ModeShows self bytes.now made.0.items made.1) }
+    {
+        let text = match str::from_utf8(bytes) {
+            Ok(text) => text,
+            Err(_) => {
+                let error = Error::at(Fault::Utf8, Span::from_offset(0));
+                return refused(alloc, error);
+            }
+        };
+        show_in(self, alloc, text)
+    }
 }
 
 /// What is shown of a text in a mode.
@@ -55,21 +71,6 @@ fn show_in(mode: Mode, alloc: Global, text: &str) -> Result<(Vec<u8>, u8), Alloc
         Mode::Expr => show_value::<Expression>(alloc, text, &arena),
         Mode::Folded => show_value::<FoldedInstruction>(alloc, text, &arena),
         Mode::Module => show_value::<Module>(alloc, text, &arena),
-    }
-}
-
-impl Shows for Mode {
-    ghost shown = { ModeShows };
-
-    fn show(&self, alloc: Global, bytes: &[u8]) -> Result<(Vec<u8>, u8), AllocError> {
-        let text = match str::from_utf8(bytes) {
-            Ok(text) => text,
-            Err(_) => {
-                let error = Error::at(Fault::Utf8, Span::from_offset(0));
-                return refused(alloc, error);
-            }
-        };
-        show_in(*self, alloc, text)
     }
 }
 
@@ -86,5 +87,8 @@ pub fn run<R: Read, W: Write>(
     ensures { Runs R.remaining W.contents (ModeShows mode) result reader.old reader.new writer.old
         writer.new }
 {
-    run_shows(alloc, &mode, reader, writer)
+    let bytes = read_all(alloc, reader)?;
+    let (out, status) = mode.show(alloc, &bytes)?;
+    write_all_of(writer, &out)?;
+    Ok(status)
 }

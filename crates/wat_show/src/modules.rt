@@ -1,33 +1,42 @@
 //! How modules are listed.
 
-ghost use Rattle.std.specs.Prelude.{◌≡◌, ◌++◌, OnOk};
-ghost use Rattle.wat_core.specs.Module.{module_view};
-ghost use Rattle.wat_show.specs.Modules.{kind_listing, module_text};
+ghost use Rattle.std.specs.Prelude.{◌≡◌, ◌++◌, OnOk, map, flat_map};
+ghost use Rattle.wat_core.specs.Field.{field_view};
+ghost use Rattle.wat_core.specs.Module.{module_kind_view, module_view};
+ghost use Rattle.wat_show.specs.Fields.{field_text};
+ghost use Rattle.wat_show.specs.Modules.{kind_text, module_text};
 
-use crate::entries::{Entry, add_entries};
+use crate::fields::{add_field, total};
+use crate::words::add_counted;
 use std::alloc::AllocError;
-use wat_core::{Module, ModuleKindOf};
-use wat_listing::pieces::{Piece, total};
-use wat_listing::text::add_counted;
+use wat_core::{Module, ModuleField, ModuleKind};
 
-/// Adds the line of what is in a module, and below it what is added of its fields.
-fn add_kind<F: Entry, P: Piece>(
-    out: &mut Vec<u8>,
-    kind: &ModuleKindOf<F, P>,
-) -> Result<(), AllocError>
-    ensures { OnOk result (out.new.items ≡ out.old.items ++ kind_listing F.text P.bytes kind.now) }
+/// Adds what is listed of fields, in order.
+fn add_fields(out: &mut Vec<u8>, fields: &[ModuleField]) -> Result<(), AllocError>
+    ensures { OnOk result (out.new.items ≡ out.old.items ++ flat_map field_text
+        (map field_view fields.now)) }
+{
+    for field in fields {
+        add_field(out, field)?;
+    }
+    Ok(())
+}
+
+/// Adds the line of what is in a module, and below it what is listed of its fields.
+fn add_kind(out: &mut Vec<u8>, kind: &ModuleKind) -> Result<(), AllocError>
+    ensures { OnOk result (out.new.items ≡ out.old.items ++ kind_text
+        (module_kind_view kind.now)) }
 {
     match kind {
-        ModuleKindOf::Text(fields) => {
+        ModuleKind::Text(fields) => {
             add_counted(out, "module text ", fields.len() as u128)?;
-            add_entries(out, fields)
+            add_fields(out, fields)
         }
-        ModuleKindOf::Binary(pieces) => add_counted(out, "module binary ", total(pieces)),
+        ModuleKind::Binary(pieces) => add_counted(out, "module binary ", total(pieces)),
     }
 }
 
 /// Adds the line of a module, and below it what is listed of its fields.
-#[tactic(auto, using(crate::proofs::Lists::kind_listed))]
 pub fn add_module(out: &mut Vec<u8>, module: &Module) -> Result<(), AllocError>
     ensures { OnOk result (out.new.items ≡ out.old.items ++ module_text
         (module_view «module».now)) }

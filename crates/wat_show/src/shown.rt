@@ -5,8 +5,8 @@ ghost use Rattle.wat_show.specs.Shown.{refusal};
 ghost use Rattle.wat_tokens.specs.Error.{Memory};
 ghost use Rattle.wat_tokens.specs.Place.{offset_of};
 
+use crate::words::{add, add_number};
 use std::alloc::{AllocError, Global};
-use wat_listing::text::{add, add_number};
 use wat_tokens::{Error, Fault};
 
 /// The one line of a refusal, and its status. Want of memory has none.

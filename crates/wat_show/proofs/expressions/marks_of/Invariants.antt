@@ -1,0 +1,8 @@
+use Rattle.std.proofs.Common.{◌≡◌, take, length}
+use Rattle.std.specs.Prelude.{map}
+use Rattle.wat_expr.specs.Expression.{hint_view}
+use Rattle.wat_show.specs.Expressions.{AreMarks}
+use Rattle.wat_show.proofs.expressions.marks_of.Given as goal
+
+abbrev pub invariant-loop-hint : goal.invariant-loop-hint
+invariant-loop-hint l = (length l.marks.items ≡ l.count) × AreMarks (map hint_view (take l.hint-index l.hints)) l.marks.items

@@ -1,0 +1,8 @@
+-- Each piece has fewer than 2 ^ 64 bytes.
+use Rattle.std.proofs.Common.{◌≡◌, ◌≤◌, ◌*◌, take}
+use Rattle.std.specs.Prelude.{map}
+use Rattle.wat_show.specs.Fields.{byte_count}
+use Rattle.wat_show.proofs.fields.total.Given as goal
+
+abbrev pub invariant-loop-piece : goal.invariant-loop-piece
+invariant-loop-piece g l = (l.count ≡ byte_count (map g.P.Piece.bytes (take l.piece-index l.pieces))) × (l.count ≤ 18446744073709551615 * l.piece-index)

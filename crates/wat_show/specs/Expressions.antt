@@ -1,0 +1,78 @@
+-- How instructions and expressions are listed.
+use Rattle.std.specs.Prelude.{◌≡◌, ◌==◌, Bool, true, false, ℕ, ◌+◌, ◌<◌, List, [], ◌∷◌, ◌++◌, length}
+use Rattle.std.specs.Prelude.{codes, decimal, Option, Some, None, if◌then◌else◌}
+use Rattle.std.specs.Fmt.{signed_decimal}
+use Rattle.std.proofs.Common.{get_or}
+use Rattle.wat_expr.specs.Expression.{Expr}
+use Rattle.wat_mnemonics.specs.Heads.{mnemonic_word}
+use Rattle.wat_mnemonics.specs.Places.{mnemonic_of_row}
+use Rattle.wat_mnemonics.specs.declared.mnemonic.Mnemonic.{Mnemonic}
+use Rattle.wat_mnemonics.specs.declared.mnemonic.Mnemonic.TheVariants as head
+use Rattle.wat_instr.specs.Instruction.{Instr}
+use Rattle.wat_instr.specs.Operand.{Operand, one_index, integer}
+use Rattle.wat_show.specs.Types.{index_text}
+
+-- ---- instructions
+
+-- its operand is an index, an i32 or an i64; an access to a table or to a memory is none
+abbrev pub shows_operand : Mnemonic → Bool
+shows_operand (head.Indexed op) = true
+shows_operand head.i32_const = true
+shows_operand head.i64_const = true
+shows_operand _ = false
+
+-- an index or an integer, behind a space
+abbrev pub operand_text : Operand → List ℕ
+operand_text (one_index i) = codes " " ++ index_text i
+operand_text (integer n) = codes " " ++ signed_decimal n
+operand_text _ = []
+
+-- the operand, where it is shown
+abbrev pub shown_operand : Mnemonic → Operand → List ℕ
+shown_operand h o = if shows_operand h then operand_text o else []
+
+-- the mnemonic, and the operand where it is shown
+abbrev pub headed_text : Mnemonic → Operand → List ℕ
+headed_text h o = mnemonic_word h ++ shown_operand h o
+
+-- of an instruction by its row
+unfoldable pub instr_text : Instr → List ℕ
+instr_text i = headed_text (mnemonic_of_row i.row) i.operand
+
+-- ---- expressions
+
+-- the value of the first hint that has the index, where one has it
+abbrev pub hint_at : List (ℕ × ℕ) → ℕ → Option ℕ
+hint_at [] k = None
+hint_at (h ∷ hs) k = if h.0 == k then Some h.1 else hint_at hs k
+
+-- ` hint ` and its value
+abbrev pub hint_text : Option ℕ → List ℕ
+hint_text None = []
+hint_text (Some v) = codes " hint " ++ decimal v
+
+-- a prefix, an instruction and its hint, on a line
+abbrev pub line : List ℕ → Instr → Option ℕ → List ℕ
+line front i hint = front ++ (instr_text i ++ (hint_text hint ++ codes "\n"))
+
+-- Instructions, one a line behind the prefix, the first of which has the index k; each with what
+-- hint says of its index.
+abbrev pub lines : List ℕ → (ℕ → Option ℕ) → ℕ → List Instr → List ℕ
+lines front hint k [] = []
+lines front hint k (i ∷ is) = line front i (hint k) ++ lines front hint (k + 1) is
+
+-- its instructions, one a line behind the prefix, each with the hint that has its index
+unfoldable pub lines_of : List ℕ → Expr → List ℕ
+lines_of front e = lines front (hint_at e.hints) 0 e.instrs
+
+-- its instructions, one a line
+abbrev pub expression_text : Expr → List ℕ
+expression_text e = lines_of [] e
+
+-- the same below another line: each behind two spaces
+abbrev pub below : Expr → List ℕ
+below e = lines_of (codes "  ") e
+
+-- for each index below their number, the hint that has it
+abbrev pub AreMarks : List (ℕ × ℕ) → List (Option ℕ) → Type 0
+AreMarks hints marks = (k : ℕ) → k < length marks → get_or marks k None ≡ hint_at hints k

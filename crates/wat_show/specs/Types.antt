@@ -1,0 +1,69 @@
+-- How indices and types are listed.
+use Rattle.std.specs.Prelude.{ℕ, true, false, List, ◌++◌, map, flat_map, codes, decimal}
+use Rattle.std.specs.Prelude.{if◌then◌else◌}
+use Rattle.wat_tokens.specs.Index.{Idx, number, name}
+use Rattle.wat_types.specs.Heap.{HeapTy, concrete, exact, abstract_}
+use Rattle.wat_types.specs.Reference.{RefTy}
+use Rattle.wat_types.specs.Value.{ValTy, i32, i64, f32, f64, v128, ref}
+use Rattle.wat_types.specs.Group.{FuncTy, ParamTy}
+use Rattle.wat_types.specs.declared.heap.AbstractHeapType.{AbstractHeapType}
+use Rattle.wat_types.specs.declared.heap.AbstractHeapType.TheVariants as word
+
+-- its number, or `$` and its name
+abbrev pub index_text : Idx → List ℕ
+index_text (number n) = decimal n
+index_text (name n) = codes "$" ++ n
+
+-- its word
+abbrev pub abstract_text : AbstractHeapType → List ℕ
+abstract_text word.Func = codes "func"
+abstract_text word.Extern = codes "extern"
+abstract_text word.Exn = codes "exn"
+abstract_text word.Cont = codes "cont"
+abstract_text word.Any = codes "any"
+abstract_text word.Eq = codes "eq"
+abstract_text word.Struct = codes "struct"
+abstract_text word.Array = codes "array"
+abstract_text word.I31 = codes "i31"
+abstract_text word.NoFunc = codes "nofunc"
+abstract_text word.NoExtern = codes "noextern"
+abstract_text word.NoExn = codes "noexn"
+abstract_text word.NoCont = codes "nocont"
+abstract_text word.None = codes "none"
+
+-- a text between what opens it and `)`
+abbrev pub within : List ℕ → List ℕ → List ℕ
+within front text = front ++ (text ++ codes ")")
+
+-- an index, `(exact INDEX)`, a word, or `(shared WORD)`
+abbrev pub heap_text : HeapTy → List ℕ
+heap_text (concrete i) = index_text i
+heap_text (exact i) = within (codes "(exact ") (index_text i)
+heap_text (abstract_ true t) = within (codes "(shared ") (abstract_text t)
+heap_text (abstract_ false t) = abstract_text t
+
+-- `(ref null HEAP)` or `(ref HEAP)`
+abbrev pub ref_text : RefTy → List ℕ
+ref_text r = within (if r.nullable then codes "(ref null " else codes "(ref ") (heap_text r.heap)
+
+-- its word, or that of the reference
+abbrev pub val_text : ValTy → List ℕ
+val_text i32 = codes "i32"
+val_text i64 = codes "i64"
+val_text f32 = codes "f32"
+val_text f64 = codes "f64"
+val_text v128 = codes "v128"
+val_text (ref r) = ref_text r
+
+-- each type behind a space
+abbrev pub types_text : List ValTy → List ℕ
+types_text ts = flat_map (λ t. codes " " ++ val_text t) ts
+
+abbrev pub param_types : List ParamTy → List ValTy
+param_types ps = map (λ p. p.ty) ps
+
+-- `params` and `results`, each with its types on a line
+abbrev pub function_text : FuncTy → List ℕ
+function_text f =
+    codes "params" ++ (types_text (param_types f.params)
+    ++ (codes "\n" ++ (codes "results" ++ (types_text f.results ++ codes "\n"))))
