@@ -8,8 +8,6 @@ mod replace;
 mod run;
 mod source;
 mod terminal;
-#[cfg(test)]
-mod tests;
 
 use crate::command::{Command, command_of};
 use crate::formatting::{Formatting, Way};

@@ -3,29 +3,48 @@ use Rattle.std.proofs.Common.{◌≡◌, ℕ, ◌+◌, ◌-◌, ◌<◌, Bool, f
 use Rattle.std.proofs.lemmas.List.{append-nil, take_more}
 use Rattle.std.specs.List.{list_any}
 use Rattle.std.specs.Option.{option_to_list}
-use Rattle.std.specs.Prelude.{Result, OnOk, Option, IfOk, ◌≢◌}
+use Rattle.std.specs.Prelude.{Result, OnOk, Option, IfOk, ◌≢◌, ◌⊎◌}
 use Rattle.wat_core.specs.LexerPlace.{offset_of}
-use Rattle.wat_report.specs.Report.{AddsReport, IsReport}
-use Rattle.wat_core.specs.Error.{Error, Memory}
+use Rattle.wat_report.specs.Report.{AddsReport}
+use Rattle.wat_core.specs.Error.{Error, Memory, Operator, Unexpected}
 use Rattle.wat_core.specs.Module.{ModuleTy}
 use Rattle.wat_core.specs.Text.{SpellsModule}
-use Rattle.wat_text.specs.Checked.{AddsReports, AreFaults, IsSaidOf, Reports, SaysOfChecked, SaysOfFaults, SaysOfTwin, none, more, beside_of, lead_of, more_line}
+use Rattle.wat_text.specs.Checked.{AddsLine, AddsReports, AddsTold, IsTold, MayExpect, AreFaults, IsSaidOf, Reports, SaysOfChecked, SaysOfFaults, SaysOfTwin, none, more, beside_of, lead_of, more_line}
 use Rattle.wat_twin.specs.Text.{IsTwin}
-use Rattle.wat_faults.specs.declared.fields.FieldFaults.{FieldFaults}
+use Rattle.wat_core.specs.declared.wrong_fields.FieldFaults.{FieldFaults}
 
 -- an item that doesn't pass decides nothing
 pub none_told : {X : Type 0} (p : X → Bool) (xs : List X) (i : ℕ) (d : X) → i < length xs → p (get_or xs i d) ≡ false → list_any p (drop i xs) ≡ list_any p (drop (i + 1) xs)
 none_told p xs i d l e = rw (add-one, drop-cons xs i d, e) refl
 
+pub no_line : (old : List ℕ) → AddsLine old old
+unfolding MayExpect
+no_line old = ([], inl refl, sym (append-nil old))
+
 module _ (name text : List ℕ) where
+  -- the report, with no line behind it
+  pub told_alone : (e : Error) (old new : List ℕ) → AddsReport name text (offset_of e.span) e.fault old new → AddsTold name text e old new
+  unfolding IsTold MayExpect
+  told_alone e old new (said, is, added) = (said, (said, [], is, inl refl, inl refl, sym (append-nil said)), added)
+
+  -- with a line
+  pub told_more : {T E : Type 0} (r : Result T E) (e : Error) (old mid new : List ℕ) → ((e.fault ≡ Unexpected) ⊎ (e.fault ≡ Operator)) → AddsReport name text (offset_of e.span) e.fault old mid → OnOk r (AddsLine mid new) → OnOk r (AddsTold name text e old new)
+  unfolding IsTold
+  told_more (Ok _) e old mid new which (said, is, added) (line, may, went) = (
+    said ++ line,
+    (said, line, is, may, inr which, refl),
+    went ∙ ap (λ (xs : List ℕ). xs ++ line) added ∙ append_assoc old said line,
+  )
+  told_more (Err _) e old mid new which added went = tt
+
   pub adds_none : (old : List ℕ) → AddsReports name text [] old old
   adds_none old = ([], none, sym (append-nil old))
 
-  pub adds_one : {T E : Type 0} (r : Result T E) (e : Error) (old new : List ℕ) → OnOk r (AddsReport name text (offset_of e.span) e.fault old new) → OnOk r (AddsReports name text (e ∷ []) old new)
+  pub adds_one : {T E : Type 0} (r : Result T E) (e : Error) (old new : List ℕ) → OnOk r (AddsTold name text e old new) → OnOk r (AddsReports name text (e ∷ []) old new)
   adds_one (Ok _) e old new (said, is, added) = (said, more [] e [] said none is, added)
   adds_one (Err _) e old new added = tt
 
-  pub adds_more : (es : List Error) (i : ℕ) (d : Error) (old mid new : List ℕ) → i < length es → AddsReports name text (take i es) old mid → AddsReport name text (offset_of (get_or es i d).span) (get_or es i d).fault mid new → AddsReports name text (take (i + 1) es) old new
+  pub adds_more : (es : List Error) (i : ℕ) (d : Error) (old mid new : List ℕ) → i < length es → AddsReports name text (take i es) old mid → AddsTold name text (get_or es i d) mid new → AddsReports name text (take (i + 1) es) old new
   adds_more es i d old mid new l (front, before, begun) (said, is, added) = (
     front ++ said,
     subst (λ (xs : List Error). Reports name text xs (front ++ said)) (sym (take_more es i d l)) (more (take i es) (get_or es i d) front said before is),

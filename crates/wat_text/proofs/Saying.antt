@@ -1,5 +1,5 @@
 -- What a refusal means, and what is printed.
-use Rattle.std.proofs.Common.{◌≡◌, ℕ, ◌+◌, List, [], ◌∷◌, ◌++◌, ◌∙◌, Ok, Err, inr}
+use Rattle.std.proofs.Common.{◌≡◌, ℕ, List, [], ◌∷◌, ◌++◌, ◌∙◌, Ok, Err, inr}
 use Rattle.std.specs.Prelude.{true, ◌≢◌, Result, IfOk, IfErr, MatchResult}
 use Rattle.wat_text.specs.Outcomes.{SaysOf, SaysOfRead, WasRead}
 use Rattle.wat_text.specs.declared.task.Task.{Task}

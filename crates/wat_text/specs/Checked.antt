@@ -4,17 +4,17 @@ use Rattle.std.specs.Prelude.{Option, Some, None, if◌then◌else◌, codes, de
 use Rattle.std.specs.List.{list_any}
 use Rattle.std.specs.Option.{option_to_list}
 use Rattle.wat_core.specs.Cut.{IsCut}
-use Rattle.wat_core.specs.Error.{Error, Memory}
+use Rattle.wat_core.specs.Error.{Error, Memory, Operator, Unexpected}
 use Rattle.wat_core.specs.Field.{module_field}
 use Rattle.wat_core.specs.LexerPlace.{offset_of}
 use Rattle.wat_core.specs.Module.{ModuleTy}
 use Rattle.wat_core.specs.Text.{SpellsModule}
 use Rattle.wat_core.specs.Token.{Placed}
-use Rattle.wat_faults.specs.Faults.{IsField, Tells}
-use Rattle.wat_faults.specs.Groups.{HasGroups}
-use Rattle.wat_faults.specs.Head.{IsUnexpected}
-use Rattle.wat_faults.specs.declared.fields.FieldFaults.{FieldFaults}
-use Rattle.wat_faults.specs.declared.group.Group.{Group}
+use Rattle.wat_core.specs.WrongFields.{IsField, Tells}
+use Rattle.wat_core.specs.ModuleGroups.{HasGroups}
+use Rattle.wat_core.specs.ModuleHead.{IsUnexpected}
+use Rattle.wat_core.specs.declared.wrong_fields.FieldFaults.{FieldFaults}
+use Rattle.wat_core.specs.declared.module_group.Group.{Group}
 use Rattle.wat_report.specs.Report.{IsReport}
 use Rattle.wat_text.specs.Formatted.{ReportsFault}
 use Rattle.wat_twin.specs.Text.{IsTwin}
@@ -38,12 +38,30 @@ beside_of first es (Some e) =
 
 -- ---- their reports
 
--- the reports of errors, one behind the other
+-- a line of what could stand there, or none; what it names is not said here
+unfoldable pub MayExpect : List ℕ → Type 0
+MayExpect said =
+    (said ≡ []) ⊎ ((words : List ℕ) × (said ≡ codes "expected: " ++ (words ++ codes "\n")))
+
+abbrev pub AddsLine : List ℕ → List ℕ → Type 0
+AddsLine old new = (line : List ℕ) × MayExpect line × (new ≡ old ++ line)
+
+-- the report of an error, and such a line, which only a fault Unexpected or Operator has
+unfoldable pub IsTold : List ℕ → List ℕ → Error → List ℕ → Type 0
+IsTold name text e said =
+    (report : List ℕ) × (line : List ℕ) × IsReport name text (offset_of e.span) e.fault report
+    × MayExpect line × ((line ≡ []) ⊎ ((e.fault ≡ Unexpected) ⊎ (e.fault ≡ Operator)))
+    × (said ≡ report ++ line)
+
+-- what is told of an error was added
+abbrev pub AddsTold : List ℕ → List ℕ → Error → List ℕ → List ℕ → Type 0
+AddsTold name text e old new = (said : List ℕ) × IsTold name text e said × (new ≡ old ++ said)
+
+-- what is told of errors, one behind the other
 pub data Reports (name text : List ℕ) : List Error → List ℕ → Type 0 where
   none : Reports name text [] []
   more : (es : List Error) (e : Error) (front said : List ℕ) → Reports name text es front
-      → IsReport name text (offset_of e.span) e.fault said
-      → Reports name text (es ++ e ∷ []) (front ++ said)
+      → IsTold name text e said → Reports name text (es ++ e ∷ []) (front ++ said)
 
 abbrev pub AddsReports : List ℕ → List ℕ → List Error → List ℕ → List ℕ → Type 0
 AddsReports name text es old new =

@@ -5,14 +5,16 @@ ghost use Rattle.std.specs.Option.{option_to_list};
 ghost use Rattle.wat_core.specs.Cut.{IsCut};
 ghost use Rattle.wat_core.specs.LexerPlace.{offset_of};
 ghost use Rattle.wat_core.specs.Token.{Placed};
-ghost use Rattle.wat_text.specs.Checked.{AddsReports, SaysOfChecked, SaysOfFaults, SaysOfTwin};
+ghost use Rattle.wat_text.specs.Checked.{AddsLine, AddsReports, AddsTold};
+ghost use Rattle.wat_text.specs.Checked.{SaysOfChecked, SaysOfFaults, SaysOfTwin};
 ghost use Rattle.wat_text.specs.Checked.{IsSaidOf, beside_of, is_told, lead_of, more_line};
 
+use crate::expected::add_expected;
 use crate::outcome::{module_of, refused};
 use bumpalo::Bump;
 use std::alloc::{AllocError, Global};
+use wat_core::wrong_fields::{FieldFaults, field_faults};
 use wat_core::{Error, Fault, ModuleField};
-use wat_faults::fields::{FieldFaults, field_faults};
 use wat_report::add_report;
 use wat_twin::twin::twin;
 
@@ -54,35 +56,76 @@ fn beside_of(first: Error, errors: &[Error], beside: Option<Error>) -> Option<Er
     Some(error)
 }
 
-/// Adds the report of an error, if there is one.
+/// Whether the last line begins with the word `hint`.
+fn ends_in_hint(out: &[u8]) -> bool {
+    let before = out.split_last().map_or(out, |last| last.1);
+    let start = before
+        .iter()
+        .rposition(|byte| *byte == b'\n')
+        .map_or(0, |at| at + 1);
+    out[start..].starts_with(b"hint: ")
+}
+
+/// Adds a line of what could stand at an offset, if no hint is behind the report.
+#[tactic(auto, unfolding(crate::specs::Checked::MayExpect), using(crate::proofs::Reporting::no_line))]
+fn add_line(out: &mut Vec<u8>, read: &str, offset: usize) -> Result<(), AllocError>
+    ensures { OnOk result (AddsLine out.old.items out.new.items) }
+{
+    if ends_in_hint(out) {
+        return Ok(());
+    }
+    add_expected(out, read, offset)
+}
+
+/// Adds the report of an error, and what could stand there if the report has no hint.
+fn add_told(
+    out: &mut Vec<u8>,
+    name: &str,
+    text: &str,
+    read: &str,
+    error: Error,
+) -> Result<(), AllocError>
+    ensures { OnOk result (AddsTold name.now text.now error out.old.items out.new.items) }
+{
+    add_report(out, name, text, error)?;
+    match error.fault {
+        Fault::Unexpected => add_line(out, read, error.span.offset()),
+        Fault::Operator => add_line(out, read, error.span.offset()),
+        _ => Ok(()),
+    }
+}
+
+/// Adds what is told of an error, if there is one.
 #[tactic(auto, using(crate::proofs::Reporting::adds_one))]
 fn add_one(
     out: &mut Vec<u8>,
     name: &str,
     text: &str,
+    read: &str,
     error: Option<Error>,
 ) -> Result<(), AllocError>
     ensures { OnOk result (AddsReports name.now text.now (option_to_list error) out.old.items
         out.new.items) }
 {
     match error {
-        Some(error) => add_report(out, name, text, error),
+        Some(error) => add_told(out, name, text, read, error),
         None => Ok(()),
     }
 }
 
-/// Adds the reports of errors, one behind the other.
+/// Adds what is told of errors, one behind the other.
 #[tactic(auto, using(crate::proofs::Reporting::adds_none))]
 fn add_reports(
     out: &mut Vec<u8>,
     name: &str,
     text: &str,
+    read: &str,
     errors: &[Error],
 ) -> Result<(), AllocError>
     ensures { OnOk result (AddsReports name.now text.now errors.now out.old.items out.new.items) }
 {
     for error in errors {
-        add_report(out, name, text, *error)?;
+        add_told(out, name, text, read, *error)?;
     }
     Ok(())
 }
@@ -103,6 +146,7 @@ fn said_of_found(
     alloc: Global,
     name: &str,
     text: &str,
+    read: &str,
     first: Error,
     found: &FieldFaults,
 ) -> Result<Vec<u8>, AllocError>
@@ -110,11 +154,11 @@ fn said_of_found(
 {
     let faults = found.faults.as_slice();
     let mut out = Vec::new(alloc);
-    add_one(&mut out, name, text, lead_of(first, faults))?;
-    add_reports(&mut out, name, text, faults)?;
+    add_one(&mut out, name, text, read, lead_of(first, faults))?;
+    add_reports(&mut out, name, text, read, faults)?;
     add_more(&mut out, name, found.count.saturating_sub(faults.len()))?;
     let beside = beside_of(first, faults, found.beside);
-    add_one(&mut out, name, text, beside)?;
+    add_one(&mut out, name, text, read, beside)?;
     Ok(out)
 }
 
@@ -131,7 +175,7 @@ fn said_of_faults(
 {
     let arena = Bump::new(alloc);
     match field_faults::<ModuleField>(alloc, read, &arena, MOST) {
-        Ok(found) => said_of_found(alloc, name, text, first, &found),
+        Ok(found) => said_of_found(alloc, name, text, read, first, &found),
         Err(error) => match error.fault {
             Fault::Memory => Err(AllocError),
             // (it is cut, so it is refused for no other reason)

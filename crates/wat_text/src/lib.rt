@@ -3,6 +3,7 @@
 #![tactic(auto)]
 
 mod checked;
+mod expected;
 mod formatted;
 mod outcome;
 pub mod task;
