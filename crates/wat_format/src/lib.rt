@@ -9,5 +9,3 @@ mod gap;
 pub mod laws;
 mod layout;
 mod piece;
-#[cfg(test)]
-mod tests;

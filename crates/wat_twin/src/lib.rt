@@ -8,6 +8,4 @@
 mod change;
 mod float;
 pub mod laws;
-#[cfg(test)]
-mod tests;
 pub mod twin;

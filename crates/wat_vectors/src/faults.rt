@@ -1,11 +1,11 @@
 //! Small texts and what is told of them, where a field is a number in parentheses.
 
-use crate::fields::field_faults;
 use bumpalo::Bump;
 use std::alloc::Global;
 use std::process::Abort;
 use std::test::Fail;
-use wat_lexer::fault::Fault;
+use wat_core::Fault;
+use wat_core::wrong_fields::field_faults;
 
 /// How many faults are kept.
 const MOST: usize = 3;

@@ -1,10 +1,10 @@
 //! Small texts and what they are formatted to.
 
-use crate::format::format;
 use std::alloc::Global;
 use std::process::Abort;
 use std::test::Fail;
-use wat_lexer::fault::Fault;
+use wat_core::Fault;
+use wat_format::format::format;
 
 /// A text, and what it is formatted to.
 type Row = (&'static str, &'static str);

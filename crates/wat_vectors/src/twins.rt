@@ -1,10 +1,10 @@
 //! Small texts and their twins.
 
-use crate::twin::twin;
 use std::alloc::Global;
 use std::process::Abort;
 use std::test::Fail;
-use wat_lexer::fault::Fault;
+use wat_core::Fault;
+use wat_twin::twin::twin;
 
 /// A text, and its twin.
 type Row = (&'static str, &'static str);
