@@ -18,6 +18,8 @@
  *         i32.ad))
  *         ^
  *     hint: did you mean `i32.add`, `i32.and`, `f32.add`?
+ *
+ * Where there is no hint, a line `expected: ..` may say what could stand there.
  */
 #ifndef WAT_H
 #define WAT_H

@@ -20,7 +20,8 @@ __all__ = ["Fault", "Refused", "check", "format", "list", "print", "version"]
 
 @dataclass(frozen=True)
 class Fault:
-    """What is wrong with a text, and where: a line and a column in characters, both from 1."""
+    """What is wrong with a text, and where: a line and a column in characters, both from 1. The hint
+    is what may be meant, or what could stand there: `expected: ..`."""
 
     line: int
     column: int
@@ -89,11 +90,14 @@ def _taken(name: str, text: str | bytes, *more: object) -> str:
 
 def _faults(report: str) -> List[Fault]:
     faults: List[Fault] = []
-    for line in report.split("\n"):
+    lines = iter(report.split("\n"))
+    for line in lines:
         head = _HEAD.fullmatch(line)
         if head:
             faults.append(Fault(int(head[1]), int(head[2]), head[3]))
-        elif line.startswith("hint: ") and faults:
+            # the text's line, and the one with the caret
+            next(lines), next(lines)
+        elif line.startswith(("hint: ", "expected: ")):
             last = faults[-1]
             faults[-1] = Fault(last.line, last.column, last.message, line.removeprefix("hint: "))
     return faults

@@ -28,7 +28,7 @@ pub struct Fault {
     pub column: usize,
     /// What is wrong.
     pub message: String,
-    /// What may be meant.
+    /// What may be meant, or what could stand there: `expected: ..`.
     pub hint: Option<String>,
 }
 
@@ -82,11 +82,15 @@ fn head(line: &str) -> Option<Fault> {
 
 fn faults(report: &str) -> Vec<Fault> {
     let mut faults: Vec<Fault> = Vec::new();
-    for line in report.lines() {
+    let mut lines = report.lines();
+    while let Some(line) = lines.next() {
         if let Some(fault) = head(line) {
             faults.push(fault);
-        } else if let (Some(hint), Some(last)) = (line.strip_prefix("hint: "), faults.last_mut()) {
-            last.hint = Some(hint.into());
+            // the text's line, and the one with the caret
+            lines.nth(1);
+        } else if let Some(last) = faults.last_mut() {
+            let expected = line.starts_with("expected: ").then_some(line);
+            last.hint = line.strip_prefix("hint: ").or(expected).map(String::from).or(last.hint.take());
         }
     }
     faults

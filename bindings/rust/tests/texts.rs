@@ -12,6 +12,8 @@ fn few_texts() {
     let faults = dilgorza::check("(module\n (func i32.ad))");
     assert_eq!((faults.len(), faults[0].line, faults[0].column), (1, 2, 8));
     assert!(faults[0].hint.as_ref().is_some_and(|hint| hint.contains("i32.add")));
+    let hint = dilgorza::check("(module (start))").remove(0).hint;
+    assert_eq!(hint.as_deref(), Some("expected: an identifier, an integer"));
     assert_eq!(dilgorza::format("( a)").as_deref(), Ok("(a)\n"));
     assert_eq!(dilgorza::print("(module ;; c\n)", true).as_deref(), Ok("(module)\n"));
     assert_eq!(dilgorza::list("(module)").as_deref(), Ok("module text 0\n"));
