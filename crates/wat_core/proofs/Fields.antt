@@ -1,6 +1,6 @@
 -- Fields that are read as a value of a type is.
-use Rattle.std.proofs.Common.{◌≡◌, Bool, true, false, List, Some, None, Ok, Err, subst, ap, sym, ◌∙◌, refl}
-use Rattle.wat_tokens.specs.Cost.{Cost, Costs, turns_too}
+use Rattle.std.proofs.Common.{◌≡◌, Bool, true, false, Some, None, Err, subst, ap, sym, ◌∙◌, refl}
+use Rattle.wat_tokens.specs.Cost.{Cost, turns_too}
 use Rattle.wat_tokens.specs.Error.{Error, Fault}
 use Rattle.wat_tokens.specs.Parses.{Refuses}
 use Rattle.wat_tokens.specs.Production.{Production, Read, bind}

@@ -1,5 +1,5 @@
 -- A module's head, and what stands behind its groups.
-use Rattle.std.proofs.Common.{◌≡◌, ℕ, ◌+◌, ◌<◌, ◌≤◌, List, [], ◌∷◌, length, drop, get_or, refl, ap, sym, ◌∙◌, arith, drop-drop}
+use Rattle.std.proofs.Common.{◌≡◌, ℕ, ◌+◌, ◌<◌, ◌≤◌, List, length, drop, get_or, refl, ap, sym, ◌∙◌, drop-drop}
 use Rattle.std.specs.Prelude.{Bool, true, false, ◌&&◌, not, Option, Some, None, codes}
 use Rattle.wat_lexer.specs.Token.{Tok, Placed, Entry, tokens_of}
 use Rattle.wat_lexer.specs.View.{placed, no_entry}

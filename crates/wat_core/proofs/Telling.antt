@@ -1,5 +1,5 @@
 -- One more group.
-use Rattle.std.proofs.Common.{◌≡◌, ℕ, ◌+◌, ◌<◌, ◌≤◌, List, [], ◌∷◌, ◌++◌, length, length-append, take, refl, arith, zero, suc, append_assoc, append-nil, ◌∙◌}
+use Rattle.std.proofs.Common.{◌≡◌, ℕ, ◌+◌, ◌<◌, ◌≤◌, List, [], ◌∷◌, ◌++◌, length, length-append, take, arith, zero, suc, append_assoc, append-nil, ◌∙◌}
 use Rattle.std.specs.Prelude.{true, false}
 use Rattle.wat_tokens.specs.Error.{Error}
 use Rattle.wat_tokens.specs.Tests.{begins_lparen}

@@ -2,7 +2,7 @@
 //! and everything that is in them.
 //!
 //! [`read_module`] reads a text that is one module, and [`Module::parse`] takes a module from the
-//! tokens of a [`Parser`]. [`field_faults`] tells what is wrong with each field of a text that isn't
+//! tokens of a [`Parser`]. [`module_faults`] tells what is wrong with each field of a text that isn't
 //! one. Indices stay as they are written: nothing is resolved, and nothing is checked for validity.
 //! This crate has the names of the parser, of the types of what is read, and of what reads them, so
 //! that a user needs it alone; what else is public in the crates that it uses is reached by the
@@ -23,7 +23,7 @@ pub mod wrong_fields;
 pub use field::{ModuleField, ModuleFieldOf};
 pub use module::{Module, ModuleKind, ModuleKindOf, VisibleModule};
 pub use text::read_module;
-pub use wrong_fields::{FieldFaults, field_faults};
+pub use wrong_fields::{FieldFaults, field_faults, module_faults};
 
 // The parser, its tokens and its faults.
 pub use wat_tokens::{

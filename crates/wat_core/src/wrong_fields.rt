@@ -8,9 +8,11 @@ ghost use Rattle.wat_lexer.specs.Token.{Placed};
 ghost use Rattle.wat_lexer.specs.View.{placed, AreSkips, IfFault};
 ghost use Rattle.wat_tokens.specs.Error.{Memory};
 ghost use Rattle.wat_core.specs.WrongFields.{IsField, IsFaultOf, AreFaultsOf, Tells};
+ghost use Rattle.wat_core.specs.Field.{module_field};
 ghost use Rattle.wat_core.specs.ModuleGroups.{GroupsTo, HasGroups, IsPart, bytes_of};
 ghost use Rattle.wat_core.specs.ModuleHead.{IsUnexpected};
 
+use crate::field::ModuleField;
 use crate::module_group::{Group, next_group};
 use crate::module_head::{behind_head, wrong_end};
 use bumpalo::Bump;
@@ -219,4 +221,20 @@ pub fn field_faults<'a, T: Parse<'a> + Drop>(
     };
     found.beside = wrong_end(&tokens, at, text.len());
     Ok(found)
+}
+
+/// What [`field_faults`] finds, where the fields are those of a module.
+pub fn module_faults<'a>(
+    alloc: Global,
+    text: &'a str,
+    arena: &'a Bump,
+    most: usize,
+) -> Result<FieldFaults, Error>
+    ensures found { IfOk result (λ f. (ts : List Placed) × (gs : List Group) × (beside : Option ℕ)
+        × IsCut text.now ts × HasGroups (length text.now) ts gs beside
+        × Tells (IsField module_field) text.now most gs f × IsUnexpected f.beside beside) }
+    ensures refused { IfErr result (λ e. IfFault e (FirstFault text.now e.fault (offset_of e.span)
+        × ((ts : List Placed) → IsCut text.now ts → ⊥))) }
+{
+    field_faults::<ModuleField>(alloc, text, arena, most)
 }

@@ -13,8 +13,7 @@ use crate::expected::add_expected;
 use crate::outcome::{module_of, refused};
 use bumpalo::Bump;
 use std::alloc::{AllocError, Global};
-use wat_core::wrong_fields::{FieldFaults, field_faults};
-use wat_core::{Error, Fault, ModuleField};
+use wat_core::{Error, Fault, FieldFaults, module_faults};
 use wat_report::add_report;
 use wat_twin::twin::twin;
 
@@ -174,7 +173,7 @@ fn said_of_faults(
     ensures { IfOk result (λ said. SaysOfFaults name.now text.now read.now first said.items) }
 {
     let arena = Bump::new(alloc);
-    match field_faults::<ModuleField>(alloc, read, &arena, MOST) {
+    match module_faults(alloc, read, &arena, MOST) {
         Ok(found) => said_of_found(alloc, name, text, read, first, &found),
         Err(error) => match error.fault {
             Fault::Memory => Err(AllocError),

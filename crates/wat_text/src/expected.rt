@@ -10,8 +10,7 @@ use bumpalo::Bump;
 use std::alloc::{AllocError, Global};
 use wat_core::wat_lexer::cut::cut;
 use wat_core::wat_lexer::tokens::Tokens;
-use wat_core::wrong_fields::field_faults;
-use wat_core::{Error, Fault, ModuleField};
+use wat_core::{Error, Fault, module_faults};
 
 /// What could stand there, but for groups.
 #[derive(Clone, Copy)]
@@ -234,7 +233,7 @@ fn begins_module(alloc: Global, text: &str) -> Result<bool, AllocError> {
 /// Whether the one field of the text is one, or begins one at the text's end.
 fn begins_field(alloc: Global, text: &str) -> Result<bool, AllocError> {
     let arena = Bump::new(alloc);
-    match field_faults::<ModuleField>(alloc, text, &arena, 1) {
+    match module_faults(alloc, text, &arena, 1) {
         Ok(found) => match found.faults.first() {
             None => Ok(true),
             Some(error) => is_at_end(*error, text.len()),

@@ -1,4 +1,3 @@
-use Rattle.std.proofs.Common.{drop}
 use Rattle.wat_lexer.specs.View.{placed}
 use Rattle.wat_core.proofs.Heads.{no_open_paren, no_module, head_behind, is_binary, is_head}
 use Rattle.wat_core.proofs.module_head.behind_head.Goals as goal

@@ -1,5 +1,5 @@
-use Rattle.std.proofs.Common.{◌+◌, ◌∙◌, drop, refl, arith, length}
-use Rattle.std.specs.Prelude.{Some, None}
+use Rattle.std.proofs.Common.{◌∙◌, drop, arith}
+use Rattle.std.specs.Prelude.{None}
 use Rattle.wat_lexer.specs.View.{placed}
 use Rattle.wat_core.proofs.Heads.{no_name, one_name}
 use Rattle.wat_core.proofs.Places.{past}
