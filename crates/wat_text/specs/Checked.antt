@@ -38,7 +38,8 @@ beside_of first es (Some e) =
 
 -- ---- their reports
 
--- a line of what could stand there, or none; what it names is not said here
+-- what could stand there, behind the word `expected` and up to a line break, or nothing; what it names
+-- is not said here, nor that it has no other line break
 unfoldable pub MayExpect : List ℕ → Type 0
 MayExpect said =
     (said ≡ []) ⊎ ((words : List ℕ) × (said ≡ codes "expected: " ++ (words ++ codes "\n")))
@@ -46,7 +47,7 @@ MayExpect said =
 abbrev pub AddsLine : List ℕ → List ℕ → Type 0
 AddsLine old new = (line : List ℕ) × MayExpect line × (new ≡ old ++ line)
 
--- the report of an error, and such a line, which only a fault Unexpected or Operator has
+-- the report of an error, and what could stand there, which only a fault Unexpected or Operator has
 unfoldable pub IsTold : List ℕ → List ℕ → Error → List ℕ → Type 0
 IsTold name text e said =
     (report : List ℕ) × (line : List ℕ) × IsReport name text (offset_of e.span) e.fault report
