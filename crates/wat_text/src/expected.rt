@@ -190,14 +190,19 @@ fn front_of(alloc: Global, read: &str, at: usize) -> Result<Option<Front>, Alloc
         return Ok(None);
     }
     let in_field = opened.depth > 1;
+    let size = if in_field {
+        text.len().saturating_sub(opened.last)
+    } else {
+        opened.first.unwrap_or(text.len())
+    };
+    if size > LONGEST {
+        return Ok(None);
+    }
     let text = if in_field {
         field_front(alloc, text, opened.last)?
     } else {
         module_front(alloc, text, opened.first)?
     };
-    if text.len() > LONGEST {
-        return Ok(None);
-    }
     Ok(Some(Front {
         text,
         in_field,
