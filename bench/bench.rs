@@ -17,7 +17,7 @@ use std::{env, io};
 use wat_expr::Expression;
 use wat_lexer::cut::cut;
 use wat_lexer::lexeme::Lexeme;
-use wat_mnemonics::Mnemonic;
+use wat_mnemonics::Op;
 use wat_tokens::{Parse, Parser};
 
 /// How many tokens the text has, or `None` where it isn't cut.
@@ -67,7 +67,7 @@ fn words(rt: &impl Clock, alloc: Global, text: &str, most: usize) -> io::Result<
     if let Ok(mut parser) = Parser::new(alloc, text, &arena) {
         let start = Instant::now(rt)?;
         for _ in 0..most {
-            if Mnemonic::take(&mut parser).is_err() {
+            if Op::take(&mut parser).is_err() {
                 break;
             }
             count = count.wrapping_add(1);

@@ -25,7 +25,7 @@ use Rattle.wat_links.specs.Forms.{import_items, imports}
 use Rattle.wat_links.specs.FieldHead.{head}
 use Rattle.wat_links.specs.Import.{single_item, import_choice}
 use Rattle.wat_links.specs.Item.{func_kind, item_sig}
-use Rattle.wat_mnemonics.specs.declared.mnemonic.Mnemonic.TheVariants as word
+use Rattle.wat_mnemonics.specs.declared.op.Op.TheVariants as word
 use Rattle.wat_instr.specs.Instruction.{instruction}
 use Rattle.wat_instr.specs.Laws.First.{instruction_read}
 use Rattle.wat_instr.specs.Operand.{operand}

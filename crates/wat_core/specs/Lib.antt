@@ -67,12 +67,12 @@ pub use Rattle.wat_links.specs.ImportItem
 pub use Rattle.wat_links.specs.InlineName
 pub use Rattle.wat_links.specs.Item as LinksItem
 pub use Rattle.wat_links.specs.Lend
-pub use Rattle.wat_links.specs.Place
+pub use Rattle.wat_links.specs.CustomPlace
 pub use Rattle.wat_links.specs.ProducerEntry
 pub use Rattle.wat_links.specs.Producers
 pub use Rattle.wat_links.specs.Raw
 pub use Rattle.wat_mnemonics.specs.Access
-pub use Rattle.wat_mnemonics.specs.Heads
+pub use Rattle.wat_mnemonics.specs.Ops
 pub use Rattle.wat_mnemonics.specs.Indexed
 pub use Rattle.wat_mnemonics.specs.Opcodes
 pub use Rattle.wat_mnemonics.specs.Order

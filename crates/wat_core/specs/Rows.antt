@@ -14,13 +14,13 @@ use Rattle.wat_types.specs.Value.{i32}
 use Rattle.wat_types.specs.declared.heap.AbstractHeapType.TheVariants as heap_word
 use Rattle.wat_links.specs.Custom.{raw}
 use Rattle.wat_links.specs.Raw.{raw_of}
-use Rattle.wat_links.specs.declared.place.CustomPlace.TheVariants.{AfterLast}
+use Rattle.wat_links.specs.declared.custom_place.CustomPlace.TheVariants.{AfterLast}
 use Rattle.wat_links.specs.Export.{export_of}
 use Rattle.wat_links.specs.FieldHead.{no_head}
 use Rattle.wat_links.specs.Import.{imports_of, single}
 use Rattle.wat_links.specs.Item as item
 use Rattle.wat_links.specs.declared.export.ExportKind.TheVariants as kind
-use Rattle.wat_mnemonics.specs.declared.mnemonic.Mnemonic.TheVariants as word
+use Rattle.wat_mnemonics.specs.declared.op.Op.TheVariants as word
 use Rattle.wat_instr.specs.Instruction.{Instr, instr_of}
 use Rattle.wat_instr.specs.Operand as operands
 use Rattle.wat_expr.specs.Rows.{group_text}

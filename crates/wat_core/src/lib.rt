@@ -15,14 +15,14 @@ pub mod laws;
 pub mod module;
 pub mod module_group;
 mod module_head;
-pub mod text;
+pub mod module_text;
 mod visible;
 pub mod wrong_fields;
 
 // Modules and their fields.
 pub use field::{ModuleField, ModuleFieldOf};
 pub use module::{Module, ModuleKind, ModuleKindOf, VisibleModule};
-pub use text::read_module;
+pub use module_text::read_module;
 pub use wrong_fields::{FieldFaults, field_faults, module_faults};
 
 // The parser, its tokens and its faults.
@@ -70,7 +70,7 @@ pub use wat_operands::{
 // Instructions.
 pub use wat_instr::{
     AccessOp, ArrayInitOp, AtomicAccessOp, BlockOp, CallIndirectOp, IndexedOp, Instruction,
-    InstructionOf, LabelOp, LaneAccessOp, LaneOp, MemoryOp, Mnemonic, Opcode, OrderedIndexOp,
+    InstructionOf, LabelOp, LaneAccessOp, LaneOp, MemoryOp, Op, Opcode, OrderedIndexOp,
     OrderedStructOp, OrderedTableOp, RmwAccessOp, ScalarOp, StructOp, TableOp, VectorOp,
 };
 

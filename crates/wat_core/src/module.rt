@@ -20,8 +20,8 @@ ghost use Rattle.wat_core.specs.Module.{module_view, bare_module, module_};
 ghost use Rattle.wat_core.specs.FieldGroup.{field_group};
 
 use crate::field::ModuleField;
+use wat_tokens::enclosed::in_parens;
 use wat_tokens::repeat::{Part, all_parts, all_to_end};
-use wat_tokens::whole::in_parens;
 use wat_tokens::{Id, NameAnnotation, Parse, Parser, Result, Span};
 
 /// A module (WebAssembly Core Specification, Text Format, "Modules").

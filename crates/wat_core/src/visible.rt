@@ -7,7 +7,7 @@ ghost use Rattle.wat_tokens.specs.Tests.{begins_lparen, begins_word, begins_id, 
 ghost use Rattle.wat_core.specs.Visible.{shown};
 ghost use Rattle.wat_core.specs.ModuleHead.{begins_rparen};
 
-use wat_lexer::sight::next_visible;
+use wat_lexer::hidden::next_visible;
 use wat_lexer::token::Token;
 use wat_lexer::tokens::Tokens;
 

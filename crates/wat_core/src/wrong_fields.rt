@@ -20,9 +20,9 @@ use std::alloc::{AllocError, Global};
 use wat_lexer::cut::cut;
 use wat_lexer::fault::{Error, Fault, fault_at};
 use wat_lexer::tokens::Tokens;
-use wat_tokens::text::read_text;
+use wat_tokens::enclosed::Grouped;
 use wat_tokens::traits::Parse;
-use wat_tokens::whole::Grouped;
+use wat_tokens::whole_text::read_text;
 
 /// What is wrong with a module's fields, and beside them.
 #[derive(Debug, Drop)]

@@ -5,7 +5,7 @@ use Rattle.std.proofs.Math.Seq.{take-append_seam}
 use Rattle.std.proofs.lemmas.List.{append-nil}
 use Rattle.wat_tokens.specs.Token.{Tok, LParen, RParen, String}
 use Rattle.wat_tokens.specs.Tests.{ends}
-use Rattle.wat_mnemonics.specs.declared.mnemonic.Mnemonic.TheVariants as head
+use Rattle.wat_mnemonics.specs.declared.op.Op.TheVariants as ops
 use Rattle.wat_mnemonics.specs.declared.indexed.LabelOp.TheVariants as label
 use Rattle.wat_instr.specs.Follows.{MayFollow, NoTypeSecond}
 use Rattle.wat_instr.specs.Instruction.{Instr, instruction, else_instr, end_instr}
@@ -50,11 +50,11 @@ flat_value_is is = rw (unfolds is, no_hints is 0) refl
 
 else_spelled : instruction.spells else_instr (keyword (codes "else") ∷ []) []
 unfolding instruction operand
-else_spelled = (head.Label label.else_, keyword (codes "else") ∷ [], [], refl, refl, (operands.label None, (None, (refl, refl), refl, refl), refl, refl))
+else_spelled = (ops.Label label.else_, keyword (codes "else") ∷ [], [], refl, refl, (operands.label None, (None, (refl, refl), refl, refl), refl, refl))
 
 end_spelled : instruction.spells end_instr (keyword (codes "end") ∷ []) []
 unfolding instruction operand
-end_spelled = (head.Label label.end, keyword (codes "end") ∷ [], [], refl, refl, (operands.label None, (None, (refl, refl), refl, refl), refl, refl))
+end_spelled = (ops.Label label.end, keyword (codes "end") ∷ [], [], refl, refl, (operands.label None, (None, (refl, refl), refl, refl), refl, refl))
 
 -- ---- the flat form
 

@@ -1,8 +1,8 @@
 -- What a call answers that reads an instruction, and what it means where it reads none.
 use Rattle.std.proofs.Common.{◌≡◌, ◌++◌, inl, ℕ, List, [], ◌∷◌, Option, Some, None, Result, Ok, Err, false, true, refl, ap, sym, ◌∙◌}
-use Rattle.wat_mnemonics.specs.Heads.{mnemonic_row}
+use Rattle.wat_mnemonics.specs.Ops.{op_row}
 use Rattle.wat_mnemonics.specs.Mnemonic.{mnemonic}
-use Rattle.wat_mnemonics.specs.declared.mnemonic.Mnemonic.{Mnemonic}
+use Rattle.wat_mnemonics.specs.declared.op.Op.{Op}
 use Rattle.wat_tokens.specs.Error.{Error}
 use Rattle.wat_tokens.specs.Laws.Production.{by_read, some_is, none_is_not}
 use Rattle.wat_tokens.specs.Parses.{Gives}
@@ -27,7 +27,7 @@ use Rattle.wat_expr.specs.Taken.{TakesHead, ReadsBehind, suits_word}
 
 -- ---- what is taken
 
-pub takes_head : (res : Result Mnemonic Error) (ts left : List Tok) → Gives (plain (λ h. h)) res (mnemonic.reads ts) left → TakesHead res ts left
+pub takes_head : (res : Result Op Error) (ts left : List Tok) → Gives (plain (λ h. h)) res (mnemonic.reads ts) left → TakesHead res ts left
 unfolding instruction
 takes_head (Ok h) ts left g = rw g refl
 takes_head (Err e) ts left g = rw (g.0) refl
@@ -38,7 +38,7 @@ put_is (Some x) before after left e =
     (x.0, ap (λ (r : List Tok). some_of (x.0, r)) (ap (λ (y : List Instr × List Tok). y.1) p), sym (ap (λ (y : List Instr × List Tok). y.0) p))
 put_is None before after left e = none_is_not (after, left) e
 
-pub puts_behind : {X : Type 0} (res : Result X Error) (h : Mnemonic) (before after : List Instr) (ts left : List Tok) → Puts before after res ((behind_word h).reads ts) left → ReadsBehind h (λ i. after ≡ before ++ i ∷ []) res ts left
+pub puts_behind : {X : Type 0} (res : Result X Error) (h : Op) (before after : List Instr) (ts left : List Tok) → Puts before after res ((behind_word h).reads ts) left → ReadsBehind h (λ i. after ≡ before ++ i ∷ []) res ts left
 puts_behind (Ok x) h before after ts left e = put_is ((behind_word h).reads ts) before after left e
 puts_behind (Err e) h before after ts left g = λ n. g.0.0 n
 
@@ -52,24 +52,24 @@ reads_steadily res before after read a b r = record { counts = r.counts.0; stays
 -- ---- what it means for the instruction as a whole
 
 -- it is of its word's row
-row_is : (h : Mnemonic) (i : Instr) (ts left : List Tok) → (behind_word h).reads ts ≡ Some (i, left) → i.row ≡ mnemonic_row h
+row_is : (h : Op) (i : Instr) (ts left : List Tok) → (behind_word h).reads ts ≡ Some (i, left) → i.row ≡ op_row h
 row_is h i ts left e =
     by_read ((operand h).reads ts)
     (λ x k. (let p = some_is _ _ (rw k at e) in sym (ap (λ (y : Instr × List Tok). y.0.row) p)))
     (λ k. none_is_not (i, left) (rw k at e))
 
-suits_row : (p : Option ℕ) (h : Mnemonic) (i : Instr) → i.row ≡ mnemonic_row h → suits p i ≡ suits_word p h
+suits_row : (p : Option ℕ) (h : Op) (i : Instr) → i.row ≡ op_row h → suits p i ≡ suits_word p h
 suits_row None h i e = refl
 suits_row (Some v) h i e = rw e refl
 
-module _ (h : Mnemonic) (ts u : List Tok) (taken : instruction.reads ts ≡ (behind_word h).reads u) where
+module _ (h : Op) (ts u : List Tok) (taken : instruction.reads ts ≡ (behind_word h).reads u) where
   pub read_whole : (i : Instr) (m : List Tok) → (behind_word h).reads u ≡ Some (i, m) → reads i ts m
   read_whole i m e = reads_of i ts m (taken ∙ e)
 
   pub read_suits : (p : Option ℕ) (i : Instr) (m : List Tok) → (behind_word h).reads u ≡ Some (i, m) → suits p i ≡ suits_word p h
   read_suits p i m e = suits_row p h i (row_is h i u m e)
 
-  pub read_row : (i : Instr) (m : List Tok) → (behind_word h).reads u ≡ Some (i, m) → i.row ≡ mnemonic_row h
+  pub read_row : (i : Instr) (m : List Tok) → (behind_word h).reads u ≡ Some (i, m) → i.row ≡ op_row h
   read_row i m e = row_is h i u m e
 
   pub none_whole : (behind_word h).reads u ≡ None → (i : Instr) (m : List Tok) → reads i ts m → ⊥
@@ -95,6 +95,6 @@ pub group_opens : {A : Type 0} (res : Result A Error) (s t : List OpenGroup) (ts
 group_opens (Ok x) s t ts u left f e (i, r, q) = inl (i, u, e, r, q, refl)
 group_opens (Err x) s t ts u left f e never = λ n. no_group_turn s ts u f e (never n)
 
-pub opens_behind : {A : Type 0} (res : Result A Error) (h : Mnemonic) (m : Mark) (s t : List OpenGroup) (ts u left : List Tok) → instruction.reads ts ≡ (behind_word h).reads u → m.hint ≡ None → ReadsBehind h (λ i. t ≡ open_groups (kind.Folded ∷ []) (i ∷ []) (m ∷ []) ++ s) res u left → OpensBehind res s t ts left
+pub opens_behind : {A : Type 0} (res : Result A Error) (h : Op) (m : Mark) (s t : List OpenGroup) (ts u left : List Tok) → instruction.reads ts ≡ (behind_word h).reads u → m.hint ≡ None → ReadsBehind h (λ i. t ≡ open_groups (kind.Folded ∷ []) (i ∷ []) (m ∷ []) ++ s) res u left → OpensBehind res s t ts left
 opens_behind (Ok x) h m s t ts u left taken unhinted (i, k, q) = (i, read_whole h ts u taken i left k, q ∙ rw unhinted refl)
 opens_behind (Err e) h m s t ts u left taken unhinted r = λ n. none_whole h ts u taken (r n)

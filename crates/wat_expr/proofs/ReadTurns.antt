@@ -1,8 +1,8 @@
 -- Turns at an instruction that is read behind its word, and at the end of a group.
 use Rattle.std.proofs.Common.{◌≡◌, ◌++◌, ℕ, Bool, true, false, List, [], ◌∷◌, Option, Some, None, Result, Ok, Err, MatchResult, refl, subst, ap, sym, ◌∙◌}
 use Rattle.std.specs.Prelude.{codes}
-use Rattle.wat_mnemonics.specs.Heads.{mnemonic_row}
-use Rattle.wat_mnemonics.specs.declared.mnemonic.Mnemonic.{Mnemonic}
+use Rattle.wat_mnemonics.specs.Ops.{op_row}
+use Rattle.wat_mnemonics.specs.declared.op.Op.{Op}
 use Rattle.wat_tokens.specs.Error.{Error, Memory}
 use Rattle.wat_tokens.specs.Token.{Tok, LParen, RParen}
 use Rattle.wat_instr.specs.Instruction.{Instr, instruction, behind_word, is_block, is_if, end_instr, else_instr}
@@ -23,7 +23,7 @@ use Rattle.wat_expr.proofs.Turns.{at, inside, put, closed, CanClose, no_plain, t
 -- ---- an instruction
 
 -- where it was read the turn was made, and where it was not, but for memory, nothing could be
-answers : {A : Type 0} {Then : Instr → Type 0} {s t : LoopState} (h : Mnemonic) (u m : List Tok) (res : Result A Error) → ReadsBehind h Then res u m → ((i : Instr) → (behind_word h).reads u ≡ Some (i, m) → Then i → Turn s t) → ((behind_word h).reads u ≡ None → Stuck s) → TurnAnswers res s t
+answers : {A : Type 0} {Then : Instr → Type 0} {s t : LoopState} (h : Op) (u m : List Tok) (res : Result A Error) → ReadsBehind h Then res u m → ((i : Instr) → (behind_word h).reads u ≡ Some (i, m) → Then i → Turn s t) → ((behind_word h).reads u ≡ None → Stuck s) → TurnAnswers res s t
 answers h u m (Ok x) (i, k, q) made stuck = made i k q
 answers h u m (Err e) r made stuck = λ n. stuck (r n)
 
@@ -36,7 +36,7 @@ put_holder : (b : Bool) (p : Option ℕ) (i : Instr) (f : Flat) → put (sort_of
 put_holder true p i f = refl
 put_holder false p i f = refl
 
-module _ {A : Type 0} (res : Result A Error) (h : Mnemonic) (s : List OpenGroup) (p after : Option ℕ) (ts u m : List Tok) (f g : Flat) (taken : instruction.reads ts ≡ (behind_word h).reads u) (suited : suits_word p h ≡ true) (gone : after ≡ None) where
+module _ {A : Type 0} (res : Result A Error) (h : Op) (s : List OpenGroup) (p after : Option ℕ) (ts u m : List Tok) (f g : Flat) (taken : instruction.reads ts ≡ (behind_word h).reads u) (suited : suits_word p h ≡ true) (gone : after ≡ None) where
   -- alone
   pub plain_read : TakesPlain s → (((i : Instr) (n : List Tok) → reads i ts n → ⊥) → Stuck (at s p ts f)) → ReadsBehind h (λ i. g ≡ push p i f) res u m → TurnAnswers res (at s p ts f) (at s after m g)
   plain_read a stuck r =
@@ -45,15 +45,15 @@ module _ {A : Type 0} (res : Result A Error) (h : Mnemonic) (s : List OpenGroup)
       (λ none. stuck (none_whole h ts u taken none))
 
   -- of a block
-  pub block_read : (i : Instr) (new : List OpenGroup) → IsOpen s → is_block (mnemonic_row h) ≡ true → (behind_word h).reads u ≡ Some (i, m) → g ≡ push p i f → MatchResult res (λ _. new ≡ InBlock ∷ s) (λ e. e.fault ≡ Memory) → TurnAnswers res (at s p (LParen ∷ ts) f) (at new after m g)
+  pub block_read : (i : Instr) (new : List OpenGroup) → IsOpen s → is_block (op_row h) ≡ true → (behind_word h).reads u ≡ Some (i, m) → g ≡ push p i f → MatchResult res (λ _. new ≡ InBlock ∷ s) (λ e. e.fault ≡ Memory) → TurnAnswers res (at s p (LParen ∷ ts) f) (at new after m g)
   block_read i new a b k q r =
       turn_group res IsBlock s new p after i ts m f g (sort_block i (ap is_block (read_row h ts u taken i m k) ∙ b)) a (read_whole h ts u taken i m k) (read_suits h ts u taken p i m k ∙ suited) gone q r
 
   -- of a group that it waits in
-  pub group_read : (new : List OpenGroup) (mark : Mark) → IsOpen s → is_block (mnemonic_row h) ≡ false → mark.hint ≡ p → g ≡ f → (((i : Instr) (n : List Tok) → reads i ts n → ⊥) → Stuck (at s p (LParen ∷ ts) f)) → ReadsBehind h (λ i. new ≡ open_groups (holder (is_if (mnemonic_row h)) ∷ []) (i ∷ []) (mark ∷ []) ++ s) res u m → TurnAnswers res (at s p (LParen ∷ ts) f) (at new after m g)
+  pub group_read : (new : List OpenGroup) (mark : Mark) → IsOpen s → is_block (op_row h) ≡ false → mark.hint ≡ p → g ≡ f → (((i : Instr) (n : List Tok) → reads i ts n → ⊥) → Stuck (at s p (LParen ∷ ts) f)) → ReadsBehind h (λ i. new ≡ open_groups (holder (is_if (op_row h)) ∷ []) (i ∷ []) (mark ∷ []) ++ s) res u m → TurnAnswers res (at s p (LParen ∷ ts) f) (at new after m g)
   group_read new mark a b hinted same stuck r =
       answers h u m res r
-      (λ i k q. turn_group (Ok (tt {0})) (sort_of false (is_if (mnemonic_row h))) s new p after i ts m f g (rw (read_row h ts u taken i m k, b) refl) a (read_whole h ts u taken i m k) (read_suits h ts u taken p i m k ∙ suited) gone (same ∙ sym (put_holder (is_if (mnemonic_row h)) p i f)) (q ∙ (inside_holder (is_if (mnemonic_row h)) i mark s ∙ ap (λ (y : Option ℕ). inside (sort_of false (is_if (mnemonic_row h))) i y ∷ s) hinted)))
+      (λ i k q. turn_group (Ok (tt {0})) (sort_of false (is_if (op_row h))) s new p after i ts m f g (rw (read_row h ts u taken i m k, b) refl) a (read_whole h ts u taken i m k) (read_suits h ts u taken p i m k ∙ suited) gone (same ∙ sym (put_holder (is_if (op_row h)) p i f)) (q ∙ (inside_holder (is_if (op_row h)) i mark s ∙ ap (λ (y : Option ℕ). inside (sort_of false (is_if (op_row h))) i y ∷ s) hinted)))
       (λ none. stuck (none_whole h ts u taken none))
 
 -- no instruction where one is needed

@@ -13,9 +13,9 @@ use Rattle.wat_types.specs.FunctionSpells.{func_groups}
 use Rattle.wat_types.specs.Label.{label}
 use Rattle.wat_types.specs.Use.{type_use}
 use Rattle.wat_operands.specs.Block.{block_type}
-use Rattle.wat_mnemonics.specs.Heads.{mnemonic_word}
-use Rattle.wat_mnemonics.specs.declared.mnemonic.Mnemonic.{Mnemonic}
-use Rattle.wat_mnemonics.specs.declared.mnemonic.Mnemonic.TheVariants as word
+use Rattle.wat_mnemonics.specs.Ops.{op_word}
+use Rattle.wat_mnemonics.specs.declared.op.Op.{Op}
+use Rattle.wat_mnemonics.specs.declared.op.Op.TheVariants as word
 use Rattle.wat_mnemonics.specs.declared.indexed.BlockOp.{BlockOp}
 use Rattle.wat_mnemonics.specs.declared.indexed.BlockOp.TheVariants as block
 use Rattle.wat_mnemonics.specs.declared.indexed.IndexedOp.{IndexedOp}
@@ -38,12 +38,12 @@ use Rattle.wat_expr.specs.Rows.{const_of, plain_of, indexed_of, opening_of, clos
 
 -- ---- instructions in front of any rest
 
-front : (h : Mnemonic) (w : List ℕ) → mnemonic_word h ≡ w → (o : Operand) (t r : List Tok)
+front : (h : Op) (w : List ℕ) → op_word h ≡ w → (o : Operand) (t r : List Tok)
     → (operand h).reads t ≡ Some (o, r) → reads (instr_of h o) (Keyword w ∷ t) r
 front h w k o t r e = reads_of (instr_of h o) (Keyword w ∷ t) r (instruction_read h w k o t r e)
 
 -- a word alone
-plain : (op : ScalarOp) (w : List ℕ) → mnemonic_word (word.Scalar op) ≡ w → (r : List Tok)
+plain : (op : ScalarOp) (w : List ℕ) → op_word (word.Scalar op) ≡ w → (r : List Tok)
     → reads (plain_of op) (Keyword w ∷ r) r
 unfolding operand
 plain op w k r = front (word.Scalar op) w k operands.nothing r r refl
@@ -55,19 +55,19 @@ const : (d : List ℕ) (n : ℕ) (r : List Tok)
 const d n r e = front word.i32_const (codes "i32.const") refl (operands.integer (pos n)) (Integer d ∷ r) r e
 
 -- a word and the index 0
-indexed_by_0 : (op : IndexedOp) (w : List ℕ) → mnemonic_word (word.Indexed op) ≡ w → (r : List Tok)
+indexed_by_0 : (op : IndexedOp) (w : List ℕ) → op_word (word.Indexed op) ≡ w → (r : List Tok)
     → reads (indexed_of op 0) (Keyword w ∷ Integer (codes "0") ∷ r) r
 unfolding operand read
 indexed_by_0 op w k r = front (word.Indexed op) w k (operands.one_index (number 0)) (Integer (codes "0") ∷ r) r refl
 
 -- `block` or `if` in front of tokens that begin no label and no type
-opening : (op : BlockOp) (w : List ℕ) → mnemonic_word (word.Block op) ≡ w → (r : List Tok)
+opening : (op : BlockOp) (w : List ℕ) → op_word (word.Block op) ≡ w → (r : List Tok)
     → (operand (word.Block op)).reads r ≡ Some ((opening_of op).operand, r)
     → reads (opening_of op) (Keyword w ∷ r) r
 opening op w k r e = front (word.Block op) w k (opening_of op).operand r r e
 
 -- `else` or `end` in front of tokens that begin no label
-closing : (op : LabelOp) (w : List ℕ) → mnemonic_word (word.Label op) ≡ w → (r : List Tok)
+closing : (op : LabelOp) (w : List ℕ) → op_word (word.Label op) ≡ w → (r : List Tok)
     → (operand (word.Label op)).reads r ≡ Some (operands.label None, r)
     → reads (closing_of op) (Keyword w ∷ r) r
 closing op w k r e = front (word.Label op) w k (operands.label None) r r e

@@ -32,21 +32,21 @@ use Rattle.wat_expr.specs.Laws.Reading.{stops_end}
 use Rattle.wat_expr.specs.ExpressionProduction.{expression}
 
 -- what was counted, with n items
-abbrev pub tallies : ℕ → State → Tallies
-tallies n b = record { items = n; peak = b.peak; held = b.held }
+abbrev pub counters : ℕ → State → Tallies
+counters n b = record { items = n; peak = b.peak; held = b.held }
 
 -- before anything was read
 abbrev pub first : State → TalliedFlat
-first a = with_tallies (no_output a.tracks) (tallies 0 a)
+first a = with_tallies (no_output a.tracks) (counters 0 a)
 
 abbrev pub start : State → TalliedState
-start a = state_with (at [] None a.left (no_output a.tracks)) (tallies 0 a)
+start a = state_with (at [] None a.left (no_output a.tracks)) (counters 0 a)
 
 -- From the parser a on, the reader r is in front of what the parser b has left.
 pub record Reading (a b : State) (r : Reader) : Type 0 where
   pub items : ℕ
   pub turns : a.turns + items ≤ b.turns
-  pub same : Same (start a) (state_with (stand r b.left) (tallies items b))
+  pub same : Same (start a) (state_with (stand r b.left) (counters items b))
   pub counts : Carries a b
   pub turned : b.turns + a.taken ≤ a.turns + b.taken
   pub height : Balanced 0 a.left (length r.open_groups) b.left
@@ -73,7 +73,7 @@ refused_counts a b t u r tick = rw tick (λ w counts stays c. ((λ s k. counts s
 pub goes_on : (a b t u v x : State) (r r2 : Reader) (k h : ℕ) → t ≡ record b { turns = b.turns + 1 } → k ≡ length r2.open_groups → h ≡ heads_in r2.open_groups → v ≡ record u { peak = max u.peak k } → x ≡ record v { held = max v.held h }
     → Reading a b r → Carries t u → Stays t u → SameSettings t u → Carries b t → (r.open_groups ≡ [] → ends b.left ≡ true → ⊥) → Turn (stand r t.left) (stand r2 u.left) → Carries v x → Reading a x r2
 goes_on a b t u v x r r2 k h tick ek eh ev ex = rw (tick, ex, ev, ek, eh) (λ w counts stays settings c undone turn cx.
-    let s = turn.same (tallies w.items b) in
+    let s = turn.same (counters w.items b) in
     let more : b.taken + 1 ≤ u.taken = taken_one _ u counts turn.shorter in
     let high : Balanced 0 a.left (length r2.open_groups) u.left = (let m = w.height in let n = turn.balanced in omega (arith, m, n)) in
     record {
@@ -94,7 +94,7 @@ abbrev pub Unlisted : List Tok → Type 0
 Unlisted ts = (xs : Items) (r : List Tok) → lists xs ts r → ends r ≡ true → ⊥
 
 not_listed : (a b : State) (r : Reader) → Reading a b r → Stuck (stand r b.left) → Unlisted a.left
-not_listed a b r w stuck xs u l e = stuck (tallies w.items b) (emit 0 0 None xs (first a)) u (w.same.forth (emit 0 0 None xs (first a)) u (xs, u, l, tt, any_items xs, (e, refl, refl)))
+not_listed a b r w stuck xs u l e = stuck (counters w.items b) (emit 0 0 None xs (first a)) u (w.same.forth (emit 0 0 None xs (first a)) u (xs, u, l, tt, any_items xs, (e, refl, refl)))
 
 pub left_pending : (a b : State) (r : Reader) (v : ℕ) → Reading a b r → r.pending ≡ Some v → ends b.left ≡ true → Unlisted a.left
 left_pending a b r v w ep e = not_listed a b r w (unpending r.open_groups r.pending v b.left (flat r.out) ep (λ _. stops_end b.left e))
@@ -111,7 +111,7 @@ spans_are : (keeps : Bool) (x : Expression) → Spanned keeps (flat x) → Spans
 spans_are keeps x s = span_cases _ (λ v. length v.items) x.instr_spans keeps (length (map instruction_view x.instrs.items)) (length x.instrs.items) (length-map x.instrs.items instruction_view) s
 
 -- the value, the numbers and the spans
-finished : (a b : State) (r : Reader) (n : ℕ) → a.turns + n ≤ b.turns → ends b.left ≡ true → Finishes (with_tallies (flat r.out) (tallies n b)) b.left (start a) → IsListed a b r.out × SpansAre a.tracks r.out
+finished : (a b : State) (r : Reader) (n : ℕ) → a.turns + n ≤ b.turns → ends b.left ≡ true → Finishes (with_tallies (flat r.out) (counters n b)) b.left (start a) → IsListed a b r.out × SpansAre a.tracks r.out
 finished a b r n turns e (xs, rest, l, fit, only, (e2, here, is)) =
     let c = flat_out xs (first a) in
     let p = ap (λ (c : TalliedFlat). c.out.instrs) (sym is) ∙ c.0 in
@@ -129,7 +129,7 @@ finished a b r n turns e (xs, rest, l, fit, only, (e2, here, is)) =
     )
 
 pub listed : (a b : State) (r : Reader) → Reading a b r → r.open_groups ≡ [] → r.pending ≡ None → ends b.left ≡ true → IsListed a b r.out × SpansAre a.tracks r.out
-listed a b r w es ep e = let same = rw (es, ep) at w.same in finished a b r w.items w.turns e (same.back (with_tallies (flat r.out) (tallies w.items b)) b.left (Nil, b.left, refl, tt, tt, (e, refl, refl)))
+listed a b r w es ep e = let same = rw (es, ep) at w.same in finished a b r w.items w.turns e (same.back (with_tallies (flat r.out) (counters w.items b)) b.left (Nil, b.left, refl, tt, tt, (e, refl, refl)))
 
 -- ---- what that says of the production
 

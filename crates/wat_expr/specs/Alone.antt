@@ -1,6 +1,6 @@
 -- Expressions of one plain instruction.
 use Rattle.std.proofs.Common.{[], ◌∷◌}
-use Rattle.wat_mnemonics.specs.declared.mnemonic.Mnemonic.TheVariants as word
+use Rattle.wat_mnemonics.specs.declared.op.Op.TheVariants as word
 use Rattle.wat_mnemonics.specs.declared.scalar.ScalarOp.TheVariants as scalar
 use Rattle.wat_instr.specs.Instruction.{Instr, instr_of}
 use Rattle.wat_instr.specs.Operand as operands

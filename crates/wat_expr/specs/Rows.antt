@@ -5,7 +5,7 @@ use Rattle.wat_tokens.specs.Index.{number}
 use Rattle.wat_tokens.specs.Spelled.{in_parens, Spelled}
 use Rattle.wat_types.specs.Label.{no_label}
 use Rattle.wat_types.specs.Use.{use_of}
-use Rattle.wat_mnemonics.specs.declared.mnemonic.Mnemonic.TheVariants as word
+use Rattle.wat_mnemonics.specs.declared.op.Op.TheVariants as word
 use Rattle.wat_mnemonics.specs.declared.indexed.BlockOp.{BlockOp}
 use Rattle.wat_mnemonics.specs.declared.indexed.BlockOp.TheVariants as block
 use Rattle.wat_mnemonics.specs.declared.indexed.IndexedOp.{IndexedOp}

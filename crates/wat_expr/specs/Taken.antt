@@ -3,8 +3,8 @@ use Rattle.std.specs.Prelude.{◌≡◌, ◌≢◌, ◌||◌, Bool, true, Option
 use Rattle.std.specs.Prelude.{ℕ, List, ◌∷◌, MatchBool}
 use Rattle.wat_tokens.specs.Token.{Tok, String}
 use Rattle.wat_tokens.specs.Error.{Error, Memory}
-use Rattle.wat_mnemonics.specs.Heads.{mnemonic_row}
-use Rattle.wat_mnemonics.specs.declared.mnemonic.Mnemonic.{Mnemonic}
+use Rattle.wat_mnemonics.specs.Ops.{op_row}
+use Rattle.wat_mnemonics.specs.declared.op.Op.{Op}
 use Rattle.wat_instr.specs.Instruction.{Instr, instruction, behind_word, is_br_if, is_if}
 use Rattle.wat_expr.specs.Items.{reads}
 use Rattle.wat_expr.specs.Progress.{suits}
@@ -15,26 +15,26 @@ TakesIf t b ts r = MatchBool b (ts ≡ t ∷ r) ((r ≡ ts) × ((u : List Tok) �
 
 -- The word of an instruction was taken: what is in front is what is behind its word. Or none is in
 -- front.
-abbrev pub TakesHead : Result Mnemonic Error → List Tok → List Tok → Type 0
+abbrev pub TakesHead : Result Op Error → List Tok → List Tok → Type 0
 TakesHead (Ok h) ts r = instruction.reads ts ≡ (behind_word h).reads r
 TakesHead (Err e) ts r = instruction.reads ts ≡ None
 
 -- Behind the word the instruction was read, and `Then` holds of it. Or, unless memory ran out, no
 -- operand is in front.
-abbrev pub ReadsBehind : {X : Type 0} → Mnemonic → (Instr → Type 0) → Result X Error → List Tok
+abbrev pub ReadsBehind : {X : Type 0} → Op → (Instr → Type 0) → Result X Error → List Tok
     → List Tok → Type 0
 ReadsBehind h Then (Ok x) ts r =
     (i : Instr) × ((behind_word h).reads ts ≡ Some (i, r)) × Then i
 ReadsBehind h Then (Err e) ts r = e.fault ≢ Memory → (behind_word h).reads ts ≡ None
 
 -- whether the instructions of the word suit the pending hint
-abbrev pub suits_word : Option ℕ → Mnemonic → Bool
+abbrev pub suits_word : Option ℕ → Op → Bool
 suits_word None h = true
-suits_word (Some v) h = is_br_if (mnemonic_row h) || is_if (mnemonic_row h)
+suits_word (Some v) h = is_br_if (op_row h) || is_if (op_row h)
 
 -- The word of an instruction that suits the pending hint was taken, as above. Or none that does is
 -- in front.
-abbrev pub TakesSuited : Option ℕ → Result Mnemonic Error → List Tok → List Tok → Type 0
+abbrev pub TakesSuited : Option ℕ → Result Op Error → List Tok → List Tok → Type 0
 TakesSuited p (Ok h) ts r = TakesHead (Ok h) ts r × (suits_word p h ≡ true)
 TakesSuited p (Err e) ts r = (i : Instr) (m : List Tok) → reads i ts m → suits p i ≡ true → ⊥
 

@@ -22,7 +22,7 @@ ghost use Rattle.wat_tokens.specs.Views.{owning};
 use crate::reader::Reader;
 use crate::take::read_behind;
 use std::alloc::Global;
-use wat_instr::{Instruction, LabelOp, Mnemonic};
+use wat_instr::{Instruction, LabelOp, Op};
 use wat_tokens::ownership::push_into;
 use wat_tokens::{Error, Fault, Parse, Parser, Result, Span};
 
@@ -205,17 +205,17 @@ impl<'a> Expression<'a> {
     #[inline(always)]
     pub(crate) fn read(
         &mut self,
-        head: Mnemonic,
+        op: Op,
         parser: &mut Parser<'a>,
         hint: Option<u32>,
         span: Span,
     ) -> Result<()>
-        ensures exact { ReadsBehind head (λ i. flat self.new ≡ push hint i (flat self.old)) result
+        ensures exact { ReadsBehind op (λ i. flat self.new ≡ push hint i (flat self.old)) result
             parser.old.left parser.new.left }
         ensures steady { Steady parser.old parser.new }
     {
         let index = self.instrs.len();
-        match read_behind(head, parser, &mut self.instrs) {
+        match read_behind(op, parser, &mut self.instrs) {
             Ok(()) => {
                 add_hint(&mut self.branch_hints, hint, index)?;
                 add_span(&mut self.instr_spans, span)?;

@@ -29,10 +29,10 @@ fn open_group<'a>(open_groups: &mut OpenGroups<'a>, parser: &mut Parser<'a>) -> 
     ensures steady { Steady parser.old parser.new }
 {
     match take_head(parser) {
-        Ok(head) => {
+        Ok(op) => {
             let span = parser.prev_span();
             let mark = Mark { span, hint: None };
-            open_groups.hold(Kind::Folded, head, parser, mark)
+            open_groups.hold(Kind::Folded, op, parser, mark)
         }
         Err(refused) => Err(refused),
     }

@@ -14,7 +14,7 @@ use crate::expression::Expression;
 use crate::take::{make_room, read_behind, refuse};
 use std::alloc::Global;
 use std::marker::Model;
-use wat_instr::{Instruction, Mnemonic};
+use wat_instr::{Instruction, Op};
 use wat_tokens::{Fault, Parser, Result, Span};
 
 /// What kind of group is open.
@@ -193,21 +193,15 @@ impl<'a> OpenGroups<'a> {
     /// Opens a group of a kind that holds an instruction. Its word was taken; its operand is read,
     /// and it waits. Memory may be answered.
     #[inline(always)]
-    pub fn hold(
-        &mut self,
-        kind: Kind,
-        head: Mnemonic,
-        parser: &mut Parser<'a>,
-        mark: Mark,
-    ) -> Result<()>
+    pub fn hold(&mut self, kind: Kind, op: Op, parser: &mut Parser<'a>, mark: Mark) -> Result<()>
         requires { waiting (kind ∷ []) ≡ 1 }
-        ensures exact { ReadsBehind head (λ i. self.new ≡ open_groups (kind ∷ []) (i ∷ [])
+        ensures exact { ReadsBehind op (λ i. self.new ≡ open_groups (kind ∷ []) (i ∷ [])
             (mark ∷ []) ++ self.old) result parser.old.left parser.new.left }
         ensures steady { Steady parser.old parser.new }
     {
         self.kinds.reserve(1)?;
         self.marks.reserve(1)?;
-        match read_behind(head, parser, &mut self.heads) {
+        match read_behind(op, parser, &mut self.heads) {
             Ok(()) => {
                 self.kinds.push_reserved(kind);
                 self.marks.push_reserved(mark);

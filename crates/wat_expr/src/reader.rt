@@ -9,7 +9,7 @@ ghost use Rattle.wat_expr.specs.Progress.{IsOpen, TurnAnswers};
 ghost use Rattle.wat_expr.specs.Taken.{suits_word, TakesSuited};
 ghost use Rattle.wat_expr.specs.Turned.{stand, IsHintByte};
 ghost use Rattle.wat_instr.specs.Instruction.{Instr, is_if};
-ghost use Rattle.wat_mnemonics.specs.Heads.{mnemonic_row};
+ghost use Rattle.wat_mnemonics.specs.Ops.{op_row};
 ghost use Rattle.wat_tokens.specs.Steady.{Steady};
 ghost use Rattle.wat_tokens.specs.Tests.{ends};
 ghost use Rattle.wat_tokens.specs.Token.{Tok, LParen, RParen};
@@ -20,7 +20,7 @@ use crate::take::{
     refuse, take_close, take_head, take_hint_name, take_open, take_string, take_word,
 };
 use std::alloc::Global;
-use wat_instr::{Instruction, LabelOp, Mnemonic, branches_if, opens_block, opens_if};
+use wat_instr::{Instruction, LabelOp, Op, branches_if, opens_block, opens_if};
 use wat_tokens::ownership::discard;
 use wat_tokens::{Error, Fault, Parser, Result, Span};
 
@@ -45,11 +45,11 @@ fn hint_byte(bytes: &[u8]) -> Option<u32>
 
 /// Whether the hint, where one waits, can stand before an instruction of the word.
 #[inline(always)]
-fn suits(hint: Option<u32>, head: Mnemonic) -> bool
-    ensures { result ≡ suits_word hint head }
+fn suits(hint: Option<u32>, op: Op) -> bool
+    ensures { result ≡ suits_word hint op }
 {
     match hint {
-        Some(_) => branches_if(head) || opens_if(head),
+        Some(_) => branches_if(op) || opens_if(op),
         None => true,
     }
 }
@@ -57,12 +57,12 @@ fn suits(hint: Option<u32>, head: Mnemonic) -> bool
 /// The refusal of an instruction that the waiting hint can't stand before, behind its word: that of
 /// its operand, or HintTarget at the word.
 #[cold]
-fn unsuited<'a>(head: Mnemonic, parser: &mut Parser<'a>) -> Error
+fn unsuited<'a>(op: Op, parser: &mut Parser<'a>) -> Error
     ensures { Steady parser.old parser.new }
 {
     let span = parser.prev_span();
     let mut slot = None;
-    match Instruction::read_operand(head, parser, &mut slot) {
+    match Instruction::read_operand(op, parser, &mut slot) {
         Ok(()) => {
             discard(slot);
             Error::at(Fault::HintTarget, span)
@@ -74,16 +74,16 @@ fn unsuited<'a>(head: Mnemonic, parser: &mut Parser<'a>) -> Error
 /// Takes the word of the instruction that is in front. One that the waiting hint can't stand before
 /// is refused with HintTarget at its word; a fault in its operand comes before that.
 #[inline(always)]
-fn take_suited<'a>(parser: &mut Parser<'a>, hint: Option<u32>) -> Result<Mnemonic>
+fn take_suited<'a>(parser: &mut Parser<'a>, hint: Option<u32>) -> Result<Op>
     ensures exact { TakesSuited hint result parser.old.left parser.new.left }
     ensures steady { Steady parser.old parser.new }
 {
     match take_head(parser) {
-        Ok(head) => {
-            if suits(hint, head) {
-                return Ok(head);
+        Ok(op) => {
+            if suits(hint, op) {
+                return Ok(op);
             }
-            Err(unsuited(head, parser))
+            Err(unsuited(op, parser))
         }
         Err(refused) => Err(refused),
     }
@@ -91,14 +91,10 @@ fn take_suited<'a>(parser: &mut Parser<'a>, hint: Option<u32>) -> Result<Mnemoni
 
 /// The kind of a group whose instruction waits in it.
 #[inline(always)]
-fn holder(head: Mnemonic) -> Kind
-    ensures { result ≡ holder (is_if (mnemonic_row head)) }
+fn holder(op: Op) -> Kind
+    ensures { result ≡ holder (is_if (op_row op)) }
 {
-    if opens_if(head) {
-        Kind::If
-    } else {
-        Kind::Folded
-    }
+    if opens_if(op) { Kind::If } else { Kind::Folded }
 }
 
 impl<'a> Reader<'a> {
@@ -155,13 +151,13 @@ impl<'a> Reader<'a> {
         if !self.open_groups.takes_plain() {
             return Err(parser.unexpected());
         }
-        let head = match take_suited(parser, self.pending) {
-            Ok(head) => head,
+        let op = match take_suited(parser, self.pending) {
+            Ok(op) => op,
             Err(refused) => return Err(refused),
         };
         let span = parser.prev_span();
         let hint = self.pending.take();
-        self.out.read(head, parser, hint, span)
+        self.out.read(op, parser, hint, span)
     }
 
     /// A turn at a closing parenthesis, which was taken; `span` is where it is.
@@ -253,20 +249,20 @@ impl<'a> Reader<'a> {
         if take_hint_name(parser) {
             return self.hint(parser);
         }
-        let head = match take_suited(parser, self.pending) {
-            Ok(head) => head,
+        let op = match take_suited(parser, self.pending) {
+            Ok(op) => op,
             Err(refused) => return refuse(refused),
         };
         let span = parser.prev_span();
         let hint = self.pending.take();
-        if opens_block(head) {
-            return match self.out.read(head, parser, hint, span) {
+        if opens_block(op) {
+            return match self.out.read(op, parser, hint, span) {
                 Ok(()) => self.open_groups.enter(Kind::Block),
                 Err(refused) => refuse(refused),
             };
         }
         let mark = Mark { span, hint };
-        self.open_groups.hold(holder(head), head, parser, mark)
+        self.open_groups.hold(holder(op), op, parser, mark)
     }
 
     /// A turn at a hint, whose `(` and annotation were taken.

@@ -8,7 +8,7 @@ ghost use Rattle.wat_instr.specs.Instruction.{instruction_view};
 ghost use Rattle.wat_tokens.specs.Steady.{Steady};
 ghost use Rattle.wat_tokens.specs.Token.{LParen, RParen};
 
-use wat_instr::{Instruction, Mnemonic};
+use wat_instr::{Instruction, Op};
 use wat_tokens::{Error, Fault, Parser, Result};
 
 /// Takes a `(` where it is in front, and answers whether it did.
@@ -50,11 +50,11 @@ pub fn take_hint_name(parser: &mut Parser<'_>) -> bool
 
 /// Takes the word of an instruction that is in front, or refuses with Operator at it.
 #[inline(always)]
-pub fn take_head(parser: &mut Parser<'_>) -> Result<Mnemonic>
+pub fn take_head(parser: &mut Parser<'_>) -> Result<Op>
     ensures exact { TakesHead result parser.old.left parser.new.left }
     ensures steady { Steady parser.old parser.new }
 {
-    Mnemonic::take(parser)
+    Op::take(parser)
 }
 
 /// For how many instructions an empty list gets room: more than most expressions have.
@@ -80,18 +80,18 @@ pub fn make_room<'a>(out: &mut Vec<Instruction<'a>>) -> Result<()>
 /// others of the list. Where it is refused, they are all that is there. Memory may be answered.
 #[inline(always)]
 pub fn read_behind<'a>(
-    head: Mnemonic,
+    op: Op,
     parser: &mut Parser<'a>,
     out: &mut Vec<Instruction<'a>>,
 ) -> Result<()>
-    ensures exact { ReadsBehind head (λ i. map instruction_view out.new.items
+    ensures exact { ReadsBehind op (λ i. map instruction_view out.new.items
         ≡ map instruction_view out.old.items ++ i ∷ []) result parser.old.left parser.new.left }
     ensures refused { IfErr result (λ _. map instruction_view out.new.items
         ≡ map instruction_view out.old.items) }
     ensures steady { Steady parser.old parser.new }
 {
     make_room(out)?;
-    Instruction::read_operand(head, parser, out)
+    Instruction::read_operand(op, parser, out)
 }
 
 /// Takes the string that is in front and answers its bytes, or refuses with Unexpected.

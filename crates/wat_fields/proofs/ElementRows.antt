@@ -15,8 +15,8 @@ use Rattle.wat_types.specs.Reference.{shorthand, begins_shorthand, ref_type}
 use Rattle.wat_links.specs.Export.{inline_export}
 use Rattle.wat_links.specs.FieldHead.{head}
 use Rattle.wat_mnemonics.specs.Word.{mnemonic_of}
-use Rattle.wat_mnemonics.specs.Laws.Word.{mnemonic_of_word}
-use Rattle.wat_mnemonics.specs.declared.mnemonic.Mnemonic.TheVariants as word
+use Rattle.wat_mnemonics.specs.Laws.Word.{op_of_word}
+use Rattle.wat_mnemonics.specs.declared.op.Op.TheVariants as word
 use Rattle.wat_mnemonics.specs.declared.indexed.IndexedOp.TheVariants as op
 use Rattle.wat_instr.specs.Instruction.{instr_of, instruction}
 use Rattle.wat_instr.specs.Operand as operands
@@ -40,7 +40,7 @@ unfolding table table_kind inline_table listed index_list head inline_export lab
 of_externref = spelled_whole table _ _ refl
 
 const_word : mnemonic_of (codes "i32.const") ≡ Some word.i32_const
-const_word = mnemonic_of_word word.i32_const (codes "i32.const") refl
+const_word = op_of_word word.i32_const (codes "i32.const") refl
 
 abbrev const_text : List Tok
 const_text = Keyword (codes "i32.const") ∷ Integer (codes "0") ∷ []
@@ -57,7 +57,7 @@ unfolding elem segment active_segment in_some_table table_number elem_offset wri
 active_functions = spelled_whole elem active_text active_elem (rw const_folded refl)
 
 null_word : mnemonic_of (codes "ref.null") ≡ Some word.ref_null
-null_word = mnemonic_of_word word.ref_null (codes "ref.null") refl
+null_word = op_of_word word.ref_null (codes "ref.null") refl
 
 null_front : instruction.reads (null_text ++ RParen ∷ []) ≡ Some (null_func, RParen ∷ [])
 unfolding instruction operand heap_type abstract_heap_type
@@ -74,7 +74,7 @@ unfolding table table_kind normal_table table_type limits_type is_64 ref_type sh
 table_of_nulls = spelled_whole table nulls_text nulls (rw null_read refl)
 
 func_word : mnemonic_of (codes "ref.func") ≡ Some (word.Indexed op.ref_func)
-func_word = mnemonic_of_word (word.Indexed op.ref_func) (codes "ref.func") refl
+func_word = op_of_word (word.Indexed op.ref_func) (codes "ref.func") refl
 
 abbrev func_text : List Tok
 func_text = Keyword (codes "ref.func") ∷ Integer (codes "0") ∷ []

@@ -15,8 +15,8 @@ use Rattle.wat_types.specs.Use.{type_use}
 use Rattle.wat_links.specs.Export.{inline_export}
 use Rattle.wat_links.specs.FieldHead.{head}
 use Rattle.wat_mnemonics.specs.Word.{mnemonic_of}
-use Rattle.wat_mnemonics.specs.Laws.Word.{mnemonic_of_word}
-use Rattle.wat_mnemonics.specs.declared.mnemonic.Mnemonic.TheVariants as word
+use Rattle.wat_mnemonics.specs.Laws.Word.{op_of_word}
+use Rattle.wat_mnemonics.specs.declared.op.Op.TheVariants as word
 use Rattle.wat_mnemonics.specs.declared.indexed.BlockOp.TheVariants as block
 use Rattle.wat_operands.specs.Block.{block_type}
 use Rattle.wat_instr.specs.Instruction.{instruction}
@@ -43,7 +43,7 @@ unfolding data_segment data_kind label name_annotation data_vals data_val number
 passive_data = (spelled_whole data_segment _ _ refl, spelled_whole data_segment _ _ refl)
 
 block_word : mnemonic_of (codes "block") ≡ Some (word.Block block.block)
-block_word = mnemonic_of_word (word.Block block.block) (codes "block") refl
+block_word = op_of_word (word.Block block.block) (codes "block") refl
 
 abbrev closed : List Tok
 closed = RParen ∷ []

@@ -8,7 +8,7 @@ use Rattle.wat_types.specs.Heap.{abstract_}
 use Rattle.wat_types.specs.Reference.{short}
 use Rattle.wat_types.specs.declared.heap.AbstractHeapType.TheVariants as heap_word
 use Rattle.wat_links.specs.FieldHead.{no_head}
-use Rattle.wat_mnemonics.specs.declared.mnemonic.Mnemonic.TheVariants as word
+use Rattle.wat_mnemonics.specs.declared.op.Op.TheVariants as word
 use Rattle.wat_instr.specs.Instruction.{Instr, instr_of}
 use Rattle.wat_instr.specs.Operand as operands
 use Rattle.wat_expr.specs.Alone.{alone}

@@ -10,7 +10,7 @@ use Rattle.wat_tokens.specs.Views.{no_items}
 use Rattle.wat_types.specs.Heap.{HeapTy, abstract_}
 use Rattle.wat_types.specs.Reference.{RefTy, ref_view, ref_type, begins_ref}
 use Rattle.wat_types.specs.declared.heap.AbstractHeapType.TheVariants as heap_word
-use Rattle.wat_mnemonics.specs.declared.mnemonic.Mnemonic.TheVariants as word
+use Rattle.wat_mnemonics.specs.declared.op.Op.TheVariants as word
 use Rattle.wat_mnemonics.specs.declared.indexed.IndexedOp.TheVariants as op
 use Rattle.wat_instr.specs.Operand as operands
 use Rattle.wat_instr.specs.Instruction.{instr_of}

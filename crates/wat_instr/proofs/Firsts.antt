@@ -38,9 +38,9 @@ use Rattle.wat_operands.specs.Select.{result_follows, select_types}
 use Rattle.wat_operands.specs.ResultGroup.{result_group}
 use Rattle.wat_operands.specs.Laws.Select.{result_group_consumes}
 use Rattle.wat_mnemonics.specs.Access.{access_align, atomic_access_align, rmw_access_align, lane_access_align}
-use Rattle.wat_mnemonics.specs.Heads.{mnemonic_word}
-use Rattle.wat_mnemonics.specs.declared.mnemonic.Mnemonic.{Mnemonic}
-use Rattle.wat_mnemonics.specs.declared.mnemonic.Mnemonic.TheVariants as head
+use Rattle.wat_mnemonics.specs.Ops.{op_word}
+use Rattle.wat_mnemonics.specs.declared.op.Op.{Op}
+use Rattle.wat_mnemonics.specs.declared.op.Op.TheVariants as ops
 use Rattle.wat_instr.specs.Follows.{MayFollow}
 use Rattle.wat_instr.specs.Operand.{operand}
 use Rattle.wat_instr.specs.Instruction.{Instr, instruction}
@@ -282,65 +282,65 @@ throw_fresh v c r s = index_first (seq index resume_table) s.0 c r s.1
 
 -- ---- every operand
 
-operand_fresh : (h : Mnemonic) → BeginsFresh (operand h)
+operand_fresh : (h : Op) → BeginsFresh (operand h)
 unfolding operand
-operand_fresh (head.Block op) v c r s = block_fresh s.0 c r s.1
-operand_fresh (head.Label op) v c r s = maybe begins_id identifier (λ v c r s. one as_id (refl, refl, refl) s) s.0 c r s.1
-operand_fresh (head.Scalar op) v c r s = empty s.0
-operand_fresh (head.Indexed op) v c r s = index_fresh s.0 c r s.1
-operand_fresh (head.CallIndirect op) v c r s = call_fresh s.0 c r s.1
-operand_fresh (head.Table op) v c r s = index_or_0_fresh s.0 c r s.1
-operand_fresh (head.Access op) v c r s = access_fresh (access_align op) s.0 c r s.1
-operand_fresh (head.Memory op) v c r s = index_or_0_fresh s.0 c r s.1
-operand_fresh (head.Struct op) v c r s = index_pair_fresh s.0 c r s.1
-operand_fresh (head.ArrayInit op) v c r s = index_pair_fresh s.0 c r s.1
-operand_fresh (head.AtomicAccess op) v c r s = atomic_fresh (atomic_access_align op) false s.0 c r s.1
-operand_fresh (head.RmwAccess op) v c r s = atomic_fresh (rmw_access_align op) true s.0 c r s.1
-operand_fresh (head.OrderedIndex op) v c r s = ordered_fresh index s.0 c r s.1
-operand_fresh (head.OrderedTable op) v c r s = ordered_fresh index_or_0 s.0 c r s.1
-operand_fresh (head.OrderedStruct op) v c r s = ordered_fresh index_pair s.0 c r s.1
-operand_fresh (head.LaneAccess op) v c r s = lane_access_fresh (lane_access_align op) s.0 c r s.1
-operand_fresh (head.Lane op) v c r s = lane_fresh s.0 c r s.1
-operand_fresh (head.Vector op) v c r s = empty s.0
-operand_fresh head.br_table v c r s = branches_fresh s.0 c r s.1
-operand_fresh head.select v c r s = select_fresh s.0 c r s.1
-operand_fresh head.memory_init v c r s = init_fresh s.0 c r s.1
-operand_fresh head.memory_copy v c r s = copy_fresh s.0 c r s.1
-operand_fresh head.table_init v c r s = init_fresh s.0 c r s.1
-operand_fresh head.table_copy v c r s = copy_fresh s.0 c r s.1
-operand_fresh head.ref_null v c r s = heap_fresh s.0 c r s.1
-operand_fresh head.array_new_fixed v c r s = length_fresh s.0 c r s.1
-operand_fresh head.array_new_data v c r s = index_pair_fresh s.0 c r s.1
-operand_fresh head.array_new_elem v c r s = index_pair_fresh s.0 c r s.1
-operand_fresh head.array_fill v c r s = index_fresh s.0 c r s.1
-operand_fresh head.array_copy v c r s = index_pair_fresh s.0 c r s.1
-operand_fresh head.ref_test v c r s = ref_fresh s.0 c r s.1
-operand_fresh head.ref_cast v c r s = ref_fresh s.0 c r s.1
-operand_fresh head.br_on_cast v c r s = cast_fresh s.0 c r s.1
-operand_fresh head.br_on_cast_fail v c r s = cast_fresh s.0 c r s.1
-operand_fresh head.i32_const v c r s = one (signed_of 32) (refl, refl, refl) s.1
-operand_fresh head.i64_const v c r s = one (signed_of 64) (refl, refl, refl) s.1
-operand_fresh head.f32_const v c r s = absurd s.1
-operand_fresh head.f64_const v c r s = absurd s.1
-operand_fresh head.atomic_fence v c r s = maybe begins_ordering ordering ordering_fresh s.0 c r s.1
-operand_fresh head.v128_const v c r s = v128_const_fresh s.0 c r s.1
-operand_fresh head.i8x16_shuffle v c r s = shuffle_fresh s.0 c r s.1
-operand_fresh head.try_table v c r s = try_fresh s.0 c r s.1
-operand_fresh head.cont_bind v c r s = index_pair_fresh s.0 c r s.1
-operand_fresh head.resume v c r s = resume_fresh s.0 c r s.1
-operand_fresh head.resume_throw v c r s = throw_fresh s.0 c r s.1
-operand_fresh head.resume_throw_ref v c r s = resume_fresh s.0 c r s.1
-operand_fresh head.switch v c r s = index_pair_fresh s.0 c r s.1
-operand_fresh head.ref_cast_desc_eq v c r s = ref_fresh s.0 c r s.1
-operand_fresh head.br_on_cast_desc_eq v c r s = cast_fresh s.0 c r s.1
-operand_fresh head.br_on_cast_desc_eq_fail v c r s = cast_fresh s.0 c r s.1
+operand_fresh (ops.Block op) v c r s = block_fresh s.0 c r s.1
+operand_fresh (ops.Label op) v c r s = maybe begins_id identifier (λ v c r s. one as_id (refl, refl, refl) s) s.0 c r s.1
+operand_fresh (ops.Scalar op) v c r s = empty s.0
+operand_fresh (ops.Indexed op) v c r s = index_fresh s.0 c r s.1
+operand_fresh (ops.CallIndirect op) v c r s = call_fresh s.0 c r s.1
+operand_fresh (ops.Table op) v c r s = index_or_0_fresh s.0 c r s.1
+operand_fresh (ops.Access op) v c r s = access_fresh (access_align op) s.0 c r s.1
+operand_fresh (ops.Memory op) v c r s = index_or_0_fresh s.0 c r s.1
+operand_fresh (ops.Struct op) v c r s = index_pair_fresh s.0 c r s.1
+operand_fresh (ops.ArrayInit op) v c r s = index_pair_fresh s.0 c r s.1
+operand_fresh (ops.AtomicAccess op) v c r s = atomic_fresh (atomic_access_align op) false s.0 c r s.1
+operand_fresh (ops.RmwAccess op) v c r s = atomic_fresh (rmw_access_align op) true s.0 c r s.1
+operand_fresh (ops.OrderedIndex op) v c r s = ordered_fresh index s.0 c r s.1
+operand_fresh (ops.OrderedTable op) v c r s = ordered_fresh index_or_0 s.0 c r s.1
+operand_fresh (ops.OrderedStruct op) v c r s = ordered_fresh index_pair s.0 c r s.1
+operand_fresh (ops.LaneAccess op) v c r s = lane_access_fresh (lane_access_align op) s.0 c r s.1
+operand_fresh (ops.Lane op) v c r s = lane_fresh s.0 c r s.1
+operand_fresh (ops.Vector op) v c r s = empty s.0
+operand_fresh ops.br_table v c r s = branches_fresh s.0 c r s.1
+operand_fresh ops.select v c r s = select_fresh s.0 c r s.1
+operand_fresh ops.memory_init v c r s = init_fresh s.0 c r s.1
+operand_fresh ops.memory_copy v c r s = copy_fresh s.0 c r s.1
+operand_fresh ops.table_init v c r s = init_fresh s.0 c r s.1
+operand_fresh ops.table_copy v c r s = copy_fresh s.0 c r s.1
+operand_fresh ops.ref_null v c r s = heap_fresh s.0 c r s.1
+operand_fresh ops.array_new_fixed v c r s = length_fresh s.0 c r s.1
+operand_fresh ops.array_new_data v c r s = index_pair_fresh s.0 c r s.1
+operand_fresh ops.array_new_elem v c r s = index_pair_fresh s.0 c r s.1
+operand_fresh ops.array_fill v c r s = index_fresh s.0 c r s.1
+operand_fresh ops.array_copy v c r s = index_pair_fresh s.0 c r s.1
+operand_fresh ops.ref_test v c r s = ref_fresh s.0 c r s.1
+operand_fresh ops.ref_cast v c r s = ref_fresh s.0 c r s.1
+operand_fresh ops.br_on_cast v c r s = cast_fresh s.0 c r s.1
+operand_fresh ops.br_on_cast_fail v c r s = cast_fresh s.0 c r s.1
+operand_fresh ops.i32_const v c r s = one (signed_of 32) (refl, refl, refl) s.1
+operand_fresh ops.i64_const v c r s = one (signed_of 64) (refl, refl, refl) s.1
+operand_fresh ops.f32_const v c r s = absurd s.1
+operand_fresh ops.f64_const v c r s = absurd s.1
+operand_fresh ops.atomic_fence v c r s = maybe begins_ordering ordering ordering_fresh s.0 c r s.1
+operand_fresh ops.v128_const v c r s = v128_const_fresh s.0 c r s.1
+operand_fresh ops.i8x16_shuffle v c r s = shuffle_fresh s.0 c r s.1
+operand_fresh ops.try_table v c r s = try_fresh s.0 c r s.1
+operand_fresh ops.cont_bind v c r s = index_pair_fresh s.0 c r s.1
+operand_fresh ops.resume v c r s = resume_fresh s.0 c r s.1
+operand_fresh ops.resume_throw v c r s = throw_fresh s.0 c r s.1
+operand_fresh ops.resume_throw_ref v c r s = resume_fresh s.0 c r s.1
+operand_fresh ops.switch v c r s = index_pair_fresh s.0 c r s.1
+operand_fresh ops.ref_cast_desc_eq v c r s = ref_fresh s.0 c r s.1
+operand_fresh ops.br_on_cast_desc_eq v c r s = cast_fresh s.0 c r s.1
+operand_fresh ops.br_on_cast_desc_eq_fail v c r s = cast_fresh s.0 c r s.1
 
 -- an instruction in front of what may follow may follow
 pub goes_before : (v : Instr) (c r s : List Tok) → instruction.spells v c r → MayFollow s → MayFollow (c ++ s)
 unfolding instruction
 goes_before v c r s h m =
     let d = h.2 in
-    let is : c ≡ Keyword (mnemonic_word h.0) ∷ d = h.3 ∙ ap (λ (u : List Tok). u ++ d) h.4 in
+    let is : c ≡ Keyword (op_word h.0) ∷ d = h.3 ∙ ap (λ (u : List Tok). u ++ d) h.4 in
     let f = may_follow s m in
     let b = both d s (operand_fresh h.0 h.5.0 d r h.5.1) (fresh f.not_type f.not_param f.not_result) in
     subst MayFollow (sym (ap (λ (u : List Tok). u ++ s) is)) (inl (h.0, d ++ s, refl), (b.not_type, b.not_param, b.not_result))

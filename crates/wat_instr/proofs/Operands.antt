@@ -7,7 +7,7 @@ use Rattle.wat_tokens.specs.Production.{Production, Read, bind}
 use Rattle.wat_tokens.specs.Reads.{Call}
 use Rattle.wat_tokens.specs.State.{State}
 use Rattle.wat_tokens.specs.Views.{ViewOf}
-use Rattle.wat_mnemonics.specs.declared.mnemonic.Mnemonic.{Mnemonic}
+use Rattle.wat_mnemonics.specs.declared.op.Op.{Op}
 use Rattle.wat_instr.specs.Instruction.{Instr, instr_of, bare_instruction}
 use Rattle.wat_instr.specs.Operand.{Operand, bare_operand, operand}
 use Rattle.wat_instr.specs.OperandOf.{IsOperandOf}
@@ -20,7 +20,7 @@ refused_as true bare bare' make same f None x = (λ _. refl, λ _. tt)
 refused_as false bare bare' make same f read (n, m) = (λ _. ap (λ q. bind q (λ v r. Some (make v, r))) n, λ k. absurd (m k))
 
 -- where none was read, no instruction is
-pub refused_operand : {X V : Type 0} {h : Mnemonic} {seen : X → Operand} {k : Cost} {view : ViewOf X V} {g : Production V} → IsOperandOf h seen k view g → (a b : State) (e : Error) (before : List Instr) → Call {X = X} k view (g.reads a.left) (Err e) a b → ReadsOperand {X = Unit {0}} h before before (Err e) a b
+pub refused_operand : {X V : Type 0} {h : Op} {seen : X → Operand} {k : Cost} {view : ViewOf X V} {g : Production V} → IsOperandOf h seen k view g → (a b : State) (e : Error) (before : List Instr) → Call {X = X} k view (g.reads a.left) (Err e) a b → ReadsOperand {X = Unit {0}} h before before (Err e) a b
 unfolding ReadsOperand
 refused_operand {h = h} {view = view} {g = g} is a b e before c = record {
   exact = (

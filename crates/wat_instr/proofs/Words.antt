@@ -6,12 +6,12 @@ use Rattle.wat_tokens.specs.Tests.{begins_word, begins_group, begins_annotation,
 use Rattle.wat_tokens.specs.Index.{begins_index}
 use Rattle.wat_operands.specs.Memory.{begins_with}
 use Rattle.wat_operands.specs.Align.{past_front}
-use Rattle.wat_mnemonics.specs.Heads.{mnemonic_word}
+use Rattle.wat_mnemonics.specs.Ops.{op_word}
 use Rattle.wat_mnemonics.specs.Order.{first}
 use Rattle.wat_mnemonics.specs.Places.{place}
 use Rattle.wat_mnemonics.specs.Laws.Places.{there, place_below, table_length}
-use Rattle.wat_mnemonics.specs.Table.{all_mnemonics}
-use Rattle.wat_mnemonics.specs.declared.mnemonic.Mnemonic.{Mnemonic}
+use Rattle.wat_mnemonics.specs.Table.{all_ops}
+use Rattle.wat_mnemonics.specs.declared.op.Op.{Op}
 use Rattle.wat_instr.specs.Follows.{BeginsMnemonic, NoTypeSecond, MayFollow}
 use Rattle.wat_instr.specs.Laws.Sees.{fails_at_end}
 use Rattle.wat_instr.proofs.Rests.{IsPlain, Follows}
@@ -33,23 +33,23 @@ not_asked w e =
     record { not_type = a.0; not_param = b.0; not_result = c.0; not_seqcst = d.0; not_acqrel = f.0; no_offset = g.0; no_align = g.1 }
 
 -- one of the words is
-abbrev any_asked : List Mnemonic → Bool
+abbrev any_asked : List Op → Bool
 any_asked [] = false
-any_asked (x ∷ xs) = asked (mnemonic_word x) || any_asked xs
+any_asked (x ∷ xs) = asked (op_word x) || any_asked xs
 
-none_asked : any_asked all_mnemonics ≡ false
+none_asked : any_asked all_ops ≡ false
 unfolding past_front
 none_asked = refl
 
-asked_at : (xs : List Mnemonic) (k : ℕ) → any_asked xs ≡ false → k < length xs → asked (mnemonic_word (get_or xs k first)) ≡ false
+asked_at : (xs : List Op) (k : ℕ) → any_asked xs ≡ false → k < length xs → asked (op_word (get_or xs k first)) ≡ false
 asked_at [] k e l = absurd (omega (arith, l))
-asked_at (x ∷ xs) zero e l = (or_parts (asked (mnemonic_word x)) (any_asked xs) e).0
-asked_at (x ∷ xs) (suc k) e l = asked_at xs k ((or_parts (asked (mnemonic_word x)) (any_asked xs) e).1) (omega (arith, l))
+asked_at (x ∷ xs) zero e l = (or_parts (asked (op_word x)) (any_asked xs) e).0
+asked_at (x ∷ xs) (suc k) e l = asked_at xs k ((or_parts (asked (op_word x)) (any_asked xs) e).1) (omega (arith, l))
 
-pub mnemonic_is_plain : (x : Mnemonic) → IsPlain (mnemonic_word x)
+pub mnemonic_is_plain : (x : Op) → IsPlain (op_word x)
 mnemonic_is_plain x =
-    let e = asked_at all_mnemonics (place x) none_asked (let l = table_length in let b = place_below x in omega arith) in
-    not_asked (mnemonic_word x) (subst (λ (y : Mnemonic). asked (mnemonic_word y) ≡ false) (there x) e)
+    let e = asked_at all_ops (place x) none_asked (let l = table_length in let b = place_below x in omega arith) in
+    not_asked (op_word x) (subst (λ (y : Op). asked (op_word y) ≡ false) (there x) e)
 
 -- each test fails on such a word
 word_follows : (w : List ℕ) (t : List Tok) → IsPlain w → NoTypeSecond (Keyword w ∷ t) → Follows (Keyword w ∷ t)
@@ -88,7 +88,7 @@ end_follows s k e = record {
 }
 
 first_follows : (s : List Tok) → BeginsMnemonic s ⊎ (ends s ≡ true) → NoTypeSecond s → Follows s
-first_follows s (inl m) e = subst Follows (sym m.2) (word_follows (mnemonic_word m.0) m.1 (mnemonic_is_plain m.0) (subst NoTypeSecond m.2 e))
+first_follows s (inl m) e = subst Follows (sym m.2) (word_follows (op_word m.0) m.1 (mnemonic_is_plain m.0) (subst NoTypeSecond m.2 e))
 first_follows s (inr k) e = end_follows s k e
 
 pub may_follow : (s : List Tok) → MayFollow s → Follows s

@@ -2,8 +2,8 @@
 use Rattle.std.specs.Prelude.{◌≡◌, true, false, List, ◌∷◌, ◌⊎◌, codes}
 use Rattle.wat_tokens.specs.Token.{Tok, Keyword}
 use Rattle.wat_tokens.specs.Tests.{begins_word, ends, second}
-use Rattle.wat_mnemonics.specs.Heads.{mnemonic_word}
-use Rattle.wat_mnemonics.specs.declared.mnemonic.Mnemonic.{Mnemonic}
+use Rattle.wat_mnemonics.specs.Ops.{op_word}
+use Rattle.wat_mnemonics.specs.declared.op.Op.{Op}
 
 -- the second token is none of the words `type`, `param` and `result`
 abbrev pub NoTypeSecond : List Tok → Type 0
@@ -14,7 +14,7 @@ NoTypeSecond s =
 
 -- a mnemonic is in front
 abbrev pub BeginsMnemonic : List Tok → Type 0
-BeginsMnemonic s = (x : Mnemonic) × (t : List Tok) × (s ≡ Keyword (mnemonic_word x) ∷ t)
+BeginsMnemonic s = (x : Op) × (t : List Tok) × (s ≡ Keyword (op_word x) ∷ t)
 
 -- it begins with a mnemonic, or is empty or begins with `)`; and its second token is none of the
 -- words `type`, `param` and `result`

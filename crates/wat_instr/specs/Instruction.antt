@@ -25,10 +25,10 @@ use Rattle.wat_operands.specs.Casts.{branch_desc_eq_fail_view}
 use Rattle.wat_operands.specs.Catches.{try_view}
 use Rattle.wat_operands.specs.Handlers.{resume_view, resume_throw_view, resume_throw_ref_view}
 use Rattle.wat_operands.specs.Select.{select_view}
-use Rattle.wat_mnemonics.specs.Heads.{mnemonic_row}
+use Rattle.wat_mnemonics.specs.Ops.{op_row}
 use Rattle.wat_mnemonics.specs.Mnemonic.{mnemonic}
-use Rattle.wat_mnemonics.specs.declared.mnemonic.Mnemonic.{Mnemonic}
-use Rattle.wat_mnemonics.specs.declared.mnemonic.Mnemonic.TheVariants as head
+use Rattle.wat_mnemonics.specs.declared.op.Op.{Op}
+use Rattle.wat_mnemonics.specs.declared.op.Op.TheVariants as ops
 use Rattle.wat_mnemonics.specs.declared.indexed.BlockOp.TheVariants as block
 use Rattle.wat_mnemonics.specs.declared.indexed.IndexedOp.TheVariants as indexed
 use Rattle.wat_mnemonics.specs.declared.indexed.LabelOp.TheVariants as label
@@ -63,60 +63,60 @@ Instruction =
 -- ---- what contracts see
 
 -- the instruction without its operand
-abbrev pub head_in : {BlockType Id Index CallIndirect MemArg SelectTypes HeapType RefTest RefCast
+abbrev pub op_in : {BlockType Id Index CallIndirect MemArg SelectTypes HeapType RefTest RefCast
     BrOnCast BrOnCastFail TryTable RefCastDescEq BrOnCastDescEq BrOnCastDescEqFail : Type 0}
     → InstructionOf BlockType Id Index CallIndirect MemArg SelectTypes HeapType RefTest RefCast
-    BrOnCast BrOnCastFail TryTable RefCastDescEq BrOnCastDescEq BrOnCastDescEqFail → Mnemonic
-head_in (code.Block op x) = head.Block op
-head_in (code.Label op x) = head.Label op
-head_in (code.Scalar op) = head.Scalar op
-head_in (code.Indexed op x) = head.Indexed op
-head_in (code.CallIndirect op x) = head.CallIndirect op
-head_in (code.Table op x) = head.Table op
-head_in (code.Access op x) = head.Access op
-head_in (code.Memory op x) = head.Memory op
-head_in (code.Struct op x) = head.Struct op
-head_in (code.ArrayInit op x) = head.ArrayInit op
-head_in (code.AtomicAccess op x) = head.AtomicAccess op
-head_in (code.RmwAccess op x) = head.RmwAccess op
-head_in (code.OrderedIndex op x) = head.OrderedIndex op
-head_in (code.OrderedTable op x) = head.OrderedTable op
-head_in (code.OrderedStruct op x) = head.OrderedStruct op
-head_in (code.LaneAccess op x) = head.LaneAccess op
-head_in (code.Lane op x) = head.Lane op
-head_in (code.Vector op) = head.Vector op
-head_in (code.br_table x) = head.br_table
-head_in (code.select x) = head.select
-head_in (code.memory_init x) = head.memory_init
-head_in (code.memory_copy x) = head.memory_copy
-head_in (code.table_init x) = head.table_init
-head_in (code.table_copy x) = head.table_copy
-head_in (code.ref_null x) = head.ref_null
-head_in (code.array_new_fixed x) = head.array_new_fixed
-head_in (code.array_new_data x) = head.array_new_data
-head_in (code.array_new_elem x) = head.array_new_elem
-head_in (code.array_fill x) = head.array_fill
-head_in (code.array_copy x) = head.array_copy
-head_in (code.ref_test x) = head.ref_test
-head_in (code.ref_cast x) = head.ref_cast
-head_in (code.br_on_cast x) = head.br_on_cast
-head_in (code.br_on_cast_fail x) = head.br_on_cast_fail
-head_in (code.i32_const x) = head.i32_const
-head_in (code.i64_const x) = head.i64_const
-head_in (code.f32_const x) = head.f32_const
-head_in (code.f64_const x) = head.f64_const
-head_in (code.atomic_fence x) = head.atomic_fence
-head_in (code.v128_const x) = head.v128_const
-head_in (code.i8x16_shuffle x) = head.i8x16_shuffle
-head_in (code.try_table x) = head.try_table
-head_in (code.cont_bind x) = head.cont_bind
-head_in (code.resume x) = head.resume
-head_in (code.resume_throw x) = head.resume_throw
-head_in (code.resume_throw_ref x) = head.resume_throw_ref
-head_in (code.switch x) = head.switch
-head_in (code.ref_cast_desc_eq x) = head.ref_cast_desc_eq
-head_in (code.br_on_cast_desc_eq x) = head.br_on_cast_desc_eq
-head_in (code.br_on_cast_desc_eq_fail x) = head.br_on_cast_desc_eq_fail
+    BrOnCast BrOnCastFail TryTable RefCastDescEq BrOnCastDescEq BrOnCastDescEqFail → Op
+op_in (code.Block op x) = ops.Block op
+op_in (code.Label op x) = ops.Label op
+op_in (code.Scalar op) = ops.Scalar op
+op_in (code.Indexed op x) = ops.Indexed op
+op_in (code.CallIndirect op x) = ops.CallIndirect op
+op_in (code.Table op x) = ops.Table op
+op_in (code.Access op x) = ops.Access op
+op_in (code.Memory op x) = ops.Memory op
+op_in (code.Struct op x) = ops.Struct op
+op_in (code.ArrayInit op x) = ops.ArrayInit op
+op_in (code.AtomicAccess op x) = ops.AtomicAccess op
+op_in (code.RmwAccess op x) = ops.RmwAccess op
+op_in (code.OrderedIndex op x) = ops.OrderedIndex op
+op_in (code.OrderedTable op x) = ops.OrderedTable op
+op_in (code.OrderedStruct op x) = ops.OrderedStruct op
+op_in (code.LaneAccess op x) = ops.LaneAccess op
+op_in (code.Lane op x) = ops.Lane op
+op_in (code.Vector op) = ops.Vector op
+op_in (code.br_table x) = ops.br_table
+op_in (code.select x) = ops.select
+op_in (code.memory_init x) = ops.memory_init
+op_in (code.memory_copy x) = ops.memory_copy
+op_in (code.table_init x) = ops.table_init
+op_in (code.table_copy x) = ops.table_copy
+op_in (code.ref_null x) = ops.ref_null
+op_in (code.array_new_fixed x) = ops.array_new_fixed
+op_in (code.array_new_data x) = ops.array_new_data
+op_in (code.array_new_elem x) = ops.array_new_elem
+op_in (code.array_fill x) = ops.array_fill
+op_in (code.array_copy x) = ops.array_copy
+op_in (code.ref_test x) = ops.ref_test
+op_in (code.ref_cast x) = ops.ref_cast
+op_in (code.br_on_cast x) = ops.br_on_cast
+op_in (code.br_on_cast_fail x) = ops.br_on_cast_fail
+op_in (code.i32_const x) = ops.i32_const
+op_in (code.i64_const x) = ops.i64_const
+op_in (code.f32_const x) = ops.f32_const
+op_in (code.f64_const x) = ops.f64_const
+op_in (code.atomic_fence x) = ops.atomic_fence
+op_in (code.v128_const x) = ops.v128_const
+op_in (code.i8x16_shuffle x) = ops.i8x16_shuffle
+op_in (code.try_table x) = ops.try_table
+op_in (code.cont_bind x) = ops.cont_bind
+op_in (code.resume x) = ops.resume
+op_in (code.resume_throw x) = ops.resume_throw
+op_in (code.resume_throw_ref x) = ops.resume_throw_ref
+op_in (code.switch x) = ops.switch
+op_in (code.ref_cast_desc_eq x) = ops.ref_cast_desc_eq
+op_in (code.br_on_cast_desc_eq x) = ops.br_on_cast_desc_eq
+op_in (code.br_on_cast_desc_eq_fail x) = ops.br_on_cast_desc_eq_fail
 
 -- a block of which nothing is said: it has neither a label nor a name nor a type
 abbrev pub no_block : BlockTy
@@ -185,11 +185,11 @@ pub record Instr : Type 0 where
   pub row : ℕ
   pub operand : Operand
 
-abbrev pub instr_of : Mnemonic → Operand → Instr
-instr_of h o = record { row = mnemonic_row h; operand = o }
+abbrev pub instr_of : Op → Operand → Instr
+instr_of h o = record { row = op_row h; operand = o }
 
 abbrev pub instruction_view : Instruction → Instr
-instruction_view i = instr_of (head_in i) (operand_in i)
+instruction_view i = instr_of (op_in i) (operand_in i)
 
 -- its operand holds no memory
 abbrev pub bare_instruction : Instr → Bool
@@ -198,7 +198,7 @@ bare_instruction i = bare_operand i.operand
 -- ---- the grammar
 
 -- an instruction, behind its word
-abbrev pub behind_word : Mnemonic → Production Instr
+abbrev pub behind_word : Op → Production Instr
 behind_word h = made (instr_of h) (operand h)
 
 -- the row's word, then what its operand is spelled as
@@ -210,21 +210,21 @@ instruction = followed mnemonic behind_word
 -- `block`, `loop` and `try_table`
 abbrev pub is_block : ℕ → Bool
 is_block n =
-    (n == mnemonic_row (head.Block block.block) || n == mnemonic_row (head.Block block.loop_))
-    || n == mnemonic_row head.try_table
+    (n == op_row (ops.Block block.block) || n == op_row (ops.Block block.loop_))
+    || n == op_row ops.try_table
 
 -- `if`
 abbrev pub is_if : ℕ → Bool
-is_if n = n == mnemonic_row (head.Block block.if_)
+is_if n = n == op_row (ops.Block block.if_)
 
 -- `br_if`
 abbrev pub is_br_if : ℕ → Bool
-is_br_if n = n == mnemonic_row (head.Indexed indexed.br_if)
+is_br_if n = n == op_row (ops.Indexed indexed.br_if)
 
 -- `else` without a label
 abbrev pub else_instr : Instr
-else_instr = instr_of (head.Label label.else_) (operands.label None)
+else_instr = instr_of (ops.Label label.else_) (operands.label None)
 
 -- `end` without a label
 abbrev pub end_instr : Instr
-end_instr = instr_of (head.Label label.end) (operands.label None)
+end_instr = instr_of (ops.Label label.end) (operands.label None)

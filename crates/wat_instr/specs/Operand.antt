@@ -32,8 +32,8 @@ use Rattle.wat_operands.specs.Handlers.{resume_throw}
 use Rattle.wat_operands.specs.Select.{bare_select, select_types}
 use Rattle.wat_mnemonics.specs.Access.{access_align, atomic_access_align, rmw_access_align}
 use Rattle.wat_mnemonics.specs.Access.{lane_access_align}
-use Rattle.wat_mnemonics.specs.declared.mnemonic.Mnemonic.{Mnemonic}
-use Rattle.wat_mnemonics.specs.declared.mnemonic.Mnemonic.TheVariants as head
+use Rattle.wat_mnemonics.specs.declared.op.Op.{Op}
+use Rattle.wat_mnemonics.specs.declared.op.Op.TheVariants as ops
 use Rattle.wat_tokens.specs.Followed.{blank}
 
 -- an operand, without places; boxes by what they hold, vectors by their items
@@ -123,54 +123,54 @@ bare_operand (resumed x) = bare_resume x
 bare_operand (thrown x) = false
 
 -- what follows the word of the instruction, as 50 cases
-unfoldable pub operand : Mnemonic → Production Operand
-operand (head.Block op) = made block block_type
-operand (head.Label op) = made label (opt begins_id identifier)
-operand (head.Scalar op) = blank nothing
-operand (head.Indexed op) = made one_index index
-operand (head.CallIndirect op) = made call call_indirect
-operand (head.Table op) = made one_index index_or_0
-operand (head.Access op) = made access (mem_arg (access_align op))
-operand (head.Memory op) = made one_index index_or_0
-operand (head.Struct op) = made two_indices index_pair
-operand (head.ArrayInit op) = made two_indices index_pair
-operand (head.AtomicAccess op) = made access (atomic_mem_arg (atomic_access_align op) false)
-operand (head.RmwAccess op) = made access (atomic_mem_arg (rmw_access_align op) true)
-operand (head.OrderedIndex op) = made ordered_index (ordered index)
-operand (head.OrderedTable op) = made ordered_index (ordered index_or_0)
-operand (head.OrderedStruct op) = made ordered_indices (ordered index_pair)
-operand (head.LaneAccess op) = made lane_access (lanes.lane_access (lane_access_align op))
-operand (head.Lane op) = made lane lane_arg
-operand (head.Vector op) = blank nothing
-operand head.br_table = made branches br_table
-operand head.select = made chosen select_types
-operand head.memory_init = made two_indices init
-operand head.memory_copy = made two_indices copy
-operand head.table_init = made two_indices init
-operand head.table_copy = made two_indices copy
-operand head.ref_null = made heap heap_type
-operand head.array_new_fixed = made sized array_of_length
-operand head.array_new_data = made two_indices index_pair
-operand head.array_new_elem = made two_indices index_pair
-operand head.array_fill = made one_index index
-operand head.array_copy = made two_indices index_pair
-operand head.ref_test = made reference ref_type
-operand head.ref_cast = made reference ref_type
-operand head.br_on_cast = made cast cast_branch
-operand head.br_on_cast_fail = made cast cast_branch
-operand head.i32_const = made integer (signed 32)
-operand head.i64_const = made integer (signed 64)
-operand head.f32_const = made float none
-operand head.f64_const = made float none
-operand head.atomic_fence = made fence (opt begins_ordering ordering)
-operand head.v128_const = made vector v128_const
-operand head.i8x16_shuffle = made shuffled shuffle
-operand head.try_table = made caught try_table
-operand head.cont_bind = made two_indices index_pair
-operand head.resume = made resumed resume
-operand head.resume_throw = made thrown resume_throw
-operand head.resume_throw_ref = made resumed resume
-operand head.switch = made two_indices index_pair
-operand head.ref_cast_desc_eq = made reference ref_type
-operand head.br_on_cast_desc_eq = made cast cast_branch
-operand head.br_on_cast_desc_eq_fail = made cast cast_branch
+unfoldable pub operand : Op → Production Operand
+operand (ops.Block op) = made block block_type
+operand (ops.Label op) = made label (opt begins_id identifier)
+operand (ops.Scalar op) = blank nothing
+operand (ops.Indexed op) = made one_index index
+operand (ops.CallIndirect op) = made call call_indirect
+operand (ops.Table op) = made one_index index_or_0
+operand (ops.Access op) = made access (mem_arg (access_align op))
+operand (ops.Memory op) = made one_index index_or_0
+operand (ops.Struct op) = made two_indices index_pair
+operand (ops.ArrayInit op) = made two_indices index_pair
+operand (ops.AtomicAccess op) = made access (atomic_mem_arg (atomic_access_align op) false)
+operand (ops.RmwAccess op) = made access (atomic_mem_arg (rmw_access_align op) true)
+operand (ops.OrderedIndex op) = made ordered_index (ordered index)
+operand (ops.OrderedTable op) = made ordered_index (ordered index_or_0)
+operand (ops.OrderedStruct op) = made ordered_indices (ordered index_pair)
+operand (ops.LaneAccess op) = made lane_access (lanes.lane_access (lane_access_align op))
+operand (ops.Lane op) = made lane lane_arg
+operand (ops.Vector op) = blank nothing
+operand ops.br_table = made branches br_table
+operand ops.select = made chosen select_types
+operand ops.memory_init = made two_indices init
+operand ops.memory_copy = made two_indices copy
+operand ops.table_init = made two_indices init
+operand ops.table_copy = made two_indices copy
+operand ops.ref_null = made heap heap_type
+operand ops.array_new_fixed = made sized array_of_length
+operand ops.array_new_data = made two_indices index_pair
+operand ops.array_new_elem = made two_indices index_pair
+operand ops.array_fill = made one_index index
+operand ops.array_copy = made two_indices index_pair
+operand ops.ref_test = made reference ref_type
+operand ops.ref_cast = made reference ref_type
+operand ops.br_on_cast = made cast cast_branch
+operand ops.br_on_cast_fail = made cast cast_branch
+operand ops.i32_const = made integer (signed 32)
+operand ops.i64_const = made integer (signed 64)
+operand ops.f32_const = made float none
+operand ops.f64_const = made float none
+operand ops.atomic_fence = made fence (opt begins_ordering ordering)
+operand ops.v128_const = made vector v128_const
+operand ops.i8x16_shuffle = made shuffled shuffle
+operand ops.try_table = made caught try_table
+operand ops.cont_bind = made two_indices index_pair
+operand ops.resume = made resumed resume
+operand ops.resume_throw = made thrown resume_throw
+operand ops.resume_throw_ref = made resumed resume
+operand ops.switch = made two_indices index_pair
+operand ops.ref_cast_desc_eq = made reference ref_type
+operand ops.br_on_cast_desc_eq = made cast cast_branch
+operand ops.br_on_cast_desc_eq_fail = made cast cast_branch

@@ -5,7 +5,7 @@ use Rattle.wat_tokens.specs.Parts.{made}
 use Rattle.wat_tokens.specs.Production.{Production}
 use Rattle.wat_tokens.specs.Token.{Tok}
 use Rattle.wat_tokens.specs.Views.{ViewOf}
-use Rattle.wat_mnemonics.specs.declared.mnemonic.Mnemonic.{Mnemonic}
+use Rattle.wat_mnemonics.specs.declared.op.Op.{Op}
 use Rattle.wat_instr.specs.Operand.{Operand, bare_operand, operand}
 
 -- What follows the word of the instruction h is a value of X, as `seen` sees it.
@@ -14,7 +14,7 @@ use Rattle.wat_instr.specs.Operand.{Operand, bare_operand, operand}
 -- sees: a value is seen so
 -- bare: it holds memory where the value does
 -- cost: tokens alone are counted
-pub record IsOperandOf {X V : Type 0} (h : Mnemonic) (seen : X → Operand) (k : Cost)
+pub record IsOperandOf {X V : Type 0} (h : Op) (seen : X → Operand) (k : Cost)
     (view : ViewOf X V) (g : Production V) : Type 0 where
   pub make : V → Operand
   pub reads : (t : List Tok) → (operand h).reads t ≡ (made make g).reads t

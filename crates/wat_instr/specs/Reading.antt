@@ -7,7 +7,7 @@ use Rattle.wat_tokens.specs.Parses.{Refuses}
 use Rattle.wat_tokens.specs.Production.{Read, bind}
 use Rattle.wat_tokens.specs.State.{State}
 use Rattle.wat_tokens.specs.Token.{Tok}
-use Rattle.wat_mnemonics.specs.declared.mnemonic.Mnemonic.{Mnemonic}
+use Rattle.wat_mnemonics.specs.declared.op.Op.{Op}
 use Rattle.wat_instr.specs.Instruction.{Instr, Instruction, instruction_view, bare_instruction}
 use Rattle.wat_instr.specs.Instruction.{behind_word}
 
@@ -37,7 +37,7 @@ pub record PutsWhatIsRead {X : Type 0} (before after : List Instr) (read : Read 
   pub settings : SameSettings a b
 
 -- it puts the instruction whose word was taken, with the operand that is in front
-unfoldable pub ReadsOperand : {X : Type 0} → Mnemonic → List Instr → List Instr → Result X Error
+unfoldable pub ReadsOperand : {X : Type 0} → Op → List Instr → List Instr → Result X Error
     → State → State → Type 0
 ReadsOperand h before after r a b =
     PutsWhatIsRead before after ((behind_word h).reads a.left) r a b

@@ -1,23 +1,23 @@
 -- Which instructions the rows of blocks and of `br_if` are.
 use Rattle.std.specs.Prelude.{Bool, true, false}
-use Rattle.wat_mnemonics.specs.declared.mnemonic.Mnemonic.{Mnemonic}
-use Rattle.wat_mnemonics.specs.declared.mnemonic.Mnemonic.TheVariants as head
+use Rattle.wat_mnemonics.specs.declared.op.Op.{Op}
+use Rattle.wat_mnemonics.specs.declared.op.Op.TheVariants as ops
 use Rattle.wat_mnemonics.specs.declared.indexed.BlockOp.TheVariants as block
 use Rattle.wat_mnemonics.specs.declared.indexed.IndexedOp.TheVariants as indexed
 
 -- `block`, `loop` and `try_table`
-abbrev pub opens_block : Mnemonic → Bool
-opens_block (head.Block block.block) = true
-opens_block (head.Block block.loop_) = true
-opens_block head.try_table = true
+abbrev pub opens_block : Op → Bool
+opens_block (ops.Block block.block) = true
+opens_block (ops.Block block.loop_) = true
+opens_block ops.try_table = true
 opens_block _ = false
 
 -- `if`
-abbrev pub opens_if : Mnemonic → Bool
-opens_if (head.Block block.if_) = true
+abbrev pub opens_if : Op → Bool
+opens_if (ops.Block block.if_) = true
 opens_if _ = false
 
 -- `br_if`
-abbrev pub branches_if : Mnemonic → Bool
-branches_if (head.Indexed indexed.br_if) = true
+abbrev pub branches_if : Op → Bool
+branches_if (ops.Indexed indexed.br_if) = true
 branches_if _ = false

@@ -6,7 +6,7 @@ ghost use Rattle.wat_instr.specs.Instruction.{block_in};
 ghost use Rattle.wat_instr.specs.Operand.{operand, says_something};
 ghost use Rattle.wat_instr.specs.Operand as operands;
 ghost use Rattle.wat_instr.specs.Reading.{ReadsOperand};
-ghost use Rattle.wat_mnemonics.specs.declared.mnemonic.Mnemonic.TheVariants as head;
+ghost use Rattle.wat_mnemonics.specs.declared.op.Op.TheVariants as ops;
 ghost use Rattle.wat_operands.specs.Aggregates.{array_init_view, struct_access_view};
 ghost use Rattle.wat_operands.specs.Block.{block_view};
 ghost use Rattle.wat_operands.specs.Ordering.{ordered_view};
@@ -15,7 +15,7 @@ ghost use Rattle.wat_tokens.specs.Index.{index_view};
 
 use crate::instruction::Instruction;
 use crate::operand::OperandOf;
-use crate::place::Place;
+use crate::sink::Sink;
 use std::alloc::Global;
 use wat_mnemonics::{
     AccessOp, ArrayInitOp, AtomicAccessOp, BlockOp, CallIndirectOp, IndexedOp, LabelOp,
@@ -54,13 +54,13 @@ fn boxed<'a>(alloc: Global, block: BlockType<'a>) -> Result<Option<Box<BlockType
 /// `block`, `loop`, `if` or `try`, and what is said of the block.
 #[inline(always)]
 #[tactic(auto, unfolding(crate::specs::Reading::ReadsOperand, crate::specs::Operand::operand), using(crate::proofs::Blocks::not_bare))]
-pub(crate) fn read_block<'a, P: Place<'a>>(
+pub(crate) fn read_block<'a, P: Sink<'a>>(
     op: BlockOp,
     parser: &mut Parser<'a>,
     out: &mut P,
 ) -> Result<()>
     requires { P.has_room out.old }
-    ensures { ReadsOperand (head.Block op) (P.seen out.old) (P.seen out.new) result parser.old parser.new }
+    ensures { ReadsOperand (ops.Block op) (P.seen out.old) (P.seen out.new) result parser.old parser.new }
 {
     match BlockType::parse(parser) {
         Ok(block) => match boxed(parser.alloc(), block) {
@@ -76,13 +76,13 @@ pub(crate) fn read_block<'a, P: Place<'a>>(
 
 /// `else` or `end`, and the label that may follow.
 #[inline(always)]
-pub(crate) fn read_label<'a, P: Place<'a>>(
+pub(crate) fn read_label<'a, P: Sink<'a>>(
     op: LabelOp,
     parser: &mut Parser<'a>,
     out: &mut P,
 ) -> Result<()>
     requires { P.has_room out.old }
-    ensures { ReadsOperand (head.Label op) (P.seen out.old) (P.seen out.new) result parser.old parser.new }
+    ensures { ReadsOperand (ops.Label op) (P.seen out.old) (P.seen out.new) result parser.old parser.new }
 {
     match Option::<Id>::parse(parser) {
         Ok(operand) => {
@@ -95,7 +95,7 @@ pub(crate) fn read_label<'a, P: Place<'a>>(
 
 /// An instruction with an index.
 impl<'a> OperandOf<'a, IndexedOp> for Index<'a> {
-    ghost word = { λ op. head.Indexed op };
+    ghost word = { λ op. ops.Indexed op };
 
     ghost seen = { λ x. operands.one_index (index_view x) };
 
@@ -114,13 +114,13 @@ impl<'a> OperandOf<'a, IndexedOp> for Index<'a> {
 }
 
 /// An indirect call.
-pub(crate) fn read_call_indirect<'a, P: Place<'a>>(
+pub(crate) fn read_call_indirect<'a, P: Sink<'a>>(
     op: CallIndirectOp,
     parser: &mut Parser<'a>,
     out: &mut P,
 ) -> Result<()>
     requires { P.has_room out.old }
-    ensures { ReadsOperand (head.CallIndirect op) (P.seen out.old) (P.seen out.new) result parser.old parser.new }
+    ensures { ReadsOperand (ops.CallIndirect op) (P.seen out.old) (P.seen out.new) result parser.old parser.new }
 {
     match Box::<CallIndirect>::parse(parser) {
         Ok(operand) => {
@@ -133,7 +133,7 @@ pub(crate) fn read_call_indirect<'a, P: Place<'a>>(
 
 /// An instruction with a table.
 impl<'a> OperandOf<'a, TableOp> for TableArg<'a> {
-    ghost word = { λ op. head.Table op };
+    ghost word = { λ op. ops.Table op };
 
     ghost seen = { λ x. operands.one_index (table_arg_view x) };
 
@@ -153,13 +153,13 @@ impl<'a> OperandOf<'a, TableOp> for TableArg<'a> {
 
 /// A load, a store or a wait.
 #[inline(always)]
-pub(crate) fn read_access<'a, P: Place<'a>>(
+pub(crate) fn read_access<'a, P: Sink<'a>>(
     op: AccessOp,
     parser: &mut Parser<'a>,
     out: &mut P,
 ) -> Result<()>
     requires { P.has_room out.old }
-    ensures { ReadsOperand (head.Access op) (P.seen out.old) (P.seen out.new) result parser.old parser.new }
+    ensures { ReadsOperand (ops.Access op) (P.seen out.old) (P.seen out.new) result parser.old parser.new }
 {
     match MemArg::read(parser, op.align()) {
         Ok(operand) => {
@@ -172,7 +172,7 @@ pub(crate) fn read_access<'a, P: Place<'a>>(
 
 /// An instruction with a memory.
 impl<'a> OperandOf<'a, MemoryOp> for MemoryArg<'a> {
-    ghost word = { λ op. head.Memory op };
+    ghost word = { λ op. ops.Memory op };
 
     ghost seen = { λ x. operands.one_index (memory_arg_view x) };
 
@@ -192,7 +192,7 @@ impl<'a> OperandOf<'a, MemoryOp> for MemoryArg<'a> {
 
 /// A field of a structure.
 impl<'a> OperandOf<'a, StructOp> for StructAccess<'a> {
-    ghost word = { λ op. head.Struct op };
+    ghost word = { λ op. ops.Struct op };
 
     ghost seen = { λ x. operands.two_indices (struct_access_view x) };
 
@@ -212,7 +212,7 @@ impl<'a> OperandOf<'a, StructOp> for StructAccess<'a> {
 
 /// An array, and the segment that it is filled from.
 impl<'a> OperandOf<'a, ArrayInitOp> for ArrayInit<'a> {
-    ghost word = { λ op. head.ArrayInit op };
+    ghost word = { λ op. ops.ArrayInit op };
 
     ghost seen = { λ x. operands.two_indices (array_init_view x) };
 
@@ -231,13 +231,13 @@ impl<'a> OperandOf<'a, ArrayInitOp> for ArrayInit<'a> {
 }
 
 /// An atomic load or store.
-pub(crate) fn read_atomic_access<'a, P: Place<'a>>(
+pub(crate) fn read_atomic_access<'a, P: Sink<'a>>(
     op: AtomicAccessOp,
     parser: &mut Parser<'a>,
     out: &mut P,
 ) -> Result<()>
     requires { P.has_room out.old }
-    ensures { ReadsOperand (head.AtomicAccess op) (P.seen out.old) (P.seen out.new) result parser.old parser.new }
+    ensures { ReadsOperand (ops.AtomicAccess op) (P.seen out.old) (P.seen out.new) result parser.old parser.new }
 {
     match MemArg::read_atomic(parser, op.align(), false) {
         Ok(operand) => {
@@ -249,13 +249,13 @@ pub(crate) fn read_atomic_access<'a, P: Place<'a>>(
 }
 
 /// An atomic read, change and write.
-pub(crate) fn read_rmw_access<'a, P: Place<'a>>(
+pub(crate) fn read_rmw_access<'a, P: Sink<'a>>(
     op: RmwAccessOp,
     parser: &mut Parser<'a>,
     out: &mut P,
 ) -> Result<()>
     requires { P.has_room out.old }
-    ensures { ReadsOperand (head.RmwAccess op) (P.seen out.old) (P.seen out.new) result parser.old parser.new }
+    ensures { ReadsOperand (ops.RmwAccess op) (P.seen out.old) (P.seen out.new) result parser.old parser.new }
 {
     match MemArg::read_atomic(parser, op.align(), true) {
         Ok(operand) => {
@@ -268,7 +268,7 @@ pub(crate) fn read_rmw_access<'a, P: Place<'a>>(
 
 /// An atomic access to what an index names.
 impl<'a> OperandOf<'a, OrderedIndexOp> for Ordered<Index<'a>> {
-    ghost word = { λ op. head.OrderedIndex op };
+    ghost word = { λ op. ops.OrderedIndex op };
 
     ghost seen = { λ x. operands.ordered_index (ordered_view index_view x) };
 
@@ -288,7 +288,7 @@ impl<'a> OperandOf<'a, OrderedIndexOp> for Ordered<Index<'a>> {
 
 /// An atomic access to a table.
 impl<'a> OperandOf<'a, OrderedTableOp> for Ordered<TableArg<'a>> {
-    ghost word = { λ op. head.OrderedTable op };
+    ghost word = { λ op. ops.OrderedTable op };
 
     ghost seen = { λ x. operands.ordered_index (ordered_view table_arg_view x) };
 
@@ -308,7 +308,7 @@ impl<'a> OperandOf<'a, OrderedTableOp> for Ordered<TableArg<'a>> {
 
 /// An atomic access to a field of a structure.
 impl<'a> OperandOf<'a, OrderedStructOp> for Ordered<StructAccess<'a>> {
-    ghost word = { λ op. head.OrderedStruct op };
+    ghost word = { λ op. ops.OrderedStruct op };
 
     ghost seen = { λ x. operands.ordered_indices (ordered_view struct_access_view x) };
 
@@ -327,13 +327,13 @@ impl<'a> OperandOf<'a, OrderedStructOp> for Ordered<StructAccess<'a>> {
 }
 
 /// A load or store of one lane.
-pub(crate) fn read_lane_access<'a, P: Place<'a>>(
+pub(crate) fn read_lane_access<'a, P: Sink<'a>>(
     op: LaneAccessOp,
     parser: &mut Parser<'a>,
     out: &mut P,
 ) -> Result<()>
     requires { P.has_room out.old }
-    ensures { ReadsOperand (head.LaneAccess op) (P.seen out.old) (P.seen out.new) result parser.old parser.new }
+    ensures { ReadsOperand (ops.LaneAccess op) (P.seen out.old) (P.seen out.new) result parser.old parser.new }
 {
     match LoadOrStoreLane::read(parser, op.align()) {
         Ok(operand) => {
@@ -346,7 +346,7 @@ pub(crate) fn read_lane_access<'a, P: Place<'a>>(
 
 /// A lane that is taken out or replaced.
 impl<'a> OperandOf<'a, LaneOp> for LaneArg {
-    ghost word = { λ op. head.Lane op };
+    ghost word = { λ op. ops.Lane op };
 
     ghost seen = { operands.lane };
 
@@ -366,13 +366,13 @@ impl<'a> OperandOf<'a, LaneOp> for LaneArg {
 
 /// An instruction without an operand, none of vectors.
 #[inline(always)]
-pub(crate) fn bare_scalar<'a, P: Place<'a>>(
+pub(crate) fn bare_scalar<'a, P: Sink<'a>>(
     op: ScalarOp,
     parser: &mut Parser<'a>,
     out: &mut P,
 ) -> Result<()>
     requires { P.has_room out.old }
-    ensures { ReadsOperand (head.Scalar op) (P.seen out.old) (P.seen out.new) result parser.old parser.new }
+    ensures { ReadsOperand (ops.Scalar op) (P.seen out.old) (P.seen out.new) result parser.old parser.new }
 {
     out.put(Instruction::Scalar(op));
     Ok(())
@@ -380,13 +380,13 @@ pub(crate) fn bare_scalar<'a, P: Place<'a>>(
 
 /// An instruction without an operand, of vectors.
 #[inline(always)]
-pub(crate) fn bare_vector<'a, P: Place<'a>>(
+pub(crate) fn bare_vector<'a, P: Sink<'a>>(
     op: VectorOp,
     parser: &mut Parser<'a>,
     out: &mut P,
 ) -> Result<()>
     requires { P.has_room out.old }
-    ensures { ReadsOperand (head.Vector op) (P.seen out.old) (P.seen out.new) result parser.old parser.new }
+    ensures { ReadsOperand (ops.Vector op) (P.seen out.old) (P.seen out.new) result parser.old parser.new }
 {
     out.put(Instruction::Vector(op));
     Ok(())

@@ -3,19 +3,19 @@
 
 mod copy;
 mod families;
-mod heads;
 pub mod instruction;
 pub mod laws;
 mod operand;
+mod ops;
 mod parse;
-mod place;
 mod singles;
+mod sink;
 
-pub use heads::{branches_if, opens_block, opens_if};
 pub use instruction::{Instruction, InstructionOf};
-pub use place::Place;
+pub use ops::{branches_if, opens_block, opens_if};
+pub use sink::Sink;
 pub use wat_mnemonics::{
     AccessOp, ArrayInitOp, AtomicAccessOp, BlockOp, CallIndirectOp, IndexedOp, LabelOp,
-    LaneAccessOp, LaneOp, MemoryOp, Mnemonic, Opcode, OrderedIndexOp, OrderedStructOp,
-    OrderedTableOp, RmwAccessOp, ScalarOp, StructOp, TableOp, VectorOp,
+    LaneAccessOp, LaneOp, MemoryOp, Op, Opcode, OrderedIndexOp, OrderedStructOp, OrderedTableOp,
+    RmwAccessOp, ScalarOp, StructOp, TableOp, VectorOp,
 };

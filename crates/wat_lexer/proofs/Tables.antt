@@ -8,7 +8,7 @@ use Rattle.std.proofs.lemmas.List.FromFn.{get_or-map-range_with_len}
 use Rattle.wat_lexer.specs.Bytes.{is_idchar, is_space, is_line_end, between}
 use Rattle.wat_lexer.specs.Cut.{is_raw, is_hex}
 use Rattle.wat_lexer.specs.Scan.{Between, Raw, behind_run, behind_spaces, behind_line, behind_comment, all_idchars, string_at, with_front}
-use Rattle.wat_lexer.specs.declared.table.TheConstants.{SPACES, IDCHARS, DIGITS, HEX_DIGITS, RAW, IN_LINE, IN_COMMENT}
+use Rattle.wat_lexer.specs.declared.byte_table.TheConstants.{SPACES, IDCHARS, DIGITS, HEX_DIGITS, RAW, IN_LINE, IN_COMMENT}
 use Rattle.wat_lexer.proofs.Steps.{plain_none, plain_more, run_idchar, space_step, space_over, raw_none, raw_more, line_step, line_over, comment_step, comment_none}
 
 -- THE TABLES

@@ -9,10 +9,10 @@ ghost use Rattle.wat_lexer.specs.Scan.{front, all_idchars, behind_run, string_at
 ghost use Rattle.wat_lexer.specs.View.{PieceIs, HasRoom, is_word};
 ghost use Rattle.wat_lexer.specs.declared.lexeme.SideEntry.{SideEntry};
 
+use crate::byte_table::{DIGITS, HEX_DIGITS, IDCHARS, is_marked, marked_end};
 use crate::lexeme::Kind;
 use crate::scan::plain_end;
 use crate::string::raw_end;
-use crate::table::{DIGITS, HEX_DIGITS, IDCHARS, is_marked, marked_end};
 
 /// Whether a byte is at a place.
 #[inline(always)]

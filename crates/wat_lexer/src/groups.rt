@@ -7,8 +7,8 @@ ghost use Rattle.wat_lexer.specs.Sight.{begins_hidden_group, hidden_count};
 ghost use Rattle.wat_lexer.specs.Token.{tokens_of};
 ghost use Rattle.wat_lexer.specs.View.{toks, placed, AreSkips};
 
+use crate::hidden::{begins_hidden_group, hidden_count};
 use crate::lexeme::Skips;
-use crate::sight::{begins_hidden_group, hidden_count};
 use crate::tokens::Tokens;
 use std::alloc::{AllocError, Global};
 

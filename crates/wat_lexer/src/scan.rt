@@ -6,8 +6,8 @@ ghost use Rattle.wat_lexer.specs.Bytes.{is_idchar, is_space, is_line_end};
 ghost use Rattle.wat_lexer.specs.Scan.{behind_comment, behind_line, behind_run, behind_spaces};
 ghost use Rattle.wat_lexer.specs.Scan.{all_idchars, Between, RunEndIs};
 
+use crate::byte_table::{IDCHARS, IN_COMMENT, IN_LINE, SPACES, marked_end};
 use crate::string::string_end;
-use crate::table::{IDCHARS, IN_COMMENT, IN_LINE, SPACES, marked_end};
 
 #[tactic(auto, using(crate::proofs::Tables::space_at))]
 pub fn is_space(b: u8) -> bool

@@ -8,7 +8,7 @@ ghost use Rattle.wat_lexer.specs.Cut.{is_raw, short_escape};
 ghost use Rattle.wat_lexer.specs.Scan.{string_at, rest_at, with_front, spelled, closing, Raw};
 ghost use Rattle.wat_lexer.specs.Scan.{Escape, Digits};
 
-use crate::table::{RAW, marked_end};
+use crate::byte_table::{RAW, marked_end};
 
 /// What an escape stands for.
 #[derive(Clone, Copy, Drop)]

@@ -12,7 +12,7 @@ use Rattle.wat_links.specs.DylinkEntries.{export_entry}
 use Rattle.wat_links.specs.Subsections.{subsections}
 use Rattle.wat_links.specs.Flags.{flag_list, symbol_flags}
 use Rattle.wat_links.specs.FlagBits.{flag_bits}
-use Rattle.wat_links.specs.Place.{section, after, custom_place}
+use Rattle.wat_links.specs.CustomPlace.{section, after, custom_place}
 use Rattle.wat_links.specs.CustomRows.{Places, Exports, Sizes}
 
 pub places : Places

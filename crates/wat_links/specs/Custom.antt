@@ -10,8 +10,8 @@ use Rattle.wat_links.specs.Producers.{producers_view, producers}
 use Rattle.wat_links.specs.ProducerEntry.{Versioned}
 use Rattle.wat_links.specs.Dylink.{SubsectionTy, dylink_view}
 use Rattle.wat_links.specs.Cutting.{dylink}
-use Rattle.wat_links.specs.declared.place.CustomPlace.{CustomPlace}
-use Rattle.wat_links.specs.declared.place.CustomPlace.TheVariants.{BeforeFirst, AfterLast}
+use Rattle.wat_links.specs.declared.custom_place.CustomPlace.{CustomPlace}
+use Rattle.wat_links.specs.declared.custom_place.CustomPlace.TheVariants.{BeforeFirst, AfterLast}
 use Rattle.wat_links.specs.declared.custom.Custom.{Custom}
 use Rattle.wat_links.specs.declared.custom.Custom.TheVariants as code
 

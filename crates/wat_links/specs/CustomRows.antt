@@ -4,9 +4,9 @@ use Rattle.wat_tokens.specs.Token.{Tok, Keyword, Integer, String, Annotation}
 use Rattle.wat_tokens.specs.Spelled.{in_parens, Spelled}
 use Rattle.wat_links.specs.Custom.{linked, custom}
 use Rattle.wat_links.specs.Dylink.{mem_info, needed, export_info}
-use Rattle.wat_links.specs.Place.{custom_place}
-use Rattle.wat_links.specs.declared.place.CustomPlace.TheVariants.{After}
-use Rattle.wat_links.specs.declared.place.CustomPlaceAnchor.TheVariants as anchor
+use Rattle.wat_links.specs.CustomPlace.{custom_place}
+use Rattle.wat_links.specs.declared.custom_place.CustomPlace.TheVariants.{After}
+use Rattle.wat_links.specs.declared.custom_place.CustomPlaceAnchor.TheVariants as anchor
 
 -- `after code`
 abbrev pub Places : Type 0

@@ -25,7 +25,7 @@ pub mod ItemForms
 pub mod Laws
 pub mod Lend
 pub mod LinkRows
-pub mod Place
+pub mod CustomPlace
 pub mod ProducerEntry
 pub mod Producers
 pub mod Raw

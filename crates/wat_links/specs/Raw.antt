@@ -8,9 +8,9 @@ use Rattle.wat_tokens.specs.Groups.{paren}
 use Rattle.wat_tokens.specs.Many.{many}
 use Rattle.wat_tokens.specs.Strings.{string, text}
 use Rattle.wat_tokens.specs.Views.{no_items}
-use Rattle.wat_links.specs.Place.{custom_place}
-use Rattle.wat_links.specs.declared.place.CustomPlace.{CustomPlace}
-use Rattle.wat_links.specs.declared.place.CustomPlace.TheVariants.{AfterLast}
+use Rattle.wat_links.specs.CustomPlace.{custom_place}
+use Rattle.wat_links.specs.declared.custom_place.CustomPlace.{CustomPlace}
+use Rattle.wat_links.specs.declared.custom_place.CustomPlace.TheVariants.{AfterLast}
 use Rattle.wat_links.specs.declared.raw.RawCustomSection.{RawCustomSection}
 
 -- a raw custom section, without its place in the text

@@ -5,8 +5,8 @@ ghost use Rattle.wat_tokens.specs.Views.{owning};
 ghost use Rattle.wat_links.specs.Custom.{CustomTy, custom_view, bare_custom, place_of};
 ghost use Rattle.wat_links.specs.Custom.{custom_name, begins_annotated, custom};
 
+use crate::custom_place::CustomPlace;
 use crate::dylink::Dylink0;
-use crate::place::CustomPlace;
 use crate::producers::Producers;
 use crate::raw::RawCustomSection;
 use wat_tokens::{Parse, Parser, Result};

@@ -8,6 +8,7 @@
 #![tactic(auto)]
 
 pub mod custom;
+pub mod custom_place;
 pub mod dylink;
 pub mod export;
 pub mod field_head;
@@ -15,11 +16,11 @@ pub mod flags;
 pub mod import;
 pub mod item;
 pub mod laws;
-pub mod place;
 pub mod producers;
 pub mod raw;
 
 pub use custom::Custom;
+pub use custom_place::{CustomPlace, CustomPlaceAnchor};
 pub use dylink::{Dylink0, Dylink0Subsection};
 pub use export::{Export, ExportKind, ExportType, InlineExport};
 pub use field_head::FieldHead;
@@ -28,6 +29,5 @@ pub use import::{
     ImportItemsOf, Imports, ImportsOf, InlineImport,
 };
 pub use item::{ItemKind, ItemSig};
-pub use place::{CustomPlace, CustomPlaceAnchor};
 pub use producers::Producers;
 pub use raw::RawCustomSection;

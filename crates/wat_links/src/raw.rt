@@ -6,7 +6,7 @@ ghost use Rattle.wat_tokens.specs.Reads.{Reads};
 ghost use Rattle.wat_tokens.specs.Tests.{begins_lparen};
 ghost use Rattle.wat_tokens.specs.Views.{plain, owning};
 
-use crate::place::CustomPlace;
+use crate::custom_place::CustomPlace;
 use wat_tokens::repeat::rest_of_group;
 use wat_tokens::{Parse, Parser, Result, Span};
 

@@ -5,8 +5,8 @@ use Rattle.wat_tokens.specs.State.{State}
 use Rattle.wat_mnemonics.specs.Halves.{IsWithin, IsFew}
 use Rattle.wat_mnemonics.specs.Laws.Places.{words_rise, words_length}
 use Rattle.wat_mnemonics.specs.Order.{cmp, words}
-use Rattle.wat_mnemonics.specs.Heads.{mnemonic_word}
-use Rattle.wat_mnemonics.specs.declared.mnemonic.Mnemonic.{Mnemonic}
+use Rattle.wat_mnemonics.specs.Ops.{op_word}
+use Rattle.wat_mnemonics.specs.declared.op.Op.{Op}
 use Rattle.wat_mnemonics.proofs.RowsBelow.{found_at}
 use Rattle.wat_mnemonics.proofs.WordOrder.{below_less, above_greater, absent}
 
@@ -29,9 +29,9 @@ lower_half base size t l w e = record {
 }
 
 -- a text in a stretch with no entry is no word
-pub no_place : (base size : ℕ) (t : List ℕ) → size ≤ 1 → IsWithin base size t → (h : Mnemonic) → mnemonic_word h ≡ t → ⊥
+pub no_place : (base size : ℕ) (t : List ℕ) → size ≤ 1 → IsWithin base size t → (h : Op) → op_word h ≡ t → ⊥
 no_place base size t l w h e =
-    let p : (k : ℕ) × (k < 623) × (get_or words k [] ≡ mnemonic_word h) = found_at h in
+    let p : (k : ℕ) × (k < 623) × (get_or words k [] ≡ op_word h) = found_at h in
     let s : length words ≡ 623 = words_length in
     absent words t base base (omega arith) w.less (λ k u v. w.more k (omega (arith, u, l)) (omega (arith, v, s))) p.0 (omega (arith, p.1, s)) (p.2 ∙ e)
 

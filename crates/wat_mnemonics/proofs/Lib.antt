@@ -1,5 +1,5 @@
 mod Halves
-mod Heads
+mod TableOrder
 mod KeyOrder
 mod Lent
 mod Prefix

@@ -1,14 +1,14 @@
 -- No opcode begins another's: the bytes in front tell the instruction.
 use Rattle.std.proofs.Common.{◌≡◌, ℕ, ◌+◌, ◌-◌, ◌*◌, nat_lt, nat_eq, if◌then◌else◌, List, [], ◌∷◌, ◌++◌, get_or, refl, sym, ◌∙◌, ap, subst, Option, Some, None}
 use Rattle.std.proofs.lemmas.List.{append-nil}
-use Rattle.wat_mnemonics.specs.Heads.{mnemonic_opcode}
+use Rattle.wat_mnemonics.specs.Ops.{op_opcode}
 use Rattle.wat_mnemonics.specs.Opcodes.{bytes}
 use Rattle.wat_mnemonics.specs.Places.{place}
 use Rattle.wat_mnemonics.specs.Laws.Places.{one_place}
 use Rattle.wat_mnemonics.specs.Scalar.{scalar_opcode}
 use Rattle.wat_mnemonics.specs.Vector.{vector_opcode}
-use Rattle.wat_mnemonics.specs.declared.mnemonic.Mnemonic.{Mnemonic}
-use Rattle.wat_mnemonics.specs.declared.mnemonic.Mnemonic.TheVariants as h
+use Rattle.wat_mnemonics.specs.declared.op.Op.{Op}
+use Rattle.wat_mnemonics.specs.declared.op.Op.TheVariants as h
 use Rattle.wat_mnemonics.specs.declared.scalar.ScalarOp.{ScalarOp}
 use Rattle.wat_mnemonics.specs.declared.scalar.ScalarOp.TheVariants as scalar
 use Rattle.wat_mnemonics.specs.declared.vector.VectorOp.{VectorOp}
@@ -48,7 +48,7 @@ told (Some a) b d n e t = subst (λ (l : List ℕ). get_or places_of_opcodes (co
     same : (a b : List ℕ) → Some a ≡ Some b → a ≡ b
     same a b e = cc
 
-mnemonic_told : (x : Mnemonic) (b d : List ℕ) → bytes (mnemonic_opcode x) ≡ Some b → get_or places_of_opcodes (code_of (b ++ d)) 0 ≡ place x
+mnemonic_told : (x : Op) (b d : List ℕ) → bytes (op_opcode x) ≡ Some b → get_or places_of_opcodes (code_of (b ++ d)) 0 ≡ place x
 mnemonic_told (h.Scalar x) b d e = told (bytes (scalar_opcode x)) b d (place (h.Scalar x)) e (scalar_tells x d)
 mnemonic_told (h.Vector x) b d e = told (bytes (vector_opcode x)) b d (place (h.Vector x)) e (vector_tells x d)
 mnemonic_told _ b d e = absurd (no_bytes b e)
@@ -56,6 +56,6 @@ mnemonic_told _ b d e = absurd (no_bytes b e)
     no_bytes : (b : List ℕ) → None ≡ Some b → ⊥
     no_bytes b e = cc
 
-pub one_opcode : (x y : Mnemonic) (b d : List ℕ) → bytes (mnemonic_opcode x) ≡ Some b → bytes (mnemonic_opcode y) ≡ Some (b ++ d) → x ≡ y
+pub one_opcode : (x y : Op) (b d : List ℕ) → bytes (op_opcode x) ≡ Some b → bytes (op_opcode y) ≡ Some (b ++ d) → x ≡ y
 one_opcode x y b d ex ey =
     one_place x y (sym (mnemonic_told x b d ex) ∙ ap (λ (l : List ℕ). get_or places_of_opcodes (code_of l) 0) (sym (append-nil (b ++ d))) ∙ mnemonic_told y (b ++ d) [] ey)

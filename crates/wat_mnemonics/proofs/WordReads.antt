@@ -8,33 +8,33 @@ use Rattle.wat_tokens.specs.Tests.{as_keyword}
 use Rattle.wat_tokens.specs.Production.{some_of}
 use Rattle.wat_tokens.specs.Laws.Production.{by_test, some_is}
 use Rattle.wat_tokens.specs.PartSpells.{one_reads}
-use Rattle.wat_mnemonics.specs.Heads.{mnemonic_word}
-use Rattle.wat_mnemonics.specs.declared.mnemonic.Mnemonic.{Mnemonic}
-use Rattle.wat_mnemonics.specs.Table.{all_mnemonics}
+use Rattle.wat_mnemonics.specs.Ops.{op_word}
+use Rattle.wat_mnemonics.specs.declared.op.Op.{Op}
+use Rattle.wat_mnemonics.specs.Table.{all_ops}
 use Rattle.wat_mnemonics.specs.Word.{first_with, mnemonic_of, mnemonic_reads}
-use Rattle.wat_mnemonics.specs.Laws.Word.{mnemonic_of_word}
+use Rattle.wat_mnemonics.specs.Laws.Word.{op_of_word}
 
-first_none : (w : List ℕ) (xs : List Mnemonic) → ((x : Mnemonic) → mnemonic_word x ≡ w → ⊥) → first_with w xs ≡ None
+first_none : (w : List ℕ) (xs : List Op) → ((x : Op) → op_word x ≡ w → ⊥) → first_with w xs ≡ None
 first_none w [] f = refl
 first_none w (y ∷ ys) f =
-    by_test (bytes_eq (mnemonic_word y) w)
-    (λ t. absurd (f y ((bytes_decides (mnemonic_word y) w).0 t)))
+    by_test (bytes_eq (op_word y) w)
+    (λ t. absurd (f y ((bytes_decides (op_word y) w).0 t)))
     (λ t. rw t (first_none w ys f))
 
-pub mnemonic_of_none : (w : List ℕ) → ((x : Mnemonic) → mnemonic_word x ≡ w → ⊥) → mnemonic_of w ≡ None
+pub mnemonic_of_none : (w : List ℕ) → ((x : Op) → op_word x ≡ w → ⊥) → mnemonic_of w ≡ None
 unfolding mnemonic_of
-mnemonic_of_none w f = first_none w all_mnemonics f
+mnemonic_of_none w f = first_none w all_ops f
 
 -- ---- by what the word in front is
 
-pub reads_word : (t : List Tok) (w : List ℕ) (r : List Tok) (x : Mnemonic) → one_reads as_keyword t ≡ Some (w, r) → mnemonic_word x ≡ w → mnemonic_reads t ≡ Some (x, r)
+pub reads_word : (t : List Tok) (w : List ℕ) (r : List Tok) (x : Op) → one_reads as_keyword t ≡ Some (w, r) → op_word x ≡ w → mnemonic_reads t ≡ Some (x, r)
 reads_word [] w r x e h = absurd cc
 reads_word (Keyword k ∷ t) w r x e h =
     let p = some_is (k, t) (w, r) e in
-    rw (mnemonic_of_word x k (h ∙ sym (ap (λ (u : List ℕ × List Tok). u.0) p))) (ap (λ (u : List ℕ × List Tok). some_of (x, u.1)) p)
+    rw (op_of_word x k (h ∙ sym (ap (λ (u : List ℕ × List Tok). u.0) p))) (ap (λ (u : List ℕ × List Tok). some_of (x, u.1)) p)
 reads_word (_ ∷ t) w r x e h = absurd cc
 
-pub reads_other_word : (t : List Tok) (w : List ℕ) (r : List Tok) → one_reads as_keyword t ≡ Some (w, r) → ((x : Mnemonic) → mnemonic_word x ≡ w → ⊥) → mnemonic_reads t ≡ None
+pub reads_other_word : (t : List Tok) (w : List ℕ) (r : List Tok) → one_reads as_keyword t ≡ Some (w, r) → ((x : Op) → op_word x ≡ w → ⊥) → mnemonic_reads t ≡ None
 reads_other_word [] w r e f = refl
 reads_other_word (Keyword k ∷ t) w r e f =
     let p = some_is (k, t) (w, r) e in

@@ -2,7 +2,7 @@ pub use Rattle.wat_tokens.specs.Counts
 pub use Rattle.wat_tokens.specs.Token
 pub mod Access
 pub mod Halves
-pub mod Heads
+pub mod Ops
 pub mod Indexed
 pub mod Keys
 pub mod Laws

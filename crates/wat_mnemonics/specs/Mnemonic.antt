@@ -1,6 +1,6 @@
 -- The word of an instruction.
 use Rattle.wat_tokens.specs.Production.{Production}
-use Rattle.wat_mnemonics.specs.declared.mnemonic.Mnemonic.{Mnemonic}
+use Rattle.wat_mnemonics.specs.declared.op.Op.{Op}
 use Rattle.wat_mnemonics.specs.Word.{mnemonic_spells, mnemonic_reads}
 use Rattle.wat_mnemonics.specs.Laws.Word.{mnemonic_sound, mnemonic_complete, mnemonic_takes}
 use Rattle.wat_mnemonics.specs.Laws.Word.{mnemonic_balanced}
@@ -8,7 +8,7 @@ use Rattle.wat_mnemonics.specs.Laws.Word.{mnemonic_balanced}
 -- ---- the production
 
 -- the word of an instruction
-abbrev pub mnemonic : Production Mnemonic
+abbrev pub mnemonic : Production Op
 mnemonic = record {
   spells = mnemonic_spells;
   reads = mnemonic_reads;

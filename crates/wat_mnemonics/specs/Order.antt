@@ -4,14 +4,14 @@ use Rattle.std.specs.Cmp.Lexicographic.{slice_cmp}
 use Rattle.std.specs.Ordering.{nat_cmp, is_lt}
 use Rattle.std.specs.declared.cmp.Ordering.{Ordering}
 use Rattle.std.specs.declared.cmp.Ordering.TheVariants.{Less, Greater}
-use Rattle.wat_mnemonics.specs.Heads.{mnemonic_word}
-use Rattle.wat_mnemonics.specs.declared.mnemonic.Mnemonic.{Mnemonic}
-use Rattle.wat_mnemonics.specs.declared.mnemonic.Mnemonic.TheVariants as h
+use Rattle.wat_mnemonics.specs.Ops.{op_word}
+use Rattle.wat_mnemonics.specs.declared.op.Op.{Op}
+use Rattle.wat_mnemonics.specs.declared.op.Op.TheVariants as h
 use Rattle.wat_mnemonics.specs.declared.indexed.BlockOp.TheVariants as block
-use Rattle.wat_mnemonics.specs.Table.{all_mnemonics}
+use Rattle.wat_mnemonics.specs.Table.{all_ops}
 
 -- what reading past the end gives
-abbrev pub first : Mnemonic
+abbrev pub first : Op
 first = h.Block block.block
 
 -- how two lists of bytes compare
@@ -32,4 +32,4 @@ rises (x ∷ (y ∷ ys)) = is_lt (cmp x y) && rises (y ∷ ys)
 
 -- the words of the table
 abbrev pub words : List (List ℕ)
-words = map mnemonic_word all_mnemonics
+words = map op_word all_ops

@@ -1,9 +1,9 @@
 -- Where in the table each instruction is, by its row.
 use Rattle.std.proofs.Common.{ℕ, List, [], ◌∷◌, get_or}
-use Rattle.wat_mnemonics.specs.Heads.{mnemonic_row}
+use Rattle.wat_mnemonics.specs.Ops.{op_row}
 use Rattle.wat_mnemonics.specs.Order.{first}
-use Rattle.wat_mnemonics.specs.declared.mnemonic.Mnemonic.{Mnemonic}
-use Rattle.wat_mnemonics.specs.Table.{all_mnemonics}
+use Rattle.wat_mnemonics.specs.declared.op.Op.{Op}
+use Rattle.wat_mnemonics.specs.Table.{all_ops}
 
 -- the place of each row
 abbrev pub places_of_rows : List ℕ
@@ -51,9 +51,9 @@ places_of_rows =
 abbrev pub place_of_row : ℕ → ℕ
 place_of_row n = get_or places_of_rows n 0
 
-abbrev pub place : Mnemonic → ℕ
-place x = place_of_row (mnemonic_row x)
+abbrev pub place : Op → ℕ
+place x = place_of_row (op_row x)
 
 -- the instruction of a row
-abbrev pub mnemonic_of_row : ℕ → Mnemonic
-mnemonic_of_row n = get_or all_mnemonics (place_of_row n) first
+abbrev pub op_of_row : ℕ → Op
+op_of_row n = get_or all_ops (place_of_row n) first

@@ -6,12 +6,12 @@ use Rattle.wat_tokens.specs.Reads.{ReadsAt}
 use Rattle.wat_tokens.specs.State.{State}
 use Rattle.wat_tokens.specs.Views.{plain}
 use Rattle.wat_mnemonics.specs.Mnemonic.{mnemonic}
-use Rattle.wat_mnemonics.specs.declared.mnemonic.Mnemonic.{Mnemonic}
+use Rattle.wat_mnemonics.specs.declared.op.Op.{Op}
 
 -- at most ten comparisons of the word with entries of the table were counted
 abbrev pub AtMostTen : State → State → Type 0
 AtMostTen a b = (a.probes ≤ b.probes) × (b.probes ≤ a.probes + 10)
 
 -- it answers the head whose word is in front, takes no memory, and counts no turn and no height
-abbrev pub ReadsWord : Result Mnemonic Error → State → State → Type 0
+abbrev pub ReadsWord : Result Op Error → State → State → Type 0
 ReadsWord r a b = ReadsAt words_too (plain (λ h. h)) mnemonic r a b

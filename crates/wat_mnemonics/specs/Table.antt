@@ -1,7 +1,7 @@
 -- The instructions in the order of the bytes of their words.
 use Rattle.std.specs.Prelude.{List, [], ◌∷◌}
-use Rattle.wat_mnemonics.specs.declared.mnemonic.Mnemonic.{Mnemonic}
-use Rattle.wat_mnemonics.specs.declared.mnemonic.Mnemonic.TheVariants as h
+use Rattle.wat_mnemonics.specs.declared.op.Op.{Op}
+use Rattle.wat_mnemonics.specs.declared.op.Op.TheVariants as h
 use Rattle.wat_mnemonics.specs.declared.indexed.BlockOp.TheVariants as block
 use Rattle.wat_mnemonics.specs.declared.indexed.LabelOp.TheVariants as label
 use Rattle.wat_mnemonics.specs.declared.scalar.ScalarOp.TheVariants as scalar
@@ -21,8 +21,8 @@ use Rattle.wat_mnemonics.specs.declared.access.LaneAccessOp.TheVariants as lane_
 use Rattle.wat_mnemonics.specs.declared.indexed.LaneOp.TheVariants as lane
 use Rattle.wat_mnemonics.specs.declared.vector.VectorOp.TheVariants as vector
 
-abbrev pub all_mnemonics : List Mnemonic
-all_mnemonics =
+abbrev pub all_ops : List Op
+all_ops =
     (h.Scalar scalar.any_convert_extern) ∷ (h.OrderedIndex ordered_index.array_atomic_get)
     ∷ (h.OrderedIndex ordered_index.array_atomic_get_s)
     ∷ (h.OrderedIndex ordered_index.array_atomic_get_u)

@@ -55,7 +55,7 @@ pub enum AccessOp {
 impl AccessOp {
     /// The word that it begins with.
     #[inline(always)]
-    pub fn mnemonic(self) -> &'static str
+    pub fn word(self) -> &'static str
         ensures { result.now ≡ access_word self }
     {
         match self {
@@ -175,7 +175,7 @@ pub enum AtomicAccessOp {
 impl AtomicAccessOp {
     /// The word that it begins with.
     #[inline(always)]
-    pub fn mnemonic(self) -> &'static str
+    pub fn word(self) -> &'static str
         ensures { result.now ≡ atomic_access_word self }
     {
         match self {
@@ -278,7 +278,7 @@ pub enum RmwAccessOp {
 impl RmwAccessOp {
     /// The word that it begins with.
     #[inline(always)]
-    pub fn mnemonic(self) -> &'static str
+    pub fn word(self) -> &'static str
         ensures { result.now ≡ rmw_access_word self }
     {
         RMW_WORDS[self as usize]
@@ -413,7 +413,7 @@ pub enum LaneAccessOp {
 impl LaneAccessOp {
     /// The word that it begins with.
     #[inline(always)]
-    pub fn mnemonic(self) -> &'static str
+    pub fn word(self) -> &'static str
         ensures { result.now ≡ lane_access_word self }
     {
         match self {

@@ -2,23 +2,23 @@
 
 ghost use Rattle.std.specs.Prelude.{◌≡◌, ◌≢◌, ◌<◌, ◌≤◌, ◌+◌, ◌∷◌, ℕ, List, IfSome, IfNone, IfErr};
 ghost use Rattle.wat_tokens.specs.Token.{Tok, Keyword};
-ghost use Rattle.wat_mnemonics.specs.Heads.{mnemonic_word};
+ghost use Rattle.wat_mnemonics.specs.Ops.{op_word};
 ghost use Rattle.wat_mnemonics.specs.Probes.{ReadsWord, AtMostTen};
-ghost use Rattle.wat_mnemonics.specs.declared.mnemonic.Mnemonic.{Mnemonic as AnyMnemonic};
+ghost use Rattle.wat_mnemonics.specs.declared.op.Op.{Op as AnyOp};
 ghost use Rattle.wat_tokens.specs.Counts.{Carries};
 
 use crate::keys::{KEYS, key_of};
-use crate::mnemonic::Mnemonic;
-use crate::whole::find_whole;
+use crate::op::Op;
+use crate::same_key::find_whole;
 use wat_tokens::{Error, Fault, Parser, Result};
 
 /// The mnemonic of a word, or None if the word is none.
 ///
 /// The table of words, in strict order of their bytes, is searched by halves. The parser counts
 /// each comparison with an entry, of which there are 1 to 10, and changes in nothing else.
-pub fn find(parser: &mut Parser<'_>, text: &str) -> Option<Mnemonic>
-    ensures found { IfSome result (λ h. mnemonic_word h ≡ text.now) }
-    ensures missing { IfNone result ((h : AnyMnemonic) → mnemonic_word h ≢ text.now) }
+pub fn find(parser: &mut Parser<'_>, text: &str) -> Option<Op>
+    ensures found { IfSome result (λ h. op_word h ≡ text.now) }
+    ensures missing { IfNone result ((h : AnyOp) → op_word h ≢ text.now) }
     ensures only { parser.new ≡ record parser.old { probes = parser.new.probes } }
     ensures counts { Carries parser.old parser.new }
     ensures probed { parser.old.probes + 1 ≤ parser.new.probes }
@@ -41,13 +41,13 @@ pub fn find(parser: &mut Parser<'_>, text: &str) -> Option<Mnemonic>
     None
 }
 
-impl Mnemonic {
+impl Op {
     /// Takes the word of an instruction that is in front.
     ///
     /// A word that is no mnemonic, or any other token, is refused with Operator at it.
     #[inline(always)]
     #[tactic(auto, using(crate::proofs::WordReads::reads_other_word, crate::proofs::WordReads::reads_no_word))]
-    pub fn take(parser: &mut Parser<'_>) -> Result<Mnemonic>
+    pub fn take(parser: &mut Parser<'_>) -> Result<Op>
         ensures reads { ReadsWord result parser.old parser.new }
         ensures probes { AtMostTen parser.old parser.new }
         ensures probed { (w : List ℕ) (r : List Tok) → parser.old.left ≡ Keyword w ∷ r
@@ -56,7 +56,7 @@ impl Mnemonic {
     {
         match parser.take_keyword() {
             Ok(word) => match find(parser, word) {
-                Some(head) => Ok(head),
+                Some(op) => Ok(op),
                 None => Err(Error::at(Fault::Operator, parser.prev_span())),
             },
             Err(error) => Err(Error::at(Fault::Operator, error.span)),

@@ -18,7 +18,7 @@ pub enum BlockOp {
 impl BlockOp {
     /// The word that it begins with.
     #[inline(always)]
-    pub fn mnemonic(self) -> &'static str
+    pub fn word(self) -> &'static str
         ensures { result.now ≡ block_word self }
     {
         match self {
@@ -41,7 +41,7 @@ pub enum LabelOp {
 impl LabelOp {
     /// The word that it begins with.
     #[inline(always)]
-    pub fn mnemonic(self) -> &'static str
+    pub fn word(self) -> &'static str
         ensures { result.now ≡ label_word self }
     {
         match self {
@@ -93,7 +93,7 @@ pub enum IndexedOp {
 impl IndexedOp {
     /// The word that it begins with.
     #[inline(always)]
-    pub fn mnemonic(self) -> &'static str
+    pub fn word(self) -> &'static str
         ensures { result.now ≡ indexed_word self }
     {
         match self {
@@ -145,7 +145,7 @@ pub enum CallIndirectOp {
 impl CallIndirectOp {
     /// The word that it begins with.
     #[inline(always)]
-    pub fn mnemonic(self) -> &'static str
+    pub fn word(self) -> &'static str
         ensures { result.now ≡ call_indirect_word self }
     {
         match self {
@@ -169,7 +169,7 @@ pub enum TableOp {
 impl TableOp {
     /// The word that it begins with.
     #[inline(always)]
-    pub fn mnemonic(self) -> &'static str
+    pub fn word(self) -> &'static str
         ensures { result.now ≡ table_word self }
     {
         match self {
@@ -195,7 +195,7 @@ pub enum MemoryOp {
 impl MemoryOp {
     /// The word that it begins with.
     #[inline(always)]
-    pub fn mnemonic(self) -> &'static str
+    pub fn word(self) -> &'static str
         ensures { result.now ≡ memory_word self }
     {
         match self {
@@ -220,7 +220,7 @@ pub enum StructOp {
 impl StructOp {
     /// The word that it begins with.
     #[inline(always)]
-    pub fn mnemonic(self) -> &'static str
+    pub fn word(self) -> &'static str
         ensures { result.now ≡ struct_word self }
     {
         match self {
@@ -243,7 +243,7 @@ pub enum ArrayInitOp {
 impl ArrayInitOp {
     /// The word that it begins with.
     #[inline(always)]
-    pub fn mnemonic(self) -> &'static str
+    pub fn word(self) -> &'static str
         ensures { result.now ≡ array_init_word self }
     {
         match self {
@@ -276,7 +276,7 @@ pub enum LaneOp {
 impl LaneOp {
     /// The word that it begins with.
     #[inline(always)]
-    pub fn mnemonic(self) -> &'static str
+    pub fn word(self) -> &'static str
         ensures { result.now ≡ lane_word self }
     {
         match self {

@@ -1,6 +1,6 @@
 //! The words of the 623 instructions of the WebAssembly text format, without what follows them.
 //!
-//! A [`Mnemonic`](mnemonic::Mnemonic) is an instruction without its operand. A word is looked up by
+//! A [`Op`](op::Op) is an instruction without its operand. A word is looked up by
 //! binary search ([`find`](find::find)). A mnemonic has its word, and its opcode if Core
 //! Specification 2.0 gives it one.
 #![tactic(auto)]
@@ -10,19 +10,19 @@ pub mod find;
 pub mod indexed;
 mod keys;
 pub mod laws;
-pub mod mnemonic;
+pub mod op;
 pub mod opcode;
 pub mod ordered;
+mod same_key;
 pub mod scalar;
 pub mod table;
 pub mod vector;
-mod whole;
 
 pub use access::{AccessOp, AtomicAccessOp, LaneAccessOp, RmwAccessOp};
 pub use indexed::{
     ArrayInitOp, BlockOp, CallIndirectOp, IndexedOp, LabelOp, LaneOp, MemoryOp, StructOp, TableOp,
 };
-pub use mnemonic::Mnemonic;
+pub use op::Op;
 pub use opcode::Opcode;
 pub use ordered::{OrderedIndexOp, OrderedStructOp, OrderedTableOp};
 pub use scalar::ScalarOp;

@@ -33,7 +33,7 @@ pub enum OrderedIndexOp {
 impl OrderedIndexOp {
     /// The word that it begins with.
     #[inline(always)]
-    pub fn mnemonic(self) -> &'static str
+    pub fn word(self) -> &'static str
         ensures { result.now ≡ ordered_index_word self }
     {
         match self {
@@ -74,7 +74,7 @@ pub enum OrderedTableOp {
 impl OrderedTableOp {
     /// The word that it begins with.
     #[inline(always)]
-    pub fn mnemonic(self) -> &'static str
+    pub fn word(self) -> &'static str
         ensures { result.now ≡ ordered_table_word self }
     {
         match self {
@@ -106,7 +106,7 @@ pub enum OrderedStructOp {
 impl OrderedStructOp {
     /// The word that it begins with.
     #[inline(always)]
-    pub fn mnemonic(self) -> &'static str
+    pub fn word(self) -> &'static str
         ensures { result.now ≡ ordered_struct_word self }
     {
         match self {

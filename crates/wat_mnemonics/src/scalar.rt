@@ -171,7 +171,7 @@ pub enum ScalarOp {
 impl ScalarOp {
     /// The word that it begins with.
     #[inline(always)]
-    pub fn mnemonic(self) -> &'static str
+    pub fn word(self) -> &'static str
         ensures { result.now ≡ scalar_word self }
     {
         WORDS[self as usize]

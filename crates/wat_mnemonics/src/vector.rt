@@ -232,7 +232,7 @@ pub enum VectorOp {
 impl VectorOp {
     /// The word that it begins with.
     #[inline(always)]
-    pub fn mnemonic(self) -> &'static str
+    pub fn word(self) -> &'static str
         ensures { result.now ≡ vector_word self }
     {
         WORDS[self as usize]

@@ -14,15 +14,15 @@ pub mod label;
 pub mod laws;
 pub mod limits;
 pub mod output;
+pub mod printed;
 pub mod reference;
 pub mod storage;
 pub mod string;
 pub mod structure;
-pub mod text;
 pub mod traits;
 pub mod type_use;
 
 pub use fault::Refused;
 pub use output::{Layout, Output};
-pub use text::{print, read_value};
+pub use printed::{print, read_value};
 pub use traits::Print;

@@ -15,7 +15,7 @@ use Rattle.wat_print.specs.Parts.{each, spell_option}
 use Rattle.wat_print.specs.Text.{Page, put}
 use Rattle.wat_print.specs.Laws.Parts.{each_both}
 use Rattle.wat_print.specs.Laws.Written.{put_then, put_parens}
-use Rattle.wat_print_instr.specs.FoldedForm.{takes_catches, is_catch, head_of, own_groups}
+use Rattle.wat_print_instr.specs.FoldedForm.{takes_catches, is_catch, op_of, own_groups}
 use Rattle.wat_print_instr.specs.FoldedForm.{catch_first, groups_behind, group_from, spell_own}
 use Rattle.wat_print_instr.specs.FoldedForm.{spell_groups, spell_folded, no_hints, fit_folded}
 use Rattle.wat_print_instr.specs.Laws.Folded.{group_last}
@@ -93,10 +93,10 @@ unfit_behind xs i ys e =
 module _ {X : Type 0} (v : X → Instr) where
   pub catch_seen : (h : Instr) (xs : List X) (x : X) → (length xs == 0) ≡ false
       → x ≡ get_or xs 0 x
-      → takes_catches (head_of h) && is_catch (head_of (v x)) ≡ catch_first h (map v xs)
+      → takes_catches (op_of h) && is_catch (op_of (v x)) ≡ catch_first h (map v xs)
   catch_seen h [] x e s = absurd cc
   catch_seen h (y ∷ xs) x e s =
-      ap (λ (z : X). takes_catches (head_of h) && is_catch (head_of (v z))) s
+      ap (λ (z : X). takes_catches (op_of h) && is_catch (op_of (v z))) s
 
   pub seen_last : (all here others : List X) (last : X) → here ≡ all → here ≡ others ++ last ∷ []
       → map v all ≡ map v others ++ v last ∷ []

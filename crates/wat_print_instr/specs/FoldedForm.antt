@@ -4,10 +4,10 @@ use Rattle.std.specs.Prelude.{ℕ, Bool, true, false, not, ◌&&◌, if◌then�
 use Rattle.std.specs.Prelude.{Option, Some, None, option_map, is_some}
 use Rattle.wat_lexer.specs.Token.{Tok}
 use Rattle.wat_tokens.specs.Spelled.{in_parens}
-use Rattle.wat_mnemonics.specs.Places.{mnemonic_of_row}
+use Rattle.wat_mnemonics.specs.Places.{op_of_row}
 use Rattle.wat_mnemonics.specs.declared.indexed.IndexedOp.TheVariants as indexed
-use Rattle.wat_mnemonics.specs.declared.mnemonic.Mnemonic.{Mnemonic}
-use Rattle.wat_mnemonics.specs.declared.mnemonic.Mnemonic.TheVariants as head
+use Rattle.wat_mnemonics.specs.declared.op.Op.{Op}
+use Rattle.wat_mnemonics.specs.declared.op.Op.TheVariants as ops
 use Rattle.wat_mnemonics.specs.declared.scalar.ScalarOp.TheVariants as scalar
 use Rattle.wat_instr.specs.Instruction.{Instr}
 use Rattle.wat_expr.specs.Expression.{Expr}
@@ -18,23 +18,23 @@ use Rattle.wat_print_instr.specs.InstructionForm.{spell_instruction, fit_instruc
 -- ---- what a `try_table` takes for its own
 
 -- `try_table`: the groups directly behind it may be those of what it catches
-abbrev pub takes_catches : Mnemonic → Bool
-takes_catches head.try_table = true
+abbrev pub takes_catches : Op → Bool
+takes_catches ops.try_table = true
 takes_catches _ = false
 
 -- `catch` and `catch_all`: directly behind a `try_table` their group isn't one of an instruction
-abbrev pub is_catch : Mnemonic → Bool
-is_catch (head.Indexed indexed.catch) = true
-is_catch (head.Scalar scalar.catch_all) = true
+abbrev pub is_catch : Op → Bool
+is_catch (ops.Indexed indexed.catch) = true
+is_catch (ops.Scalar scalar.catch_all) = true
 is_catch _ = false
 
 -- the instruction of its row
-abbrev pub head_of : Instr → Mnemonic
-head_of i = mnemonic_of_row i.row
+abbrev pub op_of : Instr → Op
+op_of i = op_of_row i.row
 
 -- its group can stand between a `try_table` and a `catch`
 abbrev pub keeps_apart : Instr → Bool
-keeps_apart i = not (takes_catches (head_of i)) && not (is_catch (head_of i))
+keeps_apart i = not (takes_catches (op_of i)) && not (is_catch (op_of i))
 
 -- ---- which groups are written
 
@@ -55,7 +55,7 @@ first_apart before (i ∷ is) =
 -- a `catch` would be the first behind a `try_table`
 abbrev pub catch_first : Instr → List Instr → Bool
 catch_first h [] = false
-catch_first h (i ∷ is) = takes_catches (head_of h) && is_catch (head_of i)
+catch_first h (i ∷ is) = takes_catches (op_of h) && is_catch (op_of i)
 
 -- the groups behind an instruction
 abbrev pub groups_behind : Instr → List Instr → Option Groups

@@ -20,10 +20,10 @@ use Rattle.wat_operands.specs.declared.vector.I8x16Shuffle.{I8x16Shuffle}
 use Rattle.wat_operands.specs.declared.vector.V128Const.{V128Const}
 use Rattle.wat_mnemonics.specs.Access.{access_align, atomic_access_align, rmw_access_align}
 use Rattle.wat_mnemonics.specs.Access.{lane_access_align}
-use Rattle.wat_mnemonics.specs.Heads.{mnemonic_word, mnemonic_row}
-use Rattle.wat_mnemonics.specs.Places.{mnemonic_of_row}
-use Rattle.wat_mnemonics.specs.declared.mnemonic.Mnemonic.{Mnemonic}
-use Rattle.wat_mnemonics.specs.declared.mnemonic.Mnemonic.TheVariants as head
+use Rattle.wat_mnemonics.specs.Ops.{op_word, op_row}
+use Rattle.wat_mnemonics.specs.Places.{op_of_row}
+use Rattle.wat_mnemonics.specs.declared.op.Op.{Op}
+use Rattle.wat_mnemonics.specs.declared.op.Op.TheVariants as ops
 use Rattle.wat_instr.specs.Instruction.{Instr}
 use Rattle.wat_instr.specs.Operand.{Operand, nothing, block, label, one_index, two_indices}
 use Rattle.wat_instr.specs.Operand.{branches, call, chosen, access, ordered_index, ordered_indices}
@@ -166,73 +166,73 @@ form from p = record {
 }
 
 -- behind the instruction's word
-abbrev pub operand_form : Mnemonic → OperandForm
-operand_form (head.Block op) = form found_block block_printing
-operand_form (head.Label op) = form found_label end_label_printing
-operand_form (head.Scalar op) = form found_nothing nothing_printing
-operand_form (head.Indexed op) = form found_one_index index_printing
-operand_form (head.CallIndirect op) = form found_call call_printing
-operand_form (head.Table op) = form found_one_index index_or_0_printing
-operand_form (head.Access op) = form found_access (access_printing (access_align op))
-operand_form (head.Memory op) = form found_one_index index_or_0_printing
-operand_form (head.Struct op) = form found_two_indices pair_printing
-operand_form (head.ArrayInit op) = form found_two_indices pair_printing
-operand_form (head.AtomicAccess op) =
+abbrev pub operand_form : Op → OperandForm
+operand_form (ops.Block op) = form found_block block_printing
+operand_form (ops.Label op) = form found_label end_label_printing
+operand_form (ops.Scalar op) = form found_nothing nothing_printing
+operand_form (ops.Indexed op) = form found_one_index index_printing
+operand_form (ops.CallIndirect op) = form found_call call_printing
+operand_form (ops.Table op) = form found_one_index index_or_0_printing
+operand_form (ops.Access op) = form found_access (access_printing (access_align op))
+operand_form (ops.Memory op) = form found_one_index index_or_0_printing
+operand_form (ops.Struct op) = form found_two_indices pair_printing
+operand_form (ops.ArrayInit op) = form found_two_indices pair_printing
+operand_form (ops.AtomicAccess op) =
     form found_access (atomic_printing (atomic_access_align op) false)
-operand_form (head.RmwAccess op) = form found_access (atomic_printing (rmw_access_align op) true)
-operand_form (head.OrderedIndex op) =
+operand_form (ops.RmwAccess op) = form found_access (atomic_printing (rmw_access_align op) true)
+operand_form (ops.OrderedIndex op) =
     form found_ordered_index (ordered_printing index index_printing)
-operand_form (head.OrderedTable op) =
+operand_form (ops.OrderedTable op) =
     form found_ordered_index (ordered_printing index_or_0 index_or_0_printing)
-operand_form (head.OrderedStruct op) =
+operand_form (ops.OrderedStruct op) =
     form found_ordered_indices (ordered_printing index_pair pair_printing)
-operand_form (head.LaneAccess op) =
+operand_form (ops.LaneAccess op) =
     form found_lane_access (lane_access_printing (lane_access_align op))
-operand_form (head.Lane op) = form found_lane lane_printing
-operand_form (head.Vector op) = form found_nothing nothing_printing
-operand_form head.br_table = form found_branches br_table_printing
-operand_form head.select = form found_chosen select_printing
-operand_form head.memory_init = form found_two_indices init_printing
-operand_form head.memory_copy = form found_two_indices copy_printing
-operand_form head.table_init = form found_two_indices init_printing
-operand_form head.table_copy = form found_two_indices copy_printing
-operand_form head.ref_null = form found_heap heap_printing
-operand_form head.array_new_fixed = form found_sized sized_printing
-operand_form head.array_new_data = form found_two_indices pair_printing
-operand_form head.array_new_elem = form found_two_indices pair_printing
-operand_form head.array_fill = form found_one_index index_printing
-operand_form head.array_copy = form found_two_indices pair_printing
-operand_form head.ref_test = form found_reference ref_printing
-operand_form head.ref_cast = form found_reference ref_printing
-operand_form head.br_on_cast = form found_cast branch_printing
-operand_form head.br_on_cast_fail = form found_cast branch_printing
-operand_form head.i32_const = form found_integer i32_printing
-operand_form head.i64_const = form found_integer i64_printing
-operand_form head.f32_const = form found_float number_printing
-operand_form head.f64_const = form found_float number_printing
-operand_form head.atomic_fence = form found_fence fence_printing
-operand_form head.v128_const = form found_vector vector_printing
-operand_form head.i8x16_shuffle = form found_shuffled shuffle_printing
-operand_form head.try_table = form found_caught try_printing
-operand_form head.cont_bind = form found_two_indices pair_printing
-operand_form head.resume = form found_resumed resume_printing
-operand_form head.resume_throw = form found_thrown throw_printing
-operand_form head.resume_throw_ref = form found_resumed resume_printing
-operand_form head.switch = form found_two_indices pair_printing
-operand_form head.ref_cast_desc_eq = form found_reference ref_printing
-operand_form head.br_on_cast_desc_eq = form found_cast branch_printing
-operand_form head.br_on_cast_desc_eq_fail = form found_cast branch_printing
+operand_form (ops.Lane op) = form found_lane lane_printing
+operand_form (ops.Vector op) = form found_nothing nothing_printing
+operand_form ops.br_table = form found_branches br_table_printing
+operand_form ops.select = form found_chosen select_printing
+operand_form ops.memory_init = form found_two_indices init_printing
+operand_form ops.memory_copy = form found_two_indices copy_printing
+operand_form ops.table_init = form found_two_indices init_printing
+operand_form ops.table_copy = form found_two_indices copy_printing
+operand_form ops.ref_null = form found_heap heap_printing
+operand_form ops.array_new_fixed = form found_sized sized_printing
+operand_form ops.array_new_data = form found_two_indices pair_printing
+operand_form ops.array_new_elem = form found_two_indices pair_printing
+operand_form ops.array_fill = form found_one_index index_printing
+operand_form ops.array_copy = form found_two_indices pair_printing
+operand_form ops.ref_test = form found_reference ref_printing
+operand_form ops.ref_cast = form found_reference ref_printing
+operand_form ops.br_on_cast = form found_cast branch_printing
+operand_form ops.br_on_cast_fail = form found_cast branch_printing
+operand_form ops.i32_const = form found_integer i32_printing
+operand_form ops.i64_const = form found_integer i64_printing
+operand_form ops.f32_const = form found_float number_printing
+operand_form ops.f64_const = form found_float number_printing
+operand_form ops.atomic_fence = form found_fence fence_printing
+operand_form ops.v128_const = form found_vector vector_printing
+operand_form ops.i8x16_shuffle = form found_shuffled shuffle_printing
+operand_form ops.try_table = form found_caught try_printing
+operand_form ops.cont_bind = form found_two_indices pair_printing
+operand_form ops.resume = form found_resumed resume_printing
+operand_form ops.resume_throw = form found_thrown throw_printing
+operand_form ops.resume_throw_ref = form found_resumed resume_printing
+operand_form ops.switch = form found_two_indices pair_printing
+operand_form ops.ref_cast_desc_eq = form found_reference ref_printing
+operand_form ops.br_on_cast_desc_eq = form found_cast branch_printing
+operand_form ops.br_on_cast_desc_eq_fail = form found_cast branch_printing
 
 -- ---- instructions
 
 -- the row's word, and the operand
 abbrev pub spell_instruction : Instr → List Tok
 spell_instruction i =
-    Keyword (mnemonic_word (mnemonic_of_row i.row))
-    ∷ (operand_form (mnemonic_of_row i.row)).spell i.operand
+    Keyword (op_word (op_of_row i.row))
+    ∷ (operand_form (op_of_row i.row)).spell i.operand
 
 -- there is such a row, and the operand is one of its instruction
 abbrev pub fit_instruction : Instr → Bool
 fit_instruction i =
-    (mnemonic_row (mnemonic_of_row i.row) == i.row)
-    && (operand_form (mnemonic_of_row i.row)).fit i.operand
+    (op_row (op_of_row i.row) == i.row)
+    && (operand_form (op_of_row i.row)).fit i.operand

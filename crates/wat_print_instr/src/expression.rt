@@ -22,7 +22,7 @@ use bumpalo::Bump;
 use std::alloc::Global;
 use wat_expr::{BranchHint, Expression};
 use wat_instr::Instruction;
-use wat_mnemonics::{IndexedOp, LabelOp, Mnemonic, ScalarOp};
+use wat_mnemonics::{IndexedOp, LabelOp, Op, ScalarOp};
 use wat_print::{Layout, Output, Refused, read_value};
 use wat_tokens::Fault;
 
@@ -61,23 +61,23 @@ fn write_hint(out: &mut Output, hint: Option<u32>, instr: &Instruction) -> Resul
 
 /// Whether it ends a part of a block: `else` and `end`, and of the exceptions as they were before
 /// `try_table` also `catch`, `catch_all` and `delegate`.
-fn ends_part(head: Mnemonic) -> bool {
-    match head {
-        Mnemonic::Label(_) => true,
-        Mnemonic::Scalar(op) => matches!(op, ScalarOp::catch_all),
-        Mnemonic::Indexed(op) => matches!(op, IndexedOp::catch | IndexedOp::delegate),
+fn ends_part(op: Op) -> bool {
+    match op {
+        Op::Label(_) => true,
+        Op::Scalar(op) => matches!(op, ScalarOp::catch_all),
+        Op::Indexed(op) => matches!(op, IndexedOp::catch | IndexedOp::delegate),
         _ => false,
     }
 }
 
 /// Whether a part of a block follows it.
-fn begins_part(head: Mnemonic) -> bool {
-    match head {
-        Mnemonic::Block(_) => true,
-        Mnemonic::try_table => true,
-        Mnemonic::Label(op) => matches!(op, LabelOp::else_),
-        Mnemonic::Scalar(op) => matches!(op, ScalarOp::catch_all),
-        Mnemonic::Indexed(op) => matches!(op, IndexedOp::catch),
+fn begins_part(op: Op) -> bool {
+    match op {
+        Op::Block(_) => true,
+        Op::try_table => true,
+        Op::Label(op) => matches!(op, LabelOp::else_),
+        Op::Scalar(op) => matches!(op, ScalarOp::catch_all),
+        Op::Indexed(op) => matches!(op, IndexedOp::catch),
         _ => false,
     }
 }
@@ -85,24 +85,24 @@ fn begins_part(head: Mnemonic) -> bool {
 /// Breaks the line in front of an instruction, if it is to stand on a line of its own. One that
 /// ends a part of a block stands as far to the left as the block.
 #[tactic(auto, using(wat_print::specs::Laws::Written::puts_line, wat_print::specs::Laws::Written::puts_put))]
-fn begin_step(out: &mut Output, head: Mnemonic, on_lines: bool) -> Result<(), Refused>
+fn begin_step(out: &mut Output, op: Op, on_lines: bool) -> Result<(), Refused>
     ensures written { OnOk result (Writes [] out.old out.new) }
     ensures refused { IfErr result (λ e. e ≡ Memory) }
 {
     if !on_lines {
         return Ok(());
     }
-    if ends_part(head) {
+    if ends_part(op) {
         out.leave();
     }
     out.line()
 }
 
 /// What follows an instruction that a part of a block follows stands further to the right.
-fn end_step(out: &mut Output, head: Mnemonic)
+fn end_step(out: &mut Output, op: Op)
     ensures { out.new ≡ out.old }
 {
-    if begins_part(head) {
+    if begins_part(op) {
         out.enter();
     }
 }
@@ -121,11 +121,11 @@ fn write_step(
     ensures refused { IfErr result (λ e. e ≢ Memory
         → fit_step (step_of hint (instruction_view instr.now)) ≡ false) }
 {
-    let head = instr.head();
-    begin_step(out, head, on_lines)?;
+    let op = instr.op();
+    begin_step(out, op, on_lines)?;
     write_hint(out, hint, instr)?;
     instr.write(out)?;
-    end_step(out, head);
+    end_step(out, op);
     Ok(())
 }
 

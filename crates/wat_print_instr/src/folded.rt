@@ -9,7 +9,7 @@ ghost use Rattle.wat_expr.specs.FoldedProduction.{folded_instruction};
 ghost use Rattle.wat_print.specs.Parts.{each, spell_option, Wrote};
 ghost use Rattle.wat_print.specs.Text.{put};
 ghost use Rattle.wat_print.specs.declared.fault.Refused.TheVariants.{Memory};
-ghost use Rattle.wat_print_instr.specs.FoldedForm.{takes_catches, is_catch, head_of, keeps_apart};
+ghost use Rattle.wat_print_instr.specs.FoldedForm.{takes_catches, is_catch, op_of, keeps_apart};
 ghost use Rattle.wat_print_instr.specs.FoldedForm.{own_groups, first_apart, catch_first, groups_behind};
 ghost use Rattle.wat_print_instr.specs.FoldedForm.{spell_own, spell_groups};
 ghost use Rattle.wat_print_instr.specs.FoldedPrinting.{folded_printing};
@@ -18,23 +18,23 @@ ghost use Rattle.wat_print_instr.specs.InstructionForm.{fit_instruction};
 use crate::traits::PrintCode;
 use wat_expr::{BranchHint, FoldedInstruction};
 use wat_instr::Instruction;
-use wat_mnemonics::{IndexedOp, Mnemonic, ScalarOp};
+use wat_mnemonics::{IndexedOp, Op, ScalarOp};
 use wat_print::{Output, Refused};
 
 /// Whether the groups directly behind it may be those of what it catches.
-fn takes_catches(head: Mnemonic) -> bool
-    ensures { result ≡ takes_catches head }
+fn takes_catches(op: Op) -> bool
+    ensures { result ≡ takes_catches op }
 {
-    matches!(head, Mnemonic::try_table)
+    matches!(op, Op::try_table)
 }
 
 /// Whether its group, directly behind a `try_table`, isn't one of an instruction.
-fn is_catch(head: Mnemonic) -> bool
-    ensures { result ≡ is_catch head }
+fn is_catch(op: Op) -> bool
+    ensures { result ≡ is_catch op }
 {
-    match head {
-        Mnemonic::Indexed(op) => matches!(op, IndexedOp::catch),
-        Mnemonic::Scalar(op) => matches!(op, ScalarOp::catch_all),
+    match op {
+        Op::Indexed(op) => matches!(op, IndexedOp::catch),
+        Op::Scalar(op) => matches!(op, ScalarOp::catch_all),
         _ => false,
     }
 }
@@ -43,8 +43,8 @@ fn is_catch(head: Mnemonic) -> bool
 fn keeps_apart(instr: &Instruction) -> bool
     ensures { result ≡ keeps_apart (instruction_view instr.now) }
 {
-    let head = instr.head();
-    !takes_catches(head) && !is_catch(head)
+    let op = instr.op();
+    !takes_catches(op) && !is_catch(op)
 }
 
 /// Writes an instruction in a group of its own.
@@ -122,10 +122,10 @@ fn write_apart(out: &mut Output, instrs: &[Instruction]) -> Result<(), Refused>
 /// Whether the group of the second, directly behind the first, isn't one of an instruction.
 #[tactic(auto, using(wat_mnemonics::specs::Laws::Places::there))]
 fn is_taken(last: &Instruction, first: &Instruction) -> bool
-    ensures { result ≡ takes_catches (head_of (instruction_view last.now))
-        && is_catch (head_of (instruction_view first.now)) }
+    ensures { result ≡ takes_catches (op_of (instruction_view last.now))
+        && is_catch (op_of (instruction_view first.now)) }
 {
-    takes_catches(last.head()) && is_catch(first.head())
+    takes_catches(last.op()) && is_catch(first.op())
 }
 
 /// Whether a `catch` would be the first behind a `try_table`.

@@ -3,7 +3,7 @@
 ghost use Rattle.std.specs.Prelude.{◌≡◌, ◌≢◌, OnOk, IfErr, true, false};
 ghost use Rattle.wat_tokens.specs.Index.{name_of};
 ghost use Rattle.wat_tokens.specs.Views.{option_view};
-ghost use Rattle.wat_instr.specs.Instruction.{Instr, head_in, operand_in, instruction_view};
+ghost use Rattle.wat_instr.specs.Instruction.{Instr, op_in, operand_in, instruction_view};
 ghost use Rattle.wat_instr.specs.Instruction.{instruction, block_in};
 ghost use Rattle.wat_print.specs.Label.{spell_id};
 ghost use Rattle.wat_print.specs.Neat.{is_name};
@@ -65,11 +65,11 @@ fn write_said(out: &mut Output, block: &Option<Box<BlockType>>) -> Result<(), Re
 /// Writes the operand of an instruction, behind its word.
 fn write_operand(out: &mut Output, instr: &Instruction) -> Result<(), Refused>
     ensures written { OnOk result (out.new ≡ put out.old
-        ((operand_form (head_in instr.now)).spell (operand_in instr.now))) }
+        ((operand_form (op_in instr.now)).spell (operand_in instr.now))) }
     ensures fit { OnOk result
-        ((operand_form (head_in instr.now)).fit (operand_in instr.now) ≡ true) }
+        ((operand_form (op_in instr.now)).fit (operand_in instr.now) ≡ true) }
     ensures refused { IfErr result (λ e. e ≢ Memory
-        → (operand_form (head_in instr.now)).fit (operand_in instr.now) ≡ false) }
+        → (operand_form (op_in instr.now)).fit (operand_in instr.now) ≡ false) }
 {
     match instr {
         InstructionOf::Block(_, block) => write_said(out, block),

@@ -8,7 +8,7 @@ use Rattle.wat_links.specs.Dylink.{SubsectionTy}
 use Rattle.wat_links.specs.Raw.{RawTy}
 use Rattle.wat_print.specs.Parts.{each}
 use Rattle.wat_print_module.specs.Dylink.{spell_dylink, fit_dylink}
-use Rattle.wat_print_module.specs.Place.{spell_place_group}
+use Rattle.wat_print_module.specs.CustomPlace.{spell_place_group}
 use Rattle.wat_print_module.specs.Producers.{ProducedTy, spell_producers, fit_producers}
 use Rattle.wat_print.specs.Strings.{spell_string, fit_string}
 

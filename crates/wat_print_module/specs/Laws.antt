@@ -17,7 +17,7 @@ pub mod Item
 pub mod Local
 pub mod Memory
 pub mod Module
-pub mod Place
+pub mod CustomPlace
 pub mod Producers
 pub mod Strings
 pub mod Table

@@ -20,7 +20,7 @@ pub use Rattle.wat_links.specs.FieldHead as LinksFieldHead
 pub use Rattle.wat_links.specs.Forms
 pub use Rattle.wat_links.specs.Import as LinksImport
 pub use Rattle.wat_links.specs.Item as LinksItem
-pub use Rattle.wat_links.specs.Place as LinksPlace
+pub use Rattle.wat_links.specs.CustomPlace as LinksPlace
 pub use Rattle.wat_links.specs.Producers as LinksProducers
 pub use Rattle.wat_links.specs.Raw
 pub mod Custom
@@ -39,7 +39,7 @@ pub mod Local
 pub mod Memory
 pub mod Module
 pub mod ModulePrintings
-pub mod Place
+pub mod CustomPlace
 pub mod Producers
 pub mod SegmentPrintings
 pub mod Segments

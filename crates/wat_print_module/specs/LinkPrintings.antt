@@ -7,7 +7,7 @@ use Rattle.wat_links.specs.Cutting.{dylink}
 use Rattle.wat_links.specs.Export.{export_kind, export_, export_type}
 use Rattle.wat_links.specs.Forms.{imports}
 use Rattle.wat_links.specs.Item.{item_sig}
-use Rattle.wat_links.specs.Place.{section, custom_place}
+use Rattle.wat_links.specs.CustomPlace.{section, custom_place}
 use Rattle.wat_links.specs.Producers.{producers}
 use Rattle.wat_links.specs.Raw.{raw_custom}
 use Rattle.wat_print.specs.Printed.{Printing}
@@ -21,7 +21,7 @@ use Rattle.wat_print_module.specs.Export.{spell_export_kind, spell_export, fit_e
 use Rattle.wat_print_module.specs.Export.{spell_export_type, fit_export_type}
 use Rattle.wat_print_module.specs.Import.{spell_imports, fit_imports}
 use Rattle.wat_print_module.specs.Item.{spell_sig, fit_sig}
-use Rattle.wat_print_module.specs.Place.{spell_section, spell_place}
+use Rattle.wat_print_module.specs.CustomPlace.{spell_section, spell_place}
 use Rattle.wat_print_module.specs.Producers.{spell_producers, fit_producers}
 use Rattle.wat_print_module.specs.Laws.Custom.{raw_here, raw_neat, raw_only, custom_here}
 use Rattle.wat_print_module.specs.Laws.Custom.{custom_neat, custom_only}
@@ -31,8 +31,8 @@ use Rattle.wat_print_module.specs.Laws.Export.{export_neat, export_only, export_
 use Rattle.wat_print_module.specs.Laws.Export.{export_type_neat, export_type_only}
 use Rattle.wat_print_module.specs.Laws.Import.{imports_here, imports_neat, imports_only}
 use Rattle.wat_print_module.specs.Laws.Item.{sig_here, sig_neat, sig_only}
-use Rattle.wat_print_module.specs.Laws.Place.{section_here, section_neat, custom_place_here}
-use Rattle.wat_print_module.specs.Laws.Place.{custom_place_neat}
+use Rattle.wat_print_module.specs.Laws.CustomPlace.{section_here, section_neat, custom_place_here}
+use Rattle.wat_print_module.specs.Laws.CustomPlace.{custom_place_neat}
 use Rattle.wat_print_module.specs.Laws.Producers.{producers_here, producers_neat, producers_only}
 
 -- ---- imports and exports

@@ -7,6 +7,7 @@
 
 pub mod again;
 pub mod custom;
+pub mod custom_place;
 pub mod data;
 pub mod data_val;
 pub mod dylink;
@@ -22,7 +23,6 @@ pub mod item;
 pub mod local;
 pub mod memory;
 pub mod module;
-pub mod place;
 pub mod producers;
 pub mod raw;
 pub mod table;

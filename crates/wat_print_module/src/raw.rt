@@ -10,7 +10,7 @@ ghost use Rattle.wat_print_module.specs.LinkPrintings.{raw_printing};
 ghost use Rattle.wat_print.specs.Strings.{spell_string, fit_string};
 ghost use Rattle.wat_print.specs.declared.fault.Refused.TheVariants.{Memory};
 
-use crate::place::write_place_group;
+use crate::custom_place::write_place_group;
 use crate::traits::PrintPart;
 use wat_links::RawCustomSection;
 use wat_print::string::write_string;

@@ -1,8 +1,8 @@
 -- The line of a hint.
 use Rattle.std.specs.Prelude.{ℕ, List, [], ◌∷◌, ◌++◌, codes, decimal, flat_map, Option, Some}
 use Rattle.std.specs.Prelude.{None}
-use Rattle.wat_mnemonics.specs.Heads.{mnemonic_word}
-use Rattle.wat_mnemonics.specs.declared.table.TheConstants.{MNEMONICS}
+use Rattle.wat_mnemonics.specs.Ops.{op_word}
+use Rattle.wat_mnemonics.specs.declared.table.TheConstants.{OPS}
 use Rattle.wat_report.specs.Nearest.{nearest_among}
 use Rattle.wat_report.specs.Meant.{keyword_text}
 use Rattle.wat_report.specs.declared.front.Groups.{Groups}
@@ -89,7 +89,7 @@ hint_line text groups at None = []
 hint_line text groups at (Some OldWord) = new_word_line (new_word (word_at text at))
 hint_line text groups at (Some Unclosed) = unclosed_line groups
 hint_line text groups at (Some Nearest) =
-    nearest_line mnemonic_word (nearest_among mnemonic_word (word_at text at) MNEMONICS)
+    nearest_line op_word (nearest_among op_word (word_at text at) OPS)
 hint_line text groups at (Some NearField) =
     nearest_line keyword_text (nearest_among keyword_text (word_at text at) FIELD_WORDS)
 hint_line text groups at (Some NearType) =

@@ -4,7 +4,7 @@ use Rattle.std.specs.Prelude.{length, slice_index, slice_range, drop, if◌then�
 use Rattle.std.specs.List.{prefix_len}
 use Rattle.std.specs.Str.{chars}
 use Rattle.wat_lexer.specs.Bytes.{between, is_line_end}
-use Rattle.wat_report.specs.declared.place.Place.{Place}
+use Rattle.wat_report.specs.declared.lines.Place.{Place}
 
 -- how many of the numbers up to n pass the test
 unfoldable pub count_up_to : (ℕ → Bool) → ℕ → ℕ

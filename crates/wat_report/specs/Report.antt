@@ -10,7 +10,7 @@ use Rattle.wat_report.specs.Places.{char_start, place_of_char}
 use Rattle.wat_report.specs.Rules.{names_token, rule_text}
 use Rattle.wat_report.specs.Shown.{shown_line}
 use Rattle.wat_report.specs.declared.front.Groups.{Groups}
-use Rattle.wat_report.specs.declared.place.Place.{Place}
+use Rattle.wat_report.specs.declared.lines.Place.{Place}
 
 -- `NAME:LINE:COLUMN: error: `
 abbrev pub heading_text : List ℕ → Place → List ℕ

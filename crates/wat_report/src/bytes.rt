@@ -6,9 +6,9 @@ ghost use Rattle.wat_report.specs.WrongBytes.{ReportsWrongByte, begins_with_utf1
 ghost use Rattle.wat_report.specs.WrongBytes.{hex_text, report_behind, utf16_line};
 ghost use Rattle.wat_report.specs.WrongBytes.{wrong_byte_report, wrong_byte_text};
 
-use crate::place::{line_start, place_of_char};
+use crate::caret::add_open;
+use crate::lines::{line_start, place_of_char};
 use crate::report::add_heading;
-use crate::shown::add_open;
 use crate::write::add;
 use std::alloc::AllocError;
 

@@ -20,8 +20,8 @@ use crate::around::{list_start, opened_word, past_word};
 use crate::escapes::escapes_end;
 use crate::found::{is_word_at, word_at, word_end};
 use crate::front::{Groups, is_before_groups, is_behind_group, is_in_group, is_in_two};
+use crate::lines::line_stop;
 use crate::nearest::LONGEST;
-use crate::place::line_stop;
 use crate::rules::names_token;
 use wat_tokens::Fault;
 

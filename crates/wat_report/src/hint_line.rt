@@ -2,8 +2,8 @@
 
 ghost use Rattle.std.specs.Prelude.{◌≡◌, ◌++◌, ◌≤◌, OnOk, flat_map, length};
 ghost use Rattle.std.specs.Str.{IsCharBoundary};
-ghost use Rattle.wat_mnemonics.specs.Heads.{mnemonic_word};
-ghost use Rattle.wat_mnemonics.specs.declared.table.TheConstants.{MNEMONICS};
+ghost use Rattle.wat_mnemonics.specs.Ops.{op_word};
+ghost use Rattle.wat_mnemonics.specs.declared.table.TheConstants.{OPS};
 ghost use Rattle.wat_report.specs.HintLine.{bare_name_line, hint_line, in_backquotes, nearest_line};
 ghost use Rattle.wat_report.specs.HintLine.{new_word_line, next_quoted, question_line, same_line};
 ghost use Rattle.wat_report.specs.HintLine.{groups_line, unclosed_line, wrong_escape_line};
@@ -18,12 +18,12 @@ use crate::escapes::escapes_end;
 use crate::found::word_at;
 use crate::front::Groups;
 use crate::hint::{Hint, hint_of, new_word};
+use crate::lines::line_column;
 use crate::meant::{FIELD_WORDS, TYPE_WORDS};
 use crate::nearest::{Spelled, nearest_among};
-use crate::place::line_column;
 use crate::write::{add, add_number};
 use std::alloc::AllocError;
-use wat_mnemonics::table::MNEMONICS;
+use wat_mnemonics::table::OPS;
 use wat_tokens::Fault;
 
 /// Adds the word by which a value is spelled, between backquotes.
@@ -82,10 +82,10 @@ fn add_nearest_to<T: Spelled>(out: &mut Vec<u8>, all: &[T], word: &str) -> Resul
 
 /// Adds the mnemonics that are nearest to the word.
 fn add_near_mnemonics(out: &mut Vec<u8>, word: &str) -> Result<(), AllocError>
-    ensures { OnOk result (out.new.items ≡ out.old.items ++ nearest_line mnemonic_word
-        (nearest_among mnemonic_word word.now MNEMONICS)) }
+    ensures { OnOk result (out.new.items ≡ out.old.items ++ nearest_line op_word
+        (nearest_among op_word word.now OPS)) }
 {
-    add_nearest_to(out, &MNEMONICS, word)
+    add_nearest_to(out, &OPS, word)
 }
 
 /// Adds the words of fields that are nearest to the word.

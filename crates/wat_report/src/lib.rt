@@ -9,21 +9,21 @@
 
 mod around;
 pub mod bytes;
+mod caret;
 mod escapes;
 mod found;
 mod front;
 mod hint;
 mod hint_line;
 pub mod laws;
+pub mod lines;
 mod meant;
 pub mod nearest;
-pub mod place;
 pub mod report;
 mod rules;
-mod shown;
 mod write;
 
 pub use bytes::text_or_report;
+pub use lines::{Place, line_at, line_column};
 pub use nearest::nearest_mnemonics;
-pub use place::{Place, line_at, line_column};
 pub use report::add_report;

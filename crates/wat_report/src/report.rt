@@ -6,12 +6,12 @@ ghost use Rattle.wat_tokens.specs.Place.{offset_of};
 ghost use Rattle.wat_report.specs.Report.{heading_text, message_text};
 ghost use Rattle.wat_report.specs.Report.{AddsReport, IsPlacedReport, placed_report};
 
+use crate::caret::add_line;
 use crate::found::{add_found, is_word_at};
 use crate::front::{Groups, groups_of};
 use crate::hint_line::add_hint;
-use crate::place::{Place, char_start, place_of_char};
+use crate::lines::{Place, char_start, place_of_char};
 use crate::rules::{names_token, rule};
-use crate::shown::add_line;
 use crate::write::{add, add_number};
 use std::alloc::AllocError;
 use wat_tokens::{Error, Fault};

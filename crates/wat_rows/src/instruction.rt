@@ -8,7 +8,7 @@ use crate::row::{Row, add, add_refusal};
 use std::alloc::{AllocError, Global};
 use std::fmt;
 use std::mem::forget;
-use wat_core::{Error, Expression, FoldedInstruction, Instruction, Mnemonic, Parse, Parser};
+use wat_core::{Error, Expression, FoldedInstruction, Instruction, Op, Parse, Parser};
 use wat_print::{Layout, Refused, print};
 use wat_print_instr::Code;
 
@@ -19,7 +19,7 @@ struct Whole<'a>(Instruction<'a>);
 impl fmt::Debug for Whole<'_> {
     fn fmt<W: fmt::Write>(&self, f: &mut fmt::Formatter<W>) -> fmt::Result {
         let word = &self.0;
-        let name = self.0.head();
+        let name = self.0.op();
         write!(f, "{word:?} {name:?} ")?;
         add_operand(f, &self.0)
     }
@@ -53,9 +53,9 @@ impl<'a> Copier<Whole<'a>> for OfInstructions {
 }
 
 /// Adds the bytes of an opcode, or a dash where there is none.
-fn add_opcode(out: &mut String, row: &Row<'_>, head: Mnemonic) -> Result<(), AllocError> {
+fn add_opcode(out: &mut String, row: &Row<'_>, op: Op) -> Result<(), AllocError> {
     let mut bytes = Vec::new(row.alloc);
-    match head.opcode().write(&mut bytes) {
+    match op.opcode().write(&mut bytes) {
         Ok(Some(count)) if count == bytes.len() => {}
         Ok(Some(_)) => out.push_str("? miscounted")?,
         Ok(None) => out.push('-')?,
@@ -70,14 +70,14 @@ fn add_opcode(out: &mut String, row: &Row<'_>, head: Mnemonic) -> Result<(), All
 /// Adds the name of an instruction without its operand, its word, and its opcode.
 fn add_mnemonic<'a>(out: &mut String, row: &Row<'a>) -> Result<bool, AllocError> {
     let taken = match row.parser(row.text, false) {
-        Ok(mut parser) => Mnemonic::take(&mut parser),
+        Ok(mut parser) => Op::take(&mut parser),
         Err(error) => Err(error),
     };
     match taken {
-        Ok(head) => {
-            let word = head.mnemonic();
-            write!(out, "= {head:?} {word} ")?;
-            add_opcode(out, row, head)?;
+        Ok(op) => {
+            let word = op.word();
+            write!(out, "= {op:?} {word} ")?;
+            add_opcode(out, row, op)?;
             out.push_str("\n")?;
         }
         Err(error) => add_refusal(out, error)?,

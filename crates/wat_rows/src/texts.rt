@@ -54,8 +54,8 @@ fn add_place(out: &mut String, row: &Row<'_>) -> Result<bool, AllocError> {
 /// Adds the mnemonics that are nearest to a word.
 fn add_nearest(out: &mut String, row: &Row<'_>) -> Result<bool, AllocError> {
     out.push_str("=")?;
-    for mnemonic in &nearest_mnemonics(row.alloc, row.text)? {
-        let word = mnemonic.mnemonic();
+    for op in &nearest_mnemonics(row.alloc, row.text)? {
+        let word = op.word();
         write!(out, " {word}")?;
     }
     out.push_str("\n")?;

@@ -7,8 +7,8 @@ use Rattle.std.proofs.lemmas.List.{get_or-set_other, map_more, length-map, lengt
 use Rattle.wat_expr.specs.Expression.{hint_view, expression_view}
 use Rattle.wat_expr.specs.declared.expression.BranchHint.{BranchHint}
 use Rattle.wat_expr.specs.declared.expression.Expression.{Expression}
-use Rattle.wat_instr.specs.Instruction.{Instr, Instruction, head_in, operand_in, instruction_view}
-use Rattle.wat_mnemonics.specs.Heads.{mnemonic_word}
+use Rattle.wat_instr.specs.Instruction.{Instr, Instruction, op_in, operand_in, instruction_view}
+use Rattle.wat_mnemonics.specs.Ops.{op_word}
 use Rattle.wat_show.specs.Expressions.{hint_at, line, lines, AreMarks, lines_of}
 use Rattle.wat_show.specs.Expressions.{instr_text, shown_operand}
 use Rattle.wat_show.proofs.InstructionText.{instruction_text}
@@ -117,6 +117,6 @@ hints_none n empty [] l b f = refl
 hints_none n empty (x ∷ xs) l b f = absurd (let t : n ≡ 0 = eqb-true n 0 (sym b ∙ f) in omega (arith, l, t))
 
 -- what is added of an instruction
-pub instruction_added : {X E : Type 0} (r : Result X E) (i : Instruction) (old mid new : List ℕ) → mid ≡ old ++ mnemonic_word (head_in i) → OnOk r (new ≡ mid ++ shown_operand (head_in i) (operand_in i)) → OnOk r (new ≡ old ++ instr_text (instruction_view i))
+pub instruction_added : {X E : Type 0} (r : Result X E) (i : Instruction) (old mid new : List ℕ) → mid ≡ old ++ op_word (op_in i) → OnOk r (new ≡ mid ++ shown_operand (op_in i) (operand_in i)) → OnOk r (new ≡ old ++ instr_text (instruction_view i))
 instruction_added r i old mid new was adds =
-    subst (λ (l : List ℕ). OnOk r (new ≡ old ++ l)) (sym (instruction_text i)) (added_both r old mid new (mnemonic_word (head_in i)) (shown_operand (head_in i) (operand_in i)) was adds)
+    subst (λ (l : List ℕ). OnOk r (new ≡ old ++ l)) (sym (instruction_text i)) (added_both r old mid new (op_word (op_in i)) (shown_operand (op_in i) (operand_in i)) was adds)

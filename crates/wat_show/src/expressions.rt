@@ -3,7 +3,7 @@
 ghost use Rattle.std.specs.Prelude.{◌≡◌, ◌++◌, ◌∷◌, [], List, ℕ, None, OnOk, IfOk, length, map};
 ghost use Rattle.std.proofs.Common.{get_or};
 ghost use Rattle.wat_expr.specs.Expression.{hint_view, expression_view};
-ghost use Rattle.wat_instr.specs.Instruction.{head_in, operand_in, instruction_view};
+ghost use Rattle.wat_instr.specs.Instruction.{op_in, operand_in, instruction_view};
 ghost use Rattle.wat_show.specs.Expressions.{shown_operand, instr_text};
 ghost use Rattle.wat_show.specs.Expressions.{AreMarks, line, lines, lines_of, hint_text, hint_at};
 ghost use Rattle.wat_show.specs.Expressions.{expression_text, below};
@@ -17,7 +17,7 @@ use wat_instr::Instruction;
 /// Adds a space and the operand, where that is an index, an i32 or an i64.
 #[inline(always)]
 fn add_operand(out: &mut Vec<u8>, instr: &Instruction) -> Result<(), AllocError>
-    ensures { OnOk result (out.new.items ≡ out.old.items ++ shown_operand (head_in instr.now)
+    ensures { OnOk result (out.new.items ≡ out.old.items ++ shown_operand (op_in instr.now)
         (operand_in instr.now)) }
 {
     match instr {

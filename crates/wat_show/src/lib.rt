@@ -18,7 +18,7 @@ pub mod watched;
 // The run.
 pub mod error;
 pub mod mode;
-pub mod shown;
+pub mod refusal;
 pub mod value;
 
 pub use error::RunError;

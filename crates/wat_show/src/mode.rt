@@ -7,7 +7,7 @@ ghost use Rattle.wat_show.specs.Run.{Runs};
 use crate::error::RunError;
 use crate::input::read_all;
 use crate::output::write_all_of;
-use crate::shown::refused;
+use crate::refusal::refused;
 use crate::value::show_value;
 use crate::watched::Watched;
 use bumpalo::Bump;

@@ -17,14 +17,14 @@ ghost use Rattle.wat_types.specs.Group.{FuncTy};
 
 use crate::expressions::add_expression;
 use crate::modules::add_module;
-use crate::shown::refused;
+use crate::refusal::refused;
 use crate::types::add_function;
 use bumpalo::Bump;
 use std::alloc::{AllocError, Global};
 use wat_core::{Module, read_module};
 use wat_expr::{Expression, FoldedInstruction};
 use wat_tokens::Error;
-use wat_tokens::text::read_text;
+use wat_tokens::whole_text::read_text;
 use wat_types::FunctionType;
 
 /// A type whose values are read from a text and listed.

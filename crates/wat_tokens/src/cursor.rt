@@ -4,7 +4,7 @@ ghost use Rattle.std.specs.Prelude.{◌≡◌, ◌≤◌, length, drop};
 ghost use Rattle.wat_lexer.specs.Sight.{hidden_count, visible_tokens};
 ghost use Rattle.wat_lexer.specs.View.{AreSkips, toks};
 
-use crate::sight::next_visible;
+use crate::next_visible::next_visible;
 use wat_lexer::number::Integer;
 use wat_lexer::token::Token;
 use wat_lexer::tokens::Tokens;

@@ -5,21 +5,21 @@
 //! that can be looked for is [`Peek`]. Offsets are in bytes from the start of the text.
 #![tactic(auto)]
 
+pub mod counter;
 pub mod cursor;
+pub mod enclosed;
 pub mod floats;
 pub mod index;
 pub mod integers;
 pub mod kw;
 pub mod name_annotation;
+mod next_visible;
 pub mod ownership;
 pub mod parser;
 pub mod repeat;
-mod sight;
 pub mod strings;
-pub mod tally;
-pub mod text;
 pub mod traits;
-pub mod whole;
+pub mod whole_text;
 pub mod words;
 pub mod wrapped;
 

@@ -20,9 +20,9 @@ ghost use Rattle.wat_tokens.specs.Tests.{as_string, word_only, annotation_only, 
 ghost use Rattle.wat_tokens.specs.Tests.{begins_group, begins_annotation, none_left, ends, second};
 ghost use Rattle.wat_tokens.specs.Views.{plain};
 
+use crate::counter::Counter;
 use crate::cursor::Cursor;
-use crate::sight::next_visible;
-use crate::tally::Tally;
+use crate::next_visible::next_visible;
 use bumpalo::Bump;
 use std::alloc::Global;
 use std::marker::Model;
@@ -56,9 +56,9 @@ pub struct Parser<'a> {
     end: usize,
     known: bool,
     tracks: bool,
-    taken: Tally,
-    turns: Tally,
-    probes: Tally,
+    taken: Counter,
+    turns: Counter,
+    probes: Counter,
     peak: usize,
     held: usize,
     alloc: Global,
@@ -124,9 +124,9 @@ impl<'a> Parser<'a> {
             end,
             known: false,
             tracks: false,
-            taken: Tally::new(),
-            turns: Tally::new(),
-            probes: Tally::new(),
+            taken: Counter::new(),
+            turns: Counter::new(),
+            probes: Counter::new(),
             peak: 0,
             held: 0,
             alloc,

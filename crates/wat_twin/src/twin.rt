@@ -16,7 +16,7 @@ use bumpalo::Bump;
 use std::alloc::{AllocError, Global};
 use wat_lexer::cut::cut;
 use wat_lexer::fault::Error;
-use wat_lexer::sight::next_visible;
+use wat_lexer::hidden::next_visible;
 use wat_lexer::tokens::Tokens;
 
 /// Part of a text.

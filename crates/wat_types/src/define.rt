@@ -17,8 +17,8 @@ ghost use Rattle.wat_types.specs.Recursion.{types, rec_view, rec};
 use crate::function::FunctionType;
 use crate::groups::{behind, take_label};
 use crate::structure::{ArrayType, StructType};
+use wat_tokens::enclosed::in_parens;
 use wat_tokens::repeat::{Part, parts, while_begun};
-use wat_tokens::whole::in_parens;
 use wat_tokens::{Cursor, Id, Index, NameAnnotation, Parse, Parser, Peek, Result, Span};
 
 /// A continuation type: the function type that it is of, by its index (WebAssembly Core

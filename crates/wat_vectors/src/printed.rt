@@ -4,7 +4,7 @@ use crate::refused::read;
 use bumpalo::Bump;
 use std::alloc::{AllocError, Global};
 use std::test::Fail;
-use wat_core::whole::Grouped;
+use wat_core::enclosed::Grouped;
 use wat_core::{
     BlockOp, BranchHint, Custom, Data, Dylink0, Error, Expression, F32, FoldedInstruction,
     FunctionType, FunctionTypeNoNames, Id, Instruction, LabelOp, MemArgOrdering, MemoryType,

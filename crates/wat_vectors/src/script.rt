@@ -15,9 +15,9 @@ use crate::invoke::Invoke;
 use bumpalo::Bump;
 use std::alloc::Global;
 use std::test::Fail;
+use wat_core::enclosed::in_parens;
 use wat_core::repeat::all_to_end;
-use wat_core::wat_tokens::text::read_text;
-use wat_core::whole::in_parens;
+use wat_core::wat_tokens::whole_text::read_text;
 use wat_core::{Parse, Parser, Result, VisibleModule};
 
 /// A module, or a call. A module is in a box, since it is far larger.

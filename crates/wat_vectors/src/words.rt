@@ -4,7 +4,7 @@
 use std::alloc::AllocError;
 use std::fmt::Debug;
 use std::test::Fail;
-use wat_core::wat_tokens::tally::Tally;
+use wat_core::wat_tokens::counter::Counter;
 use wat_core::{
     AbstractHeapType, Error, ExportKind, F32, F64, Fault, FunctionType, FunctionTypeNoNames,
     HeapType, Id, Index, InlineExport, InlineImport, Instruction, NameAnnotation, Ordering, Peek,
@@ -58,6 +58,6 @@ fn types_have_names(rt: HostRuntime) {
 }
 
 #[test]
-fn a_tally_takes_no_bytes(rt: HostRuntime) {
-    assert_eq!(rt; size_of::<Tally>(), 0);
+fn a_counter_takes_no_bytes(rt: HostRuntime) {
+    assert_eq!(rt; size_of::<Counter>(), 0);
 }

@@ -4,7 +4,7 @@ use Rattle.wat_tokens.specs.Production.{Production}
 use Rattle.wat_links.specs.Custom.{custom}
 use Rattle.wat_links.specs.Raw.{raw_place, raw_data, raw_custom}
 use Rattle.wat_tokens.specs.Parts.{annotation}
-use Rattle.wat_links.specs.Place.{section, before, after, custom_place}
+use Rattle.wat_links.specs.CustomPlace.{section, before, after, custom_place}
 use Rattle.wat_links.specs.Producers.{producer_entries, producers}
 use Rattle.wat_links.specs.ProducerEntry.{field_word, producer_entry}
 use Rattle.wat_links.specs.Flags.{flag_list, symbol_flags}

@@ -3,7 +3,7 @@ use Rattle.std.proofs.Common.{◌≡◌, true, List, [], ◌∷◌, ◌++◌, co
 use Rattle.wat_tokens.specs.Tests.{ends}
 use Rattle.wat_tokens.specs.Spelled.{in_parens}
 use Rattle.wat_tokens.specs.Token.{Tok, LParen, RParen, Keyword}
-use Rattle.wat_mnemonics.specs.declared.mnemonic.Mnemonic.TheVariants as word
+use Rattle.wat_mnemonics.specs.declared.op.Op.TheVariants as word
 use Rattle.wat_mnemonics.specs.declared.scalar.ScalarOp.TheVariants as scalar
 use Rattle.wat_instr.specs.Instruction.{Instr, instruction}
 use Rattle.wat_instr.specs.Laws.First.{instruction_read}

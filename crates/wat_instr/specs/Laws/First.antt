@@ -3,10 +3,10 @@ use Rattle.std.specs.Prelude.{◌≡◌, ℕ, ◌≤◌, List, [], ◌∷◌, �
 use Rattle.std.proofs.Common.{ap, ◌∙◌, arith}
 use Rattle.wat_tokens.specs.Token.{Tok, Keyword}
 use Rattle.wat_tokens.specs.Laws.Production.{bind_some}
-use Rattle.wat_mnemonics.specs.Heads.{mnemonic_word}
+use Rattle.wat_mnemonics.specs.Ops.{op_word}
 use Rattle.wat_mnemonics.specs.Word.{mnemonic_of, mnemonic_reads}
-use Rattle.wat_mnemonics.specs.Laws.Word.{mnemonic_of_word, mnemonic_sound}
-use Rattle.wat_mnemonics.specs.declared.mnemonic.Mnemonic.{Mnemonic}
+use Rattle.wat_mnemonics.specs.Laws.Word.{op_of_word, mnemonic_sound}
+use Rattle.wat_mnemonics.specs.declared.op.Op.{Op}
 use Rattle.wat_instr.specs.Instruction.{Instr, instr_of, behind_word, instruction}
 use Rattle.wat_instr.specs.Operand.{Operand, operand}
 
@@ -27,7 +27,7 @@ unfolding instruction
 instruction_first t x e =
     let p = bind_some (mnemonic_reads t) (λ h u. (behind_word h).reads u) x e in
     let y = mnemonic_sound t p.0 p.1 in
-    (mnemonic_word p.0.0, p.0.1, y.1 ∙ ap (λ (u : List Tok). u ++ p.0.1) y.2)
+    (op_word p.0.0, p.0.1, y.1 ∙ ap (λ (u : List Tok). u ++ p.0.1) y.2)
 
 then_is_none : mnemonic_of (codes "then") ≡ None
 unfolding mnemonic_of
@@ -39,9 +39,9 @@ unfolding instruction
 instruction_not_then t = rw then_is_none refl
 
 -- a row's word in front, and its operand behind it
-pub instruction_read : (h : Mnemonic) (w : List ℕ) → mnemonic_word h ≡ w
+pub instruction_read : (h : Op) (w : List ℕ) → op_word h ≡ w
     → (o : Operand) (t r : List Tok)
     → (operand h).reads t ≡ Some (o, r)
     → instruction.reads (Keyword w ∷ t) ≡ Some (instr_of h o, r)
 unfolding instruction
-instruction_read h w k o t r e = rw (mnemonic_of_word h w k) (rw e refl)
+instruction_read h w k o t r e = rw (op_of_word h w k) (rw e refl)

@@ -16,8 +16,8 @@ use Rattle.wat_operands.specs.Laws.Select.{result_group_consumes}
 use Rattle.wat_mnemonics.specs.Mnemonic.{mnemonic}
 use Rattle.wat_mnemonics.specs.Access.{access_align, atomic_access_align, rmw_access_align}
 use Rattle.wat_mnemonics.specs.Access.{lane_access_align}
-use Rattle.wat_mnemonics.specs.declared.mnemonic.Mnemonic.{Mnemonic}
-use Rattle.wat_mnemonics.specs.declared.mnemonic.Mnemonic.TheVariants as head
+use Rattle.wat_mnemonics.specs.declared.op.Op.{Op}
+use Rattle.wat_mnemonics.specs.declared.op.Op.TheVariants as ops
 use Rattle.wat_instr.specs.Operand.{operand}
 use Rattle.wat_instr.specs.Instruction.{instruction}
 use Rattle.wat_instr.specs.Laws.Rests.{Rests, Stable, Tested, either_steady}
@@ -119,61 +119,61 @@ module _ {R : Rests} (s : Tested R) where
 
   -- ---- every operand
 
-  pub operand_stands : (h : Mnemonic) → Stands R 0 (operand h)
+  pub operand_stands : (h : Op) → Stands R 0 (operand h)
   unfolding operand
-  operand_stands (head.Block op) = made_stands block_stands
-  operand_stands (head.Label op) =
+  operand_stands (ops.Block op) = made_stands block_stands
+  operand_stands (ops.Label op) =
       made_stands (opt_stands s.id (lit≤ tt) (lit≤ tt) (one_stands (refl, refl)))
-  operand_stands (head.Scalar op) = blank_stands
-  operand_stands (head.Indexed op) = made_stands (one_stands (refl, refl))
-  operand_stands (head.CallIndirect op) = made_stands call_stands
-  operand_stands (head.Table op) = made_stands (index_or_0_stands s)
-  operand_stands (head.Access op) = made_stands (mem_arg_stands s (access_align op))
-  operand_stands (head.Memory op) = made_stands (index_or_0_stands s)
-  operand_stands (head.Struct op) = made_stands (index_pair_stands s)
-  operand_stands (head.ArrayInit op) = made_stands (index_pair_stands s)
-  operand_stands (head.AtomicAccess op) =
+  operand_stands (ops.Scalar op) = blank_stands
+  operand_stands (ops.Indexed op) = made_stands (one_stands (refl, refl))
+  operand_stands (ops.CallIndirect op) = made_stands call_stands
+  operand_stands (ops.Table op) = made_stands (index_or_0_stands s)
+  operand_stands (ops.Access op) = made_stands (mem_arg_stands s (access_align op))
+  operand_stands (ops.Memory op) = made_stands (index_or_0_stands s)
+  operand_stands (ops.Struct op) = made_stands (index_pair_stands s)
+  operand_stands (ops.ArrayInit op) = made_stands (index_pair_stands s)
+  operand_stands (ops.AtomicAccess op) =
       made_stands (atomic_mem_arg_stands s (atomic_access_align op) false)
-  operand_stands (head.RmwAccess op) =
+  operand_stands (ops.RmwAccess op) =
       made_stands (atomic_mem_arg_stands s (rmw_access_align op) true)
-  operand_stands (head.OrderedIndex op) = made_stands (ordered_stands s (one_stands (refl, refl)))
-  operand_stands (head.OrderedTable op) = made_stands (ordered_stands s (index_or_0_stands s))
-  operand_stands (head.OrderedStruct op) = made_stands (ordered_stands s (index_pair_stands s))
-  operand_stands (head.LaneAccess op) = made_stands (lane_access_stands s (lane_access_align op))
-  operand_stands (head.Lane op) = made_stands (lane_stands s)
-  operand_stands (head.Vector op) = blank_stands
-  operand_stands head.br_table = made_stands (br_table_stands s)
-  operand_stands head.select = made_stands select_stands
-  operand_stands head.memory_init = made_stands (init_stands s)
-  operand_stands head.memory_copy = made_stands (copy_stands s)
-  operand_stands head.table_init = made_stands (init_stands s)
-  operand_stands head.table_copy = made_stands (copy_stands s)
-  operand_stands head.ref_null = made_stands (heap_stands s)
-  operand_stands head.array_new_fixed = made_stands (array_of_length_stands s)
-  operand_stands head.array_new_data = made_stands (index_pair_stands s)
-  operand_stands head.array_new_elem = made_stands (index_pair_stands s)
-  operand_stands head.array_fill = made_stands (one_stands (refl, refl))
-  operand_stands head.array_copy = made_stands (index_pair_stands s)
-  operand_stands head.ref_test = made_stands (ref_stands s)
-  operand_stands head.ref_cast = made_stands (ref_stands s)
-  operand_stands head.br_on_cast = made_stands cast_stands
-  operand_stands head.br_on_cast_fail = made_stands cast_stands
-  operand_stands head.i32_const = made_stands (one_stands (refl, refl))
-  operand_stands head.i64_const = made_stands (one_stands (refl, refl))
-  operand_stands head.f32_const = made_stands none_stands
-  operand_stands head.f64_const = made_stands none_stands
-  operand_stands head.atomic_fence = made_stands (fence_stands s)
-  operand_stands head.v128_const = made_stands (v128_const_stands s)
-  operand_stands head.i8x16_shuffle = made_stands (shuffle_stands s)
-  operand_stands head.try_table = made_stands try_stands
-  operand_stands head.cont_bind = made_stands (index_pair_stands s)
-  operand_stands head.resume = made_stands resume_stands
-  operand_stands head.resume_throw = made_stands resume_throw_stands
-  operand_stands head.resume_throw_ref = made_stands resume_stands
-  operand_stands head.switch = made_stands (index_pair_stands s)
-  operand_stands head.ref_cast_desc_eq = made_stands (ref_stands s)
-  operand_stands head.br_on_cast_desc_eq = made_stands cast_stands
-  operand_stands head.br_on_cast_desc_eq_fail = made_stands cast_stands
+  operand_stands (ops.OrderedIndex op) = made_stands (ordered_stands s (one_stands (refl, refl)))
+  operand_stands (ops.OrderedTable op) = made_stands (ordered_stands s (index_or_0_stands s))
+  operand_stands (ops.OrderedStruct op) = made_stands (ordered_stands s (index_pair_stands s))
+  operand_stands (ops.LaneAccess op) = made_stands (lane_access_stands s (lane_access_align op))
+  operand_stands (ops.Lane op) = made_stands (lane_stands s)
+  operand_stands (ops.Vector op) = blank_stands
+  operand_stands ops.br_table = made_stands (br_table_stands s)
+  operand_stands ops.select = made_stands select_stands
+  operand_stands ops.memory_init = made_stands (init_stands s)
+  operand_stands ops.memory_copy = made_stands (copy_stands s)
+  operand_stands ops.table_init = made_stands (init_stands s)
+  operand_stands ops.table_copy = made_stands (copy_stands s)
+  operand_stands ops.ref_null = made_stands (heap_stands s)
+  operand_stands ops.array_new_fixed = made_stands (array_of_length_stands s)
+  operand_stands ops.array_new_data = made_stands (index_pair_stands s)
+  operand_stands ops.array_new_elem = made_stands (index_pair_stands s)
+  operand_stands ops.array_fill = made_stands (one_stands (refl, refl))
+  operand_stands ops.array_copy = made_stands (index_pair_stands s)
+  operand_stands ops.ref_test = made_stands (ref_stands s)
+  operand_stands ops.ref_cast = made_stands (ref_stands s)
+  operand_stands ops.br_on_cast = made_stands cast_stands
+  operand_stands ops.br_on_cast_fail = made_stands cast_stands
+  operand_stands ops.i32_const = made_stands (one_stands (refl, refl))
+  operand_stands ops.i64_const = made_stands (one_stands (refl, refl))
+  operand_stands ops.f32_const = made_stands none_stands
+  operand_stands ops.f64_const = made_stands none_stands
+  operand_stands ops.atomic_fence = made_stands (fence_stands s)
+  operand_stands ops.v128_const = made_stands (v128_const_stands s)
+  operand_stands ops.i8x16_shuffle = made_stands (shuffle_stands s)
+  operand_stands ops.try_table = made_stands try_stands
+  operand_stands ops.cont_bind = made_stands (index_pair_stands s)
+  operand_stands ops.resume = made_stands resume_stands
+  operand_stands ops.resume_throw = made_stands resume_throw_stands
+  operand_stands ops.resume_throw_ref = made_stands resume_stands
+  operand_stands ops.switch = made_stands (index_pair_stands s)
+  operand_stands ops.ref_cast_desc_eq = made_stands (ref_stands s)
+  operand_stands ops.br_on_cast_desc_eq = made_stands cast_stands
+  operand_stands ops.br_on_cast_desc_eq_fail = made_stands cast_stands
 
   pub instruction_stands : Stands R 0 instruction
   unfolding instruction

@@ -2,11 +2,11 @@
 use Rattle.std.proofs.Common.{◌≡◌, ℕ, ◌<◌, [], length, get_or, refl, sym, ◌∙◌, ap, arith, IsTrue}
 use Rattle.std.proofs.Common.{lit<}
 use Rattle.std.proofs.lemmas.List.{get_or-map}
-use Rattle.wat_mnemonics.specs.Heads.{mnemonic_word, mnemonic_row}
+use Rattle.wat_mnemonics.specs.Ops.{op_word, op_row}
 use Rattle.wat_mnemonics.specs.Order.{rises, words, first}
-use Rattle.wat_mnemonics.specs.declared.mnemonic.Mnemonic.{Mnemonic}
-use Rattle.wat_mnemonics.specs.declared.mnemonic.Mnemonic.TheVariants as h
-use Rattle.wat_mnemonics.specs.Table.{all_mnemonics}
+use Rattle.wat_mnemonics.specs.declared.op.Op.{Op}
+use Rattle.wat_mnemonics.specs.declared.op.Op.TheVariants as h
+use Rattle.wat_mnemonics.specs.Table.{all_ops}
 use Rattle.wat_mnemonics.specs.declared.indexed.BlockOp.{BlockOp}
 use Rattle.wat_mnemonics.specs.declared.indexed.BlockOp.TheVariants as block
 use Rattle.wat_mnemonics.specs.declared.indexed.LabelOp.{LabelOp}
@@ -53,46 +53,46 @@ words_rise = refl
 pub words_length : length words ≡ 623
 words_length = refl
 
-pub table_length : length all_mnemonics ≡ 623
+pub table_length : length all_ops ≡ 623
 table_length = refl
 
-block_there : (x : BlockOp) → get_or all_mnemonics (place (h.Block x)) first ≡ h.Block x
+block_there : (x : BlockOp) → get_or all_ops (place (h.Block x)) first ≡ h.Block x
 block_there x =
-    elim x as (λ y. get_or all_mnemonics (place (h.Block y)) first ≡ h.Block y)
+    elim x as (λ y. get_or all_ops (place (h.Block y)) first ≡ h.Block y)
     [ block.block ↦ refl | _ ↦ refl ]
 
 block_below : (x : BlockOp) → place (h.Block x) < 623
 block_below x = elim x as (λ y. place (h.Block y) < 623) [ block.block ↦ lit< tt | _ ↦ lit< tt ]
 
-label_there : (x : LabelOp) → get_or all_mnemonics (place (h.Label x)) first ≡ h.Label x
+label_there : (x : LabelOp) → get_or all_ops (place (h.Label x)) first ≡ h.Label x
 label_there x =
-    elim x as (λ y. get_or all_mnemonics (place (h.Label y)) first ≡ h.Label y)
+    elim x as (λ y. get_or all_ops (place (h.Label y)) first ≡ h.Label y)
     [ label.else_ ↦ refl | _ ↦ refl ]
 
 label_below : (x : LabelOp) → place (h.Label x) < 623
 label_below x = elim x as (λ y. place (h.Label y) < 623) [ label.else_ ↦ lit< tt | _ ↦ lit< tt ]
 
-scalar_there : (x : ScalarOp) → get_or all_mnemonics (place (h.Scalar x)) first ≡ h.Scalar x
+scalar_there : (x : ScalarOp) → get_or all_ops (place (h.Scalar x)) first ≡ h.Scalar x
 scalar_there x =
-    elim x as (λ y. get_or all_mnemonics (place (h.Scalar y)) first ≡ h.Scalar y)
+    elim x as (λ y. get_or all_ops (place (h.Scalar y)) first ≡ h.Scalar y)
     [ scalar.unreachable ↦ refl | _ ↦ refl ]
 
 scalar_below : (x : ScalarOp) → place (h.Scalar x) < 623
 scalar_below x =
     elim x as (λ y. place (h.Scalar y) < 623) [ scalar.unreachable ↦ lit< tt | _ ↦ lit< tt ]
 
-indexed_there : (x : IndexedOp) → get_or all_mnemonics (place (h.Indexed x)) first ≡ h.Indexed x
+indexed_there : (x : IndexedOp) → get_or all_ops (place (h.Indexed x)) first ≡ h.Indexed x
 indexed_there x =
-    elim x as (λ y. get_or all_mnemonics (place (h.Indexed y)) first ≡ h.Indexed y)
+    elim x as (λ y. get_or all_ops (place (h.Indexed y)) first ≡ h.Indexed y)
     [ indexed.br ↦ refl | _ ↦ refl ]
 
 indexed_below : (x : IndexedOp) → place (h.Indexed x) < 623
 indexed_below x = elim x as (λ y. place (h.Indexed y) < 623) [ indexed.br ↦ lit< tt | _ ↦ lit< tt ]
 
 call_indirect_there : (x : CallIndirectOp)
-    → get_or all_mnemonics (place (h.CallIndirect x)) first ≡ h.CallIndirect x
+    → get_or all_ops (place (h.CallIndirect x)) first ≡ h.CallIndirect x
 call_indirect_there x =
-    elim x as (λ y. get_or all_mnemonics (place (h.CallIndirect y)) first ≡ h.CallIndirect y)
+    elim x as (λ y. get_or all_ops (place (h.CallIndirect y)) first ≡ h.CallIndirect y)
     [ call_indirect.call_indirect ↦ refl | _ ↦ refl ]
 
 call_indirect_below : (x : CallIndirectOp) → place (h.CallIndirect x) < 623
@@ -100,35 +100,35 @@ call_indirect_below x =
     elim x as (λ y. place (h.CallIndirect y) < 623)
     [ call_indirect.call_indirect ↦ lit< tt | _ ↦ lit< tt ]
 
-table_there : (x : TableOp) → get_or all_mnemonics (place (h.Table x)) first ≡ h.Table x
+table_there : (x : TableOp) → get_or all_ops (place (h.Table x)) first ≡ h.Table x
 table_there x =
-    elim x as (λ y. get_or all_mnemonics (place (h.Table y)) first ≡ h.Table y)
+    elim x as (λ y. get_or all_ops (place (h.Table y)) first ≡ h.Table y)
     [ table.table_get ↦ refl | _ ↦ refl ]
 
 table_below : (x : TableOp) → place (h.Table x) < 623
 table_below x = elim x as (λ y. place (h.Table y) < 623) [ table.table_get ↦ lit< tt | _ ↦ lit< tt ]
 
-access_there : (x : AccessOp) → get_or all_mnemonics (place (h.Access x)) first ≡ h.Access x
+access_there : (x : AccessOp) → get_or all_ops (place (h.Access x)) first ≡ h.Access x
 access_there x =
-    elim x as (λ y. get_or all_mnemonics (place (h.Access y)) first ≡ h.Access y)
+    elim x as (λ y. get_or all_ops (place (h.Access y)) first ≡ h.Access y)
     [ access.i32_load ↦ refl | _ ↦ refl ]
 
 access_below : (x : AccessOp) → place (h.Access x) < 623
 access_below x =
     elim x as (λ y. place (h.Access y) < 623) [ access.i32_load ↦ lit< tt | _ ↦ lit< tt ]
 
-memory_there : (x : MemoryOp) → get_or all_mnemonics (place (h.Memory x)) first ≡ h.Memory x
+memory_there : (x : MemoryOp) → get_or all_ops (place (h.Memory x)) first ≡ h.Memory x
 memory_there x =
-    elim x as (λ y. get_or all_mnemonics (place (h.Memory y)) first ≡ h.Memory y)
+    elim x as (λ y. get_or all_ops (place (h.Memory y)) first ≡ h.Memory y)
     [ memory.memory_size ↦ refl | _ ↦ refl ]
 
 memory_below : (x : MemoryOp) → place (h.Memory x) < 623
 memory_below x =
     elim x as (λ y. place (h.Memory y) < 623) [ memory.memory_size ↦ lit< tt | _ ↦ lit< tt ]
 
-struct_there : (x : StructOp) → get_or all_mnemonics (place (h.Struct x)) first ≡ h.Struct x
+struct_there : (x : StructOp) → get_or all_ops (place (h.Struct x)) first ≡ h.Struct x
 struct_there x =
-    elim x as (λ y. get_or all_mnemonics (place (h.Struct y)) first ≡ h.Struct y)
+    elim x as (λ y. get_or all_ops (place (h.Struct y)) first ≡ h.Struct y)
     [ struct.struct_get ↦ refl | _ ↦ refl ]
 
 struct_below : (x : StructOp) → place (h.Struct x) < 623
@@ -136,9 +136,9 @@ struct_below x =
     elim x as (λ y. place (h.Struct y) < 623) [ struct.struct_get ↦ lit< tt | _ ↦ lit< tt ]
 
 array_init_there : (x : ArrayInitOp)
-    → get_or all_mnemonics (place (h.ArrayInit x)) first ≡ h.ArrayInit x
+    → get_or all_ops (place (h.ArrayInit x)) first ≡ h.ArrayInit x
 array_init_there x =
-    elim x as (λ y. get_or all_mnemonics (place (h.ArrayInit y)) first ≡ h.ArrayInit y)
+    elim x as (λ y. get_or all_ops (place (h.ArrayInit y)) first ≡ h.ArrayInit y)
     [ array_init.array_init_data ↦ refl | _ ↦ refl ]
 
 array_init_below : (x : ArrayInitOp) → place (h.ArrayInit x) < 623
@@ -147,9 +147,9 @@ array_init_below x =
     [ array_init.array_init_data ↦ lit< tt | _ ↦ lit< tt ]
 
 atomic_access_there : (x : AtomicAccessOp)
-    → get_or all_mnemonics (place (h.AtomicAccess x)) first ≡ h.AtomicAccess x
+    → get_or all_ops (place (h.AtomicAccess x)) first ≡ h.AtomicAccess x
 atomic_access_there x =
-    elim x as (λ y. get_or all_mnemonics (place (h.AtomicAccess y)) first ≡ h.AtomicAccess y)
+    elim x as (λ y. get_or all_ops (place (h.AtomicAccess y)) first ≡ h.AtomicAccess y)
     [ atomic_access.i32_atomic_load ↦ refl | _ ↦ refl ]
 
 atomic_access_below : (x : AtomicAccessOp) → place (h.AtomicAccess x) < 623
@@ -158,9 +158,9 @@ atomic_access_below x =
     [ atomic_access.i32_atomic_load ↦ lit< tt | _ ↦ lit< tt ]
 
 rmw_access_there : (x : RmwAccessOp)
-    → get_or all_mnemonics (place (h.RmwAccess x)) first ≡ h.RmwAccess x
+    → get_or all_ops (place (h.RmwAccess x)) first ≡ h.RmwAccess x
 rmw_access_there x =
-    elim x as (λ y. get_or all_mnemonics (place (h.RmwAccess y)) first ≡ h.RmwAccess y)
+    elim x as (λ y. get_or all_ops (place (h.RmwAccess y)) first ≡ h.RmwAccess y)
     [ rmw_access.i32_atomic_rmw_add ↦ refl | _ ↦ refl ]
 
 rmw_access_below : (x : RmwAccessOp) → place (h.RmwAccess x) < 623
@@ -169,9 +169,9 @@ rmw_access_below x =
     [ rmw_access.i32_atomic_rmw_add ↦ lit< tt | _ ↦ lit< tt ]
 
 ordered_index_there : (x : OrderedIndexOp)
-    → get_or all_mnemonics (place (h.OrderedIndex x)) first ≡ h.OrderedIndex x
+    → get_or all_ops (place (h.OrderedIndex x)) first ≡ h.OrderedIndex x
 ordered_index_there x =
-    elim x as (λ y. get_or all_mnemonics (place (h.OrderedIndex y)) first ≡ h.OrderedIndex y)
+    elim x as (λ y. get_or all_ops (place (h.OrderedIndex y)) first ≡ h.OrderedIndex y)
     [ ordered_index.global_atomic_get ↦ refl | _ ↦ refl ]
 
 ordered_index_below : (x : OrderedIndexOp) → place (h.OrderedIndex x) < 623
@@ -180,9 +180,9 @@ ordered_index_below x =
     [ ordered_index.global_atomic_get ↦ lit< tt | _ ↦ lit< tt ]
 
 ordered_table_there : (x : OrderedTableOp)
-    → get_or all_mnemonics (place (h.OrderedTable x)) first ≡ h.OrderedTable x
+    → get_or all_ops (place (h.OrderedTable x)) first ≡ h.OrderedTable x
 ordered_table_there x =
-    elim x as (λ y. get_or all_mnemonics (place (h.OrderedTable y)) first ≡ h.OrderedTable y)
+    elim x as (λ y. get_or all_ops (place (h.OrderedTable y)) first ≡ h.OrderedTable y)
     [ ordered_table.table_atomic_get ↦ refl | _ ↦ refl ]
 
 ordered_table_below : (x : OrderedTableOp) → place (h.OrderedTable x) < 623
@@ -191,9 +191,9 @@ ordered_table_below x =
     [ ordered_table.table_atomic_get ↦ lit< tt | _ ↦ lit< tt ]
 
 ordered_struct_there : (x : OrderedStructOp)
-    → get_or all_mnemonics (place (h.OrderedStruct x)) first ≡ h.OrderedStruct x
+    → get_or all_ops (place (h.OrderedStruct x)) first ≡ h.OrderedStruct x
 ordered_struct_there x =
-    elim x as (λ y. get_or all_mnemonics (place (h.OrderedStruct y)) first ≡ h.OrderedStruct y)
+    elim x as (λ y. get_or all_ops (place (h.OrderedStruct y)) first ≡ h.OrderedStruct y)
     [ ordered_struct.struct_atomic_get ↦ refl | _ ↦ refl ]
 
 ordered_struct_below : (x : OrderedStructOp) → place (h.OrderedStruct x) < 623
@@ -202,9 +202,9 @@ ordered_struct_below x =
     [ ordered_struct.struct_atomic_get ↦ lit< tt | _ ↦ lit< tt ]
 
 lane_access_there : (x : LaneAccessOp)
-    → get_or all_mnemonics (place (h.LaneAccess x)) first ≡ h.LaneAccess x
+    → get_or all_ops (place (h.LaneAccess x)) first ≡ h.LaneAccess x
 lane_access_there x =
-    elim x as (λ y. get_or all_mnemonics (place (h.LaneAccess y)) first ≡ h.LaneAccess y)
+    elim x as (λ y. get_or all_ops (place (h.LaneAccess y)) first ≡ h.LaneAccess y)
     [ lane_access.v128_load8_lane ↦ refl | _ ↦ refl ]
 
 lane_access_below : (x : LaneAccessOp) → place (h.LaneAccess x) < 623
@@ -212,18 +212,18 @@ lane_access_below x =
     elim x as (λ y. place (h.LaneAccess y) < 623)
     [ lane_access.v128_load8_lane ↦ lit< tt | _ ↦ lit< tt ]
 
-lane_there : (x : LaneOp) → get_or all_mnemonics (place (h.Lane x)) first ≡ h.Lane x
+lane_there : (x : LaneOp) → get_or all_ops (place (h.Lane x)) first ≡ h.Lane x
 lane_there x =
-    elim x as (λ y. get_or all_mnemonics (place (h.Lane y)) first ≡ h.Lane y)
+    elim x as (λ y. get_or all_ops (place (h.Lane y)) first ≡ h.Lane y)
     [ lane.i8x16_extract_lane_s ↦ refl | _ ↦ refl ]
 
 lane_below : (x : LaneOp) → place (h.Lane x) < 623
 lane_below x =
     elim x as (λ y. place (h.Lane y) < 623) [ lane.i8x16_extract_lane_s ↦ lit< tt | _ ↦ lit< tt ]
 
-vector_there : (x : VectorOp) → get_or all_mnemonics (place (h.Vector x)) first ≡ h.Vector x
+vector_there : (x : VectorOp) → get_or all_ops (place (h.Vector x)) first ≡ h.Vector x
 vector_there x =
-    elim x as (λ y. get_or all_mnemonics (place (h.Vector y)) first ≡ h.Vector y)
+    elim x as (λ y. get_or all_ops (place (h.Vector y)) first ≡ h.Vector y)
     [ vector.i8x16_swizzle ↦ refl | _ ↦ refl ]
 
 vector_below : (x : VectorOp) → place (h.Vector x) < 623
@@ -231,7 +231,7 @@ vector_below x =
     elim x as (λ y. place (h.Vector y) < 623) [ vector.i8x16_swizzle ↦ lit< tt | _ ↦ lit< tt ]
 
 -- each instruction is at its place
-pub there : (x : Mnemonic) → get_or all_mnemonics (place x) first ≡ x
+pub there : (x : Op) → get_or all_ops (place x) first ≡ x
 there (h.Block x) = block_there x
 there (h.Label x) = label_there x
 there (h.Scalar x) = scalar_there x
@@ -252,7 +252,7 @@ there (h.Lane x) = lane_there x
 there (h.Vector x) = vector_there x
 there _ = refl
 
-pub place_below : (x : Mnemonic) → place x < 623
+pub place_below : (x : Op) → place x < 623
 place_below (h.Block x) = block_below x
 place_below (h.Label x) = label_below x
 place_below (h.Scalar x) = scalar_below x
@@ -274,23 +274,23 @@ place_below (h.Vector x) = vector_below x
 place_below _ = lit< tt
 
 -- the word at a place is that of the instruction there
-pub entry_at : (k : ℕ) → k < 623 → get_or words k [] ≡ mnemonic_word (get_or all_mnemonics k first)
+pub entry_at : (k : ℕ) → k < 623 → get_or words k [] ≡ op_word (get_or all_ops k first)
 entry_at k l =
-    get_or-map mnemonic_word all_mnemonics k first [] (let e = table_length in omega arith)
+    get_or-map op_word all_ops k first [] (let e = table_length in omega arith)
 
 -- two instructions at one place are one
-pub one_place : (x y : Mnemonic) → place x ≡ place y → x ≡ y
-one_place x y e = sym (there x) ∙ ap (λ (k : ℕ). get_or all_mnemonics k first) e ∙ there y
+pub one_place : (x y : Op) → place x ≡ place y → x ≡ y
+one_place x y e = sym (there x) ∙ ap (λ (k : ℕ). get_or all_ops k first) e ∙ there y
 
 -- two instructions of one row are one
-pub one_row : (x y : Mnemonic) → mnemonic_row x ≡ mnemonic_row y → x ≡ y
+pub one_row : (x y : Op) → op_row x ≡ op_row y → x ≡ y
 one_row x y e = one_place x y (ap place_of_row e)
 
 -- two instructions of one word are one
-pub one_word : (x y : Mnemonic) → mnemonic_word x ≡ mnemonic_word y → x ≡ y
+pub one_word : (x y : Op) → op_word x ≡ op_word y → x ≡ y
 one_word x y e =
     one_place x y (same_place words (place x) (place y) words_rise
     (let l = words_length in let b = place_below x in omega arith)
     (let l = words_length in let b = place_below y in omega arith)
-    (entry_at (place x) (place_below x) ∙ ap mnemonic_word (there x) ∙ e
-    ∙ sym (entry_at (place y) (place_below y) ∙ ap mnemonic_word (there y))))
+    (entry_at (place x) (place_below x) ∙ ap op_word (there x) ∙ e
+    ∙ sym (entry_at (place y) (place_below y) ∙ ap op_word (there y))))

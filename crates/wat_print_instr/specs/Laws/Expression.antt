@@ -11,12 +11,12 @@ use Rattle.std.proofs.lemmas.Str.{is_utf8-from_IsUtf8, IsUtf8-from_ascii}
 use Rattle.wat_lexer.specs.Token.{Tok, LParen, RParen, Keyword, String}
 use Rattle.wat_tokens.specs.Tests.{begins_word, ends, second}
 use Rattle.wat_operands.specs.Align.{past_front}
-use Rattle.wat_mnemonics.specs.Heads.{mnemonic_word}
+use Rattle.wat_mnemonics.specs.Ops.{op_word}
 use Rattle.wat_mnemonics.specs.Laws.Places.{there, place_below, table_length}
 use Rattle.wat_mnemonics.specs.Order.{first}
-use Rattle.wat_mnemonics.specs.Places.{mnemonic_of_row, place}
-use Rattle.wat_mnemonics.specs.Table.{all_mnemonics}
-use Rattle.wat_mnemonics.specs.declared.mnemonic.Mnemonic.{Mnemonic}
+use Rattle.wat_mnemonics.specs.Places.{op_of_row, place}
+use Rattle.wat_mnemonics.specs.Table.{all_ops}
+use Rattle.wat_mnemonics.specs.declared.op.Op.{Op}
 use Rattle.wat_instr.specs.Follows.{NoTypeSecond}
 use Rattle.wat_instr.specs.Instruction.{Instr}
 use Rattle.wat_instr.specs.Laws.Sees.{fails_at_end}
@@ -84,34 +84,34 @@ not_sought u e =
       no_align = j.1;
     }
 
-abbrev any_sought : List Mnemonic → Bool
+abbrev any_sought : List Op → Bool
 any_sought [] = false
-any_sought (x ∷ xs) = is_sought (mnemonic_word x) || any_sought xs
+any_sought (x ∷ xs) = is_sought (op_word x) || any_sought xs
 
-none_sought : any_sought all_mnemonics ≡ false
+none_sought : any_sought all_ops ≡ false
 unfolding past_front
 none_sought = refl
 
-sought_at : (xs : List Mnemonic) (k : ℕ) → any_sought xs ≡ false → k < length xs
-    → is_sought (mnemonic_word (get_or xs k first)) ≡ false
+sought_at : (xs : List Op) (k : ℕ) → any_sought xs ≡ false → k < length xs
+    → is_sought (op_word (get_or xs k first)) ≡ false
 sought_at [] k e l = absurd (omega (arith, l))
-sought_at (x ∷ xs) zero e l = (or_parts (is_sought (mnemonic_word x)) (any_sought xs) e).0
+sought_at (x ∷ xs) zero e l = (or_parts (is_sought (op_word x)) (any_sought xs) e).0
 sought_at (x ∷ xs) (suc k) e l =
-    sought_at xs k ((or_parts (is_sought (mnemonic_word x)) (any_sought xs) e).1)
+    sought_at xs k ((or_parts (is_sought (op_word x)) (any_sought xs) e).1)
     (omega (arith, l))
 
-pub word_unsought : (h : Mnemonic) → Unsought (mnemonic_word h)
+pub word_unsought : (h : Op) → Unsought (op_word h)
 word_unsought h =
-    let e = sought_at all_mnemonics (place h) none_sought
+    let e = sought_at all_ops (place h) none_sought
     (let l = table_length in let b = place_below h in omega arith) in
-    not_sought (mnemonic_word h)
-    (subst (λ (x : Mnemonic). is_sought (mnemonic_word x) ≡ false) (there h) e)
+    not_sought (op_word h)
+    (subst (λ (x : Op). is_sought (op_word x) ≡ false) (there h) e)
 
 -- ---- what steps begin with
 
 -- what the test says of each instruction, and of each hint
 abbrev pub OnWords : (List Tok → Bool) → Type 0
-OnWords test = (h : Mnemonic) (y : List Tok) → test (Keyword (mnemonic_word h) ∷ y) ≡ false
+OnWords test = (h : Op) (y : List Tok) → test (Keyword (op_word h) ∷ y) ≡ false
 
 abbrev pub OnHints : (List Tok → Bool) → Type 0
 OnHints test = (y : List Tok) → test (LParen ∷ hint_name ∷ y) ≡ false
@@ -119,7 +119,7 @@ OnHints test = (y : List Tok) → test (LParen ∷ hint_name ∷ y) ≡ false
 step_first : (test : List Tok → Bool) → OnWords test → OnHints test → (h : Option ℕ) (i : Instr)
     (s t : List Tok) → test ((spell_step (step_of h i) ++ s) ++ t) ≡ false
 step_first test f g (Some v) i s t = g _
-step_first test f g None i s t = f (mnemonic_of_row i.row) _
+step_first test f g None i s t = f (op_of_row i.row) _
 
 steps_first : (test : List Tok → Bool) → OnWords test → OnHints test → (xs : List HintedInstr)
     (r : List Tok) → test r ≡ false → test (flat_map spell_step xs ++ r) ≡ false
@@ -129,12 +129,12 @@ steps_first test f g (x ∷ xs) r e =
 
 -- the word is in front of no instruction
 abbrev pub NoMnemonic : List ℕ → Type 0
-NoMnemonic w = (h : Mnemonic) → bytes_eq (mnemonic_word h) w ≡ false
+NoMnemonic w = (h : Op) → bytes_eq (op_word h) w ≡ false
 
 step_word : (w : List ℕ) → NoMnemonic w → (h : Option ℕ) (i : Instr) (s : List Tok)
     → begins_word w (spell_step (step_of h i) ++ s) ≡ false
 step_word w n (Some v) i s = refl
-step_word w n None i s = n (mnemonic_of_row i.row)
+step_word w n None i s = n (op_of_row i.row)
 
 steps_word : (w : List ℕ) → NoMnemonic w → (xs : List HintedInstr)
     → begins_word w (flat_map spell_step xs) ≡ false
@@ -147,7 +147,7 @@ step_second : (w : List ℕ) → NoOperandWord w → (h : Option ℕ) (i : Instr
     → second (begins_word w) ((spell_step (step_of h i) ++ s) ++ t) ≡ false
 step_second w a (Some v) i s t e f = refl
 step_second w a None i s t e f =
-    let m = mnemonic_of_row i.row in
+    let m = op_of_row i.row in
     let c = (operand_form m).spell i.operand in
     clear_both w (c ++ s) t (clear_both w c s (operand_clear w a m i.operand) e) f
 
@@ -208,9 +208,9 @@ expression_no_type e r k = (
 
 -- ---- what may follow an instruction
 
-word_ends : {w : Mnemonic} (h : Mnemonic) (y : List Tok)
-    → NoTypeSecond (Keyword (mnemonic_word h) ∷ y)
-    → EndsOperand w (Keyword (mnemonic_word h) ∷ y)
+word_ends : {w : Op} (h : Op) (y : List Tok)
+    → NoTypeSecond (Keyword (op_word h) ∷ y)
+    → EndsOperand w (Keyword (op_word h) ∷ y)
 word_ends h y n =
     let p = word_unsought h in record {
       no_index = refl;
@@ -223,7 +223,7 @@ word_ends h y n =
       block = ((n.0, refl, rw (n.1, n.2) refl), refl, refl);
     }
 
-pub end_ends : {w : Mnemonic} (r : List Tok) → EndsExpression r → EndsOperand w r
+pub end_ends : {w : Op} (r : List Tok) → EndsExpression r → EndsOperand w r
 end_ends [] e = ends_nothing
 end_ends (RParen ∷ x) e =
     let n = e.1 in record {
@@ -238,13 +238,13 @@ end_ends (RParen ∷ x) e =
     }
 end_ends (_ ∷ x) e = absurd cc
 
-step_ends : {w : Mnemonic} (h : Option ℕ) (i : Instr) (s t : List Tok)
+step_ends : {w : Op} (h : Option ℕ) (i : Instr) (s t : List Tok)
     → NoTypeSecond ((spell_step (step_of h i) ++ s) ++ t)
     → EndsOperand w ((spell_step (step_of h i) ++ s) ++ t)
 step_ends (Some v) i s t n = ends_annotation (codes "metadata.code.branch_hint") _ refl
-step_ends None i s t n = word_ends (mnemonic_of_row i.row) _ n
+step_ends None i s t n = word_ends (op_of_row i.row) _ n
 
-steps_ends : {w : Mnemonic} (xs : List HintedInstr) (r : List Tok) → EndsExpression r
+steps_ends : {w : Op} (xs : List HintedInstr) (r : List Tok) → EndsExpression r
     → EndsOperand w (flat_map spell_step xs ++ r)
 steps_ends [] r e = end_ends r e
 steps_ends (x ∷ xs) r e =
@@ -266,7 +266,7 @@ items_of (x ∷ xs) = item x.hint x.instr (items_of xs)
 
 one_listed : (h : Option ℕ) (i : Instr) (xs : List HintedInstr) (t s : List Tok)
     → if_some (fit_hint i) h && fit_instruction i ≡ true → lists (items_of xs) t s
-    → EndsOperand (mnemonic_of_row i.row) t → lists (items_of (step_of h i ∷ xs)) (spell_step (step_of h i) ++ t) s
+    → EndsOperand (op_of_row i.row) t → lists (items_of (step_of h i ∷ xs)) (spell_step (step_of h i) ++ t) s
 one_listed None i xs t s f l e =
     (t, (spell_instruction i, refl, instruction_here i t f e), l)
 one_listed (Some v) i xs t s f l e =

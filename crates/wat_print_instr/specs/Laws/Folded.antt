@@ -8,12 +8,12 @@ use Rattle.std.proofs.lemmas.Bool.{and_parts, cond_both, not-true}
 use Rattle.wat_lexer.specs.Token.{Tok, LParen, RParen, Keyword}
 use Rattle.wat_tokens.specs.Spelled.{in_parens}
 use Rattle.wat_operands.specs.Catches.{begins_catch}
-use Rattle.wat_mnemonics.specs.Heads.{mnemonic_word}
+use Rattle.wat_mnemonics.specs.Ops.{op_word}
 use Rattle.wat_mnemonics.specs.Laws.Places.{there, place_below, table_length}
 use Rattle.wat_mnemonics.specs.Order.{first}
 use Rattle.wat_mnemonics.specs.Places.{place}
-use Rattle.wat_mnemonics.specs.Table.{all_mnemonics}
-use Rattle.wat_mnemonics.specs.declared.mnemonic.Mnemonic.{Mnemonic}
+use Rattle.wat_mnemonics.specs.Table.{all_ops}
+use Rattle.wat_mnemonics.specs.declared.op.Op.{Op}
 use Rattle.wat_instr.specs.Instruction.{Instr}
 use Rattle.wat_expr.specs.Expression.{Expr}
 use Rattle.wat_expr.specs.Folded.{Groups, NoGroup, Group, groups, unfolded_groups}
@@ -22,7 +22,7 @@ use Rattle.wat_expr.specs.FoldedProduction.{folded_instruction}
 use Rattle.wat_print.specs.Neat.{Neat, nothing}
 use Rattle.wat_print.specs.Parts.{each, spell_option}
 use Rattle.wat_print.specs.Laws.Parts.{neat_both, neat_paren, each_both}
-use Rattle.wat_print_instr.specs.FoldedForm.{takes_catches, is_catch, head_of, keeps_apart}
+use Rattle.wat_print_instr.specs.FoldedForm.{takes_catches, is_catch, op_of, keeps_apart}
 use Rattle.wat_print_instr.specs.FoldedForm.{own_groups, first_apart, catch_first, groups_behind}
 use Rattle.wat_print_instr.specs.FoldedForm.{group_from, spell_groups, spell_folded, no_hints, fit_folded}
 use Rattle.wat_print_instr.specs.InstructionForm.{spell_instruction, fit_instruction}
@@ -42,39 +42,39 @@ same_by false true e = absurd cc
 same_by false false e = refl
 
 -- a group of the word begins a clause of a `try_table` as `is_catch` has it, and no handler
-abbrev group_told : Mnemonic → Bool
+abbrev group_told : Op → Bool
 group_told h =
-    same_test (is_catch h) (begins_catch (LParen ∷ Keyword (mnemonic_word h) ∷ []))
-    && not (bytes_eq (mnemonic_word h) (codes "on"))
+    same_test (is_catch h) (begins_catch (LParen ∷ Keyword (op_word h) ∷ []))
+    && not (bytes_eq (op_word h) (codes "on"))
 
-groups_told : each group_told all_mnemonics ≡ true
+groups_told : each group_told all_ops ≡ true
 groups_told = refl
 
-told_at : (xs : List Mnemonic) (k : ℕ) → each group_told xs ≡ true → k < length xs
+told_at : (xs : List Op) (k : ℕ) → each group_told xs ≡ true → k < length xs
     → group_told (get_or xs k first) ≡ true
 told_at [] k e l = absurd (omega (arith, l))
 told_at (x ∷ xs) zero e l = (and_parts (group_told x) (each group_told xs) e).0
 told_at (x ∷ xs) (suc k) e l =
     told_at xs k (and_parts (group_told x) (each group_told xs) e).1 (omega (arith, l))
 
-told : (h : Mnemonic) → group_told h ≡ true
+told : (h : Op) → group_told h ≡ true
 told h =
-    subst (λ (x : Mnemonic). group_told x ≡ true) (there h)
-    (told_at all_mnemonics (place h) groups_told
+    subst (λ (x : Op). group_told x ≡ true) (there h)
+    (told_at all_ops (place h) groups_told
     (let l = table_length in let b = place_below h in omega arith))
 
-pub catch_told : (h : Mnemonic) (y : List Tok)
-    → begins_catch (LParen ∷ Keyword (mnemonic_word h) ∷ y) ≡ is_catch h
+pub catch_told : (h : Op) (y : List Tok)
+    → begins_catch (LParen ∷ Keyword (op_word h) ∷ y) ≡ is_catch h
 catch_told h y = same_by (is_catch h) _ (and_parts _ _ (told h)).0
 
-no_on : (h : Mnemonic) → bytes_eq (mnemonic_word h) (codes "on") ≡ false
+no_on : (h : Op) → bytes_eq (op_word h) (codes "on") ≡ false
 no_on h = not-true _ (and_parts _ _ (told h)).1
 
 -- a group of an instruction takes part in no operand but that of a `try_table`, and in that only if
 -- it is one of a `catch`
-group_ends : {w : Mnemonic} (h : Mnemonic) (y : List Tok)
+group_ends : {w : Op} (h : Op) (y : List Tok)
     → (takes_catches w ≡ true → is_catch h ≡ false)
-    → EndsOperand w (LParen ∷ Keyword (mnemonic_word h) ∷ y)
+    → EndsOperand w (LParen ∷ Keyword (op_word h) ∷ y)
 group_ends h y k =
     let p = word_unsought h in record {
       no_index = refl;
@@ -94,18 +94,18 @@ group_ends h y k =
 -- ---- groups as they are written are read again
 
 -- no `catch` is in the first group behind a `try_table`
-abbrev FirstFree : Mnemonic → Groups → Type 0
+abbrev FirstFree : Op → Groups → Type 0
 FirstFree w NoGroup = Unit {0}
-FirstFree w (Group i gs hs) = takes_catches w ≡ true → is_catch (head_of i) ≡ false
+FirstFree w (Group i gs hs) = takes_catches w ≡ true → is_catch (op_of i) ≡ false
 
 abbrev Readable : Groups → Type 0
 Readable NoGroup = Unit {0}
-Readable (Group i gs hs) = FirstFree (head_of i) gs × Readable gs × Readable hs
+Readable (Group i gs hs) = FirstFree (op_of i) gs × Readable gs × Readable hs
 
-groups_end : {w : Mnemonic} (gs : Groups) (d : List Tok) → FirstFree w gs
+groups_end : {w : Op} (gs : Groups) (d : List Tok) → FirstFree w gs
     → EndsExpression (RParen ∷ d) → EndsOperand w (spell_groups gs ++ RParen ∷ d)
 groups_end NoGroup d k e = end_ends (RParen ∷ d) e
-groups_end (Group i gs hs) d k e = group_ends (head_of i) _ k
+groups_end (Group i gs hs) d k e = group_ends (op_of i) _ k
 
 group_closed : (hs : Groups) (r : List Tok)
     → EndsExpression (RParen ∷ (spell_groups hs ++ RParen ∷ r))
@@ -167,17 +167,17 @@ own_readable [] = tt
 own_readable (i ∷ is) = (tt, tt, own_readable is)
 
 apart_facts : (i : Instr) → keeps_apart i ≡ true
-    → (takes_catches (head_of i) ≡ false) × (is_catch (head_of i) ≡ false)
+    → (takes_catches (op_of i) ≡ false) × (is_catch (op_of i) ≡ false)
 apart_facts i e =
-    let p = and_parts (not (takes_catches (head_of i))) (not (is_catch (head_of i))) e in
-    (not-true (takes_catches (head_of i)) p.0, not-true (is_catch (head_of i)) p.1)
+    let p = and_parts (not (takes_catches (op_of i))) (not (is_catch (op_of i))) e in
+    (not-true (takes_catches (op_of i)) p.0, not-true (is_catch (op_of i)) p.1)
 
-free_behind : (w : Mnemonic) (gs : Groups) → takes_catches w ≡ false → FirstFree w gs
+free_behind : (w : Op) (gs : Groups) → takes_catches w ≡ false → FirstFree w gs
 free_behind w NoGroup e = tt
 free_behind w (Group i gs hs) e = λ t. absurd cc
 
 -- the groups are read behind the word, and hold the instructions
-abbrev Chosen : Mnemonic → List Instr → Option Groups → Type 0
+abbrev Chosen : Op → List Instr → Option Groups → Type 0
 Chosen w is None = Unit {0}
 Chosen w is (Some gs) = (unfolded_groups gs ≡ is) × FirstFree w gs × Readable gs
 
@@ -186,7 +186,7 @@ apart_unfold : (i : Instr) (before is : List Instr)
 apart_unfold i before is =
     rw (own_unfold before, own_unfold is) (append_assoc before (i ∷ []) is)
 
-apart_chosen : (w : Mnemonic) (before is : List Instr)
+apart_chosen : (w : Op) (before is : List Instr)
     → Chosen w (before ++ is) (first_apart before is)
 apart_chosen w before [] = tt
 apart_chosen w before (i ∷ is) =
@@ -196,7 +196,7 @@ apart_chosen w before (i ∷ is) =
       apart_unfold i before is,
       λ t. p.1,
       (
-        free_behind (head_of i) (own_groups before) p.0,
+        free_behind (op_of i) (own_groups before) p.0,
         own_readable before,
         own_readable is,
       ),
@@ -209,24 +209,24 @@ not_both true b e t = e
 not_both false b e t = absurd cc
 
 own_free : (h : Instr) (is : List Instr) → catch_first h is ≡ false
-    → FirstFree (head_of h) (own_groups is)
+    → FirstFree (op_of h) (own_groups is)
 own_free h [] e = tt
-own_free h (i ∷ is) e = not_both (takes_catches (head_of h)) (is_catch (head_of i)) e
+own_free h (i ∷ is) e = not_both (takes_catches (op_of h)) (is_catch (op_of i)) e
 
-behind_chosen : (h : Instr) (is : List Instr) → Chosen (head_of h) is (groups_behind h is)
+behind_chosen : (h : Instr) (is : List Instr) → Chosen (op_of h) is (groups_behind h is)
 behind_chosen h is =
     cond_both (catch_first h is) (first_apart [] is) (Some (own_groups is))
-    (Chosen (head_of h) is) (λ e. (apart_chosen (head_of h) [] is))
+    (Chosen (op_of h) is) (λ e. (apart_chosen (op_of h) [] is))
     (λ e. (own_unfold is, own_free h is e, own_readable is))
 
 -- one group, which is read and holds the instructions
 abbrev Whole : List Instr → Option Groups → Type 0
 Whole is None = Unit {0}
 Whole is (Some (Group i gs NoGroup)) =
-    (unfolded_groups gs ++ i ∷ [] ≡ is) × FirstFree (head_of i) gs × Readable gs
+    (unfolded_groups gs ++ i ∷ [] ≡ is) × FirstFree (op_of i) gs × Readable gs
 Whole is _ = ⊥
 
-whole_of : (i : Instr) (is : List Instr) (o : Option Groups) → Chosen (head_of i) is o
+whole_of : (i : Instr) (is : List Instr) (o : Option Groups) → Chosen (op_of i) is o
     → Whole (is ++ i ∷ []) (option_map (λ gs. Group i gs NoGroup) o)
 whole_of i is None c = tt
 whole_of i is (Some gs) c = (ap (λ (l : List Instr). l ++ i ∷ []) c.0, c.1, c.2)

@@ -10,10 +10,10 @@ use Rattle.wat_tokens.specs.Production.{Production}
 use Rattle.wat_tokens.specs.Laws.Production.{by_test}
 use Rattle.wat_operands.specs.Catches.{begins_catch, try_table}
 use Rattle.wat_operands.specs.CatchClause.{catch_clause}
-use Rattle.wat_mnemonics.specs.Heads.{mnemonic_word}
+use Rattle.wat_mnemonics.specs.Ops.{op_word}
 use Rattle.wat_mnemonics.specs.Laws.Places.{there}
-use Rattle.wat_mnemonics.specs.declared.mnemonic.Mnemonic.{Mnemonic}
-use Rattle.wat_mnemonics.specs.declared.mnemonic.Mnemonic.TheVariants as head
+use Rattle.wat_mnemonics.specs.declared.op.Op.{Op}
+use Rattle.wat_mnemonics.specs.declared.op.Op.TheVariants as ops
 use Rattle.wat_instr.specs.Instruction.{Instr, instruction}
 use Rattle.wat_instr.specs.Operand.{Operand, operand}
 use Rattle.wat_expr.specs.Expression.{Expr}
@@ -27,7 +27,7 @@ use Rattle.wat_print.specs.Neat.{is_given}
 use Rattle.wat_print.specs.Parts.{each}
 use Rattle.wat_print.specs.Laws.Only.{OnlyFit}
 use Rattle.wat_print.specs.Laws.Parts.{each_both}
-use Rattle.wat_print_instr.specs.FoldedForm.{takes_catches, is_catch, head_of, keeps_apart}
+use Rattle.wat_print_instr.specs.FoldedForm.{takes_catches, is_catch, op_of, keeps_apart}
 use Rattle.wat_print_instr.specs.FoldedForm.{first_apart, catch_first, groups_behind, group_from}
 use Rattle.wat_print_instr.specs.FoldedForm.{own_groups, fit_folded}
 use Rattle.wat_print_instr.specs.InstructionForm.{fit_instruction}
@@ -70,32 +70,32 @@ many_stops : {A : Type 0} (begins : List Tok → Bool) (g : Production A) (vs : 
 many_stops begins g [] c r s = s.1
 many_stops begins g (v ∷ vs) c r s = many_stops begins g vs s.1 r s.5
 
-try_stops : (h : Mnemonic) (o : Operand) (c r : List Tok) → (operand h).spells o c r
+try_stops : (h : Op) (o : Operand) (c r : List Tok) → (operand h).spells o c r
     → takes_catches h ≡ true → begins_catch r ≡ false
 unfolding operand try_table
-try_stops head.try_table o c r s t =
+try_stops ops.try_table o c r s t =
     let p = s.1 in
     many_stops begins_catch catch_clause p.0.1 p.1.1 r p.1.4
 try_stops _ o c r s t = absurd cc
 
 -- no clause is behind it
-behind_try : (i : Instr) (a b : List Tok) → reads i a b → takes_catches (head_of i) ≡ true
+behind_try : (i : Instr) (a b : List Tok) → reads i a b → takes_catches (op_of i) ≡ true
     → begins_catch b ≡ false
 unfolding instruction
 behind_try i a b (c, e, s) t =
     let h = s.0 in
-    let same : head_of i ≡ h = ap (λ (x : Instr). head_of x) (sym s.5.3) ∙ there h in
+    let same : op_of i ≡ h = ap (λ (x : Instr). op_of x) (sym s.5.3) ∙ there h in
     try_stops h s.5.0 s.2 b s.5.1
-    (subst (λ (x : Mnemonic). takes_catches x ≡ true) same t)
+    (subst (λ (x : Op). takes_catches x ≡ true) same t)
 
 -- what an instruction's group is taken for behind a `try_table`
 group_told_of : (i : Instr) (a b : List Tok) → reads i a b
-    → begins_catch (LParen ∷ a) ≡ is_catch (head_of i)
+    → begins_catch (LParen ∷ a) ≡ is_catch (op_of i)
 unfolding instruction
 group_told_of i a b (c, e, s) =
     let h = s.0 in
-    let same : head_of i ≡ h = ap (λ (x : Instr). head_of x) (sym s.5.3) ∙ there h in
-    let front : a ≡ Keyword (mnemonic_word h) ∷ (s.2 ++ b) =
+    let same : op_of i ≡ h = ap (λ (x : Instr). op_of x) (sym s.5.3) ∙ there h in
+    let front : a ≡ Keyword (op_word h) ∷ (s.2 ++ b) =
     e ∙ ap (λ (l : List Tok). l ++ b) (s.3 ∙ ap (λ (l : List Tok). l ++ s.2) s.4) in
     ap (λ (l : List Tok). begins_catch (LParen ∷ l)) front ∙ catch_told h (s.2 ++ b)
     ∙ sym (ap is_catch same)
@@ -104,7 +104,7 @@ group_told_of i a b (c, e, s) =
 
 abbrev first_is_catch : List Instr → Bool
 first_is_catch [] = false
-first_is_catch (i ∷ is) = is_catch (head_of i)
+first_is_catch (i ∷ is) = is_catch (op_of i)
 
 abbrev any_apart : List Instr → Bool
 any_apart [] = false
@@ -123,12 +123,12 @@ any_last [] i e = or_left (keeps_apart i) false e
 any_last (x ∷ xs) i e = or_right (keeps_apart x) (any_apart (xs ++ i ∷ [])) (any_last xs i e)
 
 -- the first is one of those in the group
-first_in : (xs : List Instr) (i : Instr) (ys : List Instr) → is_catch (head_of i) ≡ false
+first_in : (xs : List Instr) (i : Instr) (ys : List Instr) → is_catch (op_of i) ≡ false
     → first_is_catch ((xs ++ i ∷ []) ++ ys) ≡ true → first_is_catch xs ≡ true
 first_in [] i ys n e = absurd cc
 first_in (x ∷ xs) i ys n e = e
 
-keeps_by : (i : Instr) → takes_catches (head_of i) ≡ false → is_catch (head_of i) ≡ false
+keeps_by : (i : Instr) → takes_catches (op_of i) ≡ false → is_catch (op_of i) ≡ false
     → keeps_apart i ≡ true
 keeps_by i e f = rw (e, f) refl
 
@@ -136,10 +136,10 @@ apart_in : (gs : Groups) (ts r : List Tok) → groups gs ts r → begins_catch t
     → first_is_catch (unfolded_groups gs) ≡ true → any_apart (unfolded_groups gs) ≡ true
 apart_in NoGroup ts r l n e = absurd cc
 apart_in (Group i gs hs) ts r (a, b, d, q, h, ly, lx) n e =
-    let own : is_catch (head_of i) ≡ false =
+    let own : is_catch (op_of i) ≡ false =
     sym (group_told_of i a b h) ∙ sym (ap begins_catch q) ∙ n in
     any_left (unfolded_groups gs ++ i ∷ []) (unfolded_groups hs)
-    (by_test (takes_catches (head_of i))
+    (by_test (takes_catches (op_of i))
     (λ t. any_left (unfolded_groups gs) (i ∷ [])
     (apart_in gs b (RParen ∷ d) ly (behind_try i a b h t)
     (first_in (unfolded_groups gs) i (unfolded_groups hs) own e)))
@@ -155,12 +155,12 @@ some_apart before (i ∷ is) e =
     (subst (λ (b : Bool). b || any_apart is ≡ true) t e)))
 
 catch_parts : (i : Instr) (is : List Instr) → catch_first i is ≡ true
-    → (takes_catches (head_of i) ≡ true) × (first_is_catch is ≡ true)
+    → (takes_catches (op_of i) ≡ true) × (first_is_catch is ≡ true)
 catch_parts i [] t = absurd cc
-catch_parts i (j ∷ is) t = and_parts (takes_catches (head_of i)) (is_catch (head_of j)) t
+catch_parts i (j ∷ is) t = and_parts (takes_catches (op_of i)) (is_catch (op_of j)) t
 
 behind_some : (i : Instr) (is : List Instr)
-    → (takes_catches (head_of i) ≡ true → first_is_catch is ≡ true → any_apart is ≡ true)
+    → (takes_catches (op_of i) ≡ true → first_is_catch is ≡ true → any_apart is ≡ true)
     → is_some (groups_behind i is) ≡ true
 behind_some i is k =
     cond_both (catch_first i is) (first_apart [] is) (Some (own_groups is))

@@ -25,13 +25,13 @@ use Rattle.wat_tokens.specs.Parts.{made}
 use Rattle.wat_tokens.specs.Production.{Production}
 use Rattle.wat_mnemonics.specs.Access.{access_align, atomic_access_align, rmw_access_align}
 use Rattle.wat_mnemonics.specs.Access.{lane_access_align}
-use Rattle.wat_mnemonics.specs.Heads.{mnemonic_word, mnemonic_row}
+use Rattle.wat_mnemonics.specs.Ops.{op_word, op_row}
 use Rattle.wat_mnemonics.specs.Laws.Places.{there, place_below, table_length}
 use Rattle.wat_mnemonics.specs.Order.{first}
-use Rattle.wat_mnemonics.specs.Places.{mnemonic_of_row, place}
-use Rattle.wat_mnemonics.specs.Table.{all_mnemonics}
-use Rattle.wat_mnemonics.specs.declared.mnemonic.Mnemonic.{Mnemonic}
-use Rattle.wat_mnemonics.specs.declared.mnemonic.Mnemonic.TheVariants as head
+use Rattle.wat_mnemonics.specs.Places.{op_of_row, place}
+use Rattle.wat_mnemonics.specs.Table.{all_ops}
+use Rattle.wat_mnemonics.specs.declared.op.Op.{Op}
+use Rattle.wat_mnemonics.specs.declared.op.Op.TheVariants as ops
 use Rattle.wat_instr.specs.Instruction.{Instr, instr_of, instruction}
 use Rattle.wat_instr.specs.Operand.{Operand, operand, nothing, block, label, one_index, two_indices}
 use Rattle.wat_instr.specs.Operand.{branches, call, chosen, access, ordered_index, ordered_indices}
@@ -200,7 +200,7 @@ thrown_from _ v e = absurd cc
 -- ---- operands
 
 -- what may follow the operand of the word without taking part in it
-pub record EndsOperand (h : Mnemonic) (r : List Tok) : Type 0 where
+pub record EndsOperand (h : Op) (r : List Tok) : Type 0 where
   pub no_index : begins_index r ≡ false
   pub no_lane : goes_on r ≡ false
   pub no_ordering : begins_ordering r ≡ false
@@ -210,7 +210,7 @@ pub record EndsOperand (h : Mnemonic) (r : List Tok) : Type 0 where
   pub access : EndsAccess r
   pub block : EndsBlock r
 
-pub ends_nothing : {h : Mnemonic} → EndsOperand h []
+pub ends_nothing : {h : Op} → EndsOperand h []
 ends_nothing = record {
   no_index = refl;
   no_lane = refl;
@@ -223,7 +223,7 @@ ends_nothing = record {
 }
 
 -- a group that begins with another annotation than `@name`
-pub ends_annotation : {h : Mnemonic} (n : List ℕ) (x : List Tok)
+pub ends_annotation : {h : Op} (n : List ℕ) (x : List Tok)
     → bytes_eq n (codes "name") ≡ false → EndsOperand h (LParen ∷ Annotation n ∷ x)
 ends_annotation n x e = record {
   no_index = refl;
@@ -237,7 +237,7 @@ ends_annotation n x e = record {
 }
 
 -- an operand of the word is printed so
-pub record Forms (h : Mnemonic) (g : Production Operand) (f : OperandForm) : Type 0 where
+pub record Forms (h : Op) (g : Production Operand) (f : OperandForm) : Type 0 where
   pub neat : (o : Operand) → f.fit o ≡ true → Neat (f.spell o)
   pub spells : (o : Operand) (r : List Tok) → f.fit o ≡ true → EndsOperand h r
       → g.spells o (f.spell o) r
@@ -245,7 +245,7 @@ pub record Forms (h : Mnemonic) (g : Production Operand) (f : OperandForm) : Typ
       → f.fit o ≡ true
 
 -- what is made of a value that is printed
-module _ {w : Mnemonic} {A : Type 0} {g : Production A} (make : A → Operand)
+module _ {w : Op} {A : Type 0} {g : Production A} (make : A → Operand)
     (from : Operand → Option A) (back : (v : A) → from (make v) ≡ Some v)
     (made_of : (o : Operand) (v : A) → from o ≡ Some v → make v ≡ o) (p : Printing g)
     (here : (v : A) (r : List Tok) → p.fit v ≡ true → EndsOperand w r → g.spells v (p.spell v) r)
@@ -277,7 +277,7 @@ nothing_neat : (o : Operand) → passes nothing_printing.fit (found_nothing o) �
 nothing_neat nothing h = neat.nothing
 nothing_neat _ h = absurd cc
 
-nothing_spells : {h : Mnemonic} (o : Operand) (r : List Tok)
+nothing_spells : {h : Op} (o : Operand) (r : List Tok)
     → passes nothing_printing.fit (found_nothing o) ≡ true → EndsOperand h r
     → (blank nothing).spells o (spell_option nothing_printing.spell (found_nothing o)) r
 nothing_spells nothing r h k = (refl, refl)
@@ -289,209 +289,209 @@ nothing_only o c r a s =
     subst (λ (u : Operand). passes nothing_printing.fit (found_nothing u) ≡ true) (sym s.1) refl
 
 -- an instruction without an operand
-forms_nothing : {h : Mnemonic} → Forms h (blank nothing) (form found_nothing nothing_printing)
+forms_nothing : {h : Op} → Forms h (blank nothing) (form found_nothing nothing_printing)
 forms_nothing = record { neat = nothing_neat; spells = nothing_spells; only = nothing_only }
 
-operand_forms : (h : Mnemonic) → Forms h (operand h) (operand_form h)
+operand_forms : (h : Op) → Forms h (operand h) (operand_form h)
 unfolding operand
-operand_forms (head.Block op) =
+operand_forms (ops.Block op) =
     forms_made block found_block (λ v. refl) block_from block_printing
     (λ v r f e. (block_here v r f e.block))
-operand_forms (head.Label op) =
+operand_forms (ops.Label op) =
     forms_made label found_label (λ v. refl) label_from end_label_printing
     (λ v r f e. (end_label_here v r f e.block.1))
-operand_forms (head.Scalar op) = forms_nothing
-operand_forms (head.Indexed op) =
+operand_forms (ops.Scalar op) = forms_nothing
+operand_forms (ops.Indexed op) =
     forms_made one_index found_one_index (λ v. refl) one_index_from index_printing
     (λ v r f e. (index_here v f r))
-operand_forms (head.CallIndirect op) =
+operand_forms (ops.CallIndirect op) =
     forms_made call found_call (λ v. refl) call_from call_printing
     (λ v r f e. (call_here v r f (e.block.0, e.no_index)))
-operand_forms (head.Table op) =
+operand_forms (ops.Table op) =
     forms_made one_index found_one_index (λ v. refl) one_index_from index_or_0_printing
     (λ v r f e. (index_or_0_here v r f (λ k. e.no_index)))
-operand_forms (head.Access op) =
+operand_forms (ops.Access op) =
     forms_made access found_access (λ v. refl) access_from (access_printing (access_align op))
     (λ v r f e. (access_here (access_align op) v r f e.access e.no_index))
-operand_forms (head.Memory op) =
+operand_forms (ops.Memory op) =
     forms_made one_index found_one_index (λ v. refl) one_index_from index_or_0_printing
     (λ v r f e. (index_or_0_here v r f (λ k. e.no_index)))
-operand_forms (head.Struct op) =
+operand_forms (ops.Struct op) =
     forms_made two_indices found_two_indices (λ v. refl) two_indices_from pair_printing
     (λ v r f e. (pair_here v f r))
-operand_forms (head.ArrayInit op) =
+operand_forms (ops.ArrayInit op) =
     forms_made two_indices found_two_indices (λ v. refl) two_indices_from pair_printing
     (λ v r f e. (pair_here v f r))
-operand_forms (head.AtomicAccess op) =
+operand_forms (ops.AtomicAccess op) =
     forms_made access found_access (λ v. refl) access_from
     (atomic_printing (atomic_access_align op) false)
     (λ v r f e.
     (atomic_here (atomic_access_align op) false v r f e.access e.no_index e.no_ordering))
-operand_forms (head.RmwAccess op) =
+operand_forms (ops.RmwAccess op) =
     forms_made access found_access (λ v. refl) access_from
     (atomic_printing (rmw_access_align op) true)
     (λ v r f e. (atomic_here (rmw_access_align op) true v r f e.access e.no_index e.no_ordering))
-operand_forms (head.OrderedIndex op) =
+operand_forms (ops.OrderedIndex op) =
     forms_made ordered_index found_ordered_index (λ v. refl) ordered_index_from
     (ordered_printing index index_printing)
     (λ v r f e. (ordered_here index spell_index fit_index v r (index_here v.1 f r)))
-operand_forms (head.OrderedTable op) =
+operand_forms (ops.OrderedTable op) =
     forms_made ordered_index found_ordered_index (λ v. refl) ordered_index_from
     (ordered_printing index_or_0 index_or_0_printing)
     (λ v r f e.
     (ordered_here index_or_0 spell_index_or_0 fit_index v r
     (index_or_0_here v.1 r f (λ k. e.no_index))))
-operand_forms (head.OrderedStruct op) =
+operand_forms (ops.OrderedStruct op) =
     forms_made ordered_indices found_ordered_indices (λ v. refl) ordered_indices_from
     (ordered_printing index_pair pair_printing)
     (λ v r f e. (ordered_here index_pair spell_pair fit_pair v r (pair_here v.1 f r)))
-operand_forms (head.LaneAccess op) =
+operand_forms (ops.LaneAccess op) =
     forms_made lane_access found_lane_access (λ v. refl) lane_access_from
     (lane_access_printing (lane_access_align op))
     (λ v r f e. (lane_access_here (lane_access_align op) v r f e.access e.no_lane))
-operand_forms (head.Lane op) =
+operand_forms (ops.Lane op) =
     forms_made lane found_lane (λ v. refl) lane_from lane_printing
     (λ v r f e. (lane_here v f r))
-operand_forms (head.Vector op) = forms_nothing
-operand_forms head.br_table =
+operand_forms (ops.Vector op) = forms_nothing
+operand_forms ops.br_table =
     forms_made branches found_branches (λ v. refl) branches_from br_table_printing
     (λ v r f e. (br_table_here v r f e.no_index))
-operand_forms head.select =
+operand_forms ops.select =
     forms_made chosen found_chosen (λ v. refl) chosen_from select_printing
     (λ v r f e. (select_here v r f e.no_result))
-operand_forms head.memory_init =
+operand_forms ops.memory_init =
     forms_made two_indices found_two_indices (λ v. refl) two_indices_from init_printing
     (λ v r f e. (init_here v r f e.no_index))
-operand_forms head.memory_copy =
+operand_forms ops.memory_copy =
     forms_made two_indices found_two_indices (λ v. refl) two_indices_from copy_printing
     (λ v r f e. (copy_here v r f e.no_index))
-operand_forms head.table_init =
+operand_forms ops.table_init =
     forms_made two_indices found_two_indices (λ v. refl) two_indices_from init_printing
     (λ v r f e. (init_here v r f e.no_index))
-operand_forms head.table_copy =
+operand_forms ops.table_copy =
     forms_made two_indices found_two_indices (λ v. refl) two_indices_from copy_printing
     (λ v r f e. (copy_here v r f e.no_index))
-operand_forms head.ref_null =
+operand_forms ops.ref_null =
     forms_made heap found_heap (λ v. refl) heap_from heap_printing
     (λ v r f e. (heap_here v f r))
-operand_forms head.array_new_fixed =
+operand_forms ops.array_new_fixed =
     forms_made sized found_sized (λ v. refl) sized_from sized_printing
     (λ v r f e. (sized_here v f r))
-operand_forms head.array_new_data =
+operand_forms ops.array_new_data =
     forms_made two_indices found_two_indices (λ v. refl) two_indices_from pair_printing
     (λ v r f e. (pair_here v f r))
-operand_forms head.array_new_elem =
+operand_forms ops.array_new_elem =
     forms_made two_indices found_two_indices (λ v. refl) two_indices_from pair_printing
     (λ v r f e. (pair_here v f r))
-operand_forms head.array_fill =
+operand_forms ops.array_fill =
     forms_made one_index found_one_index (λ v. refl) one_index_from index_printing
     (λ v r f e. (index_here v f r))
-operand_forms head.array_copy =
+operand_forms ops.array_copy =
     forms_made two_indices found_two_indices (λ v. refl) two_indices_from pair_printing
     (λ v r f e. (pair_here v f r))
-operand_forms head.ref_test =
+operand_forms ops.ref_test =
     forms_made reference found_reference (λ v. refl) reference_from ref_printing
     (λ v r f e. (ref_here v f r))
-operand_forms head.ref_cast =
+operand_forms ops.ref_cast =
     forms_made reference found_reference (λ v. refl) reference_from ref_printing
     (λ v r f e. (ref_here v f r))
-operand_forms head.br_on_cast =
+operand_forms ops.br_on_cast =
     forms_made cast found_cast (λ v. refl) cast_from branch_printing
     (λ v r f e. (branch_here v f r))
-operand_forms head.br_on_cast_fail =
+operand_forms ops.br_on_cast_fail =
     forms_made cast found_cast (λ v. refl) cast_from branch_printing
     (λ v r f e. (branch_here v f r))
-operand_forms head.i32_const =
+operand_forms ops.i32_const =
     forms_made integer found_integer (λ v. refl) integer_from i32_printing
     (λ v r f e. (signed_here 32 v halves_32 f r))
-operand_forms head.i64_const =
+operand_forms ops.i64_const =
     forms_made integer found_integer (λ v. refl) integer_from i64_printing
     (λ v r f e. (signed_here 64 v halves_64 f r))
-operand_forms head.f32_const =
+operand_forms ops.f32_const =
     forms_made float found_float (λ v. refl) float_from number_printing
     (λ v r f e. (unfit f))
-operand_forms head.f64_const =
+operand_forms ops.f64_const =
     forms_made float found_float (λ v. refl) float_from number_printing
     (λ v r f e. (unfit f))
-operand_forms head.atomic_fence =
+operand_forms ops.atomic_fence =
     forms_made fence found_fence (λ v. refl) fence_from fence_printing
     (λ v r f e. (fence_here v r e.no_ordering))
-operand_forms head.v128_const =
+operand_forms ops.v128_const =
     forms_made vector found_vector (λ v. refl) vector_from vector_printing
     (λ v r f e. (vector_here v f r))
-operand_forms head.i8x16_shuffle =
+operand_forms ops.i8x16_shuffle =
     forms_made shuffled found_shuffled (λ v. refl) shuffled_from shuffle_printing
     (λ v r f e. (shuffle_here v f r))
-operand_forms head.try_table =
+operand_forms ops.try_table =
     forms_made caught found_caught (λ v. refl) caught_from try_printing
     (λ v r f e. (try_here v r f e.block (e.no_catch refl)))
-operand_forms head.cont_bind =
+operand_forms ops.cont_bind =
     forms_made two_indices found_two_indices (λ v. refl) two_indices_from pair_printing
     (λ v r f e. (pair_here v f r))
-operand_forms head.resume =
+operand_forms ops.resume =
     forms_made resumed found_resumed (λ v. refl) resumed_from resume_printing
     (λ v r f e. (resume_here v r f e.no_handler))
-operand_forms head.resume_throw =
+operand_forms ops.resume_throw =
     forms_made thrown found_thrown (λ v. refl) thrown_from throw_printing
     (λ v r f e. (throw_here v r f e.no_handler))
-operand_forms head.resume_throw_ref =
+operand_forms ops.resume_throw_ref =
     forms_made resumed found_resumed (λ v. refl) resumed_from resume_printing
     (λ v r f e. (resume_here v r f e.no_handler))
-operand_forms head.switch =
+operand_forms ops.switch =
     forms_made two_indices found_two_indices (λ v. refl) two_indices_from pair_printing
     (λ v r f e. (pair_here v f r))
-operand_forms head.ref_cast_desc_eq =
+operand_forms ops.ref_cast_desc_eq =
     forms_made reference found_reference (λ v. refl) reference_from ref_printing
     (λ v r f e. (ref_here v f r))
-operand_forms head.br_on_cast_desc_eq =
+operand_forms ops.br_on_cast_desc_eq =
     forms_made cast found_cast (λ v. refl) cast_from branch_printing
     (λ v r f e. (branch_here v f r))
-operand_forms head.br_on_cast_desc_eq_fail =
+operand_forms ops.br_on_cast_desc_eq_fail =
     forms_made cast found_cast (λ v. refl) cast_from branch_printing
     (λ v r f e. (branch_here v f r))
 
 -- ---- words
 
-words_fit : each (λ h. is_keyword (mnemonic_word h)) all_mnemonics ≡ true
+words_fit : each (λ h. is_keyword (op_word h)) all_ops ≡ true
 words_fit = refl
 
-fit_at : (xs : List Mnemonic) (k : ℕ) → each (λ h. is_keyword (mnemonic_word h)) xs ≡ true
-    → k < length xs → is_keyword (mnemonic_word (get_or xs k first)) ≡ true
+fit_at : (xs : List Op) (k : ℕ) → each (λ h. is_keyword (op_word h)) xs ≡ true
+    → k < length xs → is_keyword (op_word (get_or xs k first)) ≡ true
 fit_at [] k e l = absurd (omega (arith, l))
 fit_at (x ∷ xs) zero e l =
-    (and_parts (is_keyword (mnemonic_word x)) (each (λ h. is_keyword (mnemonic_word h)) xs) e).0
+    (and_parts (is_keyword (op_word x)) (each (λ h. is_keyword (op_word h)) xs) e).0
 fit_at (x ∷ xs) (suc k) e l =
-    let a = and_parts (is_keyword (mnemonic_word x))
-    (each (λ h. is_keyword (mnemonic_word h)) xs) e in
+    let a = and_parts (is_keyword (op_word x))
+    (each (λ h. is_keyword (op_word h)) xs) e in
     fit_at xs k a.1 (omega (arith, l))
 
-pub word_fit : (h : Mnemonic) → is_keyword (mnemonic_word h) ≡ true
+pub word_fit : (h : Op) → is_keyword (op_word h) ≡ true
 word_fit h =
-    let e = fit_at all_mnemonics (place h) words_fit
+    let e = fit_at all_ops (place h) words_fit
     (let l = table_length in let b = place_below h in omega arith) in
-    subst (λ (x : Mnemonic). is_keyword (mnemonic_word x) ≡ true) (there h) e
+    subst (λ (x : Op). is_keyword (op_word x) ≡ true) (there h) e
 
 -- ---- instructions
 
 -- of an instruction of a word
-pub spell_of : (h : Mnemonic) (o : Operand)
-    → spell_instruction (instr_of h o) ≡ Keyword (mnemonic_word h) ∷ (operand_form h).spell o
+pub spell_of : (h : Op) (o : Operand)
+    → spell_instruction (instr_of h o) ≡ Keyword (op_word h) ∷ (operand_form h).spell o
 spell_of h o =
-    ap (λ (x : Mnemonic). Keyword (mnemonic_word x) ∷ (operand_form x).spell o) (there h)
+    ap (λ (x : Op). Keyword (op_word x) ∷ (operand_form x).spell o) (there h)
 
-pub fit_of : (h : Mnemonic) (o : Operand)
+pub fit_of : (h : Op) (o : Operand)
     → fit_instruction (instr_of h o) ≡ (operand_form h).fit o
 fit_of h o =
-    ap (λ (x : Mnemonic). (mnemonic_row x == mnemonic_row h) && (operand_form x).fit o) (there h)
-    ∙ ap (λ (b : Bool). b && (operand_form h).fit o) (same_number (mnemonic_row h))
+    ap (λ (x : Op). (op_row x == op_row h) && (operand_form x).fit o) (there h)
+    ∙ ap (λ (b : Bool). b && (operand_form h).fit o) (same_number (op_row h))
 
-spells_of : (h : Mnemonic) (o : Operand) (r : List Tok) → (operand_form h).fit o ≡ true
+spells_of : (h : Op) (o : Operand) (r : List Tok) → (operand_form h).fit o ≡ true
     → EndsOperand h r
-    → instruction.spells (instr_of h o) (Keyword (mnemonic_word h) ∷ (operand_form h).spell o) r
+    → instruction.spells (instr_of h o) (Keyword (op_word h) ∷ (operand_form h).spell o) r
 unfolding instruction
 spells_of h o r f e = (
   h,
-  Keyword (mnemonic_word h) ∷ [],
+  Keyword (op_word h) ∷ [],
   (operand_form h).spell o,
   refl,
   refl,
@@ -499,27 +499,27 @@ spells_of h o r f e = (
 )
 
 -- the instruction of the row
-of_row : (i : Instr) → fit_instruction i ≡ true → instr_of (mnemonic_of_row i.row) i.operand ≡ i
+of_row : (i : Instr) → fit_instruction i ≡ true → instr_of (op_of_row i.row) i.operand ≡ i
 of_row i f =
-    let h = mnemonic_of_row i.row in
-    let a = and_parts (mnemonic_row h == i.row) ((operand_form h).fit i.operand) f in
+    let h = op_of_row i.row in
+    let a = and_parts (op_row h == i.row) ((operand_form h).fit i.operand) f in
     ap (λ (n : ℕ). record { row = n; operand = i.operand })
-    (equal_by (mnemonic_row h) i.row a.0)
+    (equal_by (op_row h) i.row a.0)
 
 -- in front of what doesn't take part in it
 pub instruction_here : (i : Instr) (r : List Tok) → fit_instruction i ≡ true
-    → EndsOperand (mnemonic_of_row i.row) r → instruction.spells i (spell_instruction i) r
+    → EndsOperand (op_of_row i.row) r → instruction.spells i (spell_instruction i) r
 instruction_here i r f e =
-    let h = mnemonic_of_row i.row in
-    let a = and_parts (mnemonic_row h == i.row) ((operand_form h).fit i.operand) f in
+    let h = op_of_row i.row in
+    let a = and_parts (op_row h == i.row) ((operand_form h).fit i.operand) f in
     subst (λ (x : Instr). instruction.spells x (spell_instruction i) r) (of_row i f)
     (spells_of h i.operand r a.1 e)
 
 pub instruction_neat : (i : Instr) → fit_instruction i ≡ true → Neat (spell_instruction i)
 instruction_neat i f =
-    let h = mnemonic_of_row i.row in
-    let a = and_parts (mnemonic_row h == i.row) ((operand_form h).fit i.operand) f in
-    neat_word (mnemonic_word h) ((operand_form h).spell i.operand) (word_fit h)
+    let h = op_of_row i.row in
+    let a = and_parts (op_row h == i.row) ((operand_form h).fit i.operand) f in
+    neat_word (op_word h) ((operand_form h).spell i.operand) (word_fit h)
     ((operand_forms h).neat i.operand a.1)
 
 part_given_back : (d e : List Tok) → each is_given (d ++ e) ≡ true → each is_given e ≡ true

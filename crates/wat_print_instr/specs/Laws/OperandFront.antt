@@ -28,8 +28,8 @@ use Rattle.wat_operands.specs.Tables.{index_or_0, index_pair}
 use Rattle.wat_tokens.specs.Index.{index}
 use Rattle.wat_mnemonics.specs.Access.{access_align, atomic_access_align, rmw_access_align}
 use Rattle.wat_mnemonics.specs.Access.{lane_access_align}
-use Rattle.wat_mnemonics.specs.declared.mnemonic.Mnemonic.{Mnemonic}
-use Rattle.wat_mnemonics.specs.declared.mnemonic.Mnemonic.TheVariants as head
+use Rattle.wat_mnemonics.specs.declared.op.Op.{Op}
+use Rattle.wat_mnemonics.specs.declared.op.Op.TheVariants as ops
 use Rattle.wat_instr.specs.Operand.{Operand}
 use Rattle.wat_print.specs.Function.{spell_group, groups_of}
 use Rattle.wat_print.specs.Index.{spell_index}
@@ -259,84 +259,84 @@ module _ (w : List ℕ) (a : NoOperandWord w) where
   resume_clear o =
       found_clear resume_printing (λ v. (index_first v.type_index _)) (found_resumed o)
 
-  pub operand_clear : (h : Mnemonic) (o : Operand) → Clear ((operand_form h).spell o)
-  operand_clear (head.Block op) o = found_clear block_printing block_clear (found_block o)
-  operand_clear (head.Label op) o = found_clear end_label_printing id_clear (found_label o)
-  operand_clear (head.Scalar op) o =
+  pub operand_clear : (h : Op) (o : Operand) → Clear ((operand_form h).spell o)
+  operand_clear (ops.Block op) o = found_clear block_printing block_clear (found_block o)
+  operand_clear (ops.Label op) o = found_clear end_label_printing id_clear (found_label o)
+  operand_clear (ops.Scalar op) o =
       found_clear nothing_printing (λ v. refl) (found_nothing o)
-  operand_clear (head.Indexed op) o = one_clear (found_one_index o)
-  operand_clear (head.CallIndirect op) o =
+  operand_clear (ops.Indexed op) o = one_clear (found_one_index o)
+  operand_clear (ops.CallIndirect op) o =
       found_clear call_printing
       (λ v. (clear_both w (spell_index_or_0 v.table) (spell_use v.ty) (or_0_clear v.table)
       (use_clear v.ty))) (found_call o)
-  operand_clear (head.Table op) o = place_clear (found_one_index o)
-  operand_clear (head.Access op) o =
+  operand_clear (ops.Table op) o = place_clear (found_one_index o)
+  operand_clear (ops.Access op) o =
       found_clear (access_printing (access_align op)) (access_clear (access_align op))
       (found_access o)
-  operand_clear (head.Memory op) o = place_clear (found_one_index o)
-  operand_clear (head.Struct op) o = pair_clear (found_two_indices o)
-  operand_clear (head.ArrayInit op) o = pair_clear (found_two_indices o)
-  operand_clear (head.AtomicAccess op) o = atomic_clear (atomic_access_align op) false o
-  operand_clear (head.RmwAccess op) o = atomic_clear (rmw_access_align op) true o
-  operand_clear (head.OrderedIndex op) o =
+  operand_clear (ops.Memory op) o = place_clear (found_one_index o)
+  operand_clear (ops.Struct op) o = pair_clear (found_two_indices o)
+  operand_clear (ops.ArrayInit op) o = pair_clear (found_two_indices o)
+  operand_clear (ops.AtomicAccess op) o = atomic_clear (atomic_access_align op) false o
+  operand_clear (ops.RmwAccess op) o = atomic_clear (rmw_access_align op) true o
+  operand_clear (ops.OrderedIndex op) o =
       found_clear (ordered_printing index index_printing) (λ v. (a.no_ordering v.0))
       (found_ordered_index o)
-  operand_clear (head.OrderedTable op) o =
+  operand_clear (ops.OrderedTable op) o =
       found_clear (ordered_printing index_or_0 index_or_0_printing) (λ v. (a.no_ordering v.0))
       (found_ordered_index o)
-  operand_clear (head.OrderedStruct op) o =
+  operand_clear (ops.OrderedStruct op) o =
       found_clear (ordered_printing index_pair pair_printing) (λ v. (a.no_ordering v.0))
       (found_ordered_indices o)
-  operand_clear (head.LaneAccess op) o =
+  operand_clear (ops.LaneAccess op) o =
       found_clear (lane_access_printing (lane_access_align op))
       (λ v. (clear_both w (spell_access (lane_access_align op) v.memarg) (spell_lane v.lane)
       (access_clear (lane_access_align op) v.memarg) refl)) (found_lane_access o)
-  operand_clear (head.Lane op) o = found_clear lane_printing (λ v. refl) (found_lane o)
-  operand_clear (head.Vector op) o =
+  operand_clear (ops.Lane op) o = found_clear lane_printing (λ v. refl) (found_lane o)
+  operand_clear (ops.Vector op) o =
       found_clear nothing_printing (λ v. refl) (found_nothing o)
-  operand_clear head.br_table o =
+  operand_clear ops.br_table o =
       found_clear br_table_printing
       (λ v. (clear_both w (flat_map spell_index v.labels) (spell_index v.default)
       (indices_clear v.labels) (index_clear v.default))) (found_branches o)
-  operand_clear head.select o = found_clear select_printing select_clear (found_chosen o)
-  operand_clear head.memory_init o = init_clear (found_two_indices o)
-  operand_clear head.memory_copy o =
+  operand_clear ops.select o = found_clear select_printing select_clear (found_chosen o)
+  operand_clear ops.memory_init o = init_clear (found_two_indices o)
+  operand_clear ops.memory_copy o =
       found_clear copy_printing (λ v. (copy_clear v.0 v.1)) (found_two_indices o)
-  operand_clear head.table_init o = init_clear (found_two_indices o)
-  operand_clear head.table_copy o =
+  operand_clear ops.table_init o = init_clear (found_two_indices o)
+  operand_clear ops.table_copy o =
       found_clear copy_printing (λ v. (copy_clear v.0 v.1)) (found_two_indices o)
-  operand_clear head.ref_null o = found_clear heap_printing heap_clear (found_heap o)
-  operand_clear head.array_new_fixed o =
+  operand_clear ops.ref_null o = found_clear heap_printing heap_clear (found_heap o)
+  operand_clear ops.array_new_fixed o =
       found_clear sized_printing (λ v. (index_first v.0 _)) (found_sized o)
-  operand_clear head.array_new_data o = pair_clear (found_two_indices o)
-  operand_clear head.array_new_elem o = pair_clear (found_two_indices o)
-  operand_clear head.array_fill o = one_clear (found_one_index o)
-  operand_clear head.array_copy o = pair_clear (found_two_indices o)
-  operand_clear head.ref_test o = ref_clear o
-  operand_clear head.ref_cast o = ref_clear o
-  operand_clear head.br_on_cast o = cast_clear o
-  operand_clear head.br_on_cast_fail o = cast_clear o
-  operand_clear head.i32_const o = found_clear i32_printing (λ v. refl) (found_integer o)
-  operand_clear head.i64_const o = found_clear i64_printing (λ v. refl) (found_integer o)
-  operand_clear head.f32_const o = found_clear number_printing (λ v. refl) (found_float o)
-  operand_clear head.f64_const o = found_clear number_printing (λ v. refl) (found_float o)
-  operand_clear head.atomic_fence o = found_clear fence_printing fence_clear (found_fence o)
-  operand_clear head.v128_const o = found_clear vector_printing vector_clear (found_vector o)
-  operand_clear head.i8x16_shuffle o =
+  operand_clear ops.array_new_data o = pair_clear (found_two_indices o)
+  operand_clear ops.array_new_elem o = pair_clear (found_two_indices o)
+  operand_clear ops.array_fill o = one_clear (found_one_index o)
+  operand_clear ops.array_copy o = pair_clear (found_two_indices o)
+  operand_clear ops.ref_test o = ref_clear o
+  operand_clear ops.ref_cast o = ref_clear o
+  operand_clear ops.br_on_cast o = cast_clear o
+  operand_clear ops.br_on_cast_fail o = cast_clear o
+  operand_clear ops.i32_const o = found_clear i32_printing (λ v. refl) (found_integer o)
+  operand_clear ops.i64_const o = found_clear i64_printing (λ v. refl) (found_integer o)
+  operand_clear ops.f32_const o = found_clear number_printing (λ v. refl) (found_float o)
+  operand_clear ops.f64_const o = found_clear number_printing (λ v. refl) (found_float o)
+  operand_clear ops.atomic_fence o = found_clear fence_printing fence_clear (found_fence o)
+  operand_clear ops.v128_const o = found_clear vector_printing vector_clear (found_vector o)
+  operand_clear ops.i8x16_shuffle o =
       found_clear shuffle_printing (λ v. (numbers_clear v.lanes)) (found_shuffled o)
-  operand_clear head.try_table o =
+  operand_clear ops.try_table o =
       found_clear try_printing
       (λ v. (clear_both w (spell_block v.block) (flat_map spell_catch v.catches)
       (block_clear v.block) (catches_clear v.catches))) (found_caught o)
-  operand_clear head.cont_bind o = pair_clear (found_two_indices o)
-  operand_clear head.resume o = resume_clear o
-  operand_clear head.resume_throw o =
+  operand_clear ops.cont_bind o = pair_clear (found_two_indices o)
+  operand_clear ops.resume o = resume_clear o
+  operand_clear ops.resume_throw o =
       found_clear throw_printing (λ v. (index_first v.type_index _)) (found_thrown o)
-  operand_clear head.resume_throw_ref o = resume_clear o
-  operand_clear head.switch o = pair_clear (found_two_indices o)
-  operand_clear head.ref_cast_desc_eq o = ref_clear o
-  operand_clear head.br_on_cast_desc_eq o = cast_clear o
-  operand_clear head.br_on_cast_desc_eq_fail o = cast_clear o
+  operand_clear ops.resume_throw_ref o = resume_clear o
+  operand_clear ops.switch o = pair_clear (found_two_indices o)
+  operand_clear ops.ref_cast_desc_eq o = ref_clear o
+  operand_clear ops.br_on_cast_desc_eq o = cast_clear o
+  operand_clear ops.br_on_cast_desc_eq_fail o = cast_clear o
 
 -- ---- the words that are looked for
 

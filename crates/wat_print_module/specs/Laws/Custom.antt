@@ -9,7 +9,7 @@ use Rattle.wat_tokens.specs.Strings.{string, text}
 use Rattle.wat_tokens.specs.Tests.{more, begins_lparen}
 use Rattle.wat_links.specs.Custom.{CustomTy, raw, produced, linked, begins_annotated, custom}
 use Rattle.wat_links.specs.Raw.{RawTy, raw_of, raw_place, raw_data, raw_custom}
-use Rattle.wat_links.specs.declared.place.CustomPlace.{CustomPlace}
+use Rattle.wat_links.specs.declared.custom_place.CustomPlace.{CustomPlace}
 use Rattle.wat_print.specs.Neat.{Neat}
 use Rattle.wat_print.specs.Parts.{each}
 use Rattle.wat_print.specs.Laws.Only.{OnlyFit, only_any, only_where, only_many, only_seq}
@@ -18,10 +18,10 @@ use Rattle.wat_print.specs.Laws.Parts.{many_here, neat_both, neat_each}
 use Rattle.wat_print_instr.specs.Laws.Places.{both_here}
 use Rattle.wat_print_module.specs.Custom.{spell_raw, fit_raw, spell_custom, fit_custom}
 use Rattle.wat_print_module.specs.Custom.{spell_raw_group, spell_custom_group}
-use Rattle.wat_print_module.specs.Place.{spell_place_group}
+use Rattle.wat_print_module.specs.CustomPlace.{spell_place_group}
 use Rattle.wat_print.specs.Strings.{spell_string, fit_string}
 use Rattle.wat_print_module.specs.Laws.Dylink.{dylink_here, dylink_neat, dylink_only}
-use Rattle.wat_print_module.specs.Laws.Place.{place_group_here, place_group_neat}
+use Rattle.wat_print_module.specs.Laws.CustomPlace.{place_group_here, place_group_neat}
 use Rattle.wat_print_module.specs.Laws.Producers.{producers_here, producers_neat, producers_only}
 use Rattle.wat_print.specs.Laws.Strings.{text_here, text_neat, text_only}
 use Rattle.wat_print.specs.Laws.Strings.{string_here, string_neat, string_only}

@@ -1,4 +1,4 @@
-use Rattle.wat_mnemonics.proofs.Heads.{mnemonics_in_order}
+use Rattle.wat_mnemonics.proofs.TableOrder.{mnemonics_in_order}
 use Rattle.wat_mnemonics.proofs.laws.words_in_order.Goals as goal
 
 pub returns : goal.returns

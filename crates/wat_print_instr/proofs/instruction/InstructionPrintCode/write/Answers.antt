@@ -1,7 +1,7 @@
 use Rattle.std.specs.Prelude.{◌≡◌, ◌≢◌, [], ◌∷◌, List, ℕ, false}
 use Rattle.std.proofs.Common.{rules, ap, sym, ◌∙◌}
 use Rattle.wat_lexer.specs.Token.{Tok, Keyword}
-use Rattle.wat_instr.specs.Instruction.{head_in, operand_in, instruction_view}
+use Rattle.wat_instr.specs.Instruction.{op_in, operand_in, instruction_view}
 use Rattle.wat_print.specs.Text.{put}
 use Rattle.wat_print.specs.declared.fault.Refused.TheVariants.{Memory}
 use Rattle.wat_print.specs.Laws.Written.{put_then}
@@ -11,7 +11,7 @@ use Rattle.wat_print_instr.proofs.instruction.InstructionPrintCode.write.Goals a
 
 pub returns-clause-written : goal.returns-clause-written
 returns-clause-written c =
-    let h = head_in c.args.self.now in
+    let h = op_in c.args.self.now in
     let o = operand_in c.args.self.now in
     put_then (Keyword c.mnemonic.result.now ∷ []) ((operand_form h).spell o) c.args.out.now _ _
     c.in_ok-word.ensures.written c.in_ok-write_operand.ensures.written
@@ -21,7 +21,7 @@ returns-clause-written c =
 
 pub returns-clause-fit : goal.returns-clause-fit
 returns-clause-fit c =
-    fit_of (head_in c.args.self.now) (operand_in c.args.self.now)
+    fit_of (op_in c.args.self.now) (operand_in c.args.self.now)
     ∙ c.in_ok-write_operand.ensures.fit
 
 pub returns-in_err-write_operand-clause-refused : goal.returns-in_err-write_operand-clause-refused
@@ -29,5 +29,5 @@ returns-in_err-write_operand-clause-refused c =
     let k = c.in_err-write_operand.ensures.refused in
     let h : c.in_err-write_operand.field-0.0 ≢ Memory
     → fit_instruction (instruction_view c.args.self.now) ≡ false =
-    λ n. (fit_of (head_in c.args.self.now) (operand_in c.args.self.now) ∙ k n) in
+    λ n. (fit_of (op_in c.args.self.now) (operand_in c.args.self.now) ∙ k n) in
     search (rules, h)

@@ -1,0 +1,39 @@
+-- Where a custom section is.
+use Rattle.std.specs.Prelude.{ℕ, List, [], ◌∷◌, codes, refl}
+use Rattle.wat_tokens.specs.Tests.{word_in, begins_word}
+use Rattle.wat_tokens.specs.Production.{Production}
+use Rattle.wat_tokens.specs.Parts.{one, word, made, where_else, after_word}
+use Rattle.wat_links.specs.declared.custom_place.CustomPlace.{CustomPlace}
+use Rattle.wat_links.specs.declared.custom_place.CustomPlace.TheVariants.{BeforeFirst, Before, After}
+use Rattle.wat_links.specs.declared.custom_place.CustomPlace.TheVariants.{AfterLast}
+use Rattle.wat_links.specs.declared.custom_place.CustomPlaceAnchor.{CustomPlaceAnchor}
+use Rattle.wat_links.specs.declared.custom_place.CustomPlaceAnchor.TheVariants as anchor
+
+-- the words of the known sections
+abbrev pub anchor_words : List (List ℕ × CustomPlaceAnchor)
+anchor_words =
+    (codes "type", anchor.«Type») ∷ (codes "import", anchor.Import) ∷ (codes "func", anchor.Func)
+    ∷ (codes "table", anchor.Table) ∷ (codes "memory", anchor.Memory)
+    ∷ (codes "global", anchor.Global) ∷ (codes "export", anchor.Export)
+    ∷ (codes "start", anchor.Start) ∷ (codes "elem", anchor.Elem) ∷ (codes "code", anchor.Code)
+    ∷ (codes "data", anchor.Data) ∷ (codes "tag", anchor.Tag) ∷ []
+
+-- one of the words of the known sections
+unfoldable pub section : Production CustomPlaceAnchor
+section = one (word_in anchor_words) (refl, refl)
+
+-- `before first` | `before` section
+unfoldable pub before : Production CustomPlace
+before = after_word (codes "before")
+    (where_else (begins_word (codes "first")) (made (λ _. BeforeFirst) (word (codes "first")))
+    (made Before section))
+
+-- `after last` | `after` section
+unfoldable pub after : Production CustomPlace
+after = after_word (codes "after")
+    (where_else (begins_word (codes "last")) (made (λ _. AfterLast) (word (codes "last")))
+    (made After section))
+
+-- `before first` | `before` section | `after last` | `after` section
+unfoldable pub custom_place : Production CustomPlace
+custom_place = where_else (begins_word (codes "before")) before after

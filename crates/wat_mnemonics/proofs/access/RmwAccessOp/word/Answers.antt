@@ -1,0 +1,6 @@
+use Rattle.wat_mnemonics.proofs.Lent.{text_at}
+use Rattle.wat_mnemonics.proofs.RmwTable.{word_at}
+use Rattle.wat_mnemonics.proofs.access.RmwAccessOp.word.Goals as goal
+
+pub returns : goal.returns
+returns c = rw text_at (word_at c.args.self)

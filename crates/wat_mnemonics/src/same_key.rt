@@ -1,0 +1,126 @@
+//! The search among words of which one begins as the text does.
+
+ghost use Rattle.std.specs.Prelude.{◌≡◌, ◌≢◌, ◌<◌, ◌≤◌, ◌+◌, ◌-◌, ◌/◌, [], ℕ, IfSome, IfNone};
+ghost use Rattle.std.specs.Prelude.{slice_index, slice_index_or};
+ghost use Rattle.wat_mnemonics.specs.Halves.{IsWithin, IsFew};
+ghost use Rattle.wat_mnemonics.specs.Ops.{op_word};
+ghost use Rattle.wat_mnemonics.specs.Keys.{key as key_of};
+ghost use Rattle.wat_mnemonics.specs.Order.{cmp, first, words};
+ghost use Rattle.wat_mnemonics.specs.Table.{all_ops};
+ghost use Rattle.wat_mnemonics.specs.declared.op.Op.{Op as AnyOp};
+ghost use Rattle.wat_tokens.specs.Counts.{Carries};
+
+use crate::keys::{KEYS, last_eight};
+use crate::op::Op;
+use crate::table::OPS;
+use std::cmp::Ordering;
+use wat_tokens::Parser;
+
+/// An entry of the table.
+fn op_at(place: usize) -> Op
+    requires { place < 623 }
+    ensures { result ≡ slice_index_or all_ops place first }
+{
+    OPS[place]
+}
+
+/// How the word of an entry and a text with the same key compare.
+#[inline(always)]
+fn compared_whole(place: usize, text: &str) -> Ordering
+    requires place { place < 623 }
+    requires same { slice_index KEYS place ≡ key_of text.now }
+    ensures { result ≡ cmp (slice_index_or words place []) text.now }
+{
+    let word = op_at(place).word();
+    // (the first eight bytes are the same, so of up to 16 only the last eight can differ)
+    if word.len() == text.len() {
+        if text.len() <= 8 {
+            return Ordering::Equal;
+        }
+        if text.len() <= 16 && last_eight(word) == last_eight(text) {
+            return Ordering::Equal;
+        }
+    }
+    if text.len() <= 8 {
+        return word.len().cmp(&text.len());
+    }
+    word.cmp(text)
+}
+
+/// How the word of an entry and a text compare: by their keys where these differ.
+fn compared(place: usize, key: u64, text: &str) -> Ordering
+    requires place { place < 623 }
+    requires key { key ≡ key_of text.now }
+    ensures { result ≡ cmp (slice_index_or words place []) text.now }
+{
+    let entry = KEYS[place];
+    if entry == key {
+        return compared_whole(place, text);
+    }
+    if entry < key {
+        Ordering::Less
+    } else {
+        Ordering::Greater
+    }
+}
+
+/// The mnemonic of a word that is in a stretch of the table, or None if the word is none.
+fn find_between(
+    parser: &mut Parser<'_>,
+    mut base: usize,
+    mut size: usize,
+    key: u64,
+    text: &str,
+) -> Option<Op>
+    requires key { key ≡ key_of text.now }
+    requires some { 0 < size }
+    requires within { IsWithin base size text.now }
+    ensures found { IfSome result (λ h. op_word h ≡ text.now) }
+    ensures missing { IfNone result ((h : AnyOp) → op_word h ≢ text.now) }
+    ensures only { parser.new ≡ record parser.old { probes = parser.new.probes } }
+    ensures counts { Carries parser.old parser.new }
+    ensures more { parser.old.probes ≤ parser.new.probes }
+    ensures probes { (most : ℕ) → IsFew size parser.old.probes most → parser.new.probes ≤ most }
+{
+    'halves: while size > 1 {
+        let half = size / 2;
+        let place = base + half - 1;
+        size -= half;
+        parser.probe();
+        match compared(place, key, text) {
+            Ordering::Less => base += half,
+            Ordering::Equal => return Some(op_at(place)),
+            Ordering::Greater => {}
+        }
+    }
+    None
+}
+
+/// The same for a stretch whose middle entry has the key of the text.
+pub(crate) fn find_whole(
+    parser: &mut Parser<'_>,
+    base: usize,
+    size: usize,
+    key: u64,
+    text: &str,
+) -> Option<Op>
+    requires key { key ≡ key_of text.now }
+    requires some { 1 < size }
+    requires within { IsWithin base size text.now }
+    requires same { slice_index KEYS (base + size / 2 - 1) ≡ key }
+    ensures found { IfSome result (λ h. op_word h ≡ text.now) }
+    ensures missing { IfNone result ((h : AnyOp) → op_word h ≢ text.now) }
+    ensures only { parser.new ≡ record parser.old { probes = parser.new.probes } }
+    ensures counts { Carries parser.old parser.new }
+    ensures probed { parser.old.probes + 1 ≤ parser.new.probes }
+    ensures probes { (most : ℕ) → IsFew size parser.old.probes most → parser.new.probes ≤ most }
+{
+    let half = size / 2;
+    let place = base + half - 1;
+    parser.probe();
+    match compared_whole(place, text) {
+        Ordering::Less => find_between(parser, base + half, size - half, key, text),
+        Ordering::Equal => Some(op_at(place)),
+        Ordering::Greater => find_between(parser, base, size - half, key, text),
+    }
+}

@@ -1,0 +1,132 @@
+-- Laws: the places of custom sections are read again.
+use Rattle.std.specs.Prelude.{◌≡◌, true, false, List, [], ◌∷◌, ◌++◌, codes, Some, None}
+use Rattle.std.proofs.Common.{refl, inl, inr}
+use Rattle.wat_lexer.specs.Token.{Tok, RParen, Keyword}
+use Rattle.wat_tokens.specs.Parts.{word, made, where_else}
+use Rattle.wat_tokens.specs.Production.{Production}
+use Rattle.wat_tokens.specs.Tests.{begins_word, begins_lparen}
+use Rattle.wat_links.specs.CustomPlace.{section, before, after, custom_place}
+use Rattle.wat_links.specs.Raw.{raw_place}
+use Rattle.wat_links.specs.declared.custom_place.CustomPlace.{CustomPlace}
+use Rattle.wat_links.specs.declared.custom_place.CustomPlace.TheVariants.{BeforeFirst, Before, After}
+use Rattle.wat_links.specs.declared.custom_place.CustomPlace.TheVariants.{AfterLast}
+use Rattle.wat_links.specs.declared.custom_place.CustomPlaceAnchor.{CustomPlaceAnchor}
+use Rattle.wat_links.specs.declared.custom_place.CustomPlaceAnchor.TheVariants as anchor
+use Rattle.wat_print.specs.Neat.{is_keyword, Neat, nothing}
+use Rattle.wat_print.specs.Laws.Parts.{Spells, paren_here, word_here, neat_one, neat_word}
+use Rattle.wat_print.specs.Laws.Parts.{neat_paren}
+use Rattle.wat_print.specs.Laws.Define.{after_here}
+use Rattle.wat_print_module.specs.CustomPlace.{section_word, spell_section, spell_place}
+use Rattle.wat_print_module.specs.CustomPlace.{spell_place_group}
+
+-- ---- known sections
+
+pub section_here : (a : CustomPlaceAnchor) → Spells section a (spell_section a)
+unfolding section
+section_here anchor.«Type» r = (Keyword (codes "type"), refl, refl)
+section_here anchor.Import r = (Keyword (codes "import"), refl, refl)
+section_here anchor.Func r = (Keyword (codes "func"), refl, refl)
+section_here anchor.Table r = (Keyword (codes "table"), refl, refl)
+section_here anchor.Memory r = (Keyword (codes "memory"), refl, refl)
+section_here anchor.Global r = (Keyword (codes "global"), refl, refl)
+section_here anchor.Export r = (Keyword (codes "export"), refl, refl)
+section_here anchor.Start r = (Keyword (codes "start"), refl, refl)
+section_here anchor.Elem r = (Keyword (codes "elem"), refl, refl)
+section_here anchor.Code r = (Keyword (codes "code"), refl, refl)
+section_here anchor.Data r = (Keyword (codes "data"), refl, refl)
+section_here anchor.Tag r = (Keyword (codes "tag"), refl, refl)
+
+section_fit : (a : CustomPlaceAnchor) → is_keyword (section_word a) ≡ true
+section_fit anchor.«Type» = refl
+section_fit _ = refl
+
+pub section_neat : (a : CustomPlaceAnchor) → Neat (spell_section a)
+section_neat a = neat_one (Keyword (section_word a)) (section_fit a)
+
+-- no known section is called `first` or `last`
+section_no_first : (a : CustomPlaceAnchor) (x : List Tok)
+    → begins_word (codes "first") (spell_section a ++ x) ≡ false
+section_no_first anchor.«Type» x = refl
+section_no_first _ x = refl
+
+section_no_last : (a : CustomPlaceAnchor) (x : List Tok)
+    → begins_word (codes "last") (spell_section a ++ x) ≡ false
+section_no_last anchor.«Type» x = refl
+section_no_last _ x = refl
+
+-- ---- places
+
+-- what stands behind `before`, and behind `after`
+abbrev first_or_section : Production CustomPlace
+first_or_section =
+    where_else (begins_word (codes "first")) (made (λ _. BeforeFirst) (word (codes "first")))
+    (made Before section)
+
+abbrev last_or_section : Production CustomPlace
+last_or_section =
+    where_else (begins_word (codes "last")) (made (λ _. AfterLast) (word (codes "last")))
+    (made After section)
+
+pub custom_place_here : (p : CustomPlace) → Spells custom_place p (spell_place p)
+unfolding custom_place before after
+custom_place_here BeforeFirst r =
+    inl (
+      refl,
+      after_here (codes "before") first_or_section BeforeFirst
+          (Keyword (codes "first") ∷ []) r refl
+          (inl (refl, (tt, word_here (codes "first") refl r, refl, refl))),
+    )
+custom_place_here (Before a) r =
+    inl (
+      refl,
+      after_here (codes "before") first_or_section (Before a) (spell_section a) r refl
+          (inr (section_no_first a r, (a, section_here a r, refl, refl))),
+    )
+custom_place_here (After a) r =
+    inr (
+      refl,
+      after_here (codes "after") last_or_section (After a) (spell_section a) r refl
+          (inr (section_no_last a r, (a, section_here a r, refl, refl))),
+    )
+custom_place_here AfterLast r =
+    inr (
+      refl,
+      after_here (codes "after") last_or_section AfterLast (Keyword (codes "last") ∷ []) r refl
+          (inl (refl, (tt, word_here (codes "last") refl r, refl, refl))),
+    )
+
+pub custom_place_neat : (p : CustomPlace) → Neat (spell_place p)
+custom_place_neat BeforeFirst =
+    neat_word (codes "before") (Keyword (codes "first") ∷ []) refl
+    (neat_one (Keyword (codes "first")) refl)
+custom_place_neat (Before a) = neat_word (codes "before") (spell_section a) refl (section_neat a)
+custom_place_neat (After a) = neat_word (codes "after") (spell_section a) refl (section_neat a)
+custom_place_neat AfterLast =
+    neat_word (codes "after") (Keyword (codes "last") ∷ []) refl
+    (neat_one (Keyword (codes "last")) refl)
+
+-- ---- places of raw sections
+
+-- where no `(` follows
+pub place_group_here : (p : CustomPlace) (r : List Tok) → begins_lparen r ≡ false
+    → raw_place.spells p (spell_place_group p) r
+unfolding raw_place
+place_group_here AfterLast r e = (None, (refl, e), refl, refl)
+place_group_here BeforeFirst r e =
+    let s = paren_here custom_place BeforeFirst (spell_place BeforeFirst) r
+    (custom_place_here BeforeFirst (RParen ∷ r)) in
+    (Some BeforeFirst, (refl, s), refl, refl)
+place_group_here (Before a) r e =
+    let s = paren_here custom_place (Before a) (spell_place (Before a)) r
+    (custom_place_here (Before a) (RParen ∷ r)) in
+    (Some (Before a), (refl, s), refl, refl)
+place_group_here (After a) r e =
+    let s = paren_here custom_place (After a) (spell_place (After a)) r
+    (custom_place_here (After a) (RParen ∷ r)) in
+    (Some (After a), (refl, s), refl, refl)
+
+pub place_group_neat : (p : CustomPlace) → Neat (spell_place_group p)
+place_group_neat AfterLast = nothing
+place_group_neat BeforeFirst = neat_paren (spell_place BeforeFirst) (custom_place_neat BeforeFirst)
+place_group_neat (Before a) = neat_paren (spell_place (Before a)) (custom_place_neat (Before a))
+place_group_neat (After a) = neat_paren (spell_place (After a)) (custom_place_neat (After a))

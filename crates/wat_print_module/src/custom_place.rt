@@ -1,0 +1,105 @@
+//! How the places of custom sections are printed.
+
+ghost use Rattle.std.specs.Prelude.{◌≡◌, OnOk, IfErr};
+ghost use Rattle.wat_links.specs.CustomPlace.{section, custom_place};
+ghost use Rattle.wat_print.specs.Text.{put};
+ghost use Rattle.wat_print.specs.declared.fault.Refused.TheVariants.{Memory};
+ghost use Rattle.wat_print_module.specs.LinkPrintings.{section_printing, place_printing};
+ghost use Rattle.wat_print_module.specs.CustomPlace.{section_word, spell_place, spell_place_group};
+
+use crate::traits::PrintPart;
+use wat_links::{CustomPlace, CustomPlaceAnchor};
+use wat_print::{Output, Refused};
+
+/// The word of a known section.
+fn word_of(section: CustomPlaceAnchor) -> &'static str
+    ensures { result.now ≡ section_word section }
+{
+    match section {
+        CustomPlaceAnchor::Type => "type",
+        CustomPlaceAnchor::Import => "import",
+        CustomPlaceAnchor::Func => "func",
+        CustomPlaceAnchor::Table => "table",
+        CustomPlaceAnchor::Memory => "memory",
+        CustomPlaceAnchor::Global => "global",
+        CustomPlaceAnchor::Export => "export",
+        CustomPlaceAnchor::Start => "start",
+        CustomPlaceAnchor::Elem => "elem",
+        CustomPlaceAnchor::Code => "code",
+        CustomPlaceAnchor::Data => "data",
+        CustomPlaceAnchor::Tag => "tag",
+    }
+}
+
+/// Writes the place of a custom section, without its parentheses (Text Format, "Custom
+/// Annotation").
+pub fn write_place(out: &mut Output, place: CustomPlace) -> Result<(), Refused>
+    ensures written { OnOk result (out.new ≡ put out.old (spell_place place)) }
+    ensures refused { IfErr result (λ e. e ≡ Memory) }
+{
+    match place {
+        CustomPlace::BeforeFirst => {
+            out.word("before")?;
+            out.word("first")
+        }
+        CustomPlace::Before(section) => {
+            out.word("before")?;
+            out.word(word_of(section))
+        }
+        CustomPlace::After(section) => {
+            out.word("after")?;
+            out.word(word_of(section))
+        }
+        CustomPlace::AfterLast => {
+            out.word("after")?;
+            out.word("last")
+        }
+    }
+}
+
+/// Writes the place in parentheses; nothing, where it is behind the last section.
+pub fn write_place_group(out: &mut Output, place: CustomPlace) -> Result<(), Refused>
+    ensures written { OnOk result (out.new ≡ put out.old (spell_place_group place)) }
+    ensures refused { IfErr result (λ e. e ≡ Memory) }
+{
+    if matches!(place, CustomPlace::AfterLast) {
+        return Ok(());
+    }
+    out.open()?;
+    write_place(out, place)?;
+    out.close()
+}
+
+impl PrintPart for CustomPlaceAnchor {
+    ghost use Rattle.wat_links.specs.declared.custom_place.CustomPlaceAnchor.{CustomPlaceAnchor};
+
+    ghost View = { CustomPlaceAnchor };
+
+    ghost view = { λ a. a };
+
+    ghost grammar = { section };
+
+    ghost printing = { section_printing };
+
+    #[tactic(auto, using(wat_print::specs::Laws::Written::puts_put))]
+    fn write(&self, out: &mut Output) -> Result<(), Refused> {
+        out.word(word_of(*self))
+    }
+}
+
+impl PrintPart for CustomPlace {
+    ghost use Rattle.wat_links.specs.declared.custom_place.CustomPlace.{CustomPlace};
+
+    ghost View = { CustomPlace };
+
+    ghost view = { λ p. p };
+
+    ghost grammar = { custom_place };
+
+    ghost printing = { place_printing };
+
+    #[tactic(auto, using(wat_print::specs::Laws::Written::puts_put))]
+    fn write(&self, out: &mut Output) -> Result<(), Refused> {
+        write_place(out, *self)
+    }
+}

@@ -1,0 +1,128 @@
+//! The line that is shown, and the caret below it.
+
+ghost use Rattle.std.specs.Prelude.{◌≡◌, ◌++◌, ◌≤◌, ◌<◌, ◌+◌, ◌-◌, OnOk, length, map, min};
+ghost use Rattle.std.specs.Str.{IsCharBoundary, chars};
+ghost use Rattle.wat_report.specs.Places.{line_start, line_stop};
+ghost use Rattle.wat_report.specs.Shown.{padding, caret_line, first_shown, last_shown};
+ghost use Rattle.wat_report.specs.Shown.{marked_line, open_line, shown_line, source_line};
+
+use crate::lines::{char_start, line_start, line_stop};
+use crate::write::add;
+use std::alloc::AllocError;
+
+/// How many bytes of a line are shown before the place, and as many from it on.
+const SHOWN: usize = 100;
+
+/// Where what is shown of a line begins.
+fn first_shown(text: &str, start: usize, mark: usize) -> usize
+    requires order { start ≤ mark }
+    requires within { mark ≤ length text.now }
+    requires boundary { IsCharBoundary text.now start }
+    ensures value { result ≡ first_shown text.now start mark }
+    ensures before { result ≤ mark }
+    ensures boundary { IsCharBoundary text.now result }
+{
+    if mark - start > SHOWN {
+        return char_start(text, mark - SHOWN);
+    }
+    start
+}
+
+/// Where what is shown of a line ends.
+#[tactic(auto, using(crate::proofs::Boundaries::char_start_behind))]
+fn last_shown(text: &str, mark: usize, stop: usize) -> usize
+    requires order { mark ≤ stop }
+    requires within { stop ≤ length text.now }
+    requires mark { IsCharBoundary text.now mark }
+    requires boundary { IsCharBoundary text.now stop }
+    ensures value { result ≡ last_shown text.now mark stop }
+    ensures order { mark ≤ result }
+    ensures within { result ≤ length text.now }
+    ensures boundary { IsCharBoundary text.now result }
+{
+    if stop - mark > SHOWN {
+        return char_start(text, mark + SHOWN);
+    }
+    stop
+}
+
+/// Adds a space for each character, and a tab for a tab.
+#[tactic(auto, using(std::proofs::lemmas::Str::chars_from_encodes))]
+fn add_blanks(out: &mut Vec<u8>, text: &str) -> Result<(), AllocError>
+    ensures { OnOk result (out.new.items ≡ out.old.items ++ map padding (chars text.now)) }
+{
+    for c in text.chars() {
+        out.push(if c == '\t' { b'\t' } else { b' ' })?;
+    }
+    Ok(())
+}
+
+/// Adds what is shown of the line, with `..` on each side where more of it stands there.
+fn add_source(
+    out: &mut Vec<u8>,
+    shown: &str,
+    cut_before: bool,
+    cut_behind: bool,
+) -> Result<(), AllocError>
+    ensures { OnOk result (out.new.items ≡ out.old.items ++ source_line shown.now cut_before
+        cut_behind) }
+{
+    add(out, if cut_before { ".." } else { "" })?;
+    add(out, shown)?;
+    add(out, if cut_behind { "..\n" } else { "\n" })
+}
+
+/// Adds the caret, behind as many blanks as there are characters before the place.
+fn add_caret(out: &mut Vec<u8>, before: &str, cut_before: bool) -> Result<(), AllocError>
+    ensures { OnOk result (out.new.items ≡ out.old.items ++ caret_line before.now cut_before) }
+{
+    add(out, if cut_before { "  " } else { "" })?;
+    add_blanks(out, before)?;
+    add(out, "^\n")
+}
+
+/// Adds a line that begins at start and ends at stop, with a caret under the place.
+fn add_marked(
+    out: &mut Vec<u8>,
+    text: &str,
+    start: usize,
+    mark: usize,
+    stop: usize,
+) -> Result<(), AllocError>
+    requires start { start ≤ mark }
+    requires stop { mark ≤ stop }
+    requires within { stop ≤ length text.now }
+    requires start_boundary { IsCharBoundary text.now start }
+    requires boundary { IsCharBoundary text.now mark }
+    requires stop_boundary { IsCharBoundary text.now stop }
+    ensures { OnOk result (out.new.items ≡ out.old.items ++ marked_line text.now start mark stop) }
+{
+    let first = first_shown(text, start, mark);
+    let last = last_shown(text, mark, stop);
+    let cut_before = start < first;
+    add_source(out, &text[first..last], cut_before, last < stop)?;
+    add_caret(out, &text[first..mark], cut_before)
+}
+
+/// Adds the line that holds the place, and below it a caret under the place.
+pub(crate) fn add_line(out: &mut Vec<u8>, text: &str, at: usize) -> Result<(), AllocError>
+    requires within { at ≤ length text.now }
+    requires boundary { IsCharBoundary text.now at }
+    ensures { OnOk result (out.new.items ≡ out.old.items ++ shown_line text.now at) }
+{
+    let start = line_start(text, at);
+    let stop = line_stop(text, start);
+    add_marked(out, text, start, at.min(stop), stop)
+}
+
+/// Adds the line that begins at start and goes on behind the text, and a caret below where that is.
+pub(crate) fn add_open(out: &mut Vec<u8>, text: &str, start: usize) -> Result<(), AllocError>
+    requires within { start ≤ length text.now }
+    requires boundary { IsCharBoundary text.now start }
+    ensures { OnOk result (out.new.items ≡ out.old.items ++ open_line text.now start) }
+{
+    let first = first_shown(text, start, text.len());
+    let shown = &text[first..];
+    add_source(out, shown, start < first, true)?;
+    add_caret(out, shown, start < first)
+}
