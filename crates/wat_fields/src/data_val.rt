@@ -2,7 +2,6 @@
 
 ghost use Rattle.std.specs.Prelude.{◌≡◌, ◌+◌, ◌++◌, length, false, IfOk, IfErr, MatchResult};
 ghost use Rattle.wat_tokens.specs.Reads.{Reads};
-ghost use Rattle.wat_tokens.specs.Tests.{begins_lparen};
 ghost use Rattle.wat_tokens.specs.Views.{owning, no_items};
 ghost use Rattle.wat_fields.specs.DataVal.{DataValTy, bytes_in, data_val_view, data_vals_view};
 ghost use Rattle.wat_fields.specs.DataVal.{bare_val, data_val};
@@ -61,13 +60,6 @@ impl<'a> DataVal<'a> {
     }
 }
 
-/// Whether a `(` is in front.
-fn lparen_next(parser: &Parser<'_>) -> bool
-    ensures { result ≡ begins_lparen parser.now.left }
-{
-    parser.cursor().lparen().is_some()
-}
-
 /// A string, or a group of numbers: `i8`, `i16`, `i32`, `i64`, `f32`, `f64` or `v128`, and numbers
 /// of that type. An integer is read with or without a sign, a vector as
 /// [`V128Const`](wat_operands::V128Const) is; no floating-point number is read.
@@ -84,7 +76,7 @@ impl<'a> Parse<'a> for DataVal<'a> {
 
     #[tactic(auto, unfolding(crate::specs::DataVal::data_val))]
     fn parse(parser: &mut Parser<'a>) -> Result<Self> {
-        if !lparen_next(parser) {
+        if !parser.opens() {
             return Ok(DataVal::String(parser.take_string()?));
         }
         parser.open()?;

@@ -150,7 +150,7 @@ fn active_next(parser: &Parser<'_>) -> bool
     if parser.peek::<u32>() {
         return true;
     }
-    parser.cursor().lparen().is_some() && !parser.peek::<RefType>()
+    parser.opens() && !parser.peek::<RefType>()
 }
 
 /// A kind, and what the segment holds; `span` is where the word `elem` begins.

@@ -185,7 +185,7 @@ pub(crate) fn read_listed<'a>(parser: &mut Parser<'a>, ty: RefType<'a>) -> Resul
     ensures spans { IfOk result (λ p. PayloadSpansAre (begins_lparen parser.old.left
         && parser.old.tracks) p) }
 {
-    if parser.cursor().lparen().is_some() {
+    if parser.opens() {
         let exprs = read_items(parser)?;
         return Ok(ElemPayload::Exprs { ty, exprs });
     }

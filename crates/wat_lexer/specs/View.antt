@@ -249,6 +249,15 @@ abbrev pub VisibleFrom : Bool → List Entry → List Tok → Type 0
 VisibleFrom known [] t = t ≡ []
 VisibleFrom known (x ∷ ls) t = t ≡ entry_tok x ∷ visible_tokens known (toks ls)
 
+-- The place is that of the first token that is visible from a place on, and the same tokens are
+-- visible from there on.
+pub record IsNextVisible (known : Bool) (at : ℕ) (ls : List Entry) (place : ℕ) : Type 0 where
+  pub value : place ≡ at + hidden_count known (toks (drop at ls))
+  pub within : place ≤ length ls
+  pub first : VisibleFrom known (drop place ls) (visible_tokens known (toks (drop at ls)))
+  pub same : visible_tokens known (toks (drop place ls)) ≡ visible_tokens known (toks (drop at ls))
+  pub stops : hidden_count known (toks (drop place ls)) ≡ 0
+
 -- a fault other than want of memory comes only where p holds
 abbrev pub IfFault : Error → Type 0 → Type 0
 IfFault e p = e.fault ≢ Memory → p

@@ -3,7 +3,7 @@
 ghost use Rattle.std.specs.Prelude.{◌≡◌, ◌≤◌, ◌+◌, ◌∷◌, [], length, drop};
 ghost use Rattle.wat_lexer.specs.Sight.{is_standard, begins_hidden_group, hidden_count};
 ghost use Rattle.wat_lexer.specs.Sight.{visible_tokens};
-ghost use Rattle.wat_lexer.specs.View.{view, toks, skip_in_front, AreSkips, VisibleFrom};
+ghost use Rattle.wat_lexer.specs.View.{view, toks, skip_in_front, AreSkips, VisibleFrom, IsNextVisible};
 
 use crate::token::Token;
 use crate::tokens::Tokens;
@@ -93,13 +93,7 @@ pub fn hidden_count(tokens: &Tokens, at: usize, known: bool) -> usize
 pub fn next_visible(tokens: &Tokens, at: usize, known: bool) -> usize
     requires within { at ≤ length tokens.now }
     requires skips { AreSkips tokens.now }
-    ensures value { result ≡ at + hidden_count known (toks (drop at tokens.now)) }
-    ensures within { result ≤ length tokens.now }
-    ensures first { VisibleFrom known (drop result tokens.now) (visible_tokens known (toks
-        (drop at tokens.now))) }
-    ensures same { visible_tokens known (toks (drop result tokens.now)) ≡ visible_tokens known
-        (toks (drop at tokens.now)) }
-    ensures stops { hidden_count known (toks (drop result tokens.now)) ≡ 0 }
+    ensures { IsNextVisible known at tokens.now result }
 {
     at + hidden_count(tokens, at, known)
 }

@@ -7,7 +7,6 @@ ghost use Rattle.std.specs.Option.{option_map};
 ghost use Rattle.wat_tokens.specs.Copies.{Copies};
 ghost use Rattle.wat_tokens.specs.Lookup.{in_front};
 ghost use Rattle.wat_tokens.specs.Reads.{Reads};
-ghost use Rattle.wat_tokens.specs.Tests.{begins_lparen};
 ghost use Rattle.wat_tokens.specs.Views.{plain, owning, no_items};
 ghost use Rattle.wat_links.specs.Item.{SigTy, sig_view, bare_sig, SameSig};
 ghost use Rattle.wat_links.specs.Forms.{import_items, imports};
@@ -397,13 +396,6 @@ fn read_shared_sig<'a>(parser: &mut Parser<'a>) -> Result<ItemSig<'a>>
     Ok(sig)
 }
 
-/// Whether a `(` is in front.
-fn lparen_next(parser: &Parser<'_>) -> bool
-    ensures { result ≡ begins_lparen parser.now.left }
-{
-    parser.cursor().lparen().is_some()
-}
-
 /// Whether `(`, `item` and a string are there, and then not what closes the group.
 fn opens_typed(cursor: Cursor<'_>) -> bool
     ensures { result ≡ opens_typed (in_front cursor.entry) }
@@ -470,7 +462,7 @@ fn read_items<'a>(parser: &mut Parser<'a>, module: &'a str) -> Result<ImportItem
     if typed_next(parser) {
         return read_typed(parser, module);
     }
-    if lparen_next(parser) {
+    if parser.opens() {
         return read_named(parser, module);
     }
     read_single(parser, module)

@@ -3,7 +3,6 @@
 ghost use Rattle.std.specs.Prelude.{◌≡◌};
 ghost use Rattle.wat_links.specs.Raw.{RawTy, raw_view, bare_raw, raw_place, raw_custom};
 ghost use Rattle.wat_tokens.specs.Reads.{Reads};
-ghost use Rattle.wat_tokens.specs.Tests.{begins_lparen};
 ghost use Rattle.wat_tokens.specs.Views.{plain, owning};
 
 use crate::custom_place::CustomPlace;
@@ -24,19 +23,12 @@ pub struct RawCustomSection<'a> {
     pub data: Vec<&'a [u8]>,
 }
 
-/// Whether a `(` is in front.
-fn lparen_next(parser: &Parser<'_>) -> bool
-    ensures { result ≡ begins_lparen parser.now.left }
-{
-    parser.cursor().lparen().is_some()
-}
-
 /// `( place )`, where a `(` is in front; else behind the last section.
 #[tactic(auto, unfolding(crate::specs::Raw::raw_place))]
 fn read_place<'a>(parser: &mut Parser<'a>) -> Result<CustomPlace>
     ensures reads { Reads (plain (λ p. p)) raw_place result parser.old parser.new }
 {
-    if !lparen_next(parser) {
+    if !parser.opens() {
         return Ok(CustomPlace::AfterLast);
     }
     parser.open()?;

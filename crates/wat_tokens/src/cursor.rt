@@ -30,7 +30,7 @@ impl<'p> Cursor<'p> {
     ghost use Rattle.wat_tokens.specs.Lookup.{in_front, NextIs, GivesRest, GivesContent};
     ghost use Rattle.wat_tokens.specs.Tests.{as_any, as_lparen, as_rparen, as_keyword, as_id};
     ghost use Rattle.wat_tokens.specs.Tests.{as_annotation, as_integer, as_string};
-    ghost use Rattle.wat_tokens.specs.Tests.{begins_word, begins_group};
+    ghost use Rattle.wat_tokens.specs.Tests.{begins_word, begins_group, begins_annotation};
 
     /// The place behind so many of the tokens, of which the next is visible; `known` says whether
     /// the five standard annotations are.
@@ -188,6 +188,19 @@ impl<'p> Cursor<'p> {
     {
         match self.lparen() {
             Some(inside) => inside.keyword_is(word),
+            None => false,
+        }
+    }
+
+    /// Whether a group that begins with the annotation of the name, given without its `@`, is there.
+    pub fn annotation_is(self, name: &str) -> bool
+        ensures { result ≡ begins_annotation name.now (in_front self.entry) }
+    {
+        match self.lparen() {
+            Some(inside) => match inside.annotation() {
+                Some((text, _)) => text == name,
+                None => false,
+            },
             None => false,
         }
     }

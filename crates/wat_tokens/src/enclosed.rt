@@ -1,11 +1,11 @@
-//! A value in a group of its own, and two values one behind the other.
+//! A value in a group of its own, behind a keyword or not, and two values one behind the other.
 //!
 //! A body that holds a value of a large type over a call that may refuse is proved slowly, since
 //! the value is dropped where that call refuses. Here the types are parameters.
 
 ghost use Rattle.wat_tokens.specs.Cost.{dearer};
-ghost use Rattle.wat_tokens.specs.Groups.{paren};
-ghost use Rattle.wat_tokens.specs.Parts.{seq};
+ghost use Rattle.wat_tokens.specs.Groups.{group, paren};
+ghost use Rattle.wat_tokens.specs.Parts.{after_word, seq};
 ghost use Rattle.wat_tokens.specs.Reads.{ReadsAt};
 ghost use Rattle.wat_tokens.specs.Views.{paired, holding};
 
@@ -18,6 +18,29 @@ pub fn in_parens<'a, T: Parse<'a> + Drop>(parser: &mut Parser<'a>) -> Result<T, 
     ensures reads { ReadsAt T.cost T.view (paren T.grammar) result parser.old parser.new }
 {
     parser.open()?;
+    let value = T::parse(parser)?;
+    parser.close()?;
+    Ok(value)
+}
+
+/// A value behind a keyword.
+pub fn behind<'a, T: Parse<'a>>(parser: &mut Parser<'a>, word: &str) -> Result<T, Error>
+    ensures reads { ReadsAt T.cost T.view (after_word word.now T.grammar) result parser.old
+        parser.new }
+{
+    parser.keyword(word)?;
+    T::parse(parser)
+}
+
+/// A value behind a keyword, in a group of its own: `( word T )`.
+pub fn in_word_group<'a, T: Parse<'a> + Drop>(
+    parser: &mut Parser<'a>,
+    word: &str,
+) -> Result<T, Error>
+    ensures reads { ReadsAt T.cost T.view (group word.now T.grammar) result parser.old parser.new }
+{
+    parser.open()?;
+    parser.keyword(word)?;
     let value = T::parse(parser)?;
     parser.close()?;
     Ok(value)

@@ -41,13 +41,7 @@ impl<'p> Peek for NameAnnotation<'p> {
     fn peek(cursor: Cursor<'_>) -> bool
         ensures { result ≡ begins_name (in_front cursor.entry) }
     {
-        match cursor.lparen() {
-            Some(inside) => match inside.annotation() {
-                Some((name, _)) => name == "name",
-                None => false,
-            },
-            None => false,
-        }
+        cursor.annotation_is("name")
     }
 
     fn display() -> &'static str {

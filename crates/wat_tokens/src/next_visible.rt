@@ -1,10 +1,9 @@
 //! Where the token in front stands.
 
-ghost use Rattle.std.specs.Prelude.{◌≡◌, ◌≤◌, ◌+◌, length, drop};
-ghost use Rattle.wat_lexer.specs.Sight.{hidden_count, visible_tokens};
-ghost use Rattle.wat_lexer.specs.View.{toks, AreSkips, VisibleFrom};
+ghost use Rattle.std.specs.Prelude.{◌≤◌, length};
+ghost use Rattle.wat_lexer.specs.View.{AreSkips, IsNextVisible};
 
-use wat_lexer::sight;
+use wat_lexer::hidden;
 use wat_lexer::tokens::Tokens;
 
 /// The place of the first token from a place on that is visible. It is that place, unless the token
@@ -14,13 +13,7 @@ use wat_lexer::tokens::Tokens;
 pub(crate) fn next_visible(tokens: &Tokens, at: usize, known: bool) -> usize
     requires within { at ≤ length tokens.now }
     requires skips { AreSkips tokens.now }
-    ensures value { result ≡ at + hidden_count known (toks (drop at tokens.now)) }
-    ensures within { result ≤ length tokens.now }
-    ensures first { VisibleFrom known (drop result tokens.now) (visible_tokens known (toks
-        (drop at tokens.now))) }
-    ensures same { visible_tokens known (toks (drop result tokens.now)) ≡ visible_tokens known
-        (toks (drop at tokens.now)) }
-    ensures stops { hidden_count known (toks (drop result tokens.now)) ≡ 0 }
+    ensures { IsNextVisible known at tokens.now result }
 {
     let count = tokens.len();
     if at + 1 < count && tokens.annotates(at + 1) {
@@ -36,13 +29,7 @@ pub(crate) fn next_visible(tokens: &Tokens, at: usize, known: bool) -> usize
 fn behind_hidden(tokens: &Tokens, at: usize, known: bool) -> usize
     requires within { at ≤ length tokens.now }
     requires skips { AreSkips tokens.now }
-    ensures value { result ≡ at + hidden_count known (toks (drop at tokens.now)) }
-    ensures within { result ≤ length tokens.now }
-    ensures first { VisibleFrom known (drop result tokens.now) (visible_tokens known (toks
-        (drop at tokens.now))) }
-    ensures same { visible_tokens known (toks (drop result tokens.now)) ≡ visible_tokens known
-        (toks (drop at tokens.now)) }
-    ensures stops { hidden_count known (toks (drop result tokens.now)) ≡ 0 }
+    ensures { IsNextVisible known at tokens.now result }
 {
-    sight::next_visible(tokens, at, known)
+    hidden::next_visible(tokens, at, known)
 }

@@ -17,7 +17,8 @@ ghost use Rattle.wat_tokens.specs.Reads.{Reads, Takes, Unmoved, BehindOne};
 ghost use Rattle.wat_tokens.specs.State.{begun, IsFresh};
 ghost use Rattle.wat_tokens.specs.Tests.{as_lparen, as_rparen, as_keyword, as_id, as_integer};
 ghost use Rattle.wat_tokens.specs.Tests.{as_string, word_only, annotation_only, begins_word};
-ghost use Rattle.wat_tokens.specs.Tests.{begins_group, begins_annotation, none_left, ends, second};
+ghost use Rattle.wat_tokens.specs.Tests.{begins_lparen, begins_group, begins_annotation, none_left, ends};
+ghost use Rattle.wat_tokens.specs.Tests.{second};
 ghost use Rattle.wat_tokens.specs.Views.{plain};
 
 use crate::counter::Counter;
@@ -295,13 +296,7 @@ impl<'a> Parser<'a> {
     pub fn annotation_is(&self, name: &str) -> bool
         ensures { result ≡ begins_annotation name.now self.now.left }
     {
-        match self.cursor().lparen() {
-            Some(inside) => match inside.annotation() {
-                Some((text, _)) => text == name,
-                None => false,
-            },
-            None => false,
-        }
+        self.cursor().annotation_is(name)
     }
 
     /// The token in front.
@@ -317,9 +312,17 @@ impl<'a> Parser<'a> {
         }
     }
 
-    /// Whether a `(` is in front. No more is read of the token than its kind.
+    /// Whether a `(` is in front.
+    #[inline(always)]
+    pub fn opens(&self) -> bool
+        ensures { result ≡ begins_lparen self.now.left }
+    {
+        self.cursor().lparen().is_some()
+    }
+
+    /// The same, as a call that takes it needs it.
     #[tactic(auto, using(crate::proofs::Steps::paren_steps, wat_lexer::specs::Laws::VisibleFrom::visible_some, wat_lexer::specs::Laws::VisibleFrom::visible_none))]
-    fn opens(&self) -> bool
+    fn at_lparen(&self) -> bool
         ensures { MatchBool result (self.now.left ≡ LParen ∷ drop 1 self.now.left)
             (one_reads as_lparen self.now.left ≡ None) }
     {
@@ -328,7 +331,7 @@ impl<'a> Parser<'a> {
 
     /// Whether a `)` is in front. No more is read of the token than its kind.
     #[tactic(auto, using(crate::proofs::Steps::paren_steps, wat_lexer::specs::Laws::VisibleFrom::visible_some, wat_lexer::specs::Laws::VisibleFrom::visible_none))]
-    fn closes(&self) -> bool
+    fn at_rparen(&self) -> bool
         ensures { MatchBool result (self.now.left ≡ RParen ∷ drop 1 self.now.left)
             (one_reads as_rparen self.now.left ≡ None) }
     {
@@ -373,7 +376,7 @@ impl<'a> Parser<'a> {
         ensures refused { Unmoved result self.old self.new }
         ensures position { BehindOne result self.old self.new }
     {
-        if !self.opens() {
+        if !self.at_lparen() {
             return Err(self.unexpected());
         }
         self.step();
@@ -386,7 +389,7 @@ impl<'a> Parser<'a> {
         ensures refused { Unmoved result self.old self.new }
         ensures position { BehindOne result self.old self.new }
     {
-        if !self.closes() {
+        if !self.at_rparen() {
             return Err(self.unexpected());
         }
         self.step();

@@ -15,9 +15,9 @@ ghost use Rattle.wat_types.specs.Define.{grouped_type, types_view};
 ghost use Rattle.wat_types.specs.Recursion.{types, rec_view, rec};
 
 use crate::function::FunctionType;
-use crate::groups::{behind, take_label};
+use crate::label::take_label;
 use crate::structure::{ArrayType, StructType};
-use wat_tokens::enclosed::in_parens;
+use wat_tokens::enclosed::{behind, in_parens};
 use wat_tokens::repeat::{Part, parts, while_begun};
 use wat_tokens::{Cursor, Id, Index, NameAnnotation, Parse, Parser, Peek, Result, Span};
 

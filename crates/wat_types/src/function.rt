@@ -19,7 +19,7 @@ ghost use Rattle.wat_types.specs.Group.{group_follows, begins_func, val_types};
 ghost use Rattle.wat_types.specs.Group.{param as in_param, result as in_result};
 ghost use Rattle.wat_types.specs.Order.{add};
 
-use crate::groups::take_label;
+use crate::label::take_label;
 use crate::value::ValType;
 use std::alloc::Global;
 use wat_tokens::repeat::{Part, parts, rest_of_group};

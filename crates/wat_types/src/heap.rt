@@ -6,7 +6,7 @@ ghost use Rattle.wat_tokens.specs.Views.{plain};
 ghost use Rattle.wat_types.specs.Heap.{abstract_words, abstract_heap_type, begins_abstract};
 ghost use Rattle.wat_types.specs.Heap.{heap_type, HeapTy, heap_view, begins_heap};
 
-use crate::groups::{in_word_group, opens};
+use wat_tokens::enclosed::in_word_group;
 use wat_tokens::words::{NamedByKeyword, begins_named, take_named};
 use wat_tokens::{Cursor, Index, Parse, Parser, Peek, Result};
 
@@ -127,7 +127,7 @@ impl<'a> Parse<'a> for HeapType<'a> {
         if parser.peek::<Index>() {
             return Index::parse(parser).map(HeapType::Concrete);
         }
-        if !opens(parser) {
+        if !parser.opens() {
             return Ok(HeapType::Abstract {
                 shared: false,
                 ty: AbstractHeapType::parse(parser)?,

@@ -6,8 +6,8 @@
 
 pub mod define;
 pub mod function;
-mod groups;
 pub mod heap;
+mod label;
 pub mod laws;
 pub mod limits;
 pub mod reference;
@@ -19,8 +19,8 @@ pub mod value;
 
 pub use define::{ContType, InnerTypeKind, Rec, Type, TypeDef};
 pub use function::{FunctionType, FunctionTypeNoNames};
-pub use groups::take_label;
 pub use heap::{AbstractHeapType, HeapType};
+pub use label::take_label;
 pub use limits::{Limits, MemoryType, TableType, page_size};
 pub use reference::RefType;
 pub use storage::{GlobalType, StorageType};

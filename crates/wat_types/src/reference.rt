@@ -8,8 +8,8 @@ ghost use Rattle.wat_types.specs.Reference.{RefTy, ref_type, ref_view, shorthand
 ghost use Rattle.wat_types.specs.Reference.{begins_shorthand, begins_long_ref, begins_ref};
 ghost use Rattle.wat_types.specs.Reference.{nullable_ref, shared_ref};
 
-use crate::groups::{in_word_group, opens};
 use crate::heap::{AbstractHeapType, HeapType};
+use wat_tokens::enclosed::in_word_group;
 use wat_tokens::{Cursor, Error, Fault, Parse, Parser, Peek, Result};
 
 /// A reference type (Text Format, Types, "Reference Types").
@@ -249,7 +249,7 @@ impl<'a> Parse<'a> for RefType<'a> {
 
     #[tactic(auto, using(crate::proofs::NoGroup::shared_ref), unfolding(crate::specs::Reference::ref_type))]
     fn parse(parser: &mut Parser<'a>) -> Result<Self> {
-        if !opens(parser) {
+        if !parser.opens() {
             return Ok(RefType::nullable(Shorthand::parse(parser)?.0));
         }
         if parser.group_is("ref") {

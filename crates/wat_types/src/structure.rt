@@ -12,8 +12,9 @@ ghost use Rattle.wat_types.specs.Struct.{plain_member, members, member_group, st
 ghost use Rattle.wat_types.specs.FieldType.{FieldTy, field_type};
 ghost use Rattle.wat_types.specs.StructType.{struct_type};
 
-use crate::groups::{in_word_group, take_label};
+use crate::label::take_label;
 use crate::storage::StorageType;
+use wat_tokens::enclosed::in_word_group;
 use wat_tokens::repeat::{Group, Part, groups, parts};
 use wat_tokens::{Fault, Id, NameAnnotation, Parse, Parser, Result};
 

@@ -8,7 +8,7 @@ ghost use Rattle.wat_types.specs.Use.{UseTy, use_view, bare_use, type_use, SameF
 ghost use Rattle.wat_types.specs.Use.{SameUnnamed, SameUse, with_names};
 
 use crate::function::{FunctionType, FunctionTypeNoNames};
-use crate::groups::in_word_group;
+use wat_tokens::enclosed::in_word_group;
 use wat_tokens::{Fault, Index, Parse, Parser, Peek, Result};
 
 /// A use of a type (WebAssembly Core Specification, Text Format, "Type Uses"): its index, the type

@@ -1,0 +1,19 @@
+//! Labels: an identifier and a name.
+
+ghost use Rattle.wat_tokens.specs.Reads.{Reads};
+ghost use Rattle.wat_tokens.specs.Views.{plain};
+ghost use Rattle.wat_types.specs.Label.{label, label_view};
+
+use wat_tokens::{Id, NameAnnotation, Parse, Parser, Result};
+
+/// An identifier and a name, each there or not: `id? name?`.
+#[tactic(auto, unfolding(crate::specs::Label::label))]
+pub fn take_label<'a>(
+    parser: &mut Parser<'a>,
+) -> Result<(Option<Id<'a>>, Option<NameAnnotation<'a>>)>
+    ensures reads { Reads (plain (λ l. label_view l.0 l.1)) label result parser.old parser.new }
+{
+    let id = Option::<Id>::parse(parser)?;
+    let name = Option::<NameAnnotation>::parse(parser)?;
+    Ok((id, name))
+}
