@@ -27,8 +27,8 @@ pub use wrong_fields::{FieldFaults, field_faults, module_faults};
 
 // The parser, its tokens and its faults.
 pub use wat_tokens::{
-    Cursor, Error, Fault, Parse, Parser, Peek, Result, Span, Token, kw, one_cut, one_outcome,
-    ownership, repeat, whole,
+    Cursor, Error, Fault, Parse, Parser, Peek, Result, Span, Token, enclosed, kw, one_cut,
+    one_outcome, ownership, repeat,
 };
 
 // What is read everywhere: names, indices, numbers.

@@ -4,7 +4,7 @@ use Rattle.std.specs.Prelude.{length, slice_index, slice_range, drop, if◌then�
 use Rattle.std.specs.List.{prefix_len}
 use Rattle.std.specs.Str.{chars}
 use Rattle.wat_lexer.specs.Bytes.{between, is_line_end}
-use Rattle.wat_report.specs.declared.lines.Place.{Place}
+use Rattle.wat_report.specs.declared.lines.LineColumn.{LineColumn}
 
 -- how many of the numbers up to n pass the test
 unfoldable pub count_up_to : (ℕ → Bool) → ℕ → ℕ
@@ -41,14 +41,14 @@ line_stop text start = start + prefix_len (λ b. not (is_line_end b)) (drop star
 
 -- The line is how many lines begin up to the character. The column is one more than there are
 -- characters from the beginning of the last of these lines up to the character.
-abbrev pub place_of_char : List ℕ → ℕ → Place
+abbrev pub place_of_char : List ℕ → ℕ → LineColumn
 place_of_char text at = record {
   line = count_up_to (begins_line text) at;
   column = length (chars (slice_range text (line_start text at) at)) + 1;
 }
 
 -- the place of an offset is that of the character that holds it
-abbrev pub place_of_offset : List ℕ → ℕ → Place
+abbrev pub place_of_offset : List ℕ → ℕ → LineColumn
 place_of_offset text offset = place_of_char text (char_start text offset)
 
 -- the line that begins there, without what ends it

@@ -10,10 +10,10 @@ use Rattle.wat_report.specs.Places.{char_start, place_of_char}
 use Rattle.wat_report.specs.Rules.{names_token, rule_text}
 use Rattle.wat_report.specs.Shown.{shown_line}
 use Rattle.wat_report.specs.declared.front.Groups.{Groups}
-use Rattle.wat_report.specs.declared.lines.Place.{Place}
+use Rattle.wat_report.specs.declared.lines.LineColumn.{LineColumn}
 
 -- `NAME:LINE:COLUMN: error: `
-abbrev pub heading_text : List ℕ → Place → List ℕ
+abbrev pub heading_text : List ℕ → LineColumn → List ℕ
 heading_text name p =
     name ++ (codes ":" ++ (decimal p.line
     ++ (codes ":" ++ (decimal p.column ++ codes ": error: "))))

@@ -24,6 +24,6 @@ mod rules;
 mod write;
 
 pub use bytes::text_or_report;
-pub use lines::{Place, line_at, line_column};
+pub use lines::{LineColumn, line_at, line_column};
 pub use nearest::nearest_mnemonics;
 pub use report::add_report;

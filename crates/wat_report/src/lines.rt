@@ -8,7 +8,7 @@ ghost use Rattle.wat_report.specs.Places.{place_of_char, place_of_offset};
 
 /// A place in a text as a person counts it.
 #[derive(Clone, Copy, Debug, PartialEq, Eq, Hash)]
-pub struct Place {
+pub struct LineColumn {
     /// The number of the line, from 1. A line ends at LF, at CR LF, or at a CR alone.
     pub line: usize,
     /// The number of the character in its line, from 1. A character is a Unicode scalar value.
@@ -99,7 +99,7 @@ pub(crate) fn line_stop(text: &str, start: usize) -> usize
 }
 
 /// The line and the column of the character that begins at the offset.
-pub(crate) fn place_of_char(text: &str, at: usize) -> Place
+pub(crate) fn place_of_char(text: &str, at: usize) -> LineColumn
     requires within { at ≤ length text.now }
     requires boundary { IsCharBoundary text.now at }
     ensures { result ≡ place_of_char text.now at }
@@ -107,14 +107,14 @@ pub(crate) fn place_of_char(text: &str, at: usize) -> Place
     let start = line_start(text, at);
     let line = line_number(text.as_bytes(), at);
     let column = text[start..at].chars().count() + 1;
-    Place { line, column }
+    LineColumn { line, column }
 }
 
 /// The line and the column of an offset in bytes.
 ///
 /// Both count from 1, and the column counts characters. An offset inside a character is that of the
 /// character, and an offset behind the text's end is that of its end. A CR LF ends one line.
-pub fn line_column(text: &str, offset: usize) -> Place
+pub fn line_column(text: &str, offset: usize) -> LineColumn
     ensures { result ≡ place_of_offset text.now offset }
 {
     place_of_char(text, char_start(text, offset))

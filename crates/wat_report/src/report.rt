@@ -10,14 +10,18 @@ use crate::caret::add_line;
 use crate::found::{add_found, is_word_at};
 use crate::front::{Groups, groups_of};
 use crate::hint_line::add_hint;
-use crate::lines::{Place, char_start, place_of_char};
+use crate::lines::{LineColumn, char_start, place_of_char};
 use crate::rules::{names_token, rule};
 use crate::write::{add, add_number};
 use std::alloc::AllocError;
 use wat_tokens::{Error, Fault};
 
 /// Adds the name, the line and the column.
-pub(crate) fn add_heading(out: &mut Vec<u8>, name: &str, place: Place) -> Result<(), AllocError>
+pub(crate) fn add_heading(
+    out: &mut Vec<u8>,
+    name: &str,
+    place: LineColumn,
+) -> Result<(), AllocError>
     ensures { OnOk result (out.new.items ≡ out.old.items ++ heading_text name.now place) }
 {
     add(out, name)?;

@@ -3,10 +3,10 @@ use Rattle.std.specs.Prelude.{slice_range}
 use Rattle.std.specs.Str.{chars}
 use Rattle.std.proofs.lemmas.Str.{chars_from_encodes}
 use Rattle.wat_report.specs.Places.{begins_line, count_up_to, line_start, place_of_char}
-use Rattle.wat_report.specs.declared.lines.Place.{Place}
+use Rattle.wat_report.specs.declared.lines.LineColumn.{LineColumn}
 use Rattle.wat_report.proofs.lines.place_of_char.Goals as goal
 
-placed : (text piece : List ℕ) (at start line column : ℕ) → start ≡ line_start text at → line ≡ count_up_to (begins_line text) at → piece ≡ slice_range text start at → column ≡ length (chars piece) → ◌≡◌ {A = Place} (record { line = line; column = column + 1 }) (place_of_char text at)
+placed : (text piece : List ℕ) (at start line column : ℕ) → start ≡ line_start text at → line ≡ count_up_to (begins_line text) at → piece ≡ slice_range text start at → column ≡ length (chars piece) → ◌≡◌ {A = LineColumn} (record { line = line; column = column + 1 }) (place_of_char text at)
 placed text piece at start line column s l p n = rw (n, p, l, s)
 
 pub returns : goal.returns
