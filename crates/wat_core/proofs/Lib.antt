@@ -1,4 +1,4 @@
-pub mod Enclosed
+pub mod InTheGroup
 pub mod Ends
 pub mod Fields
 pub mod Heads

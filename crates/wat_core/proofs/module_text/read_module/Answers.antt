@@ -1,7 +1,7 @@
 use Rattle.std.proofs.Common.{◌≡◌, [], ◌∷◌, rules}
 use Rattle.wat_core.specs.Module.{ModuleTy, module_view}
 use Rattle.wat_core.specs.Text.{SpellsModule}
-use Rattle.wat_core.proofs.Enclosed.{opened, module_found, module_stands, module_closes, passed_on, passed_only}
+use Rattle.wat_core.proofs.InTheGroup.{opened, module_found, module_stands, module_closes, passed_on, passed_only}
 use Rattle.wat_tokens.specs.Error.{Memory}
 use Rattle.wat_tokens.specs.Token.{RParen}
 use Rattle.wat_core.proofs.module_text.read_module.Goals as goal
