@@ -5,7 +5,7 @@ use Rattle.wat_lexer.specs.Cut.{IsCut}
 use Rattle.wat_lexer.specs.Sight.{visible_tokens}
 use Rattle.wat_lexer.specs.Token.{Tok, Placed, tokens_of}
 use Rattle.wat_tokens.specs.Production.{Production}
-use Rattle.wat_print.specs.Neat.{Neat, is_given}
+use Rattle.wat_print.specs.WellFormed.{WellFormed, is_given}
 use Rattle.wat_print.specs.Parts.{each}
 use Rattle.wat_print.specs.declared.output.Layout.{Layout}
 use Rattle.wat_print.specs.declared.output.Layout.TheVariants.{Line, Indented}
@@ -23,12 +23,12 @@ NoneSpells g v =
 
 -- How values of a production are printed.
 -- spell: the tokens that are written of a value
--- fit: whether it can be written
+-- printable: whether it can be written
 -- The facts say that what is written can be cut again, that it spells the value, and that each
 -- value which tokens of a text spell can be written.
 pub record Printing {A : Type 0} (g : Production A) : Type 0 where
   pub spell : A → List Tok
-  pub fit : A → Bool
-  pub neat : (v : A) → fit v ≡ true → Neat (spell v)
-  pub spells : (v : A) → fit v ≡ true → g.spells v (spell v) []
-  pub only : (v : A) (c r : List Tok) → each is_given c ≡ true → g.spells v c r → fit v ≡ true
+  pub printable : A → Bool
+  pub well_formed : (v : A) → printable v ≡ true → WellFormed (spell v)
+  pub spells : (v : A) → printable v ≡ true → g.spells v (spell v) []
+  pub only : (v : A) (c r : List Tok) → each is_given c ≡ true → g.spells v c r → printable v ≡ true

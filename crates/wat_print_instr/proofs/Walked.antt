@@ -12,10 +12,10 @@ use Rattle.wat_print.specs.Parts.{each, spell_option}
 use Rattle.wat_print.specs.Text.{Page}
 use Rattle.wat_print.specs.Laws.Parts.{each_both}
 use Rattle.wat_print.specs.Laws.Written.{puts_both, puts_put}
-use Rattle.wat_print_instr.specs.ExpressionForm.{HintedInstr, step_of, spell_step, fit_step}
+use Rattle.wat_print_instr.specs.ExpressionForm.{HintedInstr, step_of, spell_step, printable_step}
 use Rattle.wat_print_instr.specs.ExpressionForm.{steps_from}
 use Rattle.wat_print_instr.specs.ExpressionForm.{hint_for, hints_after, spell_expression}
-use Rattle.wat_print_instr.specs.ExpressionForm.{fit_expression}
+use Rattle.wat_print_instr.specs.ExpressionForm.{printable_expression}
 use Rattle.wat_print_instr.specs.InstructionForm.{passes}
 
 -- From p to q the steps before the index b were written, and what is left of the instructions and
@@ -26,7 +26,7 @@ pub record Walked (is : List Instr) (hs : List (ℕ × ℕ)) (b : ℕ) (left : L
   pub goes : steps_from 0 is hs
       ≡ option_map (λ xs. done ++ xs) (steps_from b (drop b is) left)
   pub written : Writes (flat_map spell_step done) p q
-  pub fits : each fit_step done ≡ true
+  pub fits : each printable_step done ≡ true
 
 same_option : (o : Option (List HintedInstr)) → o ≡ option_map (λ xs. [] ++ xs) o
 same_option (Some xs) = refl
@@ -66,7 +66,7 @@ map_twice x done None = refl
 pub walk_goes : (is : List Instr) (hs : List (ℕ × ℕ)) (b : ℕ) (left : List (ℕ × ℕ)) (i : Instr)
     (p q s : Page) → drop b is ≡ i ∷ drop (b + 1) is → Walked is hs b left p q
     → Writes (spell_step (step_of (hint_for b left) i)) q s
-    → fit_step (step_of (hint_for b left) i) ≡ true
+    → printable_step (step_of (hint_for b left) i) ≡ true
     → Walked is hs (b + 1) (hints_after b left) p s
 walk_goes is hs b left i p q s e w v f =
     let x = step_of (hint_for b left) i in record {
@@ -80,7 +80,7 @@ walk_goes is hs b left i p q s e w v f =
           (sym (flat_map-append spell_step w.done (x ∷ [])
           ∙ ap (λ (l : List Tok). flat_map spell_step w.done ++ l) (append-nil (spell_step x))))
           (puts_both (flat_map spell_step w.done) (spell_step x) p q s w.written v);
-      fits = each_both fit_step w.done (x ∷ []) w.fits (rw f refl);
+      fits = each_both printable_step w.done (x ∷ []) w.fits (rw f refl);
     }
 
 -- ---- where it ends
@@ -93,11 +93,11 @@ all_steps is hs b p q e w =
 -- what was found is all, and it can be written
 pub walk_fits : (is : List Instr) (hs : List (ℕ × ℕ)) (b : ℕ) (p q : Page) → drop b is ≡ []
     → Walked is hs b [] p q
-    → fit_expression (record { instrs = is; hints = hs }) ≡ true
+    → printable_expression (record { instrs = is; hints = hs }) ≡ true
 walk_fits is hs b p q e w =
-    subst (λ (o : Option (List HintedInstr)). passes (each fit_step) o ≡ true)
+    subst (λ (o : Option (List HintedInstr)). passes (each printable_step) o ≡ true)
     (sym (all_steps is hs b p q e w))
-    (subst (λ (l : List HintedInstr). each fit_step l ≡ true) (sym (append-nil w.done)) w.fits)
+    (subst (λ (l : List HintedInstr). each printable_step l ≡ true) (sym (append-nil w.done)) w.fits)
 
 pub walk_written : (is : List Instr) (hs : List (ℕ × ℕ)) (b : ℕ) (p q : Page) → drop b is ≡ []
     → Walked is hs b [] p q
@@ -111,9 +111,9 @@ walk_written is hs b p q e w =
 -- a hint is left
 pub walk_left : (is : List Instr) (hs : List (ℕ × ℕ)) (b : ℕ) (h : ℕ × ℕ) (left : List (ℕ × ℕ))
     (p q : Page) → drop b is ≡ [] → Walked is hs b (h ∷ left) p q
-    → fit_expression (record { instrs = is; hints = hs }) ≡ false
+    → printable_expression (record { instrs = is; hints = hs }) ≡ false
 walk_left is hs b h left p q e w =
-    subst (λ (o : Option (List HintedInstr)). passes (each fit_step) o ≡ false)
+    subst (λ (o : Option (List HintedInstr)). passes (each printable_step) o ≡ false)
     (sym (w.goes ∙ ap (λ (l : List Instr). option_map (λ xs. w.done ++ xs)
     (steps_from b l (h ∷ left))) e)) refl
 
@@ -121,15 +121,15 @@ after : (a b : Bool) → b ≡ false → a && b ≡ false
 after true b e = e
 after false b e = refl
 
-not_all : (done : List HintedInstr) (x : HintedInstr) (xs : List HintedInstr) → fit_step x ≡ false
-    → each fit_step (done ++ x ∷ xs) ≡ false
+not_all : (done : List HintedInstr) (x : HintedInstr) (xs : List HintedInstr) → printable_step x ≡ false
+    → each printable_step (done ++ x ∷ xs) ≡ false
 not_all [] x xs f = rw f refl
 not_all (d ∷ done) x xs f =
-    after (fit_step d) (each fit_step (done ++ x ∷ xs)) (not_all done x xs f)
+    after (printable_step d) (each printable_step (done ++ x ∷ xs)) (not_all done x xs f)
 
 not_passed : (done : List HintedInstr) (x : HintedInstr) (o : Option (List HintedInstr))
-    → fit_step x ≡ false
-    → passes (each fit_step)
+    → printable_step x ≡ false
+    → passes (each printable_step)
     (option_map (λ xs. done ++ xs) (option_map (λ xs. x ∷ xs) o)) ≡ false
 not_passed done x (Some xs) f = not_all done x xs f
 not_passed done x None f = refl
@@ -137,10 +137,10 @@ not_passed done x None f = refl
 -- one of the steps can't be written
 pub walk_stops : (is : List Instr) (hs : List (ℕ × ℕ)) (b : ℕ) (left : List (ℕ × ℕ)) (i : Instr)
     (p q : Page) → drop b is ≡ i ∷ drop (b + 1) is → Walked is hs b left p q
-    → fit_step (step_of (hint_for b left) i) ≡ false
-    → fit_expression (record { instrs = is; hints = hs }) ≡ false
+    → printable_step (step_of (hint_for b left) i) ≡ false
+    → printable_expression (record { instrs = is; hints = hs }) ≡ false
 walk_stops is hs b left i p q e w f =
-    subst (λ (o : Option (List HintedInstr)). passes (each fit_step) o ≡ false)
+    subst (λ (o : Option (List HintedInstr)). passes (each printable_step) o ≡ false)
     (sym (w.goes
     ∙ ap (λ (l : List Instr). option_map (λ xs. w.done ++ xs) (steps_from b l left)) e
     ∙ ap (λ (o : Option (List HintedInstr)). option_map (λ xs. w.done ++ xs) o)

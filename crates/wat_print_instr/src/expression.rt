@@ -12,9 +12,14 @@ ghost use Rattle.wat_print.specs.Printed.{NoneSpells};
 ghost use Rattle.wat_print.specs.Text.{put, printed_text};
 ghost use Rattle.wat_print.specs.declared.fault.Refused.TheVariants.{Memory};
 ghost use Rattle.wat_print.specs.declared.output.Layout.TheVariants.{Line};
-ghost use Rattle.wat_print_instr.specs.ExpressionForm.{step_of, spell_hint, fit_hint, spell_step};
-ghost use Rattle.wat_print_instr.specs.ExpressionForm.{fit_step, hint_for, hints_after};
-ghost use Rattle.wat_print_instr.specs.ExpressionForm.{spell_expression, fit_expression};
+ghost use Rattle.wat_print_instr.specs.ExpressionForm.{
+  step_of,
+  spell_hint,
+  printable_hint,
+  spell_step,
+};
+ghost use Rattle.wat_print_instr.specs.ExpressionForm.{printable_step, hint_for, hints_after};
+ghost use Rattle.wat_print_instr.specs.ExpressionForm.{spell_expression, printable_expression};
 ghost use Rattle.wat_tokens.specs.Whole.{TextSpells};
 
 use crate::traits::PrintCode;
@@ -48,9 +53,10 @@ fn write_value(out: &mut Output, value: u8) -> Result<(), Refused>
 /// neither 0 nor 1, or the instruction neither `br_if` nor `if`.
 fn write_hint(out: &mut Output, hint: Option<u32>, instr: &Instruction) -> Result<(), Refused>
     ensures written { OnOk result (out.new ≡ put out.old (spell_option spell_hint hint)) }
-    ensures fit { OnOk result (if_some (fit_hint (instruction_view instr.now)) hint ≡ true) }
+    ensures printable { OnOk result (if_some (printable_hint (instruction_view instr.now)) hint ≡
+        true) }
     ensures refused { IfErr result (λ e. e ≢ Memory
-        → if_some (fit_hint (instruction_view instr.now)) hint ≡ false) }
+        → if_some (printable_hint (instruction_view instr.now)) hint ≡ false) }
 {
     match hint {
         None => Ok(()),
@@ -117,9 +123,10 @@ fn write_step(
 ) -> Result<(), Refused>
     ensures written { OnOk result
         (Writes (spell_step (step_of hint (instruction_view instr.now))) out.old out.new) }
-    ensures fit { OnOk result (fit_step (step_of hint (instruction_view instr.now)) ≡ true) }
+    ensures printable { OnOk result (printable_step (step_of hint (instruction_view instr.now)) ≡
+        true) }
     ensures refused { IfErr result (λ e. e ≢ Memory
-        → fit_step (step_of hint (instruction_view instr.now)) ≡ false) }
+        → printable_step (step_of hint (instruction_view instr.now)) ≡ false) }
 {
     let op = instr.op();
     begin_step(out, op, on_lines)?;
@@ -153,11 +160,11 @@ fn write_steps(
       instrs = map instruction_view instrs.now;
       hints = map hint_view hints.now;
     })) out.old out.new) }
-    ensures fit { OnOk result (fit_expression (record {
+    ensures printable { OnOk result (printable_expression (record {
       instrs = map instruction_view instrs.now;
       hints = map hint_view hints.now;
     }) ≡ true) }
-    ensures refused { IfErr result (λ e. e ≢ Memory → fit_expression (record {
+    ensures refused { IfErr result (λ e. e ≢ Memory → printable_expression (record {
       instrs = map instruction_view instrs.now;
       hints = map hint_view hints.now;
     }) ≡ false) }
@@ -181,9 +188,9 @@ fn write_steps(
 pub fn write_expression(out: &mut Output, value: &Expression) -> Result<(), Refused>
     ensures written { OnOk result
         (Writes (spell_expression (expression_view value.now)) out.old out.new) }
-    ensures fit { OnOk result (fit_expression (expression_view value.now) ≡ true) }
+    ensures printable { OnOk result (printable_expression (expression_view value.now) ≡ true) }
     ensures refused { IfErr result (λ e. e ≢ Memory
-        → fit_expression (expression_view value.now) ≡ false) }
+        → printable_expression (expression_view value.now) ≡ false) }
 {
     write_steps(out, &value.instrs, &value.branch_hints, true)?;
     out.leave_all();
@@ -195,9 +202,9 @@ pub fn write_expression(out: &mut Output, value: &Expression) -> Result<(), Refu
 pub fn write_constant(out: &mut Output, value: &Expression) -> Result<(), Refused>
     ensures written { OnOk result
         (Writes (spell_expression (expression_view value.now)) out.old out.new) }
-    ensures fit { OnOk result (fit_expression (expression_view value.now) ≡ true) }
+    ensures printable { OnOk result (printable_expression (expression_view value.now) ≡ true) }
     ensures refused { IfErr result (λ e. e ≢ Memory
-        → fit_expression (expression_view value.now) ≡ false) }
+        → printable_expression (expression_view value.now) ≡ false) }
 {
     let on_lines = value.instrs.len() != 1;
     write_steps(out, &value.instrs, &value.branch_hints, on_lines)?;

@@ -29,9 +29,9 @@ pub trait PrintCode {
     /// can be only with Memory. What was written before a refusal stays.
     fn write(&self, out: &mut Output) -> Result<(), Refused>
         ensures written { OnOk result (out.new ≡ put out.old (printing.spell (view self.now))) }
-        ensures fit { OnOk result (printing.fit (view self.now) ≡ true) }
+        ensures printable { OnOk result (printing.printable (view self.now) ≡ true) }
         ensures refused { IfErr result (λ e. e ≢ Memory
-            → printing.fit (view self.now) ≡ false) };
+            → printing.printable (view self.now) ≡ false) };
 }
 
 /// A value as [`wat_print::print`] takes it.
@@ -55,10 +55,11 @@ impl<T: PrintCode> Print for Code<'_, T> {
 
 /// Writes values, one behind the other.
 pub fn write_each<T: PrintCode>(out: &mut Output, values: &[T]) -> Result<(), Refused>
-    ensures wrote { OnOk result (Wrote T.view T.printing.spell T.printing.fit values.now out.old
+    ensures wrote { OnOk result (Wrote T.view T.printing.spell T.printing.printable values.now
+        out.old
         out.new) }
     ensures refused { IfErr result (λ e. e ≢ Memory
-        → each T.printing.fit (map T.view values.now) ≡ false) }
+        → each T.printing.printable (map T.view values.now) ≡ false) }
 {
     for value in values {
         value.write(out)?;

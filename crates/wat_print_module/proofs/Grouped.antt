@@ -38,11 +38,11 @@ pub puts_broken : (n : ℕ) (ts : List Tok) (a b c : Page) → b ≡ broken n a 
 puts_broken n ts a b c e w = puts_both [] ts a b c (puts_line n a b e) w
 
 -- one value more, of those in which it stands
-pub wrote_next : {X A : Type 0} (view : X → A) (spell : A → List Tok) (fit : A → Bool)
+pub wrote_next : {X A : Type 0} (view : X → A) (spell : A → List Tok) (printable : A → Bool)
     (xs : List X) (i : ℕ) (x : X) (a b c : Page) → i < length xs → x ≡ get_or xs i x
-    → Wrote view spell fit (take i xs) a b → c ≡ put b (spell (view x)) → fit (view x) ≡ true
-    → Wrote view spell fit (take (i + 1) xs) a c
-wrote_next {X = X} view spell fit xs i x a b c lt s w e f =
-    wrote_more view spell fit xs i x a b c lt w
+    → Wrote view spell printable (take i xs) a b → c ≡ put b (spell (view x)) → printable (view x) ≡ true
+    → Wrote view spell printable (take (i + 1) xs) a c
+wrote_next {X = X} view spell printable xs i x a b c lt s w e f =
+    wrote_more view spell printable xs i x a b c lt w
     (subst (λ (y : X). c ≡ put b (spell (view y))) s e)
-    (subst (λ (y : X). fit (view y) ≡ true) s f)
+    (subst (λ (y : X). printable (view y) ≡ true) s f)

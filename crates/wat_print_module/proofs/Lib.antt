@@ -1,5 +1,5 @@
 pub mod Grouped
 mod OnLines
 mod Produced
-mod Unfit
+mod Unprintable
 mod Written

@@ -8,23 +8,23 @@ use Rattle.wat_fields.specs.Memory.{memory}
 use Rattle.wat_fields.specs.Table.{table}
 use Rattle.wat_print.specs.Printed.{Printing}
 use Rattle.wat_print.specs.Laws.Only.{only_paren}
-use Rattle.wat_print.specs.Laws.Parts.{paren_here, neat_paren}
-use Rattle.wat_print_module.specs.Memory.{spell_memory, fit_memory}
-use Rattle.wat_print_module.specs.Segments.{spell_data_val, fit_data_val, spell_data, fit_data}
-use Rattle.wat_print_module.specs.Segments.{spell_grouped_data, spell_elem, fit_elem}
-use Rattle.wat_print_module.specs.Table.{spell_table, fit_table}
-use Rattle.wat_print_module.specs.Laws.Data.{data_here, data_neat, data_only}
-use Rattle.wat_print_module.specs.Laws.DataVal.{data_val_here, data_val_neat, data_val_only}
-use Rattle.wat_print_module.specs.Laws.Elem.{elem_here, elem_neat, elem_only}
-use Rattle.wat_print_module.specs.Laws.Memory.{memory_here, memory_neat, memory_only}
-use Rattle.wat_print_module.specs.Laws.Table.{table_here, table_neat}
+use Rattle.wat_print.specs.Laws.Parts.{paren_here, well_formed_paren}
+use Rattle.wat_print_module.specs.Memory.{spell_memory, printable_memory}
+use Rattle.wat_print_module.specs.Segments.{spell_data_val, printable_data_val, spell_data, printable_data}
+use Rattle.wat_print_module.specs.Segments.{spell_grouped_data, spell_elem, printable_elem}
+use Rattle.wat_print_module.specs.Table.{spell_table, printable_table}
+use Rattle.wat_print_module.specs.Laws.Data.{data_here, data_well_formed, data_only}
+use Rattle.wat_print_module.specs.Laws.DataVal.{data_val_here, data_val_well_formed, data_val_only}
+use Rattle.wat_print_module.specs.Laws.Elem.{elem_here, elem_well_formed, elem_only}
+use Rattle.wat_print_module.specs.Laws.Memory.{memory_here, memory_well_formed, memory_only}
+use Rattle.wat_print_module.specs.Laws.Table.{table_here, table_well_formed}
 use Rattle.wat_print_module.specs.Laws.TableOnly.{table_only}
 
 abbrev pub data_val_printing : Printing data_val
 data_val_printing = record {
   spell = spell_data_val;
-  fit = fit_data_val;
-  neat = data_val_neat;
+  printable = printable_data_val;
+  well_formed = data_val_well_formed;
   spells = λ v h. data_val_here v h [];
   only = data_val_only.holds;
 }
@@ -33,8 +33,8 @@ data_val_printing = record {
 abbrev pub grouped_data_printing : Printing (paren data_segment)
 grouped_data_printing = record {
   spell = spell_grouped_data;
-  fit = fit_data;
-  neat = λ v h. neat_paren (spell_data v) (data_neat v h);
+  printable = printable_data;
+  well_formed = λ v h. well_formed_paren (spell_data v) (data_well_formed v h);
   spells = λ v h. paren_here data_segment v (spell_data v) [] (data_here v [] h);
   only = (only_paren data_only).holds;
 }
@@ -42,8 +42,8 @@ grouped_data_printing = record {
 abbrev pub elem_printing : Printing elem
 elem_printing = record {
   spell = spell_elem;
-  fit = fit_elem;
-  neat = elem_neat;
+  printable = printable_elem;
+  well_formed = elem_well_formed;
   spells = λ v h. elem_here v [] h refl;
   only = elem_only.holds;
 }
@@ -51,8 +51,8 @@ elem_printing = record {
 abbrev pub memory_printing : Printing memory
 memory_printing = record {
   spell = spell_memory;
-  fit = fit_memory;
-  neat = memory_neat;
+  printable = printable_memory;
+  well_formed = memory_well_formed;
   spells = λ v h. memory_here v [] h refl;
   only = memory_only.holds;
 }
@@ -60,8 +60,8 @@ memory_printing = record {
 abbrev pub table_printing : Printing table
 table_printing = record {
   spell = spell_table;
-  fit = fit_table;
-  neat = table_neat;
+  printable = printable_table;
+  well_formed = table_well_formed;
   spells = λ v h. table_here v [] h (refl, (refl, refl, refl));
   only = table_only.holds;
 }

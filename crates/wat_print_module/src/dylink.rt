@@ -11,9 +11,13 @@ ghost use Rattle.wat_print.specs.Text.{put};
 ghost use Rattle.wat_print.specs.declared.fault.Refused.TheVariants.{Memory};
 ghost use Rattle.wat_print_module.specs.Dylink.{spell_sizes, spell_names, spell_export_flags};
 ghost use Rattle.wat_print_module.specs.Dylink.{spell_import_flags, spell_subsection, spell_dylink};
-ghost use Rattle.wat_print_module.specs.Dylink.{fit_sizes, fit_export_flags, fit_import_flags};
-ghost use Rattle.wat_print_module.specs.Dylink.{fit_subsection, is_filled, is_apart, are_cut};
-ghost use Rattle.wat_print_module.specs.Dylink.{fit_dylink};
+ghost use Rattle.wat_print_module.specs.Dylink.{
+  printable_sizes,
+  printable_export_flags,
+  printable_import_flags,
+};
+ghost use Rattle.wat_print_module.specs.Dylink.{printable_subsection, is_filled, is_apart, are_cut};
+ghost use Rattle.wat_print_module.specs.Dylink.{printable_dylink};
 ghost use Rattle.wat_print_module.specs.LinkPrintings.{dylink_printing};
 ghost use Rattle.wat_print.specs.Strings.{spell_string};
 
@@ -24,7 +28,7 @@ use wat_print::{Output, Refused};
 /// Writes `( word size alignment )`.
 fn write_sizes(out: &mut Output, word: &str, size: u32, align: u32) -> Result<(), Refused>
     ensures written { OnOk result (out.new ≡ put out.old (spell_sizes word.now size align)) }
-    ensures fit { fit_sizes size align ≡ true }
+    ensures printable { printable_sizes size align ≡ true }
     ensures refused { IfErr result (λ e. e ≡ Memory) }
 {
     out.open()?;
@@ -49,7 +53,7 @@ fn write_strings(out: &mut Output, names: &[&str]) -> Result<(), Refused>
 fn write_names(out: &mut Output, word: &str, names: &[&str]) -> Result<(), Refused>
     ensures written { OnOk result (out.new ≡ put out.old
         (spell_names word.now (map (λ n. n.now) names.now))) }
-    ensures fit { OnOk result (each is_utf8 (map (λ n. n.now) names.now) ≡ true) }
+    ensures printable { OnOk result (each is_utf8 (map (λ n. n.now) names.now) ≡ true) }
     ensures refused { IfErr result (λ e. e ≡ Memory) }
 {
     out.open()?;
@@ -62,7 +66,7 @@ fn write_names(out: &mut Output, word: &str, names: &[&str]) -> Result<(), Refus
 fn write_export(out: &mut Output, entry: &(&str, u32)) -> Result<(), Refused>
     ensures written { OnOk result (out.new ≡ put out.old
         (spell_export_flags (dylink_export_view entry.now))) }
-    ensures fit { OnOk result (fit_export_flags (dylink_export_view entry.now) ≡ true) }
+    ensures printable { OnOk result (printable_export_flags (dylink_export_view entry.now) ≡ true) }
     ensures refused { IfErr result (λ e. e ≡ Memory) }
 {
     out.open()?;
@@ -74,7 +78,8 @@ fn write_export(out: &mut Output, entry: &(&str, u32)) -> Result<(), Refused>
 
 /// Writes the entries of exports, one behind the other.
 fn write_exports(out: &mut Output, entries: &[(&str, u32)]) -> Result<(), Refused>
-    ensures wrote { OnOk result (Wrote dylink_export_view spell_export_flags fit_export_flags entries.now
+    ensures wrote { OnOk result (Wrote dylink_export_view spell_export_flags printable_export_flags
+        entries.now
         out.old out.new) }
     ensures refused { IfErr result (λ e. e ≡ Memory) }
 {
@@ -88,7 +93,7 @@ fn write_exports(out: &mut Output, entries: &[(&str, u32)]) -> Result<(), Refuse
 fn write_import(out: &mut Output, entry: &(&str, &str, u32)) -> Result<(), Refused>
     ensures written { OnOk result (out.new ≡ put out.old
         (spell_import_flags (dylink_import_view entry.now))) }
-    ensures fit { OnOk result (fit_import_flags (dylink_import_view entry.now) ≡ true) }
+    ensures printable { OnOk result (printable_import_flags (dylink_import_view entry.now) ≡ true) }
     ensures refused { IfErr result (λ e. e ≡ Memory) }
 {
     out.open()?;
@@ -101,7 +106,8 @@ fn write_import(out: &mut Output, entry: &(&str, &str, u32)) -> Result<(), Refus
 
 /// Writes the entries of imports, one behind the other.
 fn write_imports(out: &mut Output, entries: &[(&str, &str, u32)]) -> Result<(), Refused>
-    ensures wrote { OnOk result (Wrote dylink_import_view spell_import_flags fit_import_flags entries.now
+    ensures wrote { OnOk result (Wrote dylink_import_view spell_import_flags printable_import_flags
+        entries.now
         out.old out.new) }
     ensures refused { IfErr result (λ e. e ≡ Memory) }
 {
@@ -115,7 +121,7 @@ fn write_imports(out: &mut Output, entries: &[(&str, &str, u32)]) -> Result<(), 
 fn write_subsection(out: &mut Output, subsection: &Dylink0Subsection) -> Result<(), Refused>
     ensures written { OnOk result (out.new ≡ put out.old
         (spell_subsection (subsection_view subsection.now))) }
-    ensures fit { OnOk result (fit_subsection (subsection_view subsection.now) ≡ true) }
+    ensures printable { OnOk result (printable_subsection (subsection_view subsection.now) ≡ true) }
     ensures refused { IfErr result (λ e. e ≡ Memory) }
 {
     match subsection {
@@ -146,7 +152,8 @@ fn write_subsection(out: &mut Output, subsection: &Dylink0Subsection) -> Result<
 
 /// Writes subsections, one behind the other.
 fn write_subsections(out: &mut Output, subsections: &[Dylink0Subsection]) -> Result<(), Refused>
-    ensures wrote { OnOk result (Wrote subsection_view spell_subsection fit_subsection subsections.now
+    ensures wrote { OnOk result (Wrote subsection_view spell_subsection printable_subsection
+        subsections.now
         out.old out.new) }
     ensures refused { IfErr result (λ e. e ≡ Memory) }
 {
@@ -199,9 +206,9 @@ fn are_cut(subsections: &[Dylink0Subsection]) -> bool
 /// kind.
 pub fn write_dylink(out: &mut Output, section: &Dylink0) -> Result<(), Refused>
     ensures written { OnOk result (out.new ≡ put out.old (spell_dylink (dylink_view section.now))) }
-    ensures fit { OnOk result (fit_dylink (dylink_view section.now) ≡ true) }
+    ensures printable { OnOk result (printable_dylink (dylink_view section.now) ≡ true) }
     ensures refused { IfErr result (λ e. e ≢ Memory
-        → fit_dylink (dylink_view section.now) ≡ false) }
+        → printable_dylink (dylink_view section.now) ≡ false) }
 {
     if !are_cut(&section.subsections) {
         return Err(Refused::Section);

@@ -24,17 +24,17 @@ use Rattle.wat_expr.specs.Expression.{Expr}
 use Rattle.wat_expr.specs.ExpressionProduction.{expression}
 use Rattle.wat_expr.specs.Items.{Items, Nil, Plain, Hinted, lists, unfolded, hints_behind}
 use Rattle.wat_expr.specs.Items.{is_branch, hint_name, mark}
-use Rattle.wat_print.specs.Neat.{Neat, nothing, noted, is_name, is_fit, is_byte}
+use Rattle.wat_print.specs.WellFormed.{WellFormed, nothing, noted, is_name, is_printable, is_byte}
 use Rattle.wat_print.specs.Parts.{each, if_some, spell_option}
 use Rattle.wat_print.specs.Text.{all_are}
-use Rattle.wat_print.specs.Laws.Parts.{neat_both, neat_each, neat_one}
-use Rattle.wat_print_instr.specs.ExpressionForm.{HintedInstr, step_of, spell_hint, fit_hint}
-use Rattle.wat_print_instr.specs.ExpressionForm.{spell_step, fit_step, steps_from}
-use Rattle.wat_print_instr.specs.ExpressionForm.{spell_expression, fit_expression}
+use Rattle.wat_print.specs.Laws.Parts.{well_formed_both, well_formed_each, well_formed_one}
+use Rattle.wat_print_instr.specs.ExpressionForm.{HintedInstr, step_of, spell_hint, printable_hint}
+use Rattle.wat_print_instr.specs.ExpressionForm.{spell_step, printable_step, steps_from}
+use Rattle.wat_print_instr.specs.ExpressionForm.{spell_expression, printable_expression}
 use Rattle.wat_print_instr.specs.InstructionForm.{passes, operand_form, spell_instruction}
-use Rattle.wat_print_instr.specs.InstructionForm.{fit_instruction}
+use Rattle.wat_print_instr.specs.InstructionForm.{printable_instruction}
 use Rattle.wat_print_instr.specs.Laws.Instruction.{EndsOperand, ends_nothing, ends_annotation}
-use Rattle.wat_print_instr.specs.Laws.Instruction.{instruction_here, instruction_neat}
+use Rattle.wat_print_instr.specs.Laws.Instruction.{instruction_here, instruction_well_formed}
 use Rattle.wat_print_instr.specs.Laws.Numbers.{equal_by, less_by}
 use Rattle.wat_print_instr.specs.Laws.OperandFront.{NoOperandWord, clear_both, operand_clear}
 use Rattle.wat_print_instr.specs.Laws.OperandFront.{type_apart, param_apart, result_apart}
@@ -265,12 +265,12 @@ items_of [] = Nil
 items_of (x ∷ xs) = item x.hint x.instr (items_of xs)
 
 one_listed : (h : Option ℕ) (i : Instr) (xs : List HintedInstr) (t s : List Tok)
-    → if_some (fit_hint i) h && fit_instruction i ≡ true → lists (items_of xs) t s
+    → if_some (printable_hint i) h && printable_instruction i ≡ true → lists (items_of xs) t s
     → EndsOperand (op_of_row i.row) t → lists (items_of (step_of h i ∷ xs)) (spell_step (step_of h i) ++ t) s
 one_listed None i xs t s f l e =
     (t, (spell_instruction i, refl, instruction_here i t f e), l)
 one_listed (Some v) i xs t s f l e =
-    let a = and_parts (fit_hint i v) (fit_instruction i) f in
+    let a = and_parts (printable_hint i v) (printable_instruction i) f in
     let b = and_parts (is_branch i) (nat_lt v 2) a.0 in
     let c = spell_instruction i in (
       c ++ t,
@@ -280,11 +280,11 @@ one_listed (Some v) i xs t s f l e =
       (t, (c, refl, instruction_here i t a.1 e), l),
     )
 
-steps_listed : (xs : List HintedInstr) (s : List Tok) → each fit_step xs ≡ true
+steps_listed : (xs : List HintedInstr) (s : List Tok) → each printable_step xs ≡ true
     → EndsExpression s → lists (items_of xs) (flat_map spell_step xs ++ s) s
 steps_listed [] s f e = refl
 steps_listed (x ∷ xs) s f e =
-    let a = and_parts (fit_step x) (each fit_step xs) f in
+    let a = and_parts (printable_step x) (each printable_step xs) f in
     subst (λ (u : List Tok). lists (items_of (x ∷ xs)) u s)
     (sym (append_assoc (spell_step x) (flat_map spell_step xs) s))
     (one_listed x.hint x.instr xs (flat_map spell_step xs ++ s) s a.0 (steps_listed xs s a.1 e)
@@ -331,7 +331,7 @@ steps_unfold b (i ∷ is) (h ∷ hs) =
     (steps_unfold (b + 1) is (h ∷ hs))))
 
 steps_closed : (e : Expr) (o : Option (List HintedInstr)) (r : List Tok)
-    → Unfolds 0 e.instrs e.hints o → passes (each fit_step) o ≡ true → EndsExpression r
+    → Unfolds 0 e.instrs e.hints o → passes (each printable_step) o ≡ true → EndsExpression r
     → expression.spells e (spell_option (flat_map spell_step) o) r
 unfolding expression
 steps_closed e None r b f k = absurd cc
@@ -344,7 +344,7 @@ steps_closed e (Some xs) r b f k = (
 )
 
 -- where its group ends
-pub expression_closed : (e : Expr) (r : List Tok) → fit_expression e ≡ true → EndsExpression r
+pub expression_closed : (e : Expr) (r : List Tok) → printable_expression e ≡ true → EndsExpression r
     → expression.spells e (spell_expression e) r
 expression_closed e r f k =
     steps_closed e (steps_from 0 e.instrs e.hints) r (steps_unfold 0 e.instrs e.hints) f k
@@ -358,33 +358,33 @@ low_at (b ∷ x) h zero =
 low_at (b ∷ x) h (suc i) =
     low_at x (and_parts (nat_lt b 128) (all_are (λ b. nat_lt b 128) x) h).1 i
 
-hint_name_fit : is_name (codes "metadata.code.branch_hint") ≡ true
-hint_name_fit =
+hint_name_printable : is_name (codes "metadata.code.branch_hint") ≡ true
+hint_name_printable =
     is_utf8-from_IsUtf8 (codes "metadata.code.branch_hint")
     (IsUtf8-from_ascii (codes "metadata.code.branch_hint")
     (λ i. (low_at (codes "metadata.code.branch_hint") refl i)))
 
-byte_neat : (v : ℕ) → v < 2 → is_fit (String (v ∷ [])) ≡ true
-byte_neat v lt = let e : is_byte v ≡ true = grind (arith, nat_tests) in rw e refl
+byte_well_formed : (v : ℕ) → v < 2 → is_printable (String (v ∷ [])) ≡ true
+byte_well_formed v lt = let e : is_byte v ≡ true = grind (arith, nat_tests) in rw e refl
 
-hint_neat : (i : Instr) (v : ℕ) → fit_hint i v ≡ true → Neat (spell_hint v)
-hint_neat i v f =
+hint_well_formed : (i : Instr) (v : ℕ) → printable_hint i v ≡ true → WellFormed (spell_hint v)
+hint_well_formed i v f =
     let b = and_parts (is_branch i) (nat_lt v 2) f in
-    noted (codes "metadata.code.branch_hint") (String (v ∷ []) ∷ []) [] hint_name_fit refl
-    (neat_one (String (v ∷ [])) (byte_neat v (less_by v 2 b.1))) nothing
+    noted (codes "metadata.code.branch_hint") (String (v ∷ []) ∷ []) [] hint_name_printable refl
+    (well_formed_one (String (v ∷ [])) (byte_well_formed v (less_by v 2 b.1))) nothing
 
-step_neat : (h : Option ℕ) (i : Instr) → if_some (fit_hint i) h && fit_instruction i ≡ true
-    → Neat (spell_step (step_of h i))
-step_neat None i f = instruction_neat i f
-step_neat (Some v) i f =
-    let a = and_parts (fit_hint i v) (fit_instruction i) f in
-    neat_both (spell_hint v) (spell_instruction i) (hint_neat i v a.0) (instruction_neat i a.1)
+step_well_formed : (h : Option ℕ) (i : Instr) → if_some (printable_hint i) h && printable_instruction i ≡ true
+    → WellFormed (spell_step (step_of h i))
+step_well_formed None i f = instruction_well_formed i f
+step_well_formed (Some v) i f =
+    let a = and_parts (printable_hint i v) (printable_instruction i) f in
+    well_formed_both (spell_hint v) (spell_instruction i) (hint_well_formed i v a.0) (instruction_well_formed i a.1)
 
-steps_neat : (o : Option (List HintedInstr)) → passes (each fit_step) o ≡ true
-    → Neat (spell_option (flat_map spell_step) o)
-steps_neat (Some xs) f =
-    neat_each spell_step fit_step (λ x h. (step_neat x.hint x.instr h)) xs f
-steps_neat None f = absurd cc
+steps_well_formed : (o : Option (List HintedInstr)) → passes (each printable_step) o ≡ true
+    → WellFormed (spell_option (flat_map spell_step) o)
+steps_well_formed (Some xs) f =
+    well_formed_each spell_step printable_step (λ x h. (step_well_formed x.hint x.instr h)) xs f
+steps_well_formed None f = absurd cc
 
-pub expression_neat : (e : Expr) → fit_expression e ≡ true → Neat (spell_expression e)
-expression_neat e f = steps_neat (steps_from 0 e.instrs e.hints) f
+pub expression_well_formed : (e : Expr) → printable_expression e ≡ true → WellFormed (spell_expression e)
+expression_well_formed e f = steps_well_formed (steps_from 0 e.instrs e.hints) f

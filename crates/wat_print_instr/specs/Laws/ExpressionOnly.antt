@@ -14,14 +14,14 @@ use Rattle.wat_expr.specs.Items.{Items, Nil, Plain, Folded, Block, IfThen, IfEls
 use Rattle.wat_expr.specs.Items.{unfolded, hints_behind, is_branch, mark, BeginsWithBranch, reads}
 use Rattle.wat_expr.specs.Items.{keyword, IsIf, sort, sort_of, hint_name}
 use Rattle.wat_expr.specs.Laws.Facts.{lists_between}
-use Rattle.wat_print.specs.Neat.{is_given}
+use Rattle.wat_print.specs.WellFormed.{is_given}
 use Rattle.wat_print.specs.Parts.{each}
-use Rattle.wat_print.specs.Laws.Only.{OnlyFit}
+use Rattle.wat_print.specs.Laws.Only.{OnlyPrintable}
 use Rattle.wat_print.specs.Laws.Parts.{each_both}
-use Rattle.wat_print_instr.specs.ExpressionForm.{HintedInstr, step_of, fit_step}
+use Rattle.wat_print_instr.specs.ExpressionForm.{HintedInstr, step_of, printable_step}
 use Rattle.wat_print_instr.specs.ExpressionForm.{steps_from}
-use Rattle.wat_print_instr.specs.ExpressionForm.{fit_expression}
-use Rattle.wat_print_instr.specs.InstructionForm.{passes, fit_instruction}
+use Rattle.wat_print_instr.specs.ExpressionForm.{printable_expression}
+use Rattle.wat_print_instr.specs.InstructionForm.{passes, printable_instruction}
 use Rattle.wat_print_instr.specs.Laws.Instruction.{instruction_only}
 use Rattle.wat_print_instr.specs.Laws.Numbers.{same_number, less_tested, equal_by}
 
@@ -148,25 +148,25 @@ abbrev HintAt : Option ℕ → Instr → Type 0
 HintAt (Some v) i = (v < 2) × (is_branch i ≡ true)
 HintAt None i = Unit {0}
 
-one_fits : (p : Option ℕ) (i : Instr) → fit_instruction i ≡ true → HintAt p i
-    → fit_step (step_of p i) ≡ true
+one_fits : (p : Option ℕ) (i : Instr) → printable_instruction i ≡ true → HintAt p i
+    → printable_step (step_of p i) ≡ true
 one_fits (Some v) i f h = rw (h.1, less_tested v 2 h.0, f) refl
 one_fits None i f h = f
 
 own_fits : (i : Instr) (c m : List Tok) → each is_given c ≡ true → instruction.spells i c m
-    → fit_instruction i ≡ true
+    → printable_instruction i ≡ true
 own_fits i c m a s = instruction_only.holds i c m a s
 
 -- an instruction in front, and then what is given up to the rest
 read_fits : (i : Instr) (ts m r : List Tok) → GivenTo ts r → reads i ts m → FrontOf m r
-    → (fit_instruction i ≡ true) × GivenTo m r
+    → (printable_instruction i ≡ true) × GivenTo m r
 read_fits i ts m r g s f =
     let p = given_split ts r s.0 m g s.1 f in
     (own_fits i s.0 m p.0 s.2, p.1)
 
 -- the same behind a `(`
 opened_fits : (i : Instr) (ts a m r : List Tok) → GivenTo ts r → ts ≡ LParen ∷ a → reads i a m
-    → FrontOf m r → (fit_instruction i ≡ true) × GivenTo m r
+    → FrontOf m r → (printable_instruction i ≡ true) × GivenTo m r
 opened_fits i ts a m r g e s f =
     let p = given_split ts r (LParen ∷ []) a g e
     (s.0 ++ f.0, s.1 ∙ ap (λ (l : List Tok). s.0 ++ l) f.1 ∙ sym (append_assoc s.0 f.0 r)) in
@@ -202,19 +202,19 @@ before_if : (p : Option ℕ) (i : Instr) (b : (v : ℕ) → p ≡ Some v → v <
 before_if (Some v) i b h = (b v refl, h)
 before_if None i b h = tt
 
-end_fits : fit_step (step_of None end_instr) ≡ true
+end_fits : printable_step (step_of None end_instr) ≡ true
 end_fits = refl
 
-else_fits : fit_step (step_of None else_instr) ≡ true
+else_fits : printable_step (step_of None else_instr) ≡ true
 else_fits = refl
 
-all_fit : (xs ys : List HintedInstr) → each fit_step xs ≡ true → each fit_step ys ≡ true
-    → each fit_step (xs ++ ys) ≡ true
-all_fit xs ys f g = each_both fit_step xs ys f g
+all_printable : (xs ys : List HintedInstr) → each printable_step xs ≡ true → each printable_step ys ≡ true
+    → each printable_step (xs ++ ys) ≡ true
+all_printable xs ys f g = each_both printable_step xs ys f g
 
-and_fit : (x : HintedInstr) (xs : List HintedInstr) → fit_step x ≡ true → each fit_step xs ≡ true
-    → each fit_step (x ∷ xs) ≡ true
-and_fit x xs f g = rw (f, g) refl
+and_printable : (x : HintedInstr) (xs : List HintedInstr) → printable_step x ≡ true → each printable_step xs ≡ true
+    → each printable_step (x ∷ xs) ≡ true
+and_printable x xs f g = rw (f, g) refl
 
 pub value_before : (p : Option ℕ) (xs : Items) → HintBefore p xs → (v : ℕ) → p ≡ Some v → v < 2
 value_before (Some w) xs h v e = let same : w ≡ v = cc in subst (λ (n : ℕ). n < 2) same h.0
@@ -223,33 +223,33 @@ value_before None xs h v e = absurd cc
 abbrev group_end : List HintedInstr
 group_end = step_of None end_instr ∷ []
 
-marked_fit : (p : Option ℕ) (xs : Items) (ts r : List Tok) → lists xs ts r → GivenTo ts r
-    → HintBefore p xs → each fit_step (marked p xs) ≡ true
-marked_fit p Nil ts r l g h = refl
-marked_fit p (Plain i xs) ts r l g h =
+marked_printable : (p : Option ℕ) (xs : Items) (ts r : List Tok) → lists xs ts r → GivenTo ts r
+    → HintBefore p xs → each printable_step (marked p xs) ≡ true
+marked_printable p Nil ts r l g h = refl
+marked_printable p (Plain i xs) ts r l g h =
     let a = read_fits i ts l.0 r g l.1 (front_of xs l.0 r l.2) in
-    and_fit (step_of p i) (marked None xs)
-    (one_fits p i a.0 (before_plain p i xs h)) (marked_fit None xs l.0 r l.2 a.1 tt)
-marked_fit p (Folded i ys xs) ts r (a, b, d, e, s, k, ly, lx) g h =
+    and_printable (step_of p i) (marked None xs)
+    (one_fits p i a.0 (before_plain p i xs h)) (marked_printable None xs l.0 r l.2 a.1 tt)
+marked_printable p (Folded i ys xs) ts r (a, b, d, e, s, k, ly, lx) g h =
     let fy = front_of ys b (RParen ∷ d) ly in
     let fx = front_of xs d r lx in
     let o = opened_fits i ts a b r g e k (front_through b (RParen ∷ []) d r fy fx) in
     let n = given_inside b (RParen ∷ []) d r o.1 fy fx in
-    all_fit (marked None ys ++ step_of p i ∷ []) (marked None xs)
-    (all_fit (marked None ys) (step_of p i ∷ []) (marked_fit None ys b (RParen ∷ d) ly n.0 tt)
-    (and_fit (step_of p i) [] (one_fits p i o.0 (before_folded p i ys xs h)) refl))
-    (marked_fit None xs d r lx n.1 tt)
-marked_fit p (Block i ys xs) ts r (a, b, d, e, s, k, ly, lx) g h =
+    all_printable (marked None ys ++ step_of p i ∷ []) (marked None xs)
+    (all_printable (marked None ys) (step_of p i ∷ []) (marked_printable None ys b (RParen ∷ d) ly n.0 tt)
+    (and_printable (step_of p i) [] (one_fits p i o.0 (before_folded p i ys xs h)) refl))
+    (marked_printable None xs d r lx n.1 tt)
+marked_printable p (Block i ys xs) ts r (a, b, d, e, s, k, ly, lx) g h =
     let fy = front_of ys b (RParen ∷ d) ly in
     let fx = front_of xs d r lx in
     let o = opened_fits i ts a b r g e k (front_through b (RParen ∷ []) d r fy fx) in
     let n = given_inside b (RParen ∷ []) d r o.1 fy fx in
-    all_fit (step_of p i ∷ (marked None ys ++ group_end)) (marked None xs)
-    (and_fit (step_of p i) (marked None ys ++ group_end)
+    all_printable (step_of p i ∷ (marked None ys ++ group_end)) (marked None xs)
+    (and_printable (step_of p i) (marked None ys ++ group_end)
     (one_fits p i o.0 (before_block p i ys xs h))
-    (all_fit (marked None ys) group_end (marked_fit None ys b (RParen ∷ d) ly n.0 tt) refl))
-    (marked_fit None xs d r lx n.1 tt)
-marked_fit p (IfThen i ops th xs) ts r (a, b, d, e, q, s, k, u, lo, lt, lx) g h =
+    (all_printable (marked None ys) group_end (marked_printable None ys b (RParen ∷ d) ly n.0 tt) refl))
+    (marked_printable None xs d r lx n.1 tt)
+marked_printable p (IfThen i ops th xs) ts r (a, b, d, e, q, s, k, u, lo, lt, lx) g h =
     let j = LParen ∷ keyword (codes "then") ∷ [] in
     let m = RParen ∷ RParen ∷ [] in
     let fo = front_of ops b (j ++ d) lo in
@@ -260,13 +260,13 @@ marked_fit p (IfThen i ops th xs) ts r (a, b, d, e, q, s, k, u, lo, lt, lx) g h 
     let n = given_inside b j d r o.1 fo fd in
     let w = given_inside d m e r n.1 ft fx in
     let c = marked None th ++ group_end in
-    all_fit (marked None ops ++ (step_of p i ∷ c)) (marked None xs)
-    (all_fit (marked None ops) (step_of p i ∷ c) (marked_fit None ops b (j ++ d) lo n.0 tt)
-    (and_fit (step_of p i) c
+    all_printable (marked None ops ++ (step_of p i ∷ c)) (marked None xs)
+    (all_printable (marked None ops) (step_of p i ∷ c) (marked_printable None ops b (j ++ d) lo n.0 tt)
+    (and_printable (step_of p i) c
     (one_fits p i o.0 (before_if p i (value_before p (IfThen i ops th xs) h) (is_branch_if i s)))
-    (all_fit (marked None th) group_end (marked_fit None th d (m ++ e) lt w.0 tt) refl)))
-    (marked_fit None xs e r lx w.1 tt)
-marked_fit p (IfElse i ops th el xs) ts r (a, b, d, e, f, q, s, k, u, lo, lt, le, lx) g h =
+    (all_printable (marked None th) group_end (marked_printable None th d (m ++ e) lt w.0 tt) refl)))
+    (marked_printable None xs e r lx w.1 tt)
+marked_printable p (IfElse i ops th el xs) ts r (a, b, d, e, f, q, s, k, u, lo, lt, le, lx) g h =
     let j = LParen ∷ keyword (codes "then") ∷ [] in
     let y = RParen ∷ LParen ∷ keyword (codes "else") ∷ [] in
     let m = RParen ∷ RParen ∷ [] in
@@ -282,20 +282,20 @@ marked_fit p (IfElse i ops th el xs) ts r (a, b, d, e, f, q, s, k, u, lo, lt, le
     let z = given_inside e m f r w.1 fl fx in
     let c = marked None el ++ group_end in
     let t = marked None th ++ (step_of None else_instr ∷ c) in
-    all_fit (marked None ops ++ (step_of p i ∷ t)) (marked None xs)
-    (all_fit (marked None ops) (step_of p i ∷ t) (marked_fit None ops b (j ++ d) lo n.0 tt)
-    (and_fit (step_of p i) t
+    all_printable (marked None ops ++ (step_of p i ∷ t)) (marked None xs)
+    (all_printable (marked None ops) (step_of p i ∷ t) (marked_printable None ops b (j ++ d) lo n.0 tt)
+    (and_printable (step_of p i) t
     (one_fits p i o.0
     (before_if p i (value_before p (IfElse i ops th el xs) h) (is_branch_if i s)))
-    (all_fit (marked None th) (step_of None else_instr ∷ c)
-    (marked_fit None th d (y ++ e) lt w.0 tt)
-    (and_fit (step_of None else_instr) c refl
-    (all_fit (marked None el) group_end (marked_fit None el e (m ++ f) le z.0 tt) refl)))))
-    (marked_fit None xs f r lx z.1 tt)
-marked_fit p (Hinted v xs) ts r (d, e, lt, k, l) g h =
+    (all_printable (marked None th) (step_of None else_instr ∷ c)
+    (marked_printable None th d (y ++ e) lt w.0 tt)
+    (and_printable (step_of None else_instr) c refl
+    (all_printable (marked None el) group_end (marked_printable None el e (m ++ f) le z.0 tt) refl)))))
+    (marked_printable None xs f r lx z.1 tt)
+marked_printable p (Hinted v xs) ts r (d, e, lt, k, l) g h =
     let c = LParen ∷ hint_name ∷ String (v ∷ []) ∷ RParen ∷ [] in
     let q = given_split ts r c d g e (front_of xs d r l) in
-    marked_fit (Some v) xs d r l q.1 (lt, k)
+    marked_printable (Some v) xs d r l q.1 (lt, k)
 
 -- ---- the hints of items are those of their steps
 
@@ -478,18 +478,18 @@ items_steps xs =
     (subst (λ (hs : List (ℕ × ℕ)). steps_from 0 (map instr_in m) hs ≡ Some m)
     (hints_marked None xs 0) (steps_again 0 m))
 
-items_fit : (xs : Items) (c r : List Tok) → each is_given c ≡ true → lists xs (c ++ r) r
-    → fit_expression (value_of xs) ≡ true
-items_fit xs c r a l =
-    subst (λ (o : Option (List HintedInstr)). passes (each fit_step) o ≡ true)
+items_printable : (xs : Items) (c r : List Tok) → each is_given c ≡ true → lists xs (c ++ r) r
+    → printable_expression (value_of xs) ≡ true
+items_printable xs c r a l =
+    subst (λ (o : Option (List HintedInstr)). passes (each printable_step) o ≡ true)
     (sym (items_steps xs))
-    (marked_fit None xs (c ++ r) r l (c, refl, a) tt)
+    (marked_printable None xs (c ++ r) r l (c, refl, a) tt)
 
 expression_holds : (e : Expr) (c r : List Tok) → each is_given c ≡ true
-    → expression.spells e c r → fit_expression e ≡ true
+    → expression.spells e c r → printable_expression e ≡ true
 unfolding expression
 expression_holds e c r a s =
-    subst (λ (v : Expr). fit_expression v ≡ true) (sym s.3) (items_fit s.0 c r a s.1)
+    subst (λ (v : Expr). printable_expression v ≡ true) (sym s.3) (items_printable s.0 c r a s.1)
 
-pub expression_only : OnlyFit expression fit_expression
+pub expression_only : OnlyPrintable expression printable_expression
 expression_only = record { holds = expression_holds }

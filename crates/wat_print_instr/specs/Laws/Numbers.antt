@@ -17,11 +17,11 @@ use Rattle.wat_lexer.specs.declared.number.Sign.TheVariants.{Plus, Minus}
 use Rattle.wat_tokens.specs.Integers.{signed, signed_of, unsigned, unsigned_of}
 use Rattle.wat_print.specs.Limits.{spell_number}
 use Rattle.wat_print.specs.Text.{all_are}
-use Rattle.wat_print.specs.Neat.{is_fit, is_given, Neat}
-use Rattle.wat_print.specs.Laws.Numbers.{magnitude_decimal, decimal_fit, no_sign, digits_idchars}
+use Rattle.wat_print.specs.WellFormed.{is_printable, is_given, WellFormed}
+use Rattle.wat_print.specs.Laws.Numbers.{magnitude_decimal, decimal_printable, no_sign, digits_idchars}
 use Rattle.wat_print.specs.Laws.Numbers.{unsigned_decimal, unsigned_fits}
-use Rattle.wat_print.specs.Laws.Only.{OnlyFit, only_one}
-use Rattle.wat_print.specs.Laws.Parts.{Spells, neat_one}
+use Rattle.wat_print.specs.Laws.Only.{OnlyPrintable, only_one}
+use Rattle.wat_print.specs.Laws.Parts.{Spells, well_formed_one}
 use Rattle.wat_print_instr.specs.Numbers.{Halves, spell_signed, is_signed, is_unsigned}
 
 pub less_by : (n m : ℕ) → nat_lt n m ≡ true → n < m
@@ -63,20 +63,20 @@ pub signed_here : (bits : ℕ) (z : ℤ) → Halves bits → is_signed bits z �
     → Spells (signed bits) z (spell_signed z)
 signed_here bits z k h r = (Integer (signed_decimal z), refl, signed_text bits z k h)
 
-signed_fit : (bits : ℕ) (z : ℤ) → Halves bits → is_signed bits z ≡ true
-    → is_fit (Integer (signed_decimal z)) ≡ true
-signed_fit bits (pos n) k h =
+signed_printable : (bits : ℕ) (z : ℤ) → Halves bits → is_signed bits z ≡ true
+    → is_printable (Integer (signed_decimal z)) ≡ true
+signed_printable bits (pos n) k h =
     let low : n < 2 ^ (bits - 1) = less_by n (2 ^ (bits - 1)) h in
-    decimal_fit n (omega (arith, k.whole, k.fits))
-signed_fit bits (negsuc n) k h =
+    decimal_printable n (omega (arith, k.whole, k.fits))
+signed_printable bits (negsuc n) k h =
     let low : n < 2 ^ (bits - 1) = less_by n (2 ^ (bits - 1)) h in
     let lt : suc n < 2 ^ 64 = omega (arith, k.whole, k.fits, k.some) in
     let d = decimal_is_IsNumeral (suc n) lt in
     rw (digits_idchars (decimal (suc n)) d.0.1, magnitude_decimal (suc n) lt) refl
 
-pub signed_neat : (bits : ℕ) (z : ℤ) → Halves bits → is_signed bits z ≡ true
-    → Neat (spell_signed z)
-signed_neat bits z k h = neat_one (Integer (signed_decimal z)) (signed_fit bits z k h)
+pub signed_well_formed : (bits : ℕ) (z : ℤ) → Halves bits → is_signed bits z ≡ true
+    → WellFormed (spell_signed z)
+signed_well_formed bits z k h = well_formed_one (Integer (signed_decimal z)) (signed_printable bits z k h)
 
 -- the number with the bits of n
 complement_is : (bits n : ℕ) → Halves bits → nat_le n (2 ^ bits - 1) ≡ true
@@ -126,7 +126,7 @@ signed_given bits k (Integer x) z a e =
 signed_given bits k LParen z a e = absurd cc
 signed_given bits k _ z a e = absurd cc
 
-pub signed_only : (bits : ℕ) → Halves bits → OnlyFit (signed bits) (is_signed bits)
+pub signed_only : (bits : ℕ) → Halves bits → OnlyPrintable (signed bits) (is_signed bits)
 signed_only bits k = only_one (signed_of bits) (refl, refl) (is_signed bits) (signed_given bits k)
 
 -- the four widths
@@ -150,11 +150,11 @@ unsigned_here bits n le h r =
     let lt : n < 2 ^ bits = less_by n (2 ^ bits) h in
     (Integer (decimal n), refl, unsigned_decimal bits n (omega arith) (omega arith))
 
-pub unsigned_neat : (bits n : ℕ) → 2 ^ bits ≤ 2 ^ 64 → is_unsigned bits n ≡ true
-    → Neat (spell_number n)
-unsigned_neat bits n le h =
+pub unsigned_well_formed : (bits n : ℕ) → 2 ^ bits ≤ 2 ^ 64 → is_unsigned bits n ≡ true
+    → WellFormed (spell_number n)
+unsigned_well_formed bits n le h =
     let lt : n < 2 ^ bits = less_by n (2 ^ bits) h in
-    neat_one (Integer (decimal n)) (decimal_fit n (omega arith))
+    well_formed_one (Integer (decimal n)) (decimal_printable n (omega arith))
 
 pub unsigned_found : (bits : ℕ) → 1 ≤ 2 ^ bits → (x : List ℕ) (n : ℕ)
     → unsigned_value bits x ≡ Some n → is_unsigned bits n ≡ true
@@ -167,7 +167,7 @@ unsigned_given bits p (Integer x) n a e = unsigned_found bits p x n e
 unsigned_given bits p LParen n a e = absurd cc
 unsigned_given bits p _ n a e = absurd cc
 
-pub unsigned_only : (bits : ℕ) → 1 ≤ 2 ^ bits → OnlyFit (unsigned bits) (is_unsigned bits)
+pub unsigned_only : (bits : ℕ) → 1 ≤ 2 ^ bits → OnlyPrintable (unsigned bits) (is_unsigned bits)
 unsigned_only bits p =
     only_one (unsigned_of bits) (refl, refl) (is_unsigned bits) (unsigned_given bits p)
 
