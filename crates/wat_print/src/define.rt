@@ -9,25 +9,10 @@ ghost use Rattle.wat_tokens.specs.Views.{option_view};
 ghost use Rattle.wat_types.specs.Define.{InnerKindTy, inner_kind_view, kind, def_view, TypeTy};
 ghost use Rattle.wat_types.specs.Define.{type_view, type_, types_view};
 ghost use Rattle.wat_types.specs.Recursion.{rec_view, rec};
-ghost use Rattle.wat_print.specs.Define.{
-  spell_kind,
-  printable_kind,
-  spell_described,
-  printable_described,
-};
-ghost use Rattle.wat_print.specs.Define.{
-  spell_shared,
-  spell_sub,
-  spell_def,
-  printable_def,
-  spell_type,
-};
-ghost use Rattle.wat_print.specs.Define.{
-  printable_type,
-  spell_grouped_type,
-  spell_rec,
-  printable_rec,
-};
+ghost use Rattle.wat_print.specs.Define.{spell_kind, printable_kind, spell_described};
+ghost use Rattle.wat_print.specs.Define.{printable_described, spell_shared, spell_sub, spell_def};
+ghost use Rattle.wat_print.specs.Define.{printable_def, spell_type, printable_type};
+ghost use Rattle.wat_print.specs.Define.{spell_grouped_type, spell_rec, printable_rec};
 ghost use Rattle.wat_print.specs.Index.{spell_index, printable_index};
 ghost use Rattle.wat_print.specs.Layout.{Writes};
 ghost use Rattle.wat_print.specs.Parts.{grouped, spell_option, if_some, each, Wrote, WroteLines};

@@ -9,13 +9,8 @@ ghost use Rattle.wat_print.specs.Index.{spell_index, printable_index};
 ghost use Rattle.wat_print.specs.Printings.{index_printing, abstract_printing, heap_printing};
 ghost use Rattle.wat_print.specs.Printings.{ref_printing, val_printing};
 ghost use Rattle.wat_print.specs.Reference.{abstract_word, short_word, spell_heap, printable_heap};
-ghost use Rattle.wat_print.specs.Reference.{
-  spell_long,
-  spell_ref,
-  printable_ref,
-  spell_val,
-  printable_val,
-};
+ghost use Rattle.wat_print.specs.Reference.{spell_long, spell_ref, printable_ref, spell_val};
+ghost use Rattle.wat_print.specs.Reference.{printable_val};
 ghost use Rattle.wat_print.specs.Text.{put};
 ghost use Rattle.wat_print.specs.declared.fault.Refused.TheVariants.{Memory};
 

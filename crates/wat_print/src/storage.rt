@@ -6,13 +6,8 @@ ghost use Rattle.wat_types.specs.Storage.{StorageTy, storage_view, storage_type,
 ghost use Rattle.wat_types.specs.Storage.{global_type_view, global_type};
 ghost use Rattle.wat_types.specs.Struct.{array_view};
 ghost use Rattle.wat_print.specs.Printings.{storage_printing, field_printing, global_printing};
-ghost use Rattle.wat_print.specs.Storage.{
-  spell_storage,
-  printable_storage,
-  spell_field,
-  printable_field,
-};
-ghost use Rattle.wat_print.specs.Storage.{spell_global, printable_global};
+ghost use Rattle.wat_print.specs.Storage.{spell_storage, printable_storage, spell_field};
+ghost use Rattle.wat_print.specs.Storage.{printable_field, spell_global, printable_global};
 ghost use Rattle.wat_print.specs.Text.{put};
 ghost use Rattle.wat_print.specs.declared.fault.Refused.TheVariants.{Memory};
 

@@ -7,19 +7,11 @@ ghost use Rattle.wat_operands.specs.Ordering.{ordering, ordered, ordered_view};
 ghost use Rattle.wat_print.specs.Parts.{spell_option};
 ghost use Rattle.wat_print.specs.Text.{put};
 ghost use Rattle.wat_print.specs.declared.fault.Refused.TheVariants.{Memory};
-ghost use Rattle.wat_print_instr.specs.Access.{
-  spell_target,
-  printable_target,
-  spell_access,
-  printable_place,
-};
-ghost use Rattle.wat_print_instr.specs.Access.{printable_access, spell_ordering, spell_atomic};
-ghost use Rattle.wat_print_instr.specs.Access.{printable_ordering, printable_atomic, ordering_in};
-ghost use Rattle.wat_print_instr.specs.Access.{
-  spell_lane_access,
-  printable_lane_access,
-  printable_alignment,
-};
+ghost use Rattle.wat_print_instr.specs.Access.{spell_target, printable_target, spell_access};
+ghost use Rattle.wat_print_instr.specs.Access.{printable_place, printable_access, spell_ordering};
+ghost use Rattle.wat_print_instr.specs.Access.{spell_atomic, printable_ordering, printable_atomic};
+ghost use Rattle.wat_print_instr.specs.Access.{ordering_in, spell_lane_access};
+ghost use Rattle.wat_print_instr.specs.Access.{printable_lane_access, printable_alignment};
 ghost use Rattle.wat_print_instr.specs.Access.{spell_lane, printable_lane, ordering_word};
 ghost use Rattle.wat_print_instr.specs.Printings.{ordering_printing, ordered_printing};
 ghost use Rattle.wat_print_instr.specs.Printings.{lane_printing};

@@ -18,13 +18,8 @@ ghost use Rattle.wat_print.specs.Reference.{printable_val};
 ghost use Rattle.wat_print.specs.Text.{put};
 ghost use Rattle.wat_print.specs.Use.{spell_use, printable_unnamed_use};
 ghost use Rattle.wat_print.specs.declared.fault.Refused.TheVariants.{Memory};
-ghost use Rattle.wat_print_instr.specs.Control.{
-  spell_block,
-  printable_block,
-  spell_branch,
-  printable_branch,
-};
-ghost use Rattle.wat_print_instr.specs.Control.{spell_result};
+ghost use Rattle.wat_print_instr.specs.Control.{spell_block, printable_block, spell_branch};
+ghost use Rattle.wat_print_instr.specs.Control.{printable_branch, spell_result};
 ghost use Rattle.wat_print_instr.specs.Printings.{block_printing, call_printing, select_printing};
 ghost use Rattle.wat_print_instr.specs.Printings.{branch_printing};
 

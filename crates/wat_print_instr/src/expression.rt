@@ -12,14 +12,10 @@ ghost use Rattle.wat_print.specs.Printed.{NoneSpells};
 ghost use Rattle.wat_print.specs.Text.{put, printed_text};
 ghost use Rattle.wat_print.specs.declared.fault.Refused.TheVariants.{Memory};
 ghost use Rattle.wat_print.specs.declared.output.Layout.TheVariants.{Line};
-ghost use Rattle.wat_print_instr.specs.ExpressionForm.{
-  step_of,
-  spell_hint,
-  printable_hint,
-  spell_step,
-};
-ghost use Rattle.wat_print_instr.specs.ExpressionForm.{printable_step, hint_for, hints_after};
-ghost use Rattle.wat_print_instr.specs.ExpressionForm.{spell_expression, printable_expression};
+ghost use Rattle.wat_print_instr.specs.ExpressionForm.{step_of, spell_hint, printable_hint};
+ghost use Rattle.wat_print_instr.specs.ExpressionForm.{spell_step, printable_step, hint_for};
+ghost use Rattle.wat_print_instr.specs.ExpressionForm.{hints_after, spell_expression};
+ghost use Rattle.wat_print_instr.specs.ExpressionForm.{printable_expression};
 ghost use Rattle.wat_tokens.specs.Whole.{TextSpells};
 
 use crate::traits::PrintCode;

@@ -10,13 +10,8 @@ ghost use Rattle.wat_print.specs.Parts.{each, spell_option, Wrote};
 ghost use Rattle.wat_print.specs.Text.{put};
 ghost use Rattle.wat_print.specs.declared.fault.Refused.TheVariants.{Memory};
 ghost use Rattle.wat_print_instr.specs.FoldedForm.{takes_catches, is_catch, op_of, keeps_apart};
-ghost use Rattle.wat_print_instr.specs.FoldedForm.{
-  own_groups,
-  first_apart,
-  catch_first,
-  groups_behind,
-};
-ghost use Rattle.wat_print_instr.specs.FoldedForm.{spell_own, spell_groups};
+ghost use Rattle.wat_print_instr.specs.FoldedForm.{own_groups, first_apart, catch_first};
+ghost use Rattle.wat_print_instr.specs.FoldedForm.{groups_behind, spell_own, spell_groups};
 ghost use Rattle.wat_print_instr.specs.FoldedPrinting.{folded_printing};
 ghost use Rattle.wat_print_instr.specs.InstructionForm.{printable_instruction};
 

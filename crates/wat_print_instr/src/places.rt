@@ -15,13 +15,8 @@ ghost use Rattle.wat_print.specs.Index.{printable_index};
 ghost use Rattle.wat_print.specs.Printings.{index_printing};
 ghost use Rattle.wat_print.specs.Text.{put};
 ghost use Rattle.wat_print.specs.declared.fault.Refused.TheVariants.{Memory};
-ghost use Rattle.wat_print_instr.specs.Places.{
-  is_index_0,
-  spell_index_or_0,
-  spell_pair,
-  printable_pair,
-};
-ghost use Rattle.wat_print_instr.specs.Places.{spell_init, spell_copy};
+ghost use Rattle.wat_print_instr.specs.Places.{is_index_0, spell_index_or_0, spell_pair};
+ghost use Rattle.wat_print_instr.specs.Places.{printable_pair, spell_init, spell_copy};
 ghost use Rattle.wat_print_instr.specs.Printings.{index_or_0_printing, pair_printing};
 ghost use Rattle.wat_print_instr.specs.Printings.{init_printing, copy_printing, sized_printing};
 ghost use Rattle.wat_print_instr.specs.Printings.{br_table_printing};

@@ -11,13 +11,9 @@ ghost use Rattle.wat_print.specs.Text.{put};
 ghost use Rattle.wat_print.specs.declared.fault.Refused.TheVariants.{Memory};
 ghost use Rattle.wat_print_module.specs.Dylink.{spell_sizes, spell_names, spell_export_flags};
 ghost use Rattle.wat_print_module.specs.Dylink.{spell_import_flags, spell_subsection, spell_dylink};
-ghost use Rattle.wat_print_module.specs.Dylink.{
-  printable_sizes,
-  printable_export_flags,
-  printable_import_flags,
-};
-ghost use Rattle.wat_print_module.specs.Dylink.{printable_subsection, is_filled, is_apart, are_cut};
-ghost use Rattle.wat_print_module.specs.Dylink.{printable_dylink};
+ghost use Rattle.wat_print_module.specs.Dylink.{printable_sizes, printable_export_flags};
+ghost use Rattle.wat_print_module.specs.Dylink.{printable_import_flags, printable_subsection};
+ghost use Rattle.wat_print_module.specs.Dylink.{is_filled, is_apart, are_cut, printable_dylink};
 ghost use Rattle.wat_print_module.specs.LinkPrintings.{dylink_printing};
 ghost use Rattle.wat_print.specs.Strings.{spell_string};
 

@@ -8,12 +8,8 @@ ghost use Rattle.wat_print.specs.Index.{printable_index};
 ghost use Rattle.wat_print.specs.Layout.{Writes};
 ghost use Rattle.wat_print.specs.Text.{put};
 ghost use Rattle.wat_print.specs.declared.fault.Refused.TheVariants.{Memory};
-ghost use Rattle.wat_print_module.specs.Field.{
-  spell_start,
-  spell_module_field,
-  printable_module_field,
-};
-ghost use Rattle.wat_print_module.specs.Field.{spell_field_group};
+ghost use Rattle.wat_print_module.specs.Field.{spell_start, spell_module_field};
+ghost use Rattle.wat_print_module.specs.Field.{printable_module_field, spell_field_group};
 ghost use Rattle.wat_print_module.specs.ModulePrintings.{module_field_printing};
 
 use crate::custom::write_custom;

@@ -11,11 +11,8 @@ ghost use Rattle.wat_print.specs.Text.{put};
 ghost use Rattle.wat_print.specs.declared.fault.Refused.TheVariants.{Memory};
 ghost use Rattle.wat_print_module.specs.FieldHead.{spell_inline_name, spell_inline_export};
 ghost use Rattle.wat_print_module.specs.FieldHead.{printable_inline_export, spell_inline_import};
-ghost use Rattle.wat_print_module.specs.FieldHead.{
-  printable_inline_import,
-  spell_head,
-  printable_head,
-};
+ghost use Rattle.wat_print_module.specs.FieldHead.{printable_inline_import, spell_head};
+ghost use Rattle.wat_print_module.specs.FieldHead.{printable_head};
 ghost use Rattle.wat_print_module.specs.FieldPrintings.{inline_export_printing};
 ghost use Rattle.wat_print_module.specs.FieldPrintings.{inline_import_printing, head_printing};
 

@@ -9,18 +9,9 @@ ghost use Rattle.wat_links.specs.Item.{sig_view};
 ghost use Rattle.wat_print.specs.Parts.{each, Wrote};
 ghost use Rattle.wat_print.specs.Text.{put};
 ghost use Rattle.wat_print.specs.declared.fault.Refused.TheVariants.{Memory};
-ghost use Rattle.wat_print_module.specs.Import.{
-  spell_typed,
-  printable_typed,
-  spell_named,
-  printable_shared,
-};
-ghost use Rattle.wat_print_module.specs.Import.{
-  spell_items,
-  printable_items,
-  spell_imports,
-  printable_imports,
-};
+ghost use Rattle.wat_print_module.specs.Import.{spell_typed, printable_typed, spell_named};
+ghost use Rattle.wat_print_module.specs.Import.{printable_shared, spell_items, printable_items};
+ghost use Rattle.wat_print_module.specs.Import.{spell_imports, printable_imports};
 ghost use Rattle.wat_print_module.specs.Item.{spell_sig_group};
 ghost use Rattle.wat_print_module.specs.LinkPrintings.{imports_printing};
 

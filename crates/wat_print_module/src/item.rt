@@ -4,14 +4,8 @@ ghost use Rattle.std.specs.Prelude.{◌≡◌, ◌≢◌, OnOk, IfErr, true, fal
 ghost use Rattle.wat_links.specs.Item.{item_kind_view, SigTy, sig_view, item_sig};
 ghost use Rattle.wat_print.specs.Text.{put};
 ghost use Rattle.wat_print.specs.declared.fault.Refused.TheVariants.{Memory};
-ghost use Rattle.wat_print_module.specs.Item.{
-  item_word,
-  spell_item,
-  printable_item,
-  spell_sig,
-  printable_sig,
-};
-ghost use Rattle.wat_print_module.specs.Item.{spell_sig_group};
+ghost use Rattle.wat_print_module.specs.Item.{item_word, spell_item, printable_item, spell_sig};
+ghost use Rattle.wat_print_module.specs.Item.{printable_sig, spell_sig_group};
 ghost use Rattle.wat_print_module.specs.LinkPrintings.{sig_printing};
 
 use crate::traits::PrintPart;

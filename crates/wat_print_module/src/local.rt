@@ -8,13 +8,8 @@ ghost use Rattle.wat_print.specs.Parts.{each, Wrote};
 ghost use Rattle.wat_print.specs.Text.{put};
 ghost use Rattle.wat_print.specs.declared.fault.Refused.TheVariants.{Memory};
 ghost use Rattle.wat_print_module.specs.FieldPrintings.{local_parser_printing};
-ghost use Rattle.wat_print_module.specs.Local.{
-  local_label,
-  spell_listed,
-  printable_local,
-  spell_local,
-};
-ghost use Rattle.wat_print_module.specs.Local.{spell_local_parser, may_share_group};
+ghost use Rattle.wat_print_module.specs.Local.{local_label, spell_listed, printable_local};
+ghost use Rattle.wat_print_module.specs.Local.{spell_local, spell_local_parser, may_share_group};
 ghost use Rattle.wat_print_module.specs.Local.{printable_local_parser};
 
 use crate::traits::PrintPart;

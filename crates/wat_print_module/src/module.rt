@@ -13,17 +13,10 @@ ghost use Rattle.wat_print.specs.Text.{put, printed_text};
 ghost use Rattle.wat_print.specs.declared.fault.Refused.TheVariants.{Memory};
 ghost use Rattle.wat_print.specs.declared.output.Layout.TheVariants.{Line};
 ghost use Rattle.wat_print_module.specs.Field.{printable_module_field, spell_field_group};
-ghost use Rattle.wat_print_module.specs.Module.{
-  spell_module_kind,
-  printable_module_kind,
-  spell_module,
-};
-ghost use Rattle.wat_print_module.specs.Module.{
-  printable_module,
-  spell_module_group,
-  UnprintablePart,
-};
-ghost use Rattle.wat_print_module.specs.Module.{UnprintableField, NonePart, fields_of_kind};
+ghost use Rattle.wat_print_module.specs.Module.{spell_module_kind, printable_module_kind};
+ghost use Rattle.wat_print_module.specs.Module.{spell_module, printable_module, spell_module_group};
+ghost use Rattle.wat_print_module.specs.Module.{UnprintablePart, UnprintableField, NonePart};
+ghost use Rattle.wat_print_module.specs.Module.{fields_of_kind};
 ghost use Rattle.wat_print_module.specs.ModulePrintings.{module_printing};
 ghost use Rattle.wat_print.specs.Strings.{printable_string};
 

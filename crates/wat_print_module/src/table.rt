@@ -13,13 +13,9 @@ ghost use Rattle.wat_print.specs.declared.fault.Refused.TheVariants.{Memory};
 ghost use Rattle.wat_print_instr.specs.ExpressionForm.{spell_expression};
 ghost use Rattle.wat_print_module.specs.SegmentPrintings.{table_printing};
 ghost use Rattle.wat_print_module.specs.Table.{heap_number, same_flag, same_heap, same_ref};
-ghost use Rattle.wat_print_module.specs.Table.{
-  spell_elements,
-  printable_elements,
-  printable_initial,
-};
-ghost use Rattle.wat_print_module.specs.Table.{spell_table_kind, printable_table_kind, spell_table};
-ghost use Rattle.wat_print_module.specs.Table.{printable_table};
+ghost use Rattle.wat_print_module.specs.Table.{spell_elements, printable_elements};
+ghost use Rattle.wat_print_module.specs.Table.{printable_initial, spell_table_kind};
+ghost use Rattle.wat_print_module.specs.Table.{printable_table_kind, spell_table, printable_table};
 ghost use Rattle.wat_tokens.specs.Index.{index_view};
 ghost use Rattle.wat_tokens.specs.Views.{option_view, no_items};
 ghost use Rattle.wat_types.specs.Heap.{heap_view};
