@@ -5,7 +5,7 @@ ghost use Rattle.std.specs.Prelude.{true, false, length, drop, slice_range, slic
 ghost use Rattle.wat_lexer.specs.Bytes.{is_idchar, between};
 ghost use Rattle.wat_lexer.specs.Cut.{begins, in_no_run};
 ghost use Rattle.wat_lexer.specs.Number.{is_integer};
-ghost use Rattle.wat_lexer.specs.Scan.{front, all_idchars, behind_run, string_at};
+ghost use Rattle.wat_lexer.specs.Scan.{front, behind_run, string_at, IsWholeWord};
 ghost use Rattle.wat_lexer.specs.Scan.{Between, Ends, Raw};
 ghost use Rattle.wat_lexer.specs.View.{PieceIs, HasRoom, is_word, near_limit, word_limit};
 ghost use Rattle.wat_lexer.specs.declared.lexeme.SideEntry.{SideEntry};
@@ -44,10 +44,7 @@ fn ends_run(text: &[u8], at: usize) -> bool
 fn word_end(text: &[u8], at: usize) -> Option<usize>
     requires place { at < length text.now }
     requires first { is_idchar (slice_index text.now at) ≡ true }
-    ensures within { IfSome result (λ end. (at < end) × (end ≤ length text.now)) }
-    ensures all { IfSome result (λ end. all_idchars (slice_range text.now at end) ≡ true) }
-    ensures run { IfSome result (λ end. behind_run Between (drop at text.now) ≡ Ends
-        (drop end text.now)) }
+    ensures { IfSome result (λ end. IsWholeWord text.now at end) }
 {
     let end = plain_end(text, at + 1);
     if is_at(text, end, b'"') {
@@ -62,11 +59,8 @@ fn word_end(text: &[u8], at: usize) -> Option<usize>
 fn decimal_end(text: &[u8], at: usize) -> Option<usize>
     requires place { at < length text.now }
     requires first { between 48 57 (slice_index text.now at) ≡ true }
-    ensures within { IfSome result (λ end. (at < end) × (end ≤ length text.now)) }
-    ensures all { IfSome result (λ end. all_idchars (slice_range text.now at end) ≡ true) }
+    ensures word { IfSome result (λ end. IsWholeWord text.now at end) }
     ensures integer { IfSome result (λ end. is_integer (slice_range text.now at end) ≡ true) }
-    ensures run { IfSome result (λ end. behind_run Between (drop at text.now) ≡ Ends
-        (drop end text.now)) }
 {
     let end = marked_end(&DIGITS, text, at + 1);
     if !ends_run(text, end) {
@@ -82,11 +76,8 @@ fn hex_end(text: &[u8], at: usize) -> Option<usize>
     requires place { at + 1 < length text.now }
     requires zero { slice_index text.now at ≡ 48 }
     requires mark { slice_index text.now (at + 1) ≡ 120 }
-    ensures within { IfSome result (λ end. (at < end) × (end ≤ length text.now)) }
-    ensures all { IfSome result (λ end. all_idchars (slice_range text.now at end) ≡ true) }
+    ensures word { IfSome result (λ end. IsWholeWord text.now at end) }
     ensures integer { IfSome result (λ end. is_integer (slice_range text.now at end) ≡ true) }
-    ensures run { IfSome result (λ end. behind_run Between (drop at text.now) ≡ Ends
-        (drop end text.now)) }
 {
     let end = marked_end(&HEX_DIGITS, text, at + 2);
     if end == at + 2 {
@@ -104,11 +95,8 @@ fn hex_end(text: &[u8], at: usize) -> Option<usize>
 fn integer_end(text: &[u8], at: usize) -> Option<usize>
     requires place { at < length text.now }
     requires first { between 48 57 (slice_index text.now at) ≡ true }
-    ensures within { IfSome result (λ end. (at < end) × (end ≤ length text.now)) }
-    ensures all { IfSome result (λ end. all_idchars (slice_range text.now at end) ≡ true) }
+    ensures word { IfSome result (λ end. IsWholeWord text.now at end) }
     ensures integer { IfSome result (λ end. is_integer (slice_range text.now at end) ≡ true) }
-    ensures run { IfSome result (λ end. behind_run Between (drop at text.now) ≡ Ends
-        (drop end text.now)) }
 {
     if text[at] == b'0' && at + 1 < text.len() && text[at + 1] == b'x' {
         return hex_end(text, at);
