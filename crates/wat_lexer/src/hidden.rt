@@ -37,7 +37,7 @@ fn begins_hidden(first: Token, second: Token, known: bool) -> bool
 }
 
 /// Whether a group whose annotation isn't known is at the place.
-#[tactic(auto, using(crate::proofs::Entries::begins_hidden_steps))]
+#[tactic(auto, using(crate::specs::Laws::Hidden::begins_hidden_steps))]
 #[inline(always)]
 pub(crate) fn begins_hidden_group(tokens: &Tokens, at: usize, known: bool) -> bool
     requires { at ≤ length tokens.now }
