@@ -32,7 +32,7 @@ fn tell_skip(tokens: &mut Tokens, at: usize, end: usize)
 
 /// Tells each group of an annotation how many tokens are left out where it stands. Answers the
 /// offset of the first one that isn't closed.
-pub fn tell_skips(alloc: Global, tokens: &mut Tokens) -> Result<Option<usize>, AllocError>
+pub(crate) fn tell_skips(alloc: Global, tokens: &mut Tokens) -> Result<Option<usize>, AllocError>
     ensures same { placed tokens.new ≡ placed tokens.old }
     ensures skips { IfOk result (λ o. AreSkips tokens.new) }
     ensures first { IfOk result (λ o. MatchOption o (Closed (tokens_of (placed tokens.old)))

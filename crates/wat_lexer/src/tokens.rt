@@ -31,12 +31,17 @@ impl<'a> Model for Tokens<'a> {
 
     ghost view = { λ t. entries_of t.text.now t.side_table.items t.lexemes.items };
 
-    ghost invariant = { λ t. AllCanBeRead t.text.now t.side_table.items t.lexemes.items × AllApart t.lexemes.items × (length t.lexemes.items ≤ 9223372036854775807) };
+    ghost invariant = { λ t. AllCanBeRead t.text.now t.side_table.items t.lexemes.items
+        × AllApart t.lexemes.items × (length t.lexemes.items ≤ 9223372036854775807) };
 }
 
 impl<'a> Tokens<'a> {
     /// The tokens that were kept of a text.
-    pub fn of(text: &'a str, lexemes: Vec<Lexeme>, side_table: Vec<SideEntry<'a>>) -> Tokens<'a>
+    pub(crate) fn of(
+        text: &'a str,
+        lexemes: Vec<Lexeme>,
+        side_table: Vec<SideEntry<'a>>,
+    ) -> Tokens<'a>
         requires fit { AllCanBeRead text.now side_table.items lexemes.items }
         requires apart { AllApart lexemes.items }
         requires small { length lexemes.items ≤ 9223372036854775807 }
@@ -114,7 +119,7 @@ impl<'a> Tokens<'a> {
 
     /// How far lookups go from the `(` in front of it, where the standard names are known or none
     /// is.
-    pub fn skip(&self, at: usize, known: bool) -> usize
+    pub(crate) fn skip(&self, at: usize, known: bool) -> usize
         requires { at < length self.now }
         ensures { result ≡ skip known (get_or self.now at no_entry).skips }
     {
@@ -152,7 +157,7 @@ fn word<'a>(text: &'a str, from: usize, front: usize, end: usize) -> &'a str
 /// The token of a kind: a word is read out of the text, from a place on and of so many bytes; what
 /// lies in the side table is at another place there.
 #[inline(always)]
-pub fn read<'a>(
+pub(crate) fn read<'a>(
     text: &'a str,
     kind: Kind,
     from: usize,
