@@ -7,8 +7,8 @@ use Rattle.wat_mnemonics.specs.Table.{all_ops}
 use Rattle.wat_mnemonics.specs.declared.op.Op.{Op}
 use Rattle.wat_mnemonics.specs.declared.table.TheConstants.{OPS}
 
-pub mnemonics_are : OPS ≡ all_ops
-mnemonics_are = refl
+pub ops_are : OPS ≡ all_ops
+ops_are = refl
 
-pub mnemonics_in_order : IsTrue (rises (map op_word OPS))
-mnemonics_in_order = subst (λ (l : List Op). IsTrue (rises (map op_word l))) (sym mnemonics_are) words_rise
+pub ops_in_order : IsTrue (rises (map op_word OPS))
+ops_in_order = subst (λ (l : List Op). IsTrue (rises (map op_word l))) (sym ops_are) words_rise
