@@ -1,8 +1,7 @@
 use Rattle.std.proofs.Common.{◌≡◌, ◌+◌, ◌-◌, ◌/◌, sym, ◌∙◌, ap, arith}
 use Rattle.std.proofs.lemmas.Map.Lookups.{exact_bytes}
-use Rattle.wat_mnemonics.specs.Ops.{op_word}
-use Rattle.wat_mnemonics.specs.Laws.Places.{entry_at}
 use Rattle.wat_mnemonics.proofs.Halves.{lower_half, upper_half, one_more, few_left, few_made, probed_only, no_place}
+use Rattle.wat_mnemonics.proofs.TableOrder.{entry_word}
 use Rattle.wat_mnemonics.proofs.same_key.find_between.Goals as goal
 
 pub halves-preserved-in-Less : goal.halves-preserved-in-Less
@@ -29,7 +28,7 @@ halves-preserved c =
 
 pub returns-in-Equal-clause-found : goal.returns-in-Equal-clause-found
 returns-in-Equal-clause-found c =
-    ap op_word c.op_at.ensures ∙ sym (entry_at (c.halves.base + c.halves.size / 2 - 1) (omega (arith, c.halves-test.true, c.halves.invariant.within.bound))) ∙ exact_bytes _ _ (sym c.compared.ensures ∙ c.in-Equal.is)
+    entry_word (c.halves.base + c.halves.size / 2 - 1) _ (omega (arith, c.halves-test.true, c.halves.invariant.within.bound)) c.op_at.ensures ∙ exact_bytes _ _ (sym c.compared.ensures ∙ c.in-Equal.is)
 
 pub returns-in-Equal-clause-probes : goal.returns-in-Equal-clause-probes
 returns-in-Equal-clause-probes c = λ most f. few_made _ _ most (few_left c.halves.size most c.halves.parser c.probe.new.self c.halves-test.true c.probe.ensures.only (c.halves.invariant.few most f))
