@@ -1,4 +1,4 @@
-use Rattle.std.proofs.Common.{◌≡◌, ◌+◌, ◌-◌, ◌/◌, ap, arith}
+use Rattle.std.proofs.Common.{◌+◌, ◌-◌, ◌/◌, arith}
 use Rattle.wat_mnemonics.proofs.Halves.{lower_half, upper_half, few_left, made_one, probed_only, no_place}
 use Rattle.wat_mnemonics.proofs.KeyOrder.{key_less, key_greater}
 use Rattle.wat_mnemonics.proofs.find.find.Goals as goal

@@ -1,4 +1,4 @@
-use Rattle.std.proofs.Common.{◌≡◌, ◌+◌, ◌-◌, ◌/◌, sym, ◌∙◌, ap, arith}
+use Rattle.std.proofs.Common.{◌+◌, ◌-◌, ◌/◌, sym, ◌∙◌, arith}
 use Rattle.std.proofs.lemmas.Map.Lookups.{exact_bytes}
 use Rattle.wat_mnemonics.proofs.Halves.{lower_half, upper_half, one_more, few_left, few_made, probed_only, no_place}
 use Rattle.wat_mnemonics.proofs.TableOrder.{entry_word}
