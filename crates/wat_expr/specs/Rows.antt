@@ -63,7 +63,8 @@ get_text = group_text (codes "local.get") (Integer (codes "0") ∷ [])
 
 -- `(@metadata.code.branch_hint "v")`
 abbrev pub branch_hint_text : ℕ → List Tok
-branch_hint_text v = in_parens (Annotation (codes "metadata.code.branch_hint") ∷ String (v ∷ []) ∷ [])
+branch_hint_text v =
+    in_parens (Annotation (codes "metadata.code.branch_hint") ∷ String (v ∷ []) ∷ [])
 
 -- ---- the facts
 

@@ -60,7 +60,8 @@ pub(crate) fn read_block<'a, P: Sink<'a>>(
     out: &mut P,
 ) -> Result<()>
     requires { P.has_room out.old }
-    ensures { ReadsOperand (ops.Block op) (P.seen out.old) (P.seen out.new) result parser.old parser.new }
+    ensures { ReadsOperand (ops.Block op) (P.seen out.old) (P.seen out.new) result parser.old
+        parser.new }
 {
     match BlockType::parse(parser) {
         Ok(block) => match boxed(parser.alloc(), block) {
@@ -82,7 +83,8 @@ pub(crate) fn read_label<'a, P: Sink<'a>>(
     out: &mut P,
 ) -> Result<()>
     requires { P.has_room out.old }
-    ensures { ReadsOperand (ops.Label op) (P.seen out.old) (P.seen out.new) result parser.old parser.new }
+    ensures { ReadsOperand (ops.Label op) (P.seen out.old) (P.seen out.new) result parser.old
+        parser.new }
 {
     match Option::<Id>::parse(parser) {
         Ok(operand) => {
@@ -120,7 +122,8 @@ pub(crate) fn read_call_indirect<'a, P: Sink<'a>>(
     out: &mut P,
 ) -> Result<()>
     requires { P.has_room out.old }
-    ensures { ReadsOperand (ops.CallIndirect op) (P.seen out.old) (P.seen out.new) result parser.old parser.new }
+    ensures { ReadsOperand (ops.CallIndirect op) (P.seen out.old) (P.seen out.new) result parser.old
+        parser.new }
 {
     match Box::<CallIndirect>::parse(parser) {
         Ok(operand) => {
@@ -159,7 +162,8 @@ pub(crate) fn read_access<'a, P: Sink<'a>>(
     out: &mut P,
 ) -> Result<()>
     requires { P.has_room out.old }
-    ensures { ReadsOperand (ops.Access op) (P.seen out.old) (P.seen out.new) result parser.old parser.new }
+    ensures { ReadsOperand (ops.Access op) (P.seen out.old) (P.seen out.new) result parser.old
+        parser.new }
 {
     match MemArg::read(parser, op.align()) {
         Ok(operand) => {
@@ -237,7 +241,8 @@ pub(crate) fn read_atomic_access<'a, P: Sink<'a>>(
     out: &mut P,
 ) -> Result<()>
     requires { P.has_room out.old }
-    ensures { ReadsOperand (ops.AtomicAccess op) (P.seen out.old) (P.seen out.new) result parser.old parser.new }
+    ensures { ReadsOperand (ops.AtomicAccess op) (P.seen out.old) (P.seen out.new) result parser.old
+        parser.new }
 {
     match MemArg::read_atomic(parser, op.align(), false) {
         Ok(operand) => {
@@ -255,7 +260,8 @@ pub(crate) fn read_rmw_access<'a, P: Sink<'a>>(
     out: &mut P,
 ) -> Result<()>
     requires { P.has_room out.old }
-    ensures { ReadsOperand (ops.RmwAccess op) (P.seen out.old) (P.seen out.new) result parser.old parser.new }
+    ensures { ReadsOperand (ops.RmwAccess op) (P.seen out.old) (P.seen out.new) result parser.old
+        parser.new }
 {
     match MemArg::read_atomic(parser, op.align(), true) {
         Ok(operand) => {
@@ -333,7 +339,8 @@ pub(crate) fn read_lane_access<'a, P: Sink<'a>>(
     out: &mut P,
 ) -> Result<()>
     requires { P.has_room out.old }
-    ensures { ReadsOperand (ops.LaneAccess op) (P.seen out.old) (P.seen out.new) result parser.old parser.new }
+    ensures { ReadsOperand (ops.LaneAccess op) (P.seen out.old) (P.seen out.new) result parser.old
+        parser.new }
 {
     match LoadOrStoreLane::read(parser, op.align()) {
         Ok(operand) => {
@@ -372,7 +379,8 @@ pub(crate) fn bare_scalar<'a, P: Sink<'a>>(
     out: &mut P,
 ) -> Result<()>
     requires { P.has_room out.old }
-    ensures { ReadsOperand (ops.Scalar op) (P.seen out.old) (P.seen out.new) result parser.old parser.new }
+    ensures { ReadsOperand (ops.Scalar op) (P.seen out.old) (P.seen out.new) result parser.old
+        parser.new }
 {
     out.put(Instruction::Scalar(op));
     Ok(())
@@ -386,7 +394,8 @@ pub(crate) fn bare_vector<'a, P: Sink<'a>>(
     out: &mut P,
 ) -> Result<()>
     requires { P.has_room out.old }
-    ensures { ReadsOperand (ops.Vector op) (P.seen out.old) (P.seen out.new) result parser.old parser.new }
+    ensures { ReadsOperand (ops.Vector op) (P.seen out.old) (P.seen out.new) result parser.old
+        parser.new }
 {
     out.put(Instruction::Vector(op));
     Ok(())
