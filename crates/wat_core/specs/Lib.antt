@@ -34,6 +34,7 @@ pub use Rattle.wat_tokens.specs.Strings
 pub use Rattle.wat_tokens.specs.Tests
 pub use Rattle.wat_tokens.specs.Token
 pub use Rattle.wat_tokens.specs.Views
+pub use Rattle.wat_tokens.specs.Whole
 pub use Rattle.wat_types.specs.Define
 pub use Rattle.wat_types.specs.Exponent
 pub use Rattle.wat_types.specs.FieldType

@@ -23,6 +23,7 @@ use crate::field::ModuleField;
 use wat_tokens::enclosed::in_parens;
 use wat_tokens::repeat::{Part, all_parts, all_to_end};
 use wat_tokens::{Id, NameAnnotation, Parse, Parser, Result, Span};
+use wat_types::take_label;
 
 /// A module (WebAssembly Core Specification, Text Format, "Modules").
 #[derive(Debug)]
@@ -37,8 +38,8 @@ pub struct Module<'a> {
     pub kind: ModuleKind<'a>,
 }
 
-/// It is written out, and proved once, here. Were it derived, each crate that drops a module would prove
-/// the drop of each of its parts once more, which takes the prover minutes.
+/// It is written out, and proved once, here. Were it derived, each crate that drops a module would
+/// prove the drop of each of its parts once more, which takes the prover minutes.
 impl Drop for Module<'_> {
     fn drop(self) {
         let Module {
@@ -98,8 +99,9 @@ fn read_module_kind<'a>(parser: &mut Parser<'a>) -> Result<ModuleKind<'a>>
 }
 
 /// A module, as a value that is read over the tokens that are visible now: a part of a text that is
-/// no module itself, as a script, can hold it. [`Module::parse`] turns the five standard annotations
-/// on for a module; here its hints, names and custom sections are read if they are known.
+/// no module itself, as a script, can hold it. [`Module::parse`] turns the five standard
+/// annotations on for a module; here its hints, names and custom sections are read if they are
+/// known.
 ///
 /// It is from the word `module` to the end of its group, whose parentheses are the caller's.
 #[derive(Drop)]
@@ -114,11 +116,10 @@ impl<'a> Parse<'a> for VisibleModule<'a> {
 
     ghost grammar = { module_ };
 
-    #[tactic(auto, unfolding(crate::specs::Module::module_, wat_types::specs::Label::label))]
+    #[tactic(auto, unfolding(crate::specs::Module::module_))]
     fn parse(parser: &mut Parser<'a>) -> Result<Self> {
         let span = parser.keyword("module")?;
-        let id = Option::<Id>::parse(parser)?;
-        let name = Option::<NameAnnotation>::parse(parser)?;
+        let (id, name) = take_label(parser)?;
         let kind = read_module_kind(parser)?;
         Ok(VisibleModule(Module {
             span,
@@ -138,7 +139,7 @@ impl<'a> Module<'a> {
     /// in front than the word `module` is refused with Unexpected, at the token, and so is one
     /// behind it that begins no field's group. Memory may be answered where the module has a field
     /// or a piece.
-    #[tactic(auto, using(wat_tokens::specs::Laws::State::annotated_is, crate::proofs::Ends::module_ends))]
+    #[tactic(auto, using(crate::proofs::Ends::module_steps))]
     pub fn parse(parser: &mut Parser<'a>) -> Result<Module<'a>>
         // The tokens that were taken, visible with the five names, spell the module.
         ensures sound { IfOk result (λ m. Front module_.spells (annotated parser.old).left
@@ -185,8 +186,8 @@ impl<'a> Module<'a> {
         }
     }
 
-    /// Where the word `module` begins, its identifier, the name that an annotation gives, and what is
-    /// in it, each as the field was. A field can't be moved out of a module otherwise.
+    /// Where the word `module` begins, its identifier, the name that an annotation gives, and what
+    /// is in it, each as the field was. A field can't be moved out of a module otherwise.
     pub fn into_parts(
         self,
     ) -> (
