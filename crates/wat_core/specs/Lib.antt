@@ -22,6 +22,7 @@ pub use Rattle.wat_tokens.specs.Many
 pub use Rattle.wat_tokens.specs.ManySpells
 pub use Rattle.wat_tokens.specs.NameAnnotation
 pub use Rattle.wat_tokens.specs.Once
+pub use Rattle.wat_tokens.specs.Outcome
 pub use Rattle.wat_tokens.specs.Parens
 pub use Rattle.wat_tokens.specs.Parses
 pub use Rattle.wat_tokens.specs.PartSpells
