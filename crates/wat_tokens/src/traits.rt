@@ -1,6 +1,6 @@
 //! What can be parsed, and what can be looked for.
 
-ghost use Rattle.std.specs.Prelude.{◌≡◌, ◌++◌, List, Bool, IfErr, true};
+ghost use Rattle.std.specs.Prelude.{◌≡◌, List, Bool, IfErr, true};
 ghost use Rattle.wat_lexer.specs.Token.{Tok};
 ghost use Rattle.wat_tokens.specs.Cost.{Cost, tokens_alone, Costs};
 ghost use Rattle.wat_tokens.specs.Counts.{Counted, Turned, SameSettings};
@@ -103,9 +103,3 @@ impl<'a> Parser<'a> {
         T::peek2(self.cursor())
     }
 }
-
-/// No two prefixes of one token list spell values, unless they are one prefix and one value.
-pub fn one_reading<'a, T: Parse<'a>>()
-    ensures { (v w : T.View) (c d r s : List Tok) → c ++ r ≡ d ++ s → T.grammar.spells v c r
-        → T.grammar.spells w d s → (v ≡ w) × (r ≡ s) × (c ≡ d) }
-{}
