@@ -1,8 +1,7 @@
 -- Instructions and hints that are written in turn.
 use Rattle.std.specs.Prelude.{◌≡◌, ℕ, zero, suc, ◌+◌, ◌<◌, Bool, true, false, ◌&&◌, ◌==◌, List, []}
-use Rattle.std.specs.Prelude.{◌∷◌, ◌++◌}
-use Rattle.std.specs.Prelude.{if◌then◌else◌, flat_map, map, length, drop, Option, Some, None}
-use Rattle.std.specs.Prelude.{option_map}
+use Rattle.std.specs.Prelude.{◌∷◌, ◌++◌, if◌then◌else◌, flat_map, map, length, drop, Option, Some}
+use Rattle.std.specs.Prelude.{None, option_map}
 use Rattle.std.proofs.Common.{refl, ap, subst, sym, ◌∙◌, append_assoc, append-nil, get_or, arith}
 use Rattle.std.proofs.lemmas.Grind.{flat_map-append}
 use Rattle.wat_lexer.specs.Token.{Tok}
@@ -13,9 +12,8 @@ use Rattle.wat_print.specs.Text.{Page}
 use Rattle.wat_print.specs.Laws.Parts.{each_both}
 use Rattle.wat_print.specs.Laws.Written.{puts_both, puts_put}
 use Rattle.wat_print_instr.specs.ExpressionForm.{HintedInstr, step_of, spell_step, printable_step}
-use Rattle.wat_print_instr.specs.ExpressionForm.{steps_from}
-use Rattle.wat_print_instr.specs.ExpressionForm.{hint_for, hints_after, spell_expression}
-use Rattle.wat_print_instr.specs.ExpressionForm.{printable_expression}
+use Rattle.wat_print_instr.specs.ExpressionForm.{steps_from, hint_for, hints_after}
+use Rattle.wat_print_instr.specs.ExpressionForm.{spell_expression, printable_expression}
 use Rattle.wat_print_instr.specs.InstructionForm.{passes}
 
 -- From p to q the steps before the index b were written, and what is left of the instructions and
@@ -97,7 +95,8 @@ pub walk_fits : (is : List Instr) (hs : List (ℕ × ℕ)) (b : ℕ) (p q : Page
 walk_fits is hs b p q e w =
     subst (λ (o : Option (List HintedInstr)). passes (each printable_step) o ≡ true)
     (sym (all_steps is hs b p q e w))
-    (subst (λ (l : List HintedInstr). each printable_step l ≡ true) (sym (append-nil w.done)) w.fits)
+    (subst (λ (l : List HintedInstr). each printable_step l ≡ true)
+    (sym (append-nil w.done)) w.fits)
 
 pub walk_written : (is : List Instr) (hs : List (ℕ × ℕ)) (b : ℕ) (p q : Page) → drop b is ≡ []
     → Walked is hs b [] p q
@@ -121,7 +120,8 @@ after : (a b : Bool) → b ≡ false → a && b ≡ false
 after true b e = e
 after false b e = refl
 
-not_all : (done : List HintedInstr) (x : HintedInstr) (xs : List HintedInstr) → printable_step x ≡ false
+not_all : (done : List HintedInstr) (x : HintedInstr) (xs : List HintedInstr)
+    → printable_step x ≡ false
     → each printable_step (done ++ x ∷ xs) ≡ false
 not_all [] x xs f = rw f refl
 not_all (d ∷ done) x xs f =

@@ -147,7 +147,8 @@ pub fn write_atomic(
 ) -> Result<(), Refused>
     ensures written { OnOk result (out.new ≡ put out.old
         (spell_atomic default (mem_arg_view access.now))) }
-    ensures printable { OnOk result (printable_atomic default rmw (mem_arg_view access.now) ≡ true) }
+    ensures printable { OnOk result
+        (printable_atomic default rmw (mem_arg_view access.now) ≡ true) }
     ensures refused { IfErr result (λ e. e ≢ Memory
         → printable_atomic default rmw (mem_arg_view access.now) ≡ false) }
 {
@@ -177,8 +178,8 @@ pub fn write_lane_access(
 ) -> Result<(), Refused>
     ensures written { OnOk result (out.new ≡ put out.old
         (spell_lane_access default (lane_access_view lane.now))) }
-    ensures printable { OnOk result (printable_lane_access default (lane_access_view lane.now) ≡
-        true) }
+    ensures printable { OnOk result
+        (printable_lane_access default (lane_access_view lane.now) ≡ true) }
     ensures refused { IfErr result (λ e. e ≢ Memory
         → printable_lane_access default (lane_access_view lane.now) ≡ false) }
 {

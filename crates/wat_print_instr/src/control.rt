@@ -68,8 +68,8 @@ fn write_signature(out: &mut Output, ty: &TypeUse<FunctionType>) -> Result<(), R
 pub fn write_block(out: &mut Output, block: &BlockType) -> Result<(), Refused>
     ensures written { OnOk result (out.new ≡ put out.old (spell_block (block_view block.now))) }
     ensures printable { OnOk result (printable_block (block_view block.now) ≡ true) }
-    ensures refused { IfErr result (λ e. e ≢ Memory → printable_block (block_view block.now) ≡
-        false) }
+    ensures refused { IfErr result (λ e. e ≢ Memory
+        → printable_block (block_view block.now) ≡ false) }
 {
     write_label(out, &block.label, &block.label_name)?;
     write_signature(out, &block.ty)

@@ -43,8 +43,8 @@ pub fn write_index_or_zero(out: &mut Output, index: &Index) -> Result<(), Refuse
     ensures written { OnOk result (out.new ≡ put out.old
         (spell_index_or_0 (index_view index.now))) }
     ensures printable { OnOk result (printable_index (index_view index.now) ≡ true) }
-    ensures refused { IfErr result (λ e. e ≢ Memory → printable_index (index_view index.now) ≡
-        false) }
+    ensures refused { IfErr result (λ e. e ≢ Memory
+        → printable_index (index_view index.now) ≡ false) }
 {
     if is_zero(index) {
         return Ok(());
@@ -57,8 +57,8 @@ pub fn write_index_or_zero(out: &mut Output, index: &Index) -> Result<(), Refuse
 fn write_pair(out: &mut Output, first: &Index, second: &Index) -> Result<(), Refused>
     ensures written { OnOk result (out.new ≡ put out.old
         (spell_pair (index_view first.now, index_view second.now))) }
-    ensures printable { OnOk result (printable_pair (index_view first.now, index_view second.now) ≡
-        true) }
+    ensures printable { OnOk result
+        (printable_pair (index_view first.now, index_view second.now) ≡ true) }
     ensures refused { IfErr result (λ e. e ≢ Memory
         → printable_pair (index_view first.now, index_view second.now) ≡ false) }
 {

@@ -45,8 +45,8 @@ fn write_memory(out: &mut Output, memory: &Index) -> Result<(), Refused>
     ensures written { OnOk result (out.new ≡ put out.old
         (spell_data_memory (index_view memory.now))) }
     ensures printable { OnOk result (printable_index (index_view memory.now) ≡ true) }
-    ensures refused { IfErr result (λ e. e ≢ Memory → printable_index (index_view memory.now) ≡
-        false) }
+    ensures refused { IfErr result (λ e. e ≢ Memory
+        → printable_index (index_view memory.now) ≡ false) }
 {
     if is_zero(memory) {
         return Ok(());
@@ -90,8 +90,8 @@ fn write_data_kind(out: &mut Output, kind: &DataKind) -> Result<(), Refused>
 pub fn write_data(out: &mut Output, segment: &Data) -> Result<(), Refused>
     ensures written { OnOk result (Writes (spell_data (data_view segment.now)) out.old out.new) }
     ensures printable { OnOk result (printable_data (data_view segment.now) ≡ true) }
-    ensures refused { IfErr result (λ e. e ≢ Memory → printable_data (data_view segment.now) ≡
-        false) }
+    ensures refused { IfErr result (λ e. e ≢ Memory
+        → printable_data (data_view segment.now) ≡ false) }
 {
     out.word("data")?;
     write_label(out, &segment.id, &segment.name)?;
@@ -104,8 +104,8 @@ pub fn write_grouped_data(out: &mut Output, segment: &Data) -> Result<(), Refuse
     ensures written { OnOk result
         (Writes (spell_grouped_data (data_view segment.now)) out.old out.new) }
     ensures printable { OnOk result (printable_data (data_view segment.now) ≡ true) }
-    ensures refused { IfErr result (λ e. e ≢ Memory → printable_data (data_view segment.now) ≡
-        false) }
+    ensures refused { IfErr result (λ e. e ≢ Memory
+        → printable_data (data_view segment.now) ≡ false) }
 {
     out.open()?;
     write_data(out, segment)?;

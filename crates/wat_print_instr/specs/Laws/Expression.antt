@@ -154,7 +154,8 @@ step_second w a None i s t e f =
 pub no_word_at_end : (w : List ℕ) (r : List Tok) → ends r ≡ true → begins_word w r ≡ false
 no_word_at_end w r e = fails_at_end (begins_word w) refl (λ x. refl) r e
 
-steps_second : (w : List ℕ) → NoOperandWord w → NoMnemonic w → (xs : List HintedInstr) (r : List Tok)
+steps_second : (w : List ℕ) → NoOperandWord w → NoMnemonic w
+    → (xs : List HintedInstr) (r : List Tok)
     → ends r ≡ true → second (begins_word w) r ≡ false
     → second (begins_word w) (flat_map spell_step xs ++ r) ≡ false
 steps_second w a n [] r e f = f
@@ -266,7 +267,8 @@ items_of (x ∷ xs) = item x.hint x.instr (items_of xs)
 
 one_listed : (h : Option ℕ) (i : Instr) (xs : List HintedInstr) (t s : List Tok)
     → if_some (printable_hint i) h && printable_instruction i ≡ true → lists (items_of xs) t s
-    → EndsOperand (op_of_row i.row) t → lists (items_of (step_of h i ∷ xs)) (spell_step (step_of h i) ++ t) s
+    → EndsOperand (op_of_row i.row) t
+    → lists (items_of (step_of h i ∷ xs)) (spell_step (step_of h i) ++ t) s
 one_listed None i xs t s f l e =
     (t, (spell_instruction i, refl, instruction_here i t f e), l)
 one_listed (Some v) i xs t s f l e =
@@ -373,12 +375,14 @@ hint_well_formed i v f =
     noted (codes "metadata.code.branch_hint") (String (v ∷ []) ∷ []) [] hint_name_printable refl
     (well_formed_one (String (v ∷ [])) (byte_well_formed v (less_by v 2 b.1))) nothing
 
-step_well_formed : (h : Option ℕ) (i : Instr) → if_some (printable_hint i) h && printable_instruction i ≡ true
+step_well_formed : (h : Option ℕ) (i : Instr)
+    → if_some (printable_hint i) h && printable_instruction i ≡ true
     → WellFormed (spell_step (step_of h i))
 step_well_formed None i f = instruction_well_formed i f
 step_well_formed (Some v) i f =
     let a = and_parts (printable_hint i v) (printable_instruction i) f in
-    well_formed_both (spell_hint v) (spell_instruction i) (hint_well_formed i v a.0) (instruction_well_formed i a.1)
+    well_formed_both (spell_hint v) (spell_instruction i) (hint_well_formed i v a.0)
+    (instruction_well_formed i a.1)
 
 steps_well_formed : (o : Option (List HintedInstr)) → passes (each printable_step) o ≡ true
     → WellFormed (spell_option (flat_map spell_step) o)
@@ -386,5 +390,6 @@ steps_well_formed (Some xs) f =
     well_formed_each spell_step printable_step (λ x h. (step_well_formed x.hint x.instr h)) xs f
 steps_well_formed None f = absurd cc
 
-pub expression_well_formed : (e : Expr) → printable_expression e ≡ true → WellFormed (spell_expression e)
+pub expression_well_formed : (e : Expr) → printable_expression e ≡ true
+    → WellFormed (spell_expression e)
 expression_well_formed e f = steps_well_formed (steps_from 0 e.instrs e.hints) f

@@ -1,7 +1,6 @@
 -- Laws: each expression that tokens of a text spell can be written.
-use Rattle.std.specs.Prelude.{◌≡◌, ℕ, suc, ◌+◌, ◌<◌, ◌≤◌, Bool, true, false, ◌==◌}
-use Rattle.std.specs.Prelude.{List, [], ◌∷◌, ◌++◌, map, length, Option, Some, None, codes}
-use Rattle.std.specs.Prelude.{option_map}
+use Rattle.std.specs.Prelude.{◌≡◌, ℕ, suc, ◌+◌, ◌<◌, ◌≤◌, Bool, true, false, ◌==◌, List, [], ◌∷◌}
+use Rattle.std.specs.Prelude.{◌++◌, map, length, Option, Some, None, codes, option_map}
 use Rattle.std.proofs.Common.{refl, ap, subst, sym, ◌∙◌, append_assoc, append-nil, arith}
 use Rattle.std.proofs.lemmas.Bool.{and_parts, cond_both, or_right, or_left}
 use Rattle.std.proofs.lemmas.List.{append_cancel_right, map-append, length-append, length-map}
@@ -18,8 +17,7 @@ use Rattle.wat_print.specs.WellFormed.{is_given}
 use Rattle.wat_print.specs.Parts.{each}
 use Rattle.wat_print.specs.Laws.Only.{OnlyPrintable}
 use Rattle.wat_print.specs.Laws.Parts.{each_both}
-use Rattle.wat_print_instr.specs.ExpressionForm.{HintedInstr, step_of, printable_step}
-use Rattle.wat_print_instr.specs.ExpressionForm.{steps_from}
+use Rattle.wat_print_instr.specs.ExpressionForm.{HintedInstr, step_of, printable_step, steps_from}
 use Rattle.wat_print_instr.specs.ExpressionForm.{printable_expression}
 use Rattle.wat_print_instr.specs.InstructionForm.{passes, printable_instruction}
 use Rattle.wat_print_instr.specs.Laws.Instruction.{instruction_only}
@@ -208,11 +206,13 @@ end_fits = refl
 else_fits : printable_step (step_of None else_instr) ≡ true
 else_fits = refl
 
-all_printable : (xs ys : List HintedInstr) → each printable_step xs ≡ true → each printable_step ys ≡ true
+all_printable : (xs ys : List HintedInstr) → each printable_step xs ≡ true
+    → each printable_step ys ≡ true
     → each printable_step (xs ++ ys) ≡ true
 all_printable xs ys f g = each_both printable_step xs ys f g
 
-and_printable : (x : HintedInstr) (xs : List HintedInstr) → printable_step x ≡ true → each printable_step xs ≡ true
+and_printable : (x : HintedInstr) (xs : List HintedInstr) → printable_step x ≡ true
+    → each printable_step xs ≡ true
     → each printable_step (x ∷ xs) ≡ true
 and_printable x xs f g = rw (f, g) refl
 
@@ -236,7 +236,8 @@ marked_printable p (Folded i ys xs) ts r (a, b, d, e, s, k, ly, lx) g h =
     let o = opened_fits i ts a b r g e k (front_through b (RParen ∷ []) d r fy fx) in
     let n = given_inside b (RParen ∷ []) d r o.1 fy fx in
     all_printable (marked None ys ++ step_of p i ∷ []) (marked None xs)
-    (all_printable (marked None ys) (step_of p i ∷ []) (marked_printable None ys b (RParen ∷ d) ly n.0 tt)
+    (all_printable (marked None ys) (step_of p i ∷ [])
+    (marked_printable None ys b (RParen ∷ d) ly n.0 tt)
     (and_printable (step_of p i) [] (one_fits p i o.0 (before_folded p i ys xs h)) refl))
     (marked_printable None xs d r lx n.1 tt)
 marked_printable p (Block i ys xs) ts r (a, b, d, e, s, k, ly, lx) g h =
@@ -247,7 +248,8 @@ marked_printable p (Block i ys xs) ts r (a, b, d, e, s, k, ly, lx) g h =
     all_printable (step_of p i ∷ (marked None ys ++ group_end)) (marked None xs)
     (and_printable (step_of p i) (marked None ys ++ group_end)
     (one_fits p i o.0 (before_block p i ys xs h))
-    (all_printable (marked None ys) group_end (marked_printable None ys b (RParen ∷ d) ly n.0 tt) refl))
+    (all_printable (marked None ys) group_end
+    (marked_printable None ys b (RParen ∷ d) ly n.0 tt) refl))
     (marked_printable None xs d r lx n.1 tt)
 marked_printable p (IfThen i ops th xs) ts r (a, b, d, e, q, s, k, u, lo, lt, lx) g h =
     let j = LParen ∷ keyword (codes "then") ∷ [] in
@@ -261,10 +263,12 @@ marked_printable p (IfThen i ops th xs) ts r (a, b, d, e, q, s, k, u, lo, lt, lx
     let w = given_inside d m e r n.1 ft fx in
     let c = marked None th ++ group_end in
     all_printable (marked None ops ++ (step_of p i ∷ c)) (marked None xs)
-    (all_printable (marked None ops) (step_of p i ∷ c) (marked_printable None ops b (j ++ d) lo n.0 tt)
+    (all_printable (marked None ops) (step_of p i ∷ c)
+    (marked_printable None ops b (j ++ d) lo n.0 tt)
     (and_printable (step_of p i) c
     (one_fits p i o.0 (before_if p i (value_before p (IfThen i ops th xs) h) (is_branch_if i s)))
-    (all_printable (marked None th) group_end (marked_printable None th d (m ++ e) lt w.0 tt) refl)))
+    (all_printable (marked None th) group_end
+    (marked_printable None th d (m ++ e) lt w.0 tt) refl)))
     (marked_printable None xs e r lx w.1 tt)
 marked_printable p (IfElse i ops th el xs) ts r (a, b, d, e, f, q, s, k, u, lo, lt, le, lx) g h =
     let j = LParen ∷ keyword (codes "then") ∷ [] in
@@ -283,14 +287,16 @@ marked_printable p (IfElse i ops th el xs) ts r (a, b, d, e, f, q, s, k, u, lo, 
     let c = marked None el ++ group_end in
     let t = marked None th ++ (step_of None else_instr ∷ c) in
     all_printable (marked None ops ++ (step_of p i ∷ t)) (marked None xs)
-    (all_printable (marked None ops) (step_of p i ∷ t) (marked_printable None ops b (j ++ d) lo n.0 tt)
+    (all_printable (marked None ops) (step_of p i ∷ t)
+    (marked_printable None ops b (j ++ d) lo n.0 tt)
     (and_printable (step_of p i) t
     (one_fits p i o.0
     (before_if p i (value_before p (IfElse i ops th el xs) h) (is_branch_if i s)))
     (all_printable (marked None th) (step_of None else_instr ∷ c)
     (marked_printable None th d (y ++ e) lt w.0 tt)
     (and_printable (step_of None else_instr) c refl
-    (all_printable (marked None el) group_end (marked_printable None el e (m ++ f) le z.0 tt) refl)))))
+    (all_printable (marked None el) group_end
+    (marked_printable None el e (m ++ f) le z.0 tt) refl)))))
     (marked_printable None xs f r lx z.1 tt)
 marked_printable p (Hinted v xs) ts r (d, e, lt, k, l) g h =
     let c = LParen ∷ hint_name ∷ String (v ∷ []) ∷ RParen ∷ [] in

@@ -18,8 +18,8 @@ use Rattle.wat_tokens.specs.Integers.{signed, signed_of, unsigned, unsigned_of}
 use Rattle.wat_print.specs.Limits.{spell_number}
 use Rattle.wat_print.specs.Text.{all_are}
 use Rattle.wat_print.specs.WellFormed.{is_printable, is_given, WellFormed}
-use Rattle.wat_print.specs.Laws.Numbers.{magnitude_decimal, decimal_printable, no_sign, digits_idchars}
-use Rattle.wat_print.specs.Laws.Numbers.{unsigned_decimal, unsigned_fits}
+use Rattle.wat_print.specs.Laws.Numbers.{magnitude_decimal, decimal_printable, no_sign}
+use Rattle.wat_print.specs.Laws.Numbers.{digits_idchars, unsigned_decimal, unsigned_fits}
 use Rattle.wat_print.specs.Laws.Only.{OnlyPrintable, only_one}
 use Rattle.wat_print.specs.Laws.Parts.{Spells, well_formed_one}
 use Rattle.wat_print_instr.specs.Numbers.{Halves, spell_signed, is_signed, is_unsigned}
@@ -76,7 +76,8 @@ signed_printable bits (negsuc n) k h =
 
 pub signed_well_formed : (bits : ℕ) (z : ℤ) → Halves bits → is_signed bits z ≡ true
     → WellFormed (spell_signed z)
-signed_well_formed bits z k h = well_formed_one (Integer (signed_decimal z)) (signed_printable bits z k h)
+signed_well_formed bits z k h =
+    well_formed_one (Integer (signed_decimal z)) (signed_printable bits z k h)
 
 -- the number with the bits of n
 complement_is : (bits n : ℕ) → Halves bits → nat_le n (2 ^ bits - 1) ≡ true

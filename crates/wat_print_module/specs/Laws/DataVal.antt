@@ -33,8 +33,7 @@ use Rattle.wat_print.specs.Text.{all_are}
 use Rattle.wat_print.specs.Laws.Bytes.{both_are, byte_is}
 use Rattle.wat_print.specs.Laws.Numbers.{decimal_printable, magnitude_decimal, no_sign}
 use Rattle.wat_print.specs.Laws.Only.{OnlyPrintable, only_any, only_one, only_where, only_made}
-use Rattle.wat_print.specs.Laws.Only.{only_weaker}
-use Rattle.wat_print.specs.Laws.Only.{only_many, only_paren, only_after}
+use Rattle.wat_print.specs.Laws.Only.{only_weaker, only_many, only_paren, only_after}
 use Rattle.wat_print.specs.Laws.Parts.{Spells, paren_here, many_here, well_formed_one}
 use Rattle.wat_print.specs.Laws.Parts.{well_formed_group, well_formed_each}
 use Rattle.wat_print.specs.Laws.Define.{after_here}
@@ -105,7 +104,8 @@ numbers_here bs r f e =
           (map by_itself bs, numbers_many bs r f e, refl, bytes_each bs),
     )
 
-pub data_val_here : (v : DataValTy) → printable_data_val v ≡ true → Spells data_val v (spell_data_val v)
+pub data_val_here : (v : DataValTy) → printable_data_val v ≡ true
+    → Spells data_val v (spell_data_val v)
 unfolding data_val
 data_val_here (written bs) f r = inr (refl, (bs, (String bs, refl, refl), refl, refl))
 data_val_here (numbers bs) f r =
@@ -135,12 +135,14 @@ data_vals_here vs r f e =
 
 -- ---- they can be written
 
-numbers_well_formed : (bs : List ℕ) → all_are is_byte bs ≡ true → WellFormed (flat_map spell_number bs)
+numbers_well_formed : (bs : List ℕ) → all_are is_byte bs ≡ true
+    → WellFormed (flat_map spell_number bs)
 numbers_well_formed bs f =
     well_formed_each spell_number is_byte
     (λ b h.
     (let lt = less_by b 256 h in
-    let low : b < 2 ^ 64 = omega arith in well_formed_one (Integer (decimal b)) (decimal_printable b low))) bs
+    let low : b < 2 ^ 64 =
+    omega arith in well_formed_one (Integer (decimal b)) (decimal_printable b low))) bs
     (each_byte bs f)
   where
     each_byte : (bs : List ℕ) → all_are is_byte bs ≡ true → each is_byte bs ≡ true
@@ -148,14 +150,16 @@ numbers_well_formed bs f =
     each_byte (b ∷ bs) f =
         let a = and_parts (is_byte b) (all_are is_byte bs) f in rw (a.0) (each_byte bs a.1)
 
-pub data_val_well_formed : (v : DataValTy) → printable_data_val v ≡ true → WellFormed (spell_data_val v)
+pub data_val_well_formed : (v : DataValTy) → printable_data_val v ≡ true
+    → WellFormed (spell_data_val v)
 data_val_well_formed (written bs) f = well_formed_one (String bs) f
 data_val_well_formed (numbers bs) f =
     well_formed_group (codes "i8") (flat_map spell_number bs) refl (numbers_well_formed bs f)
 
 pub data_vals_well_formed : (vs : List DataValTy) → each printable_data_val vs ≡ true
     → WellFormed (spell_data_vals vs)
-data_vals_well_formed vs f = well_formed_each spell_data_val printable_data_val data_val_well_formed vs f
+data_vals_well_formed vs f =
+    well_formed_each spell_data_val printable_data_val data_val_well_formed vs f
 
 -- ---- what a text spells can be written
 

@@ -116,11 +116,13 @@ steps_behind b (j ∷ is) hs i f g =
     let ks = hints_after b hs in
     let a = step_first h j (steps_from (b + 1) is ks)
     (subst (λ (o : Steps). passes (each printable_step) o ≡ true) (next_is b j is hs) g) in
-    subst (λ (o : Steps). passes (each printable_step) o ≡ true) (sym (next_is b j (is ++ i ∷ []) hs))
+    subst (λ (o : Steps). passes (each printable_step) o ≡ true)
+    (sym (next_is b j (is ++ i ∷ []) hs))
     (step_more h j (steps_from (b + 1) (is ++ i ∷ []) ks) a.0
     (steps_behind (b + 1) is ks i f a.1))
 
-pub behind_printable : (i : Instr) (e : Expr) → printable_instruction i && printable_expression e ≡ true
+pub behind_printable : (i : Instr) (e : Expr)
+    → printable_instruction i && printable_expression e ≡ true
     → printable_expression (head_behind i e) ≡ true
 behind_printable i e f =
     let a = and_parts (printable_instruction i) (printable_expression e) f in

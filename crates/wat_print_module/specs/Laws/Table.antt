@@ -34,24 +34,25 @@ use Rattle.wat_print.specs.Limits.{spell_number, spell_table_type, printable_tab
 use Rattle.wat_print.specs.WellFormed.{WellFormed}
 use Rattle.wat_print.specs.Parts.{grouped, spell_flag, spell_option, each, if_some}
 use Rattle.wat_print.specs.Reference.{short_word, spell_ref, printable_ref}
-use Rattle.wat_print.specs.Laws.Limits.{table_type_here, table_type_well_formed}
-use Rattle.wat_print.specs.Laws.Limits.{width_here}
-use Rattle.wat_print.specs.Laws.Parts.{flag_here, group_here, well_formed_word, well_formed_both, well_formed_group}
-use Rattle.wat_print.specs.Laws.Parts.{well_formed_flag, well_formed_option}
+use Rattle.wat_print.specs.Laws.Limits.{table_type_here, table_type_well_formed, width_here}
+use Rattle.wat_print.specs.Laws.Parts.{flag_here, group_here, well_formed_word, well_formed_both}
+use Rattle.wat_print.specs.Laws.Parts.{well_formed_group, well_formed_flag, well_formed_option}
 use Rattle.wat_print.specs.Laws.Reference.{ref_here, ref_well_formed}
 use Rattle.wat_print.specs.Laws.Define.{after_here}
 use Rattle.wat_print_instr.specs.ExpressionForm.{HintedInstr, step_of, spell_step, printable_step}
 use Rattle.wat_print_instr.specs.ExpressionForm.{steps_from, hint_for, hints_after}
 use Rattle.wat_print_instr.specs.ExpressionForm.{spell_expression, printable_expression}
 use Rattle.wat_print_instr.specs.InstructionForm.{passes}
-use Rattle.wat_print_instr.specs.Laws.Expression.{EndsExpression, expression_closed, expression_well_formed}
+use Rattle.wat_print_instr.specs.Laws.Expression.{EndsExpression, expression_closed}
+use Rattle.wat_print_instr.specs.Laws.Expression.{expression_well_formed}
 use Rattle.wat_print_instr.specs.Laws.Numbers.{equal_by, same_number}
 use Rattle.wat_print_instr.specs.Laws.Places.{both_here}
-use Rattle.wat_print_module.specs.FieldHead.{spell_inline_import, printable_inline_import, spell_head}
-use Rattle.wat_print_module.specs.FieldHead.{printable_head}
+use Rattle.wat_print_module.specs.FieldHead.{spell_inline_import, printable_inline_import}
+use Rattle.wat_print_module.specs.FieldHead.{spell_head, printable_head}
 use Rattle.wat_print_module.specs.Table.{heap_number, same_flag, same_heap, same_ref}
 use Rattle.wat_print_module.specs.Table.{spell_elements, printable_elements, printable_initial}
-use Rattle.wat_print_module.specs.Table.{spell_table_kind, printable_table_kind, spell_table, printable_table}
+use Rattle.wat_print_module.specs.Table.{spell_table_kind, printable_table_kind, spell_table}
+use Rattle.wat_print_module.specs.Table.{printable_table}
 use Rattle.wat_print_module.specs.Laws.Elem.{of_ref, ref_not_word, ref_begins, items_here}
 use Rattle.wat_print_module.specs.Laws.Elem.{indices_here, items_well_formed, indices_well_formed}
 use Rattle.wat_print_module.specs.Laws.FieldHead.{EndsHead, head_here, head_well_formed}
@@ -405,25 +406,29 @@ table_here t r f e =
 
 -- ---- they can be written
 
-elements_well_formed : (t : RefTy) (p : PayloadTy) → printable_elements t p ≡ true → WellFormed (spell_elements p)
+elements_well_formed : (t : RefTy) (p : PayloadTy) → printable_elements t p ≡ true
+    → WellFormed (spell_elements p)
 elements_well_formed t (indices is) f =
     indices_well_formed is (and_parts (is_funcref t) (each printable_index is) f).1
 elements_well_formed t (exprs u es) f =
     let a = and_parts (same_ref t u) _ f in
-    items_well_formed es (and_parts (not (is_funcref t && no_items es)) (each printable_expression es) a.1).1
+    items_well_formed es
+    (and_parts (not (is_funcref t && no_items es)) (each printable_expression es) a.1).1
 
 initial_well_formed : (e : Expr) → printable_initial e ≡ true → WellFormed (spell_expression e)
 initial_well_formed e f =
     expression_well_formed e (and_parts (not (no_items e.instrs)) (printable_expression e) f).1
 
-kind_well_formed : (k : TableKindTy) → printable_table_kind k ≡ true → WellFormed (spell_table_kind k)
+kind_well_formed : (k : TableKindTy) → printable_table_kind k ≡ true
+    → WellFormed (spell_table_kind k)
 kind_well_formed (imported i t) f =
     let a = and_parts (printable_inline_import i) (printable_table_type t) f in
     well_formed_both (spell_inline_import i) (spell_table_type t) (inline_import_well_formed i a.0)
     (table_type_well_formed t a.1)
 kind_well_formed (normal t o) f =
     let a = and_parts (printable_table_type t) (if_some printable_initial o) f in
-    well_formed_both (spell_table_type t) (spell_option spell_expression o) (table_type_well_formed t a.0)
+    well_formed_both (spell_table_type t) (spell_option spell_expression o)
+    (table_type_well_formed t a.0)
     (well_formed_option spell_expression printable_initial o initial_well_formed a.1)
 kind_well_formed (inline t is64 shared p) f =
     let a = and_parts (not (shared && is64)) _ f in
@@ -442,4 +447,5 @@ table_well_formed t f =
     let a = and_parts (printable_head t.head) (printable_table_kind t.kind) f in
     let k = spell_table_kind t.kind in
     well_formed_word (codes "table") (spell_head t.head ++ k) refl
-    (well_formed_both (spell_head t.head) k (head_well_formed t.head a.0) (kind_well_formed t.kind a.1))
+    (well_formed_both (spell_head t.head) k (head_well_formed t.head a.0)
+    (kind_well_formed t.kind a.1))
