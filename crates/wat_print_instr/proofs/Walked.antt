@@ -4,6 +4,7 @@ use Rattle.std.specs.Prelude.{◌∷◌, ◌++◌, if◌then◌else◌, flat_map
 use Rattle.std.specs.Prelude.{None, option_map}
 use Rattle.std.proofs.Common.{refl, ap, subst, sym, ◌∙◌, append_assoc, append-nil, get_or, arith}
 use Rattle.std.proofs.lemmas.Grind.{flat_map-append}
+use Rattle.std.proofs.lemmas.Bool.{and_right}
 use Rattle.wat_lexer.specs.Token.{Tok}
 use Rattle.wat_instr.specs.Instruction.{Instr}
 use Rattle.wat_print.specs.Layout.{Writes}
@@ -116,16 +117,12 @@ walk_left is hs b h left p q e w =
     (sym (w.goes ∙ ap (λ (l : List Instr). option_map (λ xs. w.done ++ xs)
     (steps_from b l (h ∷ left))) e)) refl
 
-after : (a b : Bool) → b ≡ false → a && b ≡ false
-after true b e = e
-after false b e = refl
-
 not_all : (done : List HintedInstr) (x : HintedInstr) (xs : List HintedInstr)
     → printable_step x ≡ false
     → each printable_step (done ++ x ∷ xs) ≡ false
 not_all [] x xs f = rw f refl
 not_all (d ∷ done) x xs f =
-    after (printable_step d) (each printable_step (done ++ x ∷ xs)) (not_all done x xs f)
+    and_right (printable_step d) (each printable_step (done ++ x ∷ xs)) (not_all done x xs f)
 
 not_passed : (done : List HintedInstr) (x : HintedInstr) (o : Option (List HintedInstr))
     → printable_step x ≡ false

@@ -4,7 +4,7 @@ use Rattle.std.specs.Prelude.{List, ◌∷◌, ◌++◌, codes, decimal, Option,
 use Rattle.std.specs.Prelude.{is_none, option_map}
 use Rattle.std.specs.Int.{is_power_of_two}
 use Rattle.std.proofs.Common.{refl, ap, subst, sym, inl, inr, lit≤, arith}
-use Rattle.std.proofs.lemmas.Bool.{and_parts, cond_both}
+use Rattle.std.proofs.lemmas.Bool.{and_parts, cond_both, eqb-true, ltb-true}
 use Rattle.std.proofs.lemmas.Fmt.{decimal_is_IsNumeral}
 use Rattle.wat_print.specs.Laws.Numbers.{no_sign, unsigned_decimal}
 use Rattle.wat_lexer.specs.Number.{unsigned_value, sign_of}
@@ -45,7 +45,7 @@ use Rattle.wat_print_instr.specs.Access.{printable_ordered, spell_lane, printabl
 use Rattle.wat_print_instr.specs.Access.{spell_lane_access, printable_lane_access}
 use Rattle.wat_print_instr.specs.Numbers.{numbered, is_unsigned}
 use Rattle.wat_print_instr.specs.Places.{is_index_0}
-use Rattle.wat_print_instr.specs.Laws.Numbers.{less_by, equal_by, same_number, number_text}
+use Rattle.wat_print_instr.specs.Laws.Numbers.{same_number, number_text}
 use Rattle.wat_print_instr.specs.Laws.Numbers.{number_chars, unsigned_well_formed, unsigned_found}
 use Rattle.wat_print_instr.specs.Laws.Places.{both_here, index_or_0_here, index_or_0_well_formed}
 use Rattle.wat_print_instr.specs.Laws.Places.{index_or_0_only}
@@ -114,10 +114,10 @@ offset_here : (b : Bool) (n : ℕ) (r : List Tok) → (n == 0) ≡ b → is_u64 
     → (b ≡ true → begins_with (codes "offset=") r ≡ false)
     → offset_or_0.spells n (spell_unless b (codes "offset=") n) r
 unfolding offset_or_0 field past_front
-offset_here true n r z f e = (None, (refl, e refl), refl, sym (equal_by n 0 z))
+offset_here true n r z f e = (None, (refl, e refl), refl, sym (eqb-true n 0 z))
 offset_here false n r z f e = (
   Some n,
-  (refl, (numbered (codes "offset=") n, refl, offset_number n (less_by n (2 ^ 64) f))),
+  (refl, (numbered (codes "offset=") n, refl, offset_number n (ltb-true n (2 ^ 64) f))),
   refl,
   refl,
 )
@@ -130,7 +130,7 @@ align_here : (a : ℕ) (b : Bool) (n : ℕ) (r : List Tok) → (n == a) ≡ b
     → (b ≡ true → begins_with (codes "align=") r ≡ false)
     → (align_or a).spells n (spell_unless b (codes "align=") n) r
 unfolding align_or align field past_front
-align_here a true n r z f e = (None, (refl, e refl), refl, sym (equal_by n a z))
+align_here a true n r z f e = (None, (refl, e refl), refl, sym (eqb-true n a z))
 align_here a false n r z f e =
     let h = or_second (n == a) (is_power_of_two n && is_u64 n) z f in
     let p = and_parts (is_power_of_two n) (is_u64 n) h in (
@@ -138,7 +138,7 @@ align_here a false n r z f e =
       (
         refl,
         (
-          (numbered (codes "align=") n, refl, align_number n (less_by n (2 ^ 64) p.1)),
+          (numbered (codes "align=") n, refl, align_number n (ltb-true n (2 ^ 64) p.1)),
           power_of_two-holds n p.0,
         ),
       ),
@@ -259,7 +259,7 @@ alignment_chars : (a n : ℕ) → printable_alignment a n ≡ true → (n == a) 
     → is_keyword (codes "align=" ++ decimal n) ≡ true
 alignment_chars a n f e =
     let h = or_second (n == a) (is_power_of_two n && is_u64 n) e f in
-    align_chars n (less_by n (2 ^ 64) (and_parts (is_power_of_two n) (is_u64 n) h).1)
+    align_chars n (ltb-true n (2 ^ 64) (and_parts (is_power_of_two n) (is_u64 n) h).1)
 
 pub place_well_formed : (a : ℕ) (m : MemArgTy) → printable_place a m ≡ true
     → WellFormed (spell_access a m)
@@ -272,7 +272,7 @@ place_well_formed a m f =
     well_formed_both (spell_target m.target) (o ++ l) (target_well_formed m.target p.0)
     (well_formed_both o l
     (unless_well_formed (m.offset == 0) (codes "offset=") m.offset
-    (λ e. (offset_chars m.offset (less_by m.offset (2 ^ 64) q.0))))
+    (λ e. (offset_chars m.offset (ltb-true m.offset (2 ^ 64) q.0))))
     (unless_well_formed (m.align == a) (codes "align=") m.align
     (λ e. (alignment_chars a m.align q.1 e))))
 
@@ -480,7 +480,7 @@ lane_given _ n a e = absurd cc
 
 lane_number : (n : ℕ) → is_unsigned 8 n ≡ true → lane_in (Integer (decimal n)) ≡ Some n
 lane_number n h =
-    let lt : n < 2 ^ 8 = less_by n (2 ^ 8) h in
+    let lt : n < 2 ^ 8 = ltb-true n (2 ^ 8) h in
     let d = decimal_is_IsNumeral n (omega arith) in
     let x = decimal n in
     let k : is_none (sign_of x) ≡ true = ap is_none (no_sign x d.0.1).0 in
@@ -564,7 +564,7 @@ lane_by false b c a t n k lane r d z y f g h i e o =
     (lane_here (lane_of lane) i r)
 lane_by true true true a (memory (number zero)) n k lane r d z y f g h i e o =
     subst (λ (v : LaneAccessTy). (lane_access a).spells v (spell_number lane) r)
-    (rw (equal_by n 0 z, equal_by k a y) refl) (alone a lane r o (lane_here (lane_of lane) i r))
+    (rw (eqb-true n 0 z, eqb-true k a y) refl) (alone a lane r o (lane_here (lane_of lane) i r))
 lane_by true b c a (memory (number (suc m))) n k lane r d z y f g h i e o = absurd cc
 lane_by true b c a (memory (name x)) n k lane r d z y f g h i e o = absurd cc
 lane_by true b c a (array j) n k lane r d z y f g h i e o = absurd cc

@@ -5,7 +5,7 @@ use Rattle.std.specs.Prelude.{nat_lt, List, [], ◌∷◌, ◌++◌, flat_map, l
 use Rattle.std.specs.Prelude.{Some, None, codes, option_map, is_some}
 use Rattle.std.specs.Str.{bytes_eq}
 use Rattle.std.proofs.Common.{refl, ap, subst, sym, ◌∙◌, append_assoc, get_or, arith, rules}
-use Rattle.std.proofs.lemmas.Bool.{and_parts, or_parts, cond_both}
+use Rattle.std.proofs.lemmas.Bool.{and_parts, or_parts, cond_both, eqb-true, ltb-true}
 use Rattle.std.proofs.lemmas.Bool.Decides.{nat_tests}
 use Rattle.std.proofs.lemmas.Str.{is_utf8-from_IsUtf8, IsUtf8-from_ascii}
 use Rattle.wat_lexer.specs.Token.{Tok, LParen, RParen, Keyword, String}
@@ -35,7 +35,6 @@ use Rattle.wat_print_instr.specs.InstructionForm.{passes, operand_form, spell_in
 use Rattle.wat_print_instr.specs.InstructionForm.{printable_instruction}
 use Rattle.wat_print_instr.specs.Laws.Instruction.{EndsOperand, ends_nothing, ends_annotation}
 use Rattle.wat_print_instr.specs.Laws.Instruction.{instruction_here, instruction_well_formed}
-use Rattle.wat_print_instr.specs.Laws.Numbers.{equal_by, less_by}
 use Rattle.wat_print_instr.specs.Laws.OperandFront.{NoOperandWord, clear_both, operand_clear}
 use Rattle.wat_print_instr.specs.Laws.OperandFront.{type_apart, param_apart, result_apart}
 
@@ -277,7 +276,7 @@ one_listed (Some v) i xs t s f l e =
     let c = spell_instruction i in (
       c ++ t,
       refl,
-      less_by v 2 b.1,
+      ltb-true v 2 b.1,
       b.0,
       (t, (c, refl, instruction_here i t a.1 e), l),
     )
@@ -325,7 +324,7 @@ steps_unfold b (i ∷ is) (h ∷ hs) =
     (λ t.
     (subst (λ (n : ℕ). Unfolds b (i ∷ is) ((n, h.1) ∷ hs)
     (option_map (λ xs. step_of (Some h.1) i ∷ xs) (steps_from (b + 1) is hs)))
-    (sym (equal_by h.0 b t))
+    (sym (eqb-true h.0 b t))
     (unfolds_more b i is (Some h.1) hs (steps_from (b + 1) is hs)
     (steps_unfold (b + 1) is hs))))
     (λ t.
@@ -356,7 +355,7 @@ expression_closed e r f k =
 low_at : (x : List ℕ) → all_are (λ b. nat_lt b 128) x ≡ true → (i : ℕ) → slice_index x i < 128
 low_at [] h i = search (rules)
 low_at (b ∷ x) h zero =
-    less_by b 128 (and_parts (nat_lt b 128) (all_are (λ b. nat_lt b 128) x) h).0
+    ltb-true b 128 (and_parts (nat_lt b 128) (all_are (λ b. nat_lt b 128) x) h).0
 low_at (b ∷ x) h (suc i) =
     low_at x (and_parts (nat_lt b 128) (all_are (λ b. nat_lt b 128) x) h).1 i
 
@@ -373,7 +372,7 @@ hint_well_formed : (i : Instr) (v : ℕ) → printable_hint i v ≡ true → Wel
 hint_well_formed i v f =
     let b = and_parts (is_branch i) (nat_lt v 2) f in
     noted (codes "metadata.code.branch_hint") (String (v ∷ []) ∷ []) [] hint_name_printable refl
-    (well_formed_one (String (v ∷ [])) (byte_well_formed v (less_by v 2 b.1))) nothing
+    (well_formed_one (String (v ∷ [])) (byte_well_formed v (ltb-true v 2 b.1))) nothing
 
 step_well_formed : (h : Option ℕ) (i : Instr)
     → if_some (printable_hint i) h && printable_instruction i ≡ true

@@ -2,7 +2,7 @@
 use Rattle.std.specs.Prelude.{◌≡◌, ℕ, suc, ◌+◌, ◌<◌, ◌≤◌, Bool, true, false, ◌==◌, List, [], ◌∷◌}
 use Rattle.std.specs.Prelude.{◌++◌, map, length, Option, Some, None, codes, option_map}
 use Rattle.std.proofs.Common.{refl, ap, subst, sym, ◌∙◌, append_assoc, append-nil, arith}
-use Rattle.std.proofs.lemmas.Bool.{and_parts, cond_both, or_right, or_left}
+use Rattle.std.proofs.lemmas.Bool.{and_parts, cond_both, or_right, or_left, eqb-true, lt-ltb}
 use Rattle.std.proofs.lemmas.List.{append_cancel_right, map-append, length-append, length-map}
 use Rattle.wat_lexer.specs.Token.{Tok, LParen, RParen, String}
 use Rattle.wat_instr.specs.Instruction.{Instr, instruction, is_if, is_br_if, else_instr, end_instr}
@@ -21,7 +21,7 @@ use Rattle.wat_print_instr.specs.ExpressionForm.{HintedInstr, step_of, printable
 use Rattle.wat_print_instr.specs.ExpressionForm.{printable_expression}
 use Rattle.wat_print_instr.specs.InstructionForm.{passes, printable_instruction}
 use Rattle.wat_print_instr.specs.Laws.Instruction.{instruction_only}
-use Rattle.wat_print_instr.specs.Laws.Numbers.{same_number, less_tested, equal_by}
+use Rattle.wat_print_instr.specs.Laws.Numbers.{same_number}
 
 -- ---- tokens that a text can give, up to a rest
 
@@ -148,7 +148,7 @@ HintAt None i = Unit {0}
 
 one_fits : (p : Option ℕ) (i : Instr) → printable_instruction i ≡ true → HintAt p i
     → printable_step (step_of p i) ≡ true
-one_fits (Some v) i f h = rw (h.1, less_tested v 2 h.0, f) refl
+one_fits (Some v) i f h = rw (h.1, lt-ltb v 2 h.0, f) refl
 one_fits None i f h = f
 
 own_fits : (i : Instr) (c m : List Tok) → each is_given c ≡ true → instruction.spells i c m
@@ -436,7 +436,7 @@ low_hints b [] = tt
 low_hints b (x ∷ xs) = low_mark b x.hint (hints_from (b + 1) xs) (low_hints (b + 1) xs)
 
 not_here : (b n : ℕ) → b + 1 ≤ n → (n == b) ≡ true → ⊥
-not_here b n l e = omega (arith, equal_by n b e, l)
+not_here b n l e = omega (arith, eqb-true n b e, l)
 
 again_none : (b : ℕ) (i : Instr) (is : List Instr) (hs : List (ℕ × ℕ)) (xs : List HintedInstr)
     → steps_from (b + 1) is hs ≡ Some xs → LowAt (b + 1) hs

@@ -2,7 +2,7 @@
 use Rattle.std.specs.Prelude.{◌≡◌, ℕ, ℤ, suc, zero, ◌<◌, Bool, true, false, ◌&&◌, ◌==◌, List, []}
 use Rattle.std.specs.Prelude.{◌∷◌, ◌++◌, Option, Some, None, length}
 use Rattle.std.proofs.Common.{refl, ap, subst, sym, ◌∙◌, get_or, arith}
-use Rattle.std.proofs.lemmas.Bool.{and_parts}
+use Rattle.std.proofs.lemmas.Bool.{and_parts, eqb-true}
 use Rattle.wat_lexer.specs.Token.{Tok, Keyword}
 use Rattle.wat_tokens.specs.Index.{Idx}
 use Rattle.wat_types.specs.Heap.{HeapTy}
@@ -68,7 +68,7 @@ use Rattle.wat_print_instr.specs.Printings.{shuffle_printing, block_printing, ca
 use Rattle.wat_print_instr.specs.Printings.{select_printing, branch_printing, try_printing}
 use Rattle.wat_print_instr.specs.Printings.{resume_printing, throw_printing, end_label_printing}
 use Rattle.wat_print_instr.specs.Printings.{fence_printing, number_printing, nothing_printing}
-use Rattle.wat_print_instr.specs.Laws.Numbers.{equal_by, same_number}
+use Rattle.wat_print_instr.specs.Laws.Numbers.{same_number}
 use Rattle.std.specs.Prelude.{codes}
 use Rattle.std.specs.Str.{bytes_eq}
 use Rattle.wat_lexer.specs.Token.{LParen, Annotation}
@@ -506,7 +506,7 @@ of_row i f =
     let h = op_of_row i.row in
     let a = and_parts (op_row h == i.row) ((operand_form h).printable i.operand) f in
     ap (λ (n : ℕ). record { row = n; operand = i.operand })
-    (equal_by (op_row h) i.row a.0)
+    (eqb-true (op_row h) i.row a.0)
 
 -- in front of what doesn't take part in it
 pub instruction_here : (i : Instr) (r : List Tok) → printable_instruction i ≡ true

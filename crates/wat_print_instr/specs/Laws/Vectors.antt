@@ -3,7 +3,7 @@ use Rattle.std.specs.Prelude.{◌≡◌, ℕ, ℤ, ◌+◌, Bool, true, false, �
 use Rattle.std.specs.Prelude.{◌++◌, codes, flat_map, length, take, drop}
 use Rattle.std.proofs.Common.{refl, subst, sym, append-nil, inl, inr, lit≤, arith}
 use Rattle.std.specs.Str.{bytes_eq}
-use Rattle.std.proofs.lemmas.Bool.{and_parts}
+use Rattle.std.proofs.lemmas.Bool.{and_parts, eqb-true}
 use Rattle.std.proofs.lemmas.Grind.{flat_map-append}
 use Rattle.std.proofs.lemmas.List.{length-append, take-append-drop, length-take, length-drop}
 use Rattle.wat_lexer.specs.Token.{Tok, Keyword}
@@ -29,7 +29,7 @@ use Rattle.wat_print_instr.specs.Numbers.{Halves, spell_signed, is_signed, is_un
 use Rattle.wat_print_instr.specs.Numbers.{printable_number_of}
 use Rattle.wat_print_instr.specs.Vectors.{spell_lanes, spell_vector, printable_vector}
 use Rattle.wat_print_instr.specs.Vectors.{spell_shuffle, printable_shuffle}
-use Rattle.wat_print_instr.specs.Laws.Numbers.{equal_by, same_number, halves_8, halves_16}
+use Rattle.wat_print_instr.specs.Laws.Numbers.{same_number, halves_8, halves_16}
 use Rattle.wat_print_instr.specs.Laws.Numbers.{halves_32, halves_64, signed_here}
 use Rattle.wat_print_instr.specs.Laws.Numbers.{signed_well_formed, signed_only, unsigned_here}
 use Rattle.wat_print_instr.specs.Laws.Numbers.{unsigned_well_formed, unsigned_only}
@@ -118,8 +118,8 @@ module _ {A : Type 0} (spell : A → List Tok) (ok : A → Bool) where
       let a = and_parts (printable_number_of n ok p.0) (printable_number_of n ok p.1) h in
       let b = and_parts (length p.0 == n) (each ok p.0) a.0 in
       let c = and_parts (length p.1 == n) (each ok p.1) a.1 in
-      let d = equal_by (length p.0) n b.0 in
-      let e = equal_by (length p.1) n c.0 in
+      let d = eqb-true (length p.0) n b.0 in
+      let e = eqb-true (length p.1) n c.0 in
       let k : length (p.0 ++ p.1) ≡ n + n = omega (arith, length-append p.0 p.1) in
       rw (k, same_number (n + n)) (each_both ok p.0 p.1 b.1 c.1)
 
@@ -155,7 +155,7 @@ shape_here n w f bits g b s zs r h =
       (tt, zs),
       both_here (word w) g tt zs (Keyword w ∷ []) (flat_map spell_signed zs) r
           (word_here w b (flat_map spell_signed zs ++ r))
-          (s zs r (equal_by (length zs) n a.0) a.1),
+          (s zs r (eqb-true (length zs) n a.0) a.1),
       refl,
       refl,
     )
@@ -297,7 +297,7 @@ shuffle_here s f r =
     let a = and_parts (length s.lanes == 16) (each (is_unsigned 8) s.lanes) f in (
       s.lanes,
       sixteen_here spell_number (is_unsigned 8) (unsigned 8)
-          (λ n h. (unsigned_here 8 n (lit≤ tt) h)) s.lanes r (equal_by (length s.lanes) 16 a.0) a.1,
+          (λ n h. (unsigned_here 8 n (lit≤ tt) h)) s.lanes r (eqb-true (length s.lanes) 16 a.0) a.1,
       refl,
       refl,
     )

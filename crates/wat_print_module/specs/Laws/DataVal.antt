@@ -5,7 +5,7 @@ use Rattle.std.specs.Prelude.{flat_map, codes, Some, decimal}
 use Rattle.std.specs.Int.{Width, w8, w16, w32, w64, cast_unsigned, to_le_bytes, bytes_low_first}
 use Rattle.std.specs.Int.{byte_at}
 use Rattle.std.proofs.Common.{refl, ap, subst, sym, ◌∙◌, inl, inr, arith, lit≤}
-use Rattle.std.proofs.lemmas.Bool.{and_parts, cond_both}
+use Rattle.std.proofs.lemmas.Bool.{and_parts, cond_both, ltb-true}
 use Rattle.std.proofs.lemmas.Bool.Decides.{nat_tests}
 use Rattle.std.proofs.lemmas.Fmt.{decimal_is_IsNumeral}
 use Rattle.std.proofs.lemmas.Int.{ints}
@@ -37,7 +37,6 @@ use Rattle.wat_print.specs.Laws.Only.{only_weaker, only_many, only_paren, only_a
 use Rattle.wat_print.specs.Laws.Parts.{Spells, paren_here, many_here, well_formed_one}
 use Rattle.wat_print.specs.Laws.Parts.{well_formed_group, well_formed_each}
 use Rattle.wat_print.specs.Laws.Define.{after_here}
-use Rattle.wat_print_instr.specs.Laws.Numbers.{less_by}
 use Rattle.wat_print_instr.specs.Laws.Vectors.{none_only}
 use Rattle.wat_print_module.specs.Segments.{spell_data_val, printable_data_val, spell_data_vals}
 
@@ -71,7 +70,7 @@ byte_text b lt =
 byte_here : (b : ℕ) → is_byte b ≡ true
     → Spells (integer_as_bytes w8 8) (by_itself b) (spell_number b)
 byte_here b h r =
-    let lt = less_by b 256 h in
+    let lt = ltb-true b 256 h in
     (twos_complement 8 b, (Integer (decimal b), refl, byte_text b lt), refl, byte_back b lt)
 
 -- ---- all of them
@@ -140,7 +139,7 @@ numbers_well_formed : (bs : List ℕ) → all_are is_byte bs ≡ true
 numbers_well_formed bs f =
     well_formed_each spell_number is_byte
     (λ b h.
-    (let lt = less_by b 256 h in
+    (let lt = ltb-true b 256 h in
     let low : b < 2 ^ 64 =
     omega arith in well_formed_one (Integer (decimal b)) (decimal_printable b low))) bs
     (each_byte bs f)

@@ -4,7 +4,7 @@ use Rattle.std.specs.Prelude.{flat_map, map, fold, decimal, Option, Some, None, 
 use Rattle.std.specs.Int.Bits.{bit_or, or_zero_l}
 use Rattle.std.specs.Str.{bytes_eq, is_utf8}
 use Rattle.std.proofs.Common.{refl, ap, subst, sym, ◌∙◌, append-nil, inl, inr, lit≤, arith}
-use Rattle.std.proofs.lemmas.Bool.{and_parts, cond_both}
+use Rattle.std.proofs.lemmas.Bool.{and_parts, cond_both, lt-ltb, ltb-true}
 use Rattle.std.proofs.lemmas.Grind.{flat_map-append}
 use Rattle.std.proofs.lemmas.Nat.{or_lt}
 use Rattle.wat_lexer.specs.Token.{Tok, LParen, RParen, Integer, String, Keyword}
@@ -36,7 +36,7 @@ use Rattle.wat_print.specs.Laws.Only.{only_seq, only_made, only_weaker, only_gro
 use Rattle.wat_print.specs.Laws.Parts.{Spells, group_here, many_here, well_formed_group}
 use Rattle.wat_print.specs.Laws.Parts.{well_formed_both, well_formed_each, each_both}
 use Rattle.wat_print_instr.specs.Numbers.{is_unsigned}
-use Rattle.wat_print_instr.specs.Laws.Numbers.{less_by, less_tested, unsigned_here}
+use Rattle.wat_print_instr.specs.Laws.Numbers.{unsigned_here}
 use Rattle.wat_print_instr.specs.Laws.Numbers.{unsigned_well_formed, unsigned_given, unsigned_only}
 use Rattle.wat_print_instr.specs.Laws.Places.{both_here, each_front}
 use Rattle.wat_print_module.specs.Dylink.{spell_sizes, spell_names, spell_export_flags}
@@ -63,7 +63,7 @@ u32_only = unsigned_only 32 (lit≤ tt)
 flag_here : (n : ℕ) → is_unsigned 32 n ≡ true → Spells flag_bits n (spell_number n)
 unfolding flag_bits
 flag_here n f r =
-    let lt = less_by n (2 ^ 32) f in
+    let lt = ltb-true n (2 ^ 32) f in
     (Integer (decimal n), refl, unsigned_decimal 32 n (omega arith) (omega arith))
 
 -- one number
@@ -104,8 +104,8 @@ joined_printable : (ns : List ℕ) (n : ℕ) → is_unsigned 32 n ≡ true → e
 joined_printable [] n f g = f
 joined_printable (m ∷ ns) n f g =
     let a = and_parts (is_unsigned 32 m) (each (is_unsigned 32) ns) g in
-    let lt = or_lt 32 n m (less_by n (2 ^ 32) f) (less_by m (2 ^ 32) a.0) in
-    joined_printable ns (bit_or n m) (less_tested (bit_or n m) (2 ^ 32) lt) a.1
+    let lt = or_lt 32 n m (ltb-true n (2 ^ 32) f) (ltb-true m (2 ^ 32) a.0) in
+    joined_printable ns (bit_or n m) (lt-ltb (bit_or n m) (2 ^ 32) lt) a.1
 
 flags_only : OnlyPrintable symbol_flags (is_unsigned 32)
 unfolding symbol_flags flag_list

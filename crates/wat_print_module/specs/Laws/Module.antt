@@ -2,7 +2,7 @@
 use Rattle.std.specs.Prelude.{◌≡◌, ℕ, Bool, true, false, ◌&&◌, List, [], ◌∷◌, ◌++◌, codes, flat_map}
 use Rattle.std.specs.Prelude.{Option, Some, None, zero, suc, slice_get}
 use Rattle.std.proofs.Common.{refl, inl, inr, lit≤, append_assoc, subst, sym}
-use Rattle.std.proofs.lemmas.Bool.{and_parts}
+use Rattle.std.proofs.lemmas.Bool.{and_parts, and_right}
 use Rattle.wat_lexer.specs.Token.{Tok, LParen, RParen}
 use Rattle.wat_tokens.specs.Groups.{paren}
 use Rattle.wat_tokens.specs.NameAnnotation.{begins_name}
@@ -42,10 +42,6 @@ use Rattle.wat_print_module.specs.Laws.Field.{fields_here, field_group_well_form
 use Rattle.wat_print_module.specs.Laws.Field.{field_group_only}
 use Rattle.wat_print_module.specs.Laws.Folded.{no_word}
 use Rattle.wat_print.specs.Laws.Strings.{string_here, string_well_formed, string_only}
-
-after_false : (a b : Bool) → b ≡ false → a && b ≡ false
-after_false true b e = e
-after_false false b e = refl
 
 -- ---- what is in front
 
@@ -207,7 +203,7 @@ get_unprintable (g ∷ fs) zero f e h =
     let k : printable_module_field g ≡ false =
     subst (λ (v : ModuleFieldTy). printable_module_field v ≡ false) (sym same) h in rw k refl
 get_unprintable (g ∷ fs) (suc i) f e h =
-    after_false (printable_module_field g) (each printable_module_field fs)
+    and_right (printable_module_field g) (each printable_module_field fs)
     (get_unprintable fs i f e h)
 
 kind_unprintable : (k : ModuleKindTy) (i : ℕ) → UnprintableField (fields_of_kind k) (Some i)
@@ -219,7 +215,7 @@ kind_unprintable (binary ss) i u = absurd cc
 pub part_unprintable : (m : ModuleTy) (o : Option ℕ) → UnprintablePart m o
     → printable_module m ≡ false
 part_unprintable m (Some i) u =
-    after_false (printable_label m.label) (printable_module_kind m.kind)
+    and_right (printable_label m.label) (printable_module_kind m.kind)
     (kind_unprintable m.kind i u)
 part_unprintable m None u = rw u refl
 

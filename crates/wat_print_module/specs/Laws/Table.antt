@@ -4,7 +4,7 @@ use Rattle.std.specs.Prelude.{[], ◌∷◌, ◌++◌, codes, decimal, flat_map,
 use Rattle.std.specs.Prelude.{get_or, ◌+◌, option_map}
 use Rattle.std.specs.Str.{bytes_eq}
 use Rattle.std.proofs.Common.{refl, ap, subst, sym, ◌∙◌, inl, inr}
-use Rattle.std.proofs.lemmas.Bool.{and_parts}
+use Rattle.std.proofs.lemmas.Bool.{and_parts, eqb-true}
 use Rattle.wat_lexer.specs.Token.{Tok, LParen, RParen, Keyword, Integer}
 use Rattle.wat_tokens.specs.Groups.{group}
 use Rattle.wat_tokens.specs.Index.{Idx, number, name}
@@ -45,7 +45,7 @@ use Rattle.wat_print_instr.specs.ExpressionForm.{spell_expression, printable_exp
 use Rattle.wat_print_instr.specs.InstructionForm.{passes}
 use Rattle.wat_print_instr.specs.Laws.Expression.{EndsExpression, expression_closed}
 use Rattle.wat_print_instr.specs.Laws.Expression.{expression_well_formed}
-use Rattle.wat_print_instr.specs.Laws.Numbers.{equal_by, same_number}
+use Rattle.wat_print_instr.specs.Laws.Numbers.{same_number}
 use Rattle.wat_print_instr.specs.Laws.Places.{both_here}
 use Rattle.wat_print_module.specs.FieldHead.{spell_inline_import, printable_inline_import}
 use Rattle.wat_print_module.specs.FieldHead.{spell_head, printable_head}
@@ -100,7 +100,7 @@ same_heaps (abstract_ a t) (abstract_ b u) e =
     let p = and_parts (same_flag a b) (heap_number t == heap_number u) e in
     let q : t ≡ u =
     sym (heap_back t)
-    ∙ ap (λ (n : ℕ). get_or heaps n word.Func) (equal_by (heap_number t) (heap_number u) p.1)
+    ∙ ap (λ (n : ℕ). get_or heaps n word.Func) (eqb-true (heap_number t) (heap_number u) p.1)
     ∙ heap_back u in
     ap (λ (c : Bool). abstract_ c t) (same_flags a b p.0)
     ∙ ap (λ (s : AbstractHeapType). abstract_ b s) q
