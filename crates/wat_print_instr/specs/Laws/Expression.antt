@@ -36,7 +36,6 @@ use Rattle.wat_print_instr.specs.InstructionForm.{printable_instruction}
 use Rattle.wat_print_instr.specs.Laws.Instruction.{EndsOperand, ends_nothing, ends_annotation}
 use Rattle.wat_print_instr.specs.Laws.Instruction.{instruction_here, instruction_well_formed}
 use Rattle.wat_print_instr.specs.Laws.OperandFront.{NoOperandWord, clear_both, operand_clear}
-use Rattle.wat_print_instr.specs.Laws.OperandFront.{type_apart, param_apart, result_apart}
 
 -- ---- no instruction's word is looked for
 
@@ -201,9 +200,9 @@ EndsExpression r = (ends r ≡ true) × NoTypeSecond r
 pub expression_no_type : (e : Expr) (r : List Tok) → EndsExpression r
     → NoTypeSecond (spell_expression e ++ r)
 expression_no_type e r k = (
-  expression_second (codes "type") type_apart no_type e r k.0 k.1.0,
-  expression_second (codes "param") param_apart no_param e r k.0 k.1.1,
-  expression_second (codes "result") result_apart no_result e r k.0 k.1.2,
+  expression_second (codes "type") refl no_type e r k.0 k.1.0,
+  expression_second (codes "param") refl no_param e r k.0 k.1.1,
+  expression_second (codes "result") refl no_result e r k.0 k.1.2,
 )
 
 -- ---- what may follow an instruction
@@ -249,9 +248,9 @@ steps_ends : {w : Op} (xs : List HintedInstr) (r : List Tok) → EndsExpression 
 steps_ends [] r e = end_ends r e
 steps_ends (x ∷ xs) r e =
     step_ends x.hint x.instr (flat_map spell_step xs) r (
-      steps_second (codes "type") type_apart no_type (x ∷ xs) r e.0 e.1.0,
-      steps_second (codes "param") param_apart no_param (x ∷ xs) r e.0 e.1.1,
-      steps_second (codes "result") result_apart no_result (x ∷ xs) r e.0 e.1.2,
+      steps_second (codes "type") refl no_type (x ∷ xs) r e.0 e.1.0,
+      steps_second (codes "param") refl no_param (x ∷ xs) r e.0 e.1.1,
+      steps_second (codes "result") refl no_result (x ∷ xs) r e.0 e.1.2,
     )
 
 -- ---- steps are items

@@ -50,16 +50,16 @@ use Rattle.wat_print_module.specs.Segments.{printable_elem_kind, spell_elem, pri
 use Rattle.wat_print_module.specs.Laws.Data.{offset_well_formed}
 use Rattle.wat_print_module.specs.Laws.Folded.{no_word, NoTypeFirst, no_type_first, end_no_word}
 use Rattle.wat_print_module.specs.Laws.Folded.{expression_grouped, folded_only}
-use Rattle.wat_print_instr.specs.Laws.OperandFront.{type_apart, param_apart, result_apart}
+use Rattle.wat_print_instr.specs.Laws.OperandFront.{short_apart}
 
 -- ---- what a reference type begins with
 
 -- neither of the words is a shorthand
-short_apart : (t : AbstractHeapType)
+short_not : (t : AbstractHeapType)
     → (bytes_eq (short_word t) (codes "func") ≡ false)
     × (bytes_eq (short_word t) (codes "declare") ≡ false)
-short_apart word.Func = (refl, refl)
-short_apart _ = (refl, refl)
+short_not word.Func = (refl, refl)
+short_not _ = (refl, refl)
 
 -- the test says of what begins with a reference type
 pub of_ref : (test : List Tok → Bool) (b : Bool)
@@ -90,17 +90,17 @@ ref_not_word w f t c r = of_ref (begins_word w) false (λ s x. (f s)) (λ n h x.
 
 ref_no_func : (t : RefTy) (c r : List Tok)
     → begins_word (codes "func") ((spell_ref t ++ c) ++ r) ≡ false
-ref_no_func t c r = ref_not_word (codes "func") (λ s. (short_apart s).0) t c r
+ref_no_func t c r = ref_not_word (codes "func") (λ s. (short_not s).0) t c r
 
 ref_no_declare : (t : RefTy) (c r : List Tok)
     → begins_word (codes "declare") ((spell_ref t ++ c) ++ r) ≡ false
-ref_no_declare t c r = ref_not_word (codes "declare") (λ s. (short_apart s).1) t c r
+ref_no_declare t c r = ref_not_word (codes "declare") (λ s. (short_not s).1) t c r
 
 ref_no_type : (t : RefTy) (c r : List Tok) → NoTypeFirst ((spell_ref t ++ c) ++ r)
 ref_no_type t c r = (
-  ref_not_word (codes "type") type_apart.no_short t c r,
-  ref_not_word (codes "param") param_apart.no_short t c r,
-  ref_not_word (codes "result") result_apart.no_short t c r,
+  ref_not_word (codes "type") (short_apart (codes "type") refl) t c r,
+  ref_not_word (codes "param") (short_apart (codes "param") refl) t c r,
+  ref_not_word (codes "result") (short_apart (codes "result") refl) t c r,
 )
 
 -- ---- items and indices
