@@ -1,7 +1,6 @@
 -- Instructions and hints that are written in turn.
-use Rattle.std.specs.Prelude.{◌≡◌, ℕ, zero, suc, ◌+◌, ◌<◌, Bool, true, false, ◌&&◌, ◌==◌, List, []}
-use Rattle.std.specs.Prelude.{◌∷◌, ◌++◌, if◌then◌else◌, flat_map, map, length, drop, Option, Some}
-use Rattle.std.specs.Prelude.{None, option_map}
+use Rattle.std.specs.Prelude.{◌≡◌, ℕ, zero, suc, ◌+◌, ◌<◌, true, false, List, [], ◌∷◌, ◌++◌}
+use Rattle.std.specs.Prelude.{flat_map, map, length, drop, Option, Some, None, option_map}
 use Rattle.std.proofs.Common.{refl, ap, subst, sym, ◌∙◌, append_assoc, append-nil, get_or, arith}
 use Rattle.std.proofs.lemmas.Grind.{flat_map-append}
 use Rattle.std.proofs.lemmas.Bool.{and_right}
@@ -16,6 +15,7 @@ use Rattle.wat_print_instr.specs.ExpressionForm.{HintedInstr, step_of, spell_ste
 use Rattle.wat_print_instr.specs.ExpressionForm.{steps_from, hint_for, hints_after}
 use Rattle.wat_print_instr.specs.ExpressionForm.{spell_expression, printable_expression}
 use Rattle.wat_print_instr.specs.InstructionForm.{passes}
+use Rattle.wat_print_instr.specs.Laws.Expression.{next_step}
 
 -- From p to q the steps before the index b were written, and what is left of the instructions and
 -- of the hints gives those behind them.
@@ -40,21 +40,6 @@ walk_begins is hs p = record {
 }
 
 -- an instruction more
-chosen : (t : Bool) (b : ℕ) (i : Instr) (is : List Instr) (h : ℕ × ℕ) (hs : List (ℕ × ℕ))
-    → (if t then option_map (λ xs. step_of (Some h.1) i ∷ xs) (steps_from (b + 1) is hs)
-    else option_map (λ xs. step_of None i ∷ xs) (steps_from (b + 1) is (h ∷ hs)))
-    ≡ option_map (λ xs. step_of (if t then Some h.1 else None) i ∷ xs)
-    (steps_from (b + 1) is (if t then hs else h ∷ hs))
-chosen true b i is h hs = refl
-chosen false b i is h hs = refl
-
-next_step : (b : ℕ) (i : Instr) (is : List Instr) (hs : List (ℕ × ℕ))
-    → steps_from b (i ∷ is) hs
-    ≡ option_map (λ xs. step_of (hint_for b hs) i ∷ xs) (steps_from (b + 1) is (hints_after b hs))
-next_step b i is [] = refl
-next_step b i is (h ∷ hs) =
-    chosen (h.0 == b) b i is h hs
-
 map_twice : (x : HintedInstr) (done : List HintedInstr) (o : Option (List HintedInstr))
     → option_map (λ xs. done ++ xs) (option_map (λ xs. x ∷ xs) o)
     ≡ option_map (λ xs. (done ++ x ∷ []) ++ xs) o

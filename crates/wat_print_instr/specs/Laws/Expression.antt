@@ -2,7 +2,7 @@
 -- written.
 use Rattle.std.specs.Prelude.{◌≡◌, ℕ, zero, suc, ◌+◌, ◌<◌, Bool, true, false, ◌&&◌, ◌||◌, ◌==◌}
 use Rattle.std.specs.Prelude.{nat_lt, List, [], ◌∷◌, ◌++◌, flat_map, length, slice_index, Option}
-use Rattle.std.specs.Prelude.{Some, None, codes, option_map, is_some}
+use Rattle.std.specs.Prelude.{Some, None, codes, option_map, is_some, if◌then◌else◌}
 use Rattle.std.specs.Str.{bytes_eq}
 use Rattle.std.proofs.Common.{refl, ap, subst, sym, ◌∙◌, append_assoc, get_or, arith, rules}
 use Rattle.std.proofs.lemmas.Bool.{and_parts, or_parts, cond_both, eqb-true, ltb-true}
@@ -30,7 +30,8 @@ use Rattle.wat_print.specs.Text.{all_are}
 use Rattle.wat_print.specs.Laws.Parts.{well_formed_both, well_formed_each, well_formed_one}
 use Rattle.wat_print_instr.specs.ExpressionForm.{HintedInstr, step_of, spell_hint, printable_hint}
 use Rattle.wat_print_instr.specs.ExpressionForm.{spell_step, printable_step, steps_from}
-use Rattle.wat_print_instr.specs.ExpressionForm.{spell_expression, printable_expression}
+use Rattle.wat_print_instr.specs.ExpressionForm.{spell_expression, printable_expression, hint_for}
+use Rattle.wat_print_instr.specs.ExpressionForm.{hints_after}
 use Rattle.wat_print_instr.specs.InstructionForm.{passes, operand_form, spell_instruction}
 use Rattle.wat_print_instr.specs.InstructionForm.{printable_instruction}
 use Rattle.wat_print_instr.specs.Laws.Instruction.{EndsOperand, ends_nothing, ends_annotation}
@@ -391,3 +392,20 @@ steps_well_formed None f = absurd cc
 pub expression_well_formed : (e : Expr) → printable_expression e ≡ true
     → WellFormed (spell_expression e)
 expression_well_formed e f = steps_well_formed (steps_from 0 e.instrs e.hints) f
+
+-- ---- one step more
+
+step_by : (t : Bool) (b : ℕ) (i : Instr) (is : List Instr) (h : ℕ × ℕ) (hs : List (ℕ × ℕ))
+    → (if t then option_map (λ xs. step_of (Some h.1) i ∷ xs) (steps_from (b + 1) is hs)
+    else option_map (λ xs. step_of None i ∷ xs) (steps_from (b + 1) is (h ∷ hs)))
+    ≡ option_map (λ xs. step_of (if t then Some h.1 else None) i ∷ xs)
+    (steps_from (b + 1) is (if t then hs else h ∷ hs))
+step_by true b i is h hs = refl
+step_by false b i is h hs = refl
+
+-- the first step has the first hint, where that is its
+pub next_step : (b : ℕ) (i : Instr) (is : List Instr) (hs : List (ℕ × ℕ))
+    → steps_from b (i ∷ is) hs
+    ≡ option_map (λ xs. step_of (hint_for b hs) i ∷ xs) (steps_from (b + 1) is (hints_after b hs))
+next_step b i is [] = refl
+next_step b i is (h ∷ hs) = step_by (h.0 == b) b i is h hs

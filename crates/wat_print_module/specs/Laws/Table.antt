@@ -44,7 +44,7 @@ use Rattle.wat_print_instr.specs.ExpressionForm.{steps_from, hint_for, hints_aft
 use Rattle.wat_print_instr.specs.ExpressionForm.{spell_expression, printable_expression}
 use Rattle.wat_print_instr.specs.InstructionForm.{passes}
 use Rattle.wat_print_instr.specs.Laws.Expression.{EndsExpression, expression_closed}
-use Rattle.wat_print_instr.specs.Laws.Expression.{expression_well_formed}
+use Rattle.wat_print_instr.specs.Laws.Expression.{expression_well_formed, next_step}
 use Rattle.wat_print_instr.specs.Laws.Numbers.{same_number}
 use Rattle.wat_print_instr.specs.Laws.Places.{both_here}
 use Rattle.wat_print_module.specs.FieldHead.{spell_inline_import, printable_inline_import}
@@ -57,8 +57,8 @@ use Rattle.wat_print_module.specs.Laws.Elem.{of_ref, ref_not_word, ref_begins, i
 use Rattle.wat_print_module.specs.Laws.Elem.{indices_here, items_well_formed, indices_well_formed}
 use Rattle.wat_print_module.specs.Laws.FieldHead.{EndsHead, head_here, head_well_formed}
 use Rattle.wat_print_module.specs.Laws.FieldHead.{inline_import_here, inline_import_well_formed}
-use Rattle.wat_print_module.specs.Laws.Folded.{next_is}
 use Rattle.wat_print_module.specs.Laws.Fronts.{no_export}
+use Rattle.wat_print_module.specs.Laws.Folded.{Steps}
 
 -- ---- types that are the same
 
@@ -299,15 +299,12 @@ steps_more : (h : Option ℕ) (i : Instr) (o : Option (List HintedInstr)) (r : L
 steps_more h i (Some xs) r f = step_more h i (flat_map spell_step xs) r
 steps_more h i None r f = absurd cc
 
-abbrev Steps : Type 0
-Steps = Option (List HintedInstr)
-
 instrs_more : (is : List Instr) (hs : List (ℕ × ℕ)) (r : List Tok) → not (no_items is) ≡ true
     → passes (each printable_step) (steps_from 0 is hs) ≡ true
     → more (spell_option (flat_map spell_step) (steps_from 0 is hs) ++ r) ≡ true
 instrs_more [] hs r e f = absurd cc
 instrs_more (i ∷ is) hs r e f =
-    let same = next_is 0 i is hs in
+    let same = next_step 0 i is hs in
     subst (λ (o : Steps). more (spell_option (flat_map spell_step) o ++ r) ≡ true) (sym same)
     (steps_more (hint_for 0 hs) i (steps_from (0 + 1) is (hints_after 0 hs)) r
     (subst (λ (o : Steps). passes (each printable_step) o ≡ true) same f))
