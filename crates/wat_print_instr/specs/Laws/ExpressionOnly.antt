@@ -2,7 +2,7 @@
 use Rattle.std.specs.Prelude.{◌≡◌, ℕ, suc, ◌+◌, ◌<◌, ◌≤◌, Bool, true, false, ◌==◌, List, [], ◌∷◌}
 use Rattle.std.specs.Prelude.{◌++◌, map, length, Option, Some, None, codes, option_map}
 use Rattle.std.proofs.Common.{refl, ap, subst, sym, ◌∙◌, append_assoc, append-nil, arith}
-use Rattle.std.proofs.lemmas.Bool.{and_parts, cond_both, or_right, or_left, eqb-true, lt-ltb}
+use Rattle.std.proofs.lemmas.Bool.{cond_both, or_right, or_left, eqb-true, lt-ltb}
 use Rattle.std.proofs.lemmas.List.{append_cancel_right, map-append, length-append, length-map}
 use Rattle.wat_lexer.specs.Token.{Tok, LParen, RParen, String}
 use Rattle.wat_instr.specs.Instruction.{Instr, instruction, is_if, is_br_if, else_instr, end_instr}
@@ -22,6 +22,7 @@ use Rattle.wat_print_instr.specs.ExpressionForm.{printable_expression}
 use Rattle.wat_print_instr.specs.InstructionForm.{passes, printable_instruction}
 use Rattle.wat_print_instr.specs.Laws.Instruction.{instruction_only}
 use Rattle.wat_print_instr.specs.Laws.Numbers.{same_number}
+use Rattle.wat_print_instr.specs.Laws.Places.{each_front}
 
 -- ---- tokens that a text can give, up to a rest
 
@@ -31,21 +32,13 @@ GivenTo ts r = (c : List Tok) × (ts ≡ c ++ r) × (each is_given c ≡ true)
 abbrev FrontOf : List Tok → List Tok → Type 0
 FrontOf ts r = (c : List Tok) × (ts ≡ c ++ r)
 
-given_both : (d e : List Tok) → each is_given (d ++ e) ≡ true
-    → (each is_given d ≡ true) × (each is_given e ≡ true)
-given_both [] e a = (refl, a)
-given_both (t ∷ d) e a =
-    let p = and_parts (is_given t) (each is_given (d ++ e)) a in
-    let q = given_both d e p.1 in
-    (rw (p.0) (q.0), q.1)
-
 given_split : (ts r x y : List Tok) → GivenTo ts r → ts ≡ x ++ y → FrontOf y r
     → (each is_given x ≡ true) × GivenTo y r
 given_split ts r x y g e f =
     let whole : g.0 ++ r ≡ (x ++ f.0) ++ r =
     sym g.1 ∙ e ∙ ap (λ (l : List Tok). x ++ l) f.1 ∙ sym (append_assoc x f.0 r) in
     let same : g.0 ≡ x ++ f.0 = append_cancel_right g.0 (x ++ f.0) r whole in
-    let p = given_both x f.0 (subst (λ (l : List Tok). each is_given l ≡ true) same g.2) in
+    let p = each_front is_given x f.0 (subst (λ (l : List Tok). each is_given l ≡ true) same g.2) in
     (p.0, (f.0, f.1, p.1))
 
 -- what is inside, up to the tokens k and a rest
@@ -53,7 +46,7 @@ given_inside : (b k d r : List Tok) → GivenTo b r → FrontOf b (k ++ d) → F
     → GivenTo b (k ++ d) × GivenTo d r
 given_inside b k d r g f h =
     let p = given_split b r (f.0 ++ k) d g (f.1 ∙ sym (append_assoc f.0 k d)) h in
-    let q = given_both f.0 k p.0 in
+    let q = each_front is_given f.0 k p.0 in
     ((f.0, f.1, q.0), p.1)
 
 front_through : (b k d r : List Tok) → FrontOf b (k ++ d) → FrontOf d r → FrontOf b r
