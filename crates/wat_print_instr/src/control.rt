@@ -23,7 +23,7 @@ ghost use Rattle.wat_print_instr.specs.Control.{printable_branch, spell_result};
 ghost use Rattle.wat_print_instr.specs.Printings.{block_printing, call_printing, select_printing};
 ghost use Rattle.wat_print_instr.specs.Printings.{branch_printing};
 
-use crate::places::write_index_or_zero;
+use crate::places::write_index_or_0;
 use crate::traits::PrintCode;
 use wat_operands::{
     BlockType, BrOnCast, BrOnCastDescEq, BrOnCastDescEqFail, BrOnCastFail, CallIndirect, RefCast,
@@ -121,7 +121,7 @@ impl PrintCode for CallIndirect<'_> {
 
     #[tactic(auto, using(wat_print::specs::Laws::Written::put_both))]
     fn write(&self, out: &mut Output) -> Result<(), Refused> {
-        write_index_or_zero(out, &self.table)?;
+        write_index_or_0(out, &self.table)?;
         write_signature(out, &self.ty)
     }
 }

@@ -23,7 +23,7 @@ use wat_print::label::write_label;
 use wat_print::reference::write_index;
 use wat_print::{Output, Refused};
 use wat_print_instr::expression::write_constant;
-use wat_print_instr::places::is_zero;
+use wat_print_instr::places::is_index_0;
 use wat_tokens::Index;
 
 /// Writes `( offset Expression )`.
@@ -48,7 +48,7 @@ fn write_memory(out: &mut Output, memory: &Index) -> Result<(), Refused>
     ensures refused { IfErr result (λ e. e ≢ Memory
         → printable_index (index_view memory.now) ≡ false) }
 {
-    if is_zero(memory) {
+    if is_index_0(memory) {
         return Ok(());
     }
     out.open()?;

@@ -96,7 +96,7 @@ fn may_stand_together(locals: &[Local]) -> bool
 
 /// Writes the locals of one group, without its parentheses (Text Format, Modules, "Functions",
 /// Abbreviations). More than one, of which one has an identifier or a name, are refused with Label.
-pub fn write_local_parser(out: &mut Output, group: &LocalParser) -> Result<(), Refused>
+fn write_local_parser(out: &mut Output, group: &LocalParser) -> Result<(), Refused>
     ensures written { OnOk result (out.new ≡ put out.old
         (spell_local_parser (local_parser_view group.now))) }
     ensures printable { OnOk result (printable_local_parser (local_parser_view group.now) ≡ true) }
