@@ -1,10 +1,9 @@
 -- Instructions and hints that are written in turn.
-use Rattle.std.specs.Prelude.{◌≡◌, ℕ, zero, suc, ◌+◌, ◌<◌, Bool, true, false, ◌&&◌, ◌==◌, List, []}
-use Rattle.std.specs.Prelude.{◌∷◌, ◌++◌}
-use Rattle.std.specs.Prelude.{if◌then◌else◌, flat_map, map, length, drop, Option, Some, None}
-use Rattle.std.specs.Prelude.{option_map}
+use Rattle.std.specs.Prelude.{◌≡◌, ℕ, zero, suc, ◌+◌, ◌<◌, true, false, List, [], ◌∷◌, ◌++◌}
+use Rattle.std.specs.Prelude.{flat_map, map, length, drop, Option, Some, None, option_map}
 use Rattle.std.proofs.Common.{refl, ap, subst, sym, ◌∙◌, append_assoc, append-nil, get_or, arith}
 use Rattle.std.proofs.lemmas.Grind.{flat_map-append}
+use Rattle.std.proofs.lemmas.Bool.{and_right}
 use Rattle.wat_lexer.specs.Token.{Tok}
 use Rattle.wat_instr.specs.Instruction.{Instr}
 use Rattle.wat_print.specs.Layout.{Writes}
@@ -13,10 +12,10 @@ use Rattle.wat_print.specs.Text.{Page}
 use Rattle.wat_print.specs.Laws.Parts.{each_both}
 use Rattle.wat_print.specs.Laws.Written.{puts_both, puts_put}
 use Rattle.wat_print_instr.specs.ExpressionForm.{HintedInstr, step_of, spell_step, printable_step}
-use Rattle.wat_print_instr.specs.ExpressionForm.{steps_from}
-use Rattle.wat_print_instr.specs.ExpressionForm.{hint_for, hints_after, spell_expression}
-use Rattle.wat_print_instr.specs.ExpressionForm.{printable_expression}
+use Rattle.wat_print_instr.specs.ExpressionForm.{steps_from, hint_for, hints_after}
+use Rattle.wat_print_instr.specs.ExpressionForm.{spell_expression, printable_expression}
 use Rattle.wat_print_instr.specs.InstructionForm.{passes}
+use Rattle.wat_print_instr.specs.Laws.Expression.{next_step}
 
 -- From p to q the steps before the index b were written, and what is left of the instructions and
 -- of the hints gives those behind them.
@@ -41,21 +40,6 @@ walk_begins is hs p = record {
 }
 
 -- an instruction more
-chosen : (t : Bool) (b : ℕ) (i : Instr) (is : List Instr) (h : ℕ × ℕ) (hs : List (ℕ × ℕ))
-    → (if t then option_map (λ xs. step_of (Some h.1) i ∷ xs) (steps_from (b + 1) is hs)
-    else option_map (λ xs. step_of None i ∷ xs) (steps_from (b + 1) is (h ∷ hs)))
-    ≡ option_map (λ xs. step_of (if t then Some h.1 else None) i ∷ xs)
-    (steps_from (b + 1) is (if t then hs else h ∷ hs))
-chosen true b i is h hs = refl
-chosen false b i is h hs = refl
-
-next_step : (b : ℕ) (i : Instr) (is : List Instr) (hs : List (ℕ × ℕ))
-    → steps_from b (i ∷ is) hs
-    ≡ option_map (λ xs. step_of (hint_for b hs) i ∷ xs) (steps_from (b + 1) is (hints_after b hs))
-next_step b i is [] = refl
-next_step b i is (h ∷ hs) =
-    chosen (h.0 == b) b i is h hs
-
 map_twice : (x : HintedInstr) (done : List HintedInstr) (o : Option (List HintedInstr))
     → option_map (λ xs. done ++ xs) (option_map (λ xs. x ∷ xs) o)
     ≡ option_map (λ xs. (done ++ x ∷ []) ++ xs) o
@@ -97,7 +81,8 @@ pub walk_fits : (is : List Instr) (hs : List (ℕ × ℕ)) (b : ℕ) (p q : Page
 walk_fits is hs b p q e w =
     subst (λ (o : Option (List HintedInstr)). passes (each printable_step) o ≡ true)
     (sym (all_steps is hs b p q e w))
-    (subst (λ (l : List HintedInstr). each printable_step l ≡ true) (sym (append-nil w.done)) w.fits)
+    (subst (λ (l : List HintedInstr). each printable_step l ≡ true)
+    (sym (append-nil w.done)) w.fits)
 
 pub walk_written : (is : List Instr) (hs : List (ℕ × ℕ)) (b : ℕ) (p q : Page) → drop b is ≡ []
     → Walked is hs b [] p q
@@ -117,15 +102,12 @@ walk_left is hs b h left p q e w =
     (sym (w.goes ∙ ap (λ (l : List Instr). option_map (λ xs. w.done ++ xs)
     (steps_from b l (h ∷ left))) e)) refl
 
-after : (a b : Bool) → b ≡ false → a && b ≡ false
-after true b e = e
-after false b e = refl
-
-not_all : (done : List HintedInstr) (x : HintedInstr) (xs : List HintedInstr) → printable_step x ≡ false
+not_all : (done : List HintedInstr) (x : HintedInstr) (xs : List HintedInstr)
+    → printable_step x ≡ false
     → each printable_step (done ++ x ∷ xs) ≡ false
 not_all [] x xs f = rw f refl
 not_all (d ∷ done) x xs f =
-    after (printable_step d) (each printable_step (done ++ x ∷ xs)) (not_all done x xs f)
+    and_right (printable_step d) (each printable_step (done ++ x ∷ xs)) (not_all done x xs f)
 
 not_passed : (done : List HintedInstr) (x : HintedInstr) (o : Option (List HintedInstr))
     → printable_step x ≡ false

@@ -47,7 +47,8 @@ printable_alignment a n = (n == a) || (is_power_of_two n && is_u64 n)
 
 -- an access but for its ordering
 abbrev pub printable_place : ℕ → MemArgTy → Bool
-printable_place a m = printable_target m.target && (is_u64 m.offset && printable_alignment a m.align)
+printable_place a m =
+    printable_target m.target && (is_u64 m.offset && printable_alignment a m.align)
 
 -- without an ordering
 abbrev pub printable_access : ℕ → MemArgTy → Bool

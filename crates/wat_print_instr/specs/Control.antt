@@ -56,7 +56,8 @@ abbrev pub spell_branch : BranchTy → List Tok
 spell_branch b = spell_index b.label ++ (spell_ref b.from_type ++ spell_ref b.to_type)
 
 abbrev pub printable_branch : BranchTy → Bool
-printable_branch b = printable_index b.label && (printable_ref b.from_type && printable_ref b.to_type)
+printable_branch b =
+    printable_index b.label && (printable_ref b.from_type && printable_ref b.to_type)
 
 -- ---- what a try_table catches
 
@@ -113,4 +114,5 @@ spell_throw r =
     spell_index r.type_index ++ (spell_index r.tag_index ++ spell_resume_table r.table)
 
 abbrev pub printable_throw : ThrowTy → Bool
-printable_throw r = printable_index r.type_index && (printable_index r.tag_index && printable_resume_table r.table)
+printable_throw r =
+    printable_index r.type_index && (printable_index r.tag_index && printable_resume_table r.table)

@@ -17,7 +17,7 @@ ghost use Rattle.wat_print_instr.specs.Printings.{ordering_printing, ordered_pri
 ghost use Rattle.wat_print_instr.specs.Printings.{lane_printing};
 
 use crate::numbers::write_unless;
-use crate::places::write_index_or_zero;
+use crate::places::write_index_or_0;
 use crate::traits::PrintCode;
 use wat_operands::{
     LaneArg, LoadOrStoreLane, MemArg, MemArgOrdering, MemArgTarget, Ordered, Ordering,
@@ -34,7 +34,7 @@ fn write_target(out: &mut Output, target: &MemArgTarget) -> Result<(), Refused>
         → printable_target (target_view target.now) ≡ false) }
 {
     match target {
-        MemArgTarget::Memory(index) => write_index_or_zero(out, index),
+        MemArgTarget::Memory(index) => write_index_or_0(out, index),
         MemArgTarget::Array(index) => {
             out.open()?;
             out.word("type")?;
@@ -99,7 +99,7 @@ fn word_of(ordering: Ordering) -> &'static str
 }
 
 /// Writes an ordering.
-pub fn write_ordering(out: &mut Output, ordering: Ordering) -> Result<(), Refused>
+pub(crate) fn write_ordering(out: &mut Output, ordering: Ordering) -> Result<(), Refused>
     ensures written { OnOk result (out.new ≡ put out.old (spell_ordering ordering)) }
     ensures refused { IfErr result (λ e. e ≡ Memory) }
 {
@@ -147,7 +147,8 @@ pub fn write_atomic(
 ) -> Result<(), Refused>
     ensures written { OnOk result (out.new ≡ put out.old
         (spell_atomic default (mem_arg_view access.now))) }
-    ensures printable { OnOk result (printable_atomic default rmw (mem_arg_view access.now) ≡ true) }
+    ensures printable { OnOk result
+        (printable_atomic default rmw (mem_arg_view access.now) ≡ true) }
     ensures refused { IfErr result (λ e. e ≢ Memory
         → printable_atomic default rmw (mem_arg_view access.now) ≡ false) }
 {
@@ -177,8 +178,8 @@ pub fn write_lane_access(
 ) -> Result<(), Refused>
     ensures written { OnOk result (out.new ≡ put out.old
         (spell_lane_access default (lane_access_view lane.now))) }
-    ensures printable { OnOk result (printable_lane_access default (lane_access_view lane.now) ≡
-        true) }
+    ensures printable { OnOk result
+        (printable_lane_access default (lane_access_view lane.now) ≡ true) }
     ensures refused { IfErr result (λ e. e ≢ Memory
         → printable_lane_access default (lane_access_view lane.now) ≡ false) }
 {

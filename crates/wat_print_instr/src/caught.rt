@@ -30,8 +30,8 @@ use wat_print::{Output, Refused};
 fn write_catch_kind(out: &mut Output, kind: &TryTableCatchKind) -> Result<(), Refused>
     ensures written { OnOk result (out.new ≡ put out.old
         (spell_catch_kind (catch_kind_view index_view kind.now))) }
-    ensures printable { OnOk result (printable_catch_kind (catch_kind_view index_view kind.now) ≡
-        true) }
+    ensures printable { OnOk result
+        (printable_catch_kind (catch_kind_view index_view kind.now) ≡ true) }
     ensures refused { IfErr result (λ e. e ≢ Memory
         → printable_catch_kind (catch_kind_view index_view kind.now) ≡ false) }
 {

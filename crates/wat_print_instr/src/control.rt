@@ -23,7 +23,7 @@ ghost use Rattle.wat_print_instr.specs.Control.{printable_branch, spell_result};
 ghost use Rattle.wat_print_instr.specs.Printings.{block_printing, call_printing, select_printing};
 ghost use Rattle.wat_print_instr.specs.Printings.{branch_printing};
 
-use crate::places::write_index_or_zero;
+use crate::places::write_index_or_0;
 use crate::traits::PrintCode;
 use wat_operands::{
     BlockType, BrOnCast, BrOnCastDescEq, BrOnCastDescEqFail, BrOnCastFail, CallIndirect, RefCast,
@@ -68,8 +68,8 @@ fn write_signature(out: &mut Output, ty: &TypeUse<FunctionType>) -> Result<(), R
 pub fn write_block(out: &mut Output, block: &BlockType) -> Result<(), Refused>
     ensures written { OnOk result (out.new ≡ put out.old (spell_block (block_view block.now))) }
     ensures printable { OnOk result (printable_block (block_view block.now) ≡ true) }
-    ensures refused { IfErr result (λ e. e ≢ Memory → printable_block (block_view block.now) ≡
-        false) }
+    ensures refused { IfErr result (λ e. e ≢ Memory
+        → printable_block (block_view block.now) ≡ false) }
 {
     write_label(out, &block.label, &block.label_name)?;
     write_signature(out, &block.ty)
@@ -121,7 +121,7 @@ impl PrintCode for CallIndirect<'_> {
 
     #[tactic(auto, using(wat_print::specs::Laws::Written::put_both))]
     fn write(&self, out: &mut Output) -> Result<(), Refused> {
-        write_index_or_zero(out, &self.table)?;
+        write_index_or_0(out, &self.table)?;
         write_signature(out, &self.ty)
     }
 }

@@ -49,8 +49,8 @@ fn write_value(out: &mut Output, value: u8) -> Result<(), Refused>
 /// neither 0 nor 1, or the instruction neither `br_if` nor `if`.
 fn write_hint(out: &mut Output, hint: Option<u32>, instr: &Instruction) -> Result<(), Refused>
     ensures written { OnOk result (out.new ≡ put out.old (spell_option spell_hint hint)) }
-    ensures printable { OnOk result (if_some (printable_hint (instruction_view instr.now)) hint ≡
-        true) }
+    ensures printable { OnOk result
+        (if_some (printable_hint (instruction_view instr.now)) hint ≡ true) }
     ensures refused { IfErr result (λ e. e ≢ Memory
         → if_some (printable_hint (instruction_view instr.now)) hint ≡ false) }
 {
@@ -119,8 +119,8 @@ fn write_step(
 ) -> Result<(), Refused>
     ensures written { OnOk result
         (Writes (spell_step (step_of hint (instruction_view instr.now))) out.old out.new) }
-    ensures printable { OnOk result (printable_step (step_of hint (instruction_view instr.now)) ≡
-        true) }
+    ensures printable { OnOk result
+        (printable_step (step_of hint (instruction_view instr.now)) ≡ true) }
     ensures refused { IfErr result (λ e. e ≢ Memory
         → printable_step (step_of hint (instruction_view instr.now)) ≡ false) }
 {

@@ -54,7 +54,8 @@ fn write_fence(out: &mut Output, ordering: Option<Ordering>) -> Result<(), Refus
 fn write_said(out: &mut Output, block: &Option<Box<BlockType>>) -> Result<(), Refused>
     ensures written { OnOk result (out.new ≡ put out.old (spell_block (block_in block.now))) }
     ensures printable { OnOk result (printable_block (block_in block.now) ≡ true) }
-    ensures refused { IfErr result (λ e. e ≢ Memory → printable_block (block_in block.now) ≡ false) }
+    ensures refused { IfErr result (λ e. e ≢ Memory
+        → printable_block (block_in block.now) ≡ false) }
 {
     match block {
         Some(block) => write_block(out, block),

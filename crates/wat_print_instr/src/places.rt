@@ -32,21 +32,21 @@ use wat_print::{Output, Refused};
 use wat_tokens::Index;
 
 /// Whether it is the number 0.
-pub fn is_zero(index: &Index) -> bool
+pub fn is_index_0(index: &Index) -> bool
     ensures { result ≡ is_index_0 (index_view index.now) }
 {
     matches!(index, Index::Num(0, _))
 }
 
 /// Writes an index, or nothing where 0 is meant.
-pub fn write_index_or_zero(out: &mut Output, index: &Index) -> Result<(), Refused>
+pub fn write_index_or_0(out: &mut Output, index: &Index) -> Result<(), Refused>
     ensures written { OnOk result (out.new ≡ put out.old
         (spell_index_or_0 (index_view index.now))) }
     ensures printable { OnOk result (printable_index (index_view index.now) ≡ true) }
-    ensures refused { IfErr result (λ e. e ≢ Memory → printable_index (index_view index.now) ≡
-        false) }
+    ensures refused { IfErr result (λ e. e ≢ Memory
+        → printable_index (index_view index.now) ≡ false) }
 {
-    if is_zero(index) {
+    if is_index_0(index) {
         return Ok(());
     }
     write_index(out, index)
@@ -57,8 +57,8 @@ pub fn write_index_or_zero(out: &mut Output, index: &Index) -> Result<(), Refuse
 fn write_pair(out: &mut Output, first: &Index, second: &Index) -> Result<(), Refused>
     ensures written { OnOk result (out.new ≡ put out.old
         (spell_pair (index_view first.now, index_view second.now))) }
-    ensures printable { OnOk result (printable_pair (index_view first.now, index_view second.now) ≡
-        true) }
+    ensures printable { OnOk result
+        (printable_pair (index_view first.now, index_view second.now) ≡ true) }
     ensures refused { IfErr result (λ e. e ≢ Memory
         → printable_pair (index_view first.now, index_view second.now) ≡ false) }
 {
@@ -76,7 +76,7 @@ fn write_init(out: &mut Output, target: &Index, segment: &Index) -> Result<(), R
     ensures refused { IfErr result (λ e. e ≢ Memory
         → printable_pair (index_view target.now, index_view segment.now) ≡ false) }
 {
-    write_index_or_zero(out, target)?;
+    write_index_or_0(out, target)?;
     write_index(out, segment)
 }
 
@@ -89,7 +89,7 @@ fn write_copy(out: &mut Output, destination: &Index, source: &Index) -> Result<(
     ensures refused { IfErr result (λ e. e ≢ Memory
         → printable_pair (index_view destination.now, index_view source.now) ≡ false) }
 {
-    if is_zero(destination) && is_zero(source) {
+    if is_index_0(destination) && is_index_0(source) {
         return Ok(());
     }
     write_pair(out, destination, source)
@@ -119,7 +119,7 @@ impl PrintCode for TableArg<'_> {
     ghost printing = { index_or_0_printing };
 
     fn write(&self, out: &mut Output) -> Result<(), Refused> {
-        write_index_or_zero(out, &self.dst)?;
+        write_index_or_0(out, &self.dst)?;
         Ok(())
     }
 }
@@ -134,7 +134,7 @@ impl PrintCode for MemoryArg<'_> {
     ghost printing = { index_or_0_printing };
 
     fn write(&self, out: &mut Output) -> Result<(), Refused> {
-        write_index_or_zero(out, &self.mem)?;
+        write_index_or_0(out, &self.mem)?;
         Ok(())
     }
 }

@@ -56,8 +56,7 @@ impl<T: PrintCode> Print for Code<'_, T> {
 /// Writes values, one behind the other.
 pub fn write_each<T: PrintCode>(out: &mut Output, values: &[T]) -> Result<(), Refused>
     ensures wrote { OnOk result (Wrote T.view T.printing.spell T.printing.printable values.now
-        out.old
-        out.new) }
+        out.old out.new) }
     ensures refused { IfErr result (λ e. e ≢ Memory
         → each T.printing.printable (map T.view values.now) ≡ false) }
 {

@@ -40,7 +40,8 @@ puts_broken n ts a b c e w = puts_both [] ts a b c (puts_line n a b e) w
 -- one value more, of those in which it stands
 pub wrote_next : {X A : Type 0} (view : X → A) (spell : A → List Tok) (printable : A → Bool)
     (xs : List X) (i : ℕ) (x : X) (a b c : Page) → i < length xs → x ≡ get_or xs i x
-    → Wrote view spell printable (take i xs) a b → c ≡ put b (spell (view x)) → printable (view x) ≡ true
+    → Wrote view spell printable (take i xs) a b → c ≡ put b (spell (view x))
+    → printable (view x) ≡ true
     → Wrote view spell printable (take (i + 1) xs) a c
 wrote_next {X = X} view spell printable xs i x a b c lt s w e f =
     wrote_more view spell printable xs i x a b c lt w

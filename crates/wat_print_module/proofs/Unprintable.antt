@@ -1,7 +1,6 @@
 -- Fields that can't be written, by their numbers.
 use Rattle.std.specs.Prelude.{◌≡◌, ℕ, zero, suc, ◌<◌, false, List, [], ◌∷◌, length, map, Option}
-use Rattle.std.specs.Prelude.{Some}
-use Rattle.std.specs.Prelude.{None, slice_get}
+use Rattle.std.specs.Prelude.{Some, None, slice_get}
 use Rattle.std.proofs.Common.{refl, ap, subst, sym, ◌∙◌, get_or, arith}
 use Rattle.wat_core.specs.Field.{ModuleField, field_view}
 use Rattle.wat_core.specs.Module.{ModuleTy}
@@ -14,7 +13,8 @@ get_seen view [] i d lt = absurd (omega arith)
 get_seen view (x ∷ xs) zero d lt = refl
 get_seen view (x ∷ xs) (suc i) d lt = get_seen view xs i d (omega arith)
 
-pub unprintable_at : (fs : List ModuleField) (i : ℕ) (x : ModuleField) (o : Option ℕ) → i < length fs
+pub unprintable_at : (fs : List ModuleField) (i : ℕ) (x : ModuleField) (o : Option ℕ)
+    → i < length fs
     → x ≡ get_or fs i x → o ≡ Some i → printable_module_field (field_view x) ≡ false
     → UnprintableField (map field_view fs) o
 unprintable_at fs i x o lt s e f =

@@ -3,9 +3,8 @@ use Rattle.std.specs.Prelude.{Bool, List, ◌∷◌, codes}
 use Rattle.wat_lexer.specs.Token.{Tok, Keyword}
 use Rattle.wat_tokens.specs.Index.{Idx}
 use Rattle.wat_tokens.specs.Spelled.{in_parens}
-use Rattle.wat_core.specs.Field.{ModuleFieldTy, a_type, a_rec, an_import, a_func, a_table}
-use Rattle.wat_core.specs.Field.{a_memory, a_global, an_export, a_start, an_elem, a_data, a_tag}
-use Rattle.wat_core.specs.Field.{a_custom}
+use Rattle.wat_core.specs.Field.{ModuleFieldTy, a_type, a_rec, an_import, a_func, a_table, a_memory}
+use Rattle.wat_core.specs.Field.{a_global, an_export, a_start, an_elem, a_data, a_tag, a_custom}
 use Rattle.wat_print.specs.Define.{spell_type, printable_type, spell_rec, printable_rec}
 use Rattle.wat_print.specs.Index.{spell_index, printable_index}
 use Rattle.wat_print_module.specs.Custom.{spell_custom, printable_custom}

@@ -5,8 +5,8 @@ use Rattle.wat_fields.specs.Func.{FuncKindTy, imported, inline, FuncUse, Defined
 use Rattle.wat_print.specs.Parts.{grouped}
 use Rattle.wat_print.specs.Use.{spell_use, printable_use}
 use Rattle.wat_print_instr.specs.ExpressionForm.{spell_expression, printable_expression}
-use Rattle.wat_print_module.specs.FieldHead.{spell_inline_import, printable_inline_import, spell_head}
-use Rattle.wat_print_module.specs.FieldHead.{printable_head}
+use Rattle.wat_print_module.specs.FieldHead.{spell_inline_import, printable_inline_import}
+use Rattle.wat_print_module.specs.FieldHead.{spell_head, printable_head}
 use Rattle.wat_print_module.specs.Local.{spell_locals, printable_locals}
 
 -- in parentheses behind `exact`, where the function is of exactly the type

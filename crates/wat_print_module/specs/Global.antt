@@ -4,8 +4,8 @@ use Rattle.wat_lexer.specs.Token.{Tok, Keyword}
 use Rattle.wat_fields.specs.Global.{GlobalKindTy, imported, inline, DefinedGlobal, GlobalFieldTy}
 use Rattle.wat_print.specs.Storage.{spell_global, printable_global}
 use Rattle.wat_print_instr.specs.ExpressionForm.{spell_expression, printable_expression}
-use Rattle.wat_print_module.specs.FieldHead.{spell_inline_import, printable_inline_import, spell_head}
-use Rattle.wat_print_module.specs.FieldHead.{printable_head}
+use Rattle.wat_print_module.specs.FieldHead.{spell_inline_import, printable_inline_import}
+use Rattle.wat_print_module.specs.FieldHead.{spell_head, printable_head}
 
 -- an import and the type; or the type and the first value
 abbrev pub spell_defined_global : DefinedGlobal → List Tok

@@ -63,7 +63,8 @@ spell_data d =
     ∷ (spell_label d.label ++ (spell_data_kind d.kind ++ spell_data_vals d.vals))
 
 abbrev pub printable_data : DataTy → Bool
-printable_data d = printable_label d.label && (printable_data_kind d.kind && each printable_data_val d.vals)
+printable_data d =
+    printable_label d.label && (printable_data_kind d.kind && each printable_data_val d.vals)
 
 -- in its parentheses
 abbrev pub spell_grouped_data : DataTy → List Tok
@@ -108,4 +109,5 @@ spell_elem e =
     ∷ (spell_label e.label ++ (spell_elem_kind e.segment.0 ++ spell_payload e.segment.1))
 
 abbrev pub printable_elem : ElemTy → Bool
-printable_elem e = printable_label e.label && (printable_elem_kind e.segment.0 && printable_payload e.segment.1)
+printable_elem e =
+    printable_label e.label && (printable_elem_kind e.segment.0 && printable_payload e.segment.1)

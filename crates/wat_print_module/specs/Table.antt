@@ -16,8 +16,8 @@ use Rattle.wat_print.specs.Limits.{spell_table_type, printable_table_type}
 use Rattle.wat_print.specs.Parts.{grouped, spell_flag, spell_option, if_some, each}
 use Rattle.wat_print.specs.Reference.{spell_ref, printable_ref}
 use Rattle.wat_print_instr.specs.ExpressionForm.{spell_expression, printable_expression}
-use Rattle.wat_print_module.specs.FieldHead.{spell_inline_import, printable_inline_import, spell_head}
-use Rattle.wat_print_module.specs.FieldHead.{printable_head}
+use Rattle.wat_print_module.specs.FieldHead.{spell_inline_import, printable_inline_import}
+use Rattle.wat_print_module.specs.FieldHead.{spell_head, printable_head}
 use Rattle.wat_print_module.specs.Segments.{spell_item}
 
 -- ---- types that are the same

@@ -4,8 +4,8 @@ use Rattle.wat_lexer.specs.Token.{Tok, Keyword}
 use Rattle.wat_fields.specs.Tag.{TagTy}
 use Rattle.wat_print.specs.Parts.{spell_option, if_some}
 use Rattle.wat_print.specs.Use.{spell_use, printable_use}
-use Rattle.wat_print_module.specs.FieldHead.{spell_inline_import, printable_inline_import, spell_head}
-use Rattle.wat_print_module.specs.FieldHead.{printable_head}
+use Rattle.wat_print_module.specs.FieldHead.{spell_inline_import, printable_inline_import}
+use Rattle.wat_print_module.specs.FieldHead.{spell_head, printable_head}
 
 abbrev pub spell_tag : TagTy → List Tok
 spell_tag t =
@@ -13,4 +13,5 @@ spell_tag t =
     ++ (spell_option spell_inline_import t.import ++ spell_use t.ty))
 
 abbrev pub printable_tag : TagTy → Bool
-printable_tag t = printable_head t.head && (if_some printable_inline_import t.import && printable_use t.ty)
+printable_tag t =
+    printable_head t.head && (if_some printable_inline_import t.import && printable_use t.ty)

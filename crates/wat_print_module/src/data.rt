@@ -23,7 +23,7 @@ use wat_print::label::write_label;
 use wat_print::reference::write_index;
 use wat_print::{Output, Refused};
 use wat_print_instr::expression::write_constant;
-use wat_print_instr::places::is_zero;
+use wat_print_instr::places::is_index_0;
 use wat_tokens::Index;
 
 /// Writes `( offset Expression )`.
@@ -45,10 +45,10 @@ fn write_memory(out: &mut Output, memory: &Index) -> Result<(), Refused>
     ensures written { OnOk result (out.new ≡ put out.old
         (spell_data_memory (index_view memory.now))) }
     ensures printable { OnOk result (printable_index (index_view memory.now) ≡ true) }
-    ensures refused { IfErr result (λ e. e ≢ Memory → printable_index (index_view memory.now) ≡
-        false) }
+    ensures refused { IfErr result (λ e. e ≢ Memory
+        → printable_index (index_view memory.now) ≡ false) }
 {
-    if is_zero(memory) {
+    if is_index_0(memory) {
         return Ok(());
     }
     out.open()?;
@@ -90,8 +90,8 @@ fn write_data_kind(out: &mut Output, kind: &DataKind) -> Result<(), Refused>
 pub fn write_data(out: &mut Output, segment: &Data) -> Result<(), Refused>
     ensures written { OnOk result (Writes (spell_data (data_view segment.now)) out.old out.new) }
     ensures printable { OnOk result (printable_data (data_view segment.now) ≡ true) }
-    ensures refused { IfErr result (λ e. e ≢ Memory → printable_data (data_view segment.now) ≡
-        false) }
+    ensures refused { IfErr result (λ e. e ≢ Memory
+        → printable_data (data_view segment.now) ≡ false) }
 {
     out.word("data")?;
     write_label(out, &segment.id, &segment.name)?;
@@ -104,8 +104,8 @@ pub fn write_grouped_data(out: &mut Output, segment: &Data) -> Result<(), Refuse
     ensures written { OnOk result
         (Writes (spell_grouped_data (data_view segment.now)) out.old out.new) }
     ensures printable { OnOk result (printable_data (data_view segment.now) ≡ true) }
-    ensures refused { IfErr result (λ e. e ≢ Memory → printable_data (data_view segment.now) ≡
-        false) }
+    ensures refused { IfErr result (λ e. e ≢ Memory
+        → printable_data (data_view segment.now) ≡ false) }
 {
     out.open()?;
     write_data(out, segment)?;

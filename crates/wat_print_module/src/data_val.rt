@@ -65,8 +65,7 @@ pub fn write_data_val(out: &mut Output, value: &DataVal) -> Result<(), Refused>
 /// Writes values of a data segment, one behind the other.
 pub fn write_data_vals(out: &mut Output, values: &[DataVal]) -> Result<(), Refused>
     ensures wrote { OnOk result (Wrote data_val_view spell_data_val printable_data_val values.now
-        out.old
-        out.new) }
+        out.old out.new) }
     ensures refused { IfErr result (λ e. e ≡ Memory) }
 {
     for value in values {

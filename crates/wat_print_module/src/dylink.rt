@@ -36,7 +36,8 @@ fn write_sizes(out: &mut Output, word: &str, size: u32, align: u32) -> Result<()
 
 /// Writes names, one behind the other.
 fn write_strings(out: &mut Output, names: &[&str]) -> Result<(), Refused>
-    ensures wrote { OnOk result (Wrote (λ n. n.now) spell_string is_utf8 names.now out.old out.new) }
+    ensures wrote { OnOk result
+        (Wrote (λ n. n.now) spell_string is_utf8 names.now out.old out.new) }
     ensures refused { IfErr result (λ e. e ≡ Memory) }
 {
     for name in names {
@@ -75,8 +76,7 @@ fn write_export(out: &mut Output, entry: &(&str, u32)) -> Result<(), Refused>
 /// Writes the entries of exports, one behind the other.
 fn write_exports(out: &mut Output, entries: &[(&str, u32)]) -> Result<(), Refused>
     ensures wrote { OnOk result (Wrote dylink_export_view spell_export_flags printable_export_flags
-        entries.now
-        out.old out.new) }
+        entries.now out.old out.new) }
     ensures refused { IfErr result (λ e. e ≡ Memory) }
 {
     for entry in entries {
@@ -103,8 +103,7 @@ fn write_import(out: &mut Output, entry: &(&str, &str, u32)) -> Result<(), Refus
 /// Writes the entries of imports, one behind the other.
 fn write_imports(out: &mut Output, entries: &[(&str, &str, u32)]) -> Result<(), Refused>
     ensures wrote { OnOk result (Wrote dylink_import_view spell_import_flags printable_import_flags
-        entries.now
-        out.old out.new) }
+        entries.now out.old out.new) }
     ensures refused { IfErr result (λ e. e ≡ Memory) }
 {
     for entry in entries {
@@ -149,8 +148,7 @@ fn write_subsection(out: &mut Output, subsection: &Dylink0Subsection) -> Result<
 /// Writes subsections, one behind the other.
 fn write_subsections(out: &mut Output, subsections: &[Dylink0Subsection]) -> Result<(), Refused>
     ensures wrote { OnOk result (Wrote subsection_view spell_subsection printable_subsection
-        subsections.now
-        out.old out.new) }
+        subsections.now out.old out.new) }
     ensures refused { IfErr result (λ e. e ≡ Memory) }
 {
     for subsection in subsections {

@@ -47,8 +47,7 @@ fn write_item(out: &mut Output, item: &Expression) -> Result<(), Refused>
 /// Writes items, one behind the other.
 pub(crate) fn write_items(out: &mut Output, items: &[Expression]) -> Result<(), Refused>
     ensures wrote { OnOk result (WroteLines expression_view spell_item printable_expression
-        items.now
-        out.old out.new) }
+        items.now out.old out.new) }
     ensures refused { IfErr result (λ e. e ≢ Memory
         → each printable_expression (map expression_view items.now) ≡ false) }
 {
@@ -114,8 +113,8 @@ pub fn write_payload(out: &mut Output, payload: &ElemPayload) -> Result<(), Refu
 fn write_elem_table(out: &mut Output, table: &Option<Index>) -> Result<(), Refused>
     ensures written { OnOk result (out.new ≡ put out.old
         (spell_option spell_elem_table (option_view index_view table.now))) }
-    ensures printable { OnOk result (if_some printable_index (option_view index_view table.now) ≡
-        true) }
+    ensures printable { OnOk result
+        (if_some printable_index (option_view index_view table.now) ≡ true) }
     ensures refused { IfErr result (λ e. e ≢ Memory
         → if_some printable_index (option_view index_view table.now) ≡ false) }
 {

@@ -34,8 +34,8 @@ use wat_tokens::Index;
 pub fn write_start(out: &mut Output, index: &Index) -> Result<(), Refused>
     ensures written { OnOk result (out.new ≡ put out.old (spell_start (index_view index.now))) }
     ensures printable { OnOk result (printable_index (index_view index.now) ≡ true) }
-    ensures refused { IfErr result (λ e. e ≢ Memory → printable_index (index_view index.now) ≡
-        false) }
+    ensures refused { IfErr result (λ e. e ≢ Memory
+        → printable_index (index_view index.now) ≡ false) }
 {
     out.word("start")?;
     write_index(out, index)

@@ -51,8 +51,8 @@ fn write_inline_names(out: &mut Output, names: &[&str]) -> Result<(), Refused>
 pub fn write_inline_export(out: &mut Output, exports: &InlineExport) -> Result<(), Refused>
     ensures written { OnOk result (out.new ≡ put out.old
         (spell_inline_export (inline_export_view exports.now))) }
-    ensures printable { OnOk result (printable_inline_export (inline_export_view exports.now) ≡
-        true) }
+    ensures printable { OnOk result
+        (printable_inline_export (inline_export_view exports.now) ≡ true) }
     ensures refused { IfErr result (λ e. e ≡ Memory) }
 {
     write_inline_names(out, &exports.names)
@@ -63,7 +63,8 @@ pub fn write_inline_export(out: &mut Output, exports: &InlineExport) -> Result<(
 pub fn write_inline_import(out: &mut Output, import: &InlineImport) -> Result<(), Refused>
     ensures written { OnOk result (out.new ≡ put out.old
         (spell_inline_import (inline_import_view import.now))) }
-    ensures printable { OnOk result (printable_inline_import (inline_import_view import.now) ≡ true) }
+    ensures printable { OnOk result
+        (printable_inline_import (inline_import_view import.now) ≡ true) }
     ensures refused { IfErr result (λ e. e ≡ Memory) }
 {
     out.open()?;

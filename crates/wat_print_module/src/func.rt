@@ -36,7 +36,8 @@ fn write_exact_use(
     ensures written { OnOk result (out.new ≡ put out.old
         (spell_exact_use (func_use_view ty.now) is_exact)) }
     ensures printable { OnOk result (printable_use (func_use_view ty.now) ≡ true) }
-    ensures refused { IfErr result (λ e. e ≢ Memory → printable_use (func_use_view ty.now) ≡ false) }
+    ensures refused { IfErr result (λ e. e ≢ Memory
+        → printable_use (func_use_view ty.now) ≡ false) }
 {
     if !is_exact {
         return write_use(out, ty);

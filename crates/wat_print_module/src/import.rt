@@ -24,7 +24,8 @@ use wat_print::{Output, Refused};
 fn write_typed(out: &mut Output, item: &ImportGroup1Item) -> Result<(), Refused>
     ensures written { OnOk result (out.new ≡ put out.old (spell_typed (typed_view item.now))) }
     ensures printable { OnOk result (printable_typed (typed_view item.now) ≡ true) }
-    ensures refused { IfErr result (λ e. e ≢ Memory → printable_typed (typed_view item.now) ≡ false) }
+    ensures refused { IfErr result (λ e. e ≢ Memory
+        → printable_typed (typed_view item.now) ≡ false) }
 {
     out.open()?;
     out.word("item")?;
@@ -85,8 +86,8 @@ fn write_shared(out: &mut Output, sig: &ItemSig) -> Result<(), Refused>
 fn write_items(out: &mut Output, items: &ImportItems) -> Result<(), Refused>
     ensures written { OnOk result (out.new ≡ put out.old (spell_items (items_view items.now))) }
     ensures printable { OnOk result (printable_items (items_view items.now) ≡ true) }
-    ensures refused { IfErr result (λ e. e ≢ Memory → printable_items (items_view items.now) ≡
-        false) }
+    ensures refused { IfErr result (λ e. e ≢ Memory
+        → printable_items (items_view items.now) ≡ false) }
 {
     match items {
         ImportItemsOf::Single { name, sig, .. } => {

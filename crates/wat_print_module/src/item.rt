@@ -34,8 +34,8 @@ fn word_of(kind: &ItemKind) -> &'static str
 fn write_exact(out: &mut Output, ty: &TypeUse<FunctionType>) -> Result<(), Refused>
     ensures written { OnOk result (out.new ≡ put out.old
         (spell_item (item_kind_view (ItemKind.FuncExact ty.now)))) }
-    ensures printable { OnOk result (printable_item (item_kind_view (ItemKind.FuncExact ty.now)) ≡
-        true) }
+    ensures printable { OnOk result
+        (printable_item (item_kind_view (ItemKind.FuncExact ty.now)) ≡ true) }
     ensures refused { IfErr result (λ e. e ≢ Memory
         → printable_item (item_kind_view (ItemKind.FuncExact ty.now)) ≡ false) }
 {

@@ -23,8 +23,8 @@ use wat_print::{Output, Refused};
 fn write_listed(out: &mut Output, local: &Local) -> Result<(), Refused>
     ensures written { OnOk result (out.new ≡ put out.old (spell_listed (local_view local.now))) }
     ensures printable { OnOk result (printable_local (local_view local.now) ≡ true) }
-    ensures refused { IfErr result (λ e. e ≢ Memory → printable_local (local_view local.now) ≡
-        false) }
+    ensures refused { IfErr result (λ e. e ≢ Memory
+        → printable_local (local_view local.now) ≡ false) }
 {
     write_label(out, &local.id, &local.name)?;
     write_val(out, &local.ty)
@@ -48,8 +48,8 @@ fn write_all_listed(out: &mut Output, locals: &[Local]) -> Result<(), Refused>
 fn write_local(out: &mut Output, local: &Local) -> Result<(), Refused>
     ensures written { OnOk result (out.new ≡ put out.old (spell_local (local_view local.now))) }
     ensures printable { OnOk result (printable_local (local_view local.now) ≡ true) }
-    ensures refused { IfErr result (λ e. e ≢ Memory → printable_local (local_view local.now) ≡
-        false) }
+    ensures refused { IfErr result (λ e. e ≢ Memory
+        → printable_local (local_view local.now) ≡ false) }
 {
     out.open()?;
     out.word("local")?;
@@ -96,7 +96,7 @@ fn may_stand_together(locals: &[Local]) -> bool
 
 /// Writes the locals of one group, without its parentheses (Text Format, Modules, "Functions",
 /// Abbreviations). More than one, of which one has an identifier or a name, are refused with Label.
-pub fn write_local_parser(out: &mut Output, group: &LocalParser) -> Result<(), Refused>
+fn write_local_parser(out: &mut Output, group: &LocalParser) -> Result<(), Refused>
     ensures written { OnOk result (out.new ≡ put out.old
         (spell_local_parser (local_parser_view group.now))) }
     ensures printable { OnOk result (printable_local_parser (local_parser_view group.now) ≡ true) }

@@ -89,8 +89,7 @@ fn write_numbered(out: &mut Output, field: &ModuleField, number: usize) -> Resul
 /// Writes fields, each on a line of its own where the layout has lines.
 fn write_fields(out: &mut Output, fields: &[ModuleField]) -> Result<(), ModuleRefused>
     ensures wrote { OnOk result (WroteLines field_view spell_field_group printable_module_field
-        fields.now
-        out.old out.new) }
+        fields.now out.old out.new) }
     ensures refused { IfErr result (λ e. e.reason ≢ Memory
         → UnprintableField (map field_view fields.now) e.field) }
 {

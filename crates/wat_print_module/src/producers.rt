@@ -1,8 +1,6 @@
 //! How the `producers` section is printed.
 
-ghost use Rattle.std.specs.Prelude.{◌≡◌, ◌≢◌, List, OnOk, IfOk, IfErr};
-ghost use Rattle.std.specs.Prelude.{true};
-ghost use Rattle.std.specs.Prelude.{false, map, flat_map};
+ghost use Rattle.std.specs.Prelude.{◌≡◌, ◌≢◌, List, OnOk, IfOk, IfErr, true, false, map, flat_map};
 ghost use Rattle.wat_tokens.specs.Groups.{paren};
 ghost use Rattle.wat_links.specs.Producers.{producers_view, producers};
 ghost use Rattle.wat_print.specs.Parts.{each, Wrote};

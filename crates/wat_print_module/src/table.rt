@@ -265,8 +265,8 @@ fn write_table_kind(out: &mut Output, kind: &TableKind) -> Result<(), Refused>
 pub fn write_table(out: &mut Output, table: &Table) -> Result<(), Refused>
     ensures written { OnOk result (Writes (spell_table (table_view table.now)) out.old out.new) }
     ensures printable { OnOk result (printable_table (table_view table.now) ≡ true) }
-    ensures refused { IfErr result (λ e. e ≢ Memory → printable_table (table_view table.now) ≡
-        false) }
+    ensures refused { IfErr result (λ e. e ≢ Memory
+        → printable_table (table_view table.now) ≡ false) }
 {
     out.word("table")?;
     write_head(out, &table.id, &table.name, &table.exports)?;

@@ -22,8 +22,8 @@ use wat_types::TagType;
 fn write_import(out: &mut Output, kind: &TagKind) -> Result<(), Refused>
     ensures written { OnOk result (out.new ≡ put out.old
         (spell_option spell_inline_import (tag_kind_view kind.now))) }
-    ensures printable { OnOk result (if_some printable_inline_import (tag_kind_view kind.now) ≡
-        true) }
+    ensures printable { OnOk result
+        (if_some printable_inline_import (tag_kind_view kind.now) ≡ true) }
     ensures refused { IfErr result (λ e. e ≡ Memory) }
 {
     match kind {
@@ -36,7 +36,8 @@ fn write_import(out: &mut Output, kind: &TagKind) -> Result<(), Refused>
 fn write_tag_type(out: &mut Output, ty: &TagType) -> Result<(), Refused>
     ensures written { OnOk result (out.new ≡ put out.old (spell_use (tag_type_view ty.now))) }
     ensures printable { OnOk result (printable_use (tag_type_view ty.now) ≡ true) }
-    ensures refused { IfErr result (λ e. e ≢ Memory → printable_use (tag_type_view ty.now) ≡ false) }
+    ensures refused { IfErr result (λ e. e ≢ Memory
+        → printable_use (tag_type_view ty.now) ≡ false) }
 {
     match ty {
         TagType::Exception(ty) => write_use(out, ty),

@@ -1,11 +1,10 @@
 -- Laws: accesses to memories, and orderings, are read again.
-use Rattle.std.specs.Prelude.{not}
-use Rattle.std.specs.Prelude.{◌≡◌, ℕ, zero, suc, ◌^◌, ◌<◌, Bool, true, false, ◌&&◌, ◌||◌, ◌==◌}
+use Rattle.std.specs.Prelude.{not, ◌≡◌, ℕ, zero, suc, ◌^◌, ◌<◌, Bool, true, false, ◌&&◌, ◌||◌, ◌==◌}
 use Rattle.std.specs.Prelude.{List, ◌∷◌, ◌++◌, codes, decimal, Option, Some, None, unwrap_or}
 use Rattle.std.specs.Prelude.{is_none, option_map}
 use Rattle.std.specs.Int.{is_power_of_two}
 use Rattle.std.proofs.Common.{refl, ap, subst, sym, inl, inr, lit≤, arith}
-use Rattle.std.proofs.lemmas.Bool.{and_parts, cond_both}
+use Rattle.std.proofs.lemmas.Bool.{and_parts, cond_both, eqb-true, ltb-true}
 use Rattle.std.proofs.lemmas.Fmt.{decimal_is_IsNumeral}
 use Rattle.wat_print.specs.Laws.Numbers.{no_sign, unsigned_decimal}
 use Rattle.wat_lexer.specs.Number.{unsigned_value, sign_of}
@@ -17,8 +16,7 @@ use Rattle.wat_tokens.specs.Production.{Production}
 use Rattle.wat_tokens.specs.Tests.{begins_word}
 use Rattle.wat_operands.specs.Align.{past_front, number_behind, field, number_in}
 use Rattle.wat_operands.specs.Lanes.{LaneAccessTy, lane_of, lane_arg, lane_in, access_of}
-use Rattle.wat_operands.specs.Lanes.{lane_alone}
-use Rattle.wat_operands.specs.Lanes.{goes_on, is_alone, lane_access}
+use Rattle.wat_operands.specs.Lanes.{lane_alone, goes_on, is_alone, lane_access}
 use Rattle.wat_operands.specs.Laws.Power.{power_of_two-holds, power_of_two-tested}
 use Rattle.wat_operands.specs.Memory.{TargetTy, memory, array, target, array_follows, begins_with}
 use Rattle.wat_operands.specs.Memory.{offset_or_0, align, align_or, MemArgTy, mem_arg_of, mem_arg}
@@ -33,22 +31,22 @@ use Rattle.wat_print.specs.Index.{spell_index}
 use Rattle.wat_print.specs.Limits.{spell_number, is_u64}
 use Rattle.wat_print.specs.WellFormed.{is_keyword, is_given, WellFormed, nothing}
 use Rattle.wat_print.specs.Parts.{each, if_some, spell_option}
-use Rattle.wat_print.specs.Laws.Only.{OnlyPrintable, only_any, only_one, only_where, only_opt, only_seq}
-use Rattle.wat_print.specs.Laws.Only.{only_made, only_group, only_weaker}
-use Rattle.wat_print.specs.Laws.Parts.{Spells, group_here, word_here, well_formed_one, well_formed_both}
-use Rattle.wat_print.specs.Laws.Parts.{well_formed_group}
-use Rattle.wat_print.specs.Laws.Parts.{well_formed_option, and_also}
+use Rattle.wat_print.specs.Laws.Only.{OnlyPrintable, only_any, only_one, only_where, only_opt}
+use Rattle.wat_print.specs.Laws.Only.{only_seq, only_made, only_group, only_weaker}
+use Rattle.wat_print.specs.Laws.Parts.{Spells, group_here, word_here, well_formed_one}
+use Rattle.wat_print.specs.Laws.Parts.{well_formed_both, well_formed_group, well_formed_option}
+use Rattle.wat_print.specs.Laws.Parts.{and_also}
 use Rattle.wat_print.specs.Laws.Reference.{index_here, index_well_formed, index_only}
-use Rattle.wat_print_instr.specs.Access.{spell_target, printable_target, spell_unless}
-use Rattle.wat_print_instr.specs.Access.{spell_access, printable_alignment, printable_place, printable_access}
+use Rattle.wat_print_instr.specs.Access.{spell_target, printable_target, spell_unless, spell_access}
+use Rattle.wat_print_instr.specs.Access.{printable_alignment, printable_place, printable_access}
 use Rattle.wat_print_instr.specs.Access.{spell_ordering, ordering_in, spell_atomic}
-use Rattle.wat_print_instr.specs.Access.{printable_ordering, printable_atomic, spell_ordered, printable_ordered}
-use Rattle.wat_print_instr.specs.Access.{spell_lane, printable_lane, spell_lane_access, printable_lane_access}
+use Rattle.wat_print_instr.specs.Access.{printable_ordering, printable_atomic, spell_ordered}
+use Rattle.wat_print_instr.specs.Access.{printable_ordered, spell_lane, printable_lane}
+use Rattle.wat_print_instr.specs.Access.{spell_lane_access, printable_lane_access}
 use Rattle.wat_print_instr.specs.Numbers.{numbered, is_unsigned}
 use Rattle.wat_print_instr.specs.Places.{is_index_0}
-use Rattle.wat_print_instr.specs.Laws.Numbers.{less_by, equal_by, same_number, number_text}
-use Rattle.wat_print_instr.specs.Laws.Numbers.{number_chars, unsigned_well_formed}
-use Rattle.wat_print_instr.specs.Laws.Numbers.{unsigned_found}
+use Rattle.wat_print_instr.specs.Laws.Numbers.{same_number, number_text}
+use Rattle.wat_print_instr.specs.Laws.Numbers.{number_chars, unsigned_well_formed, unsigned_found}
 use Rattle.wat_print_instr.specs.Laws.Places.{both_here, index_or_0_here, index_or_0_well_formed}
 use Rattle.wat_print_instr.specs.Laws.Places.{index_or_0_only}
 
@@ -83,7 +81,8 @@ target_here (array i) x f e =
 
 target_well_formed : (t : TargetTy) → printable_target t ≡ true → WellFormed (spell_target t)
 target_well_formed (memory i) f = index_or_0_well_formed i f
-target_well_formed (array i) f = well_formed_group (codes "type") (spell_index i) refl (index_well_formed i f)
+target_well_formed (array i) f =
+    well_formed_group (codes "type") (spell_index i) refl (index_well_formed i f)
 
 target_only : OnlyPrintable target printable_target
 unfolding target
@@ -115,10 +114,10 @@ offset_here : (b : Bool) (n : ℕ) (r : List Tok) → (n == 0) ≡ b → is_u64 
     → (b ≡ true → begins_with (codes "offset=") r ≡ false)
     → offset_or_0.spells n (spell_unless b (codes "offset=") n) r
 unfolding offset_or_0 field past_front
-offset_here true n r z f e = (None, (refl, e refl), refl, sym (equal_by n 0 z))
+offset_here true n r z f e = (None, (refl, e refl), refl, sym (eqb-true n 0 z))
 offset_here false n r z f e = (
   Some n,
-  (refl, (numbered (codes "offset=") n, refl, offset_number n (less_by n (2 ^ 64) f))),
+  (refl, (numbered (codes "offset=") n, refl, offset_number n (ltb-true n (2 ^ 64) f))),
   refl,
   refl,
 )
@@ -126,11 +125,12 @@ offset_here false n r z f e = (
 or_second : (b c : Bool) → b ≡ false → b || c ≡ true → c ≡ true
 or_second b c e h = rw e at h
 
-align_here : (a : ℕ) (b : Bool) (n : ℕ) (r : List Tok) → (n == a) ≡ b → printable_alignment a n ≡ true
+align_here : (a : ℕ) (b : Bool) (n : ℕ) (r : List Tok) → (n == a) ≡ b
+    → printable_alignment a n ≡ true
     → (b ≡ true → begins_with (codes "align=") r ≡ false)
     → (align_or a).spells n (spell_unless b (codes "align=") n) r
 unfolding align_or align field past_front
-align_here a true n r z f e = (None, (refl, e refl), refl, sym (equal_by n a z))
+align_here a true n r z f e = (None, (refl, e refl), refl, sym (eqb-true n a z))
 align_here a false n r z f e =
     let h = or_second (n == a) (is_power_of_two n && is_u64 n) z f in
     let p = and_parts (is_power_of_two n) (is_u64 n) h in (
@@ -138,7 +138,7 @@ align_here a false n r z f e =
       (
         refl,
         (
-          (numbered (codes "align=") n, refl, align_number n (less_by n (2 ^ 64) p.1)),
+          (numbered (codes "align=") n, refl, align_number n (ltb-true n (2 ^ 64) p.1)),
           power_of_two-holds n p.0,
         ),
       ),
@@ -224,7 +224,8 @@ pub place_here : (a : ℕ) (m : MemArgTy) (r : List Tok) → printable_place a m
     → begins_index r ≡ false)
     → (mem_arg a).spells (unordered m) (spell_access a m) r
 place_here a m r f e i =
-    let p = and_parts (printable_target m.target) (is_u64 m.offset && printable_alignment a m.align) f in
+    let p =
+    and_parts (printable_target m.target) (is_u64 m.offset && printable_alignment a m.align) f in
     let q = and_parts (is_u64 m.offset) (printable_alignment a m.align) p.1 in
     access_by a (m.offset == 0) (m.align == a) m.target m.offset m.align r refl refl p.0 q.0 q.1 e i
 
@@ -258,23 +259,27 @@ alignment_chars : (a n : ℕ) → printable_alignment a n ≡ true → (n == a) 
     → is_keyword (codes "align=" ++ decimal n) ≡ true
 alignment_chars a n f e =
     let h = or_second (n == a) (is_power_of_two n && is_u64 n) e f in
-    align_chars n (less_by n (2 ^ 64) (and_parts (is_power_of_two n) (is_u64 n) h).1)
+    align_chars n (ltb-true n (2 ^ 64) (and_parts (is_power_of_two n) (is_u64 n) h).1)
 
-pub place_well_formed : (a : ℕ) (m : MemArgTy) → printable_place a m ≡ true → WellFormed (spell_access a m)
+pub place_well_formed : (a : ℕ) (m : MemArgTy) → printable_place a m ≡ true
+    → WellFormed (spell_access a m)
 place_well_formed a m f =
-    let p = and_parts (printable_target m.target) (is_u64 m.offset && printable_alignment a m.align) f in
+    let p =
+    and_parts (printable_target m.target) (is_u64 m.offset && printable_alignment a m.align) f in
     let q = and_parts (is_u64 m.offset) (printable_alignment a m.align) p.1 in
     let o = spell_unless (m.offset == 0) (codes "offset=") m.offset in
     let l = spell_unless (m.align == a) (codes "align=") m.align in
     well_formed_both (spell_target m.target) (o ++ l) (target_well_formed m.target p.0)
     (well_formed_both o l
     (unless_well_formed (m.offset == 0) (codes "offset=") m.offset
-    (λ e. (offset_chars m.offset (less_by m.offset (2 ^ 64) q.0))))
+    (λ e. (offset_chars m.offset (ltb-true m.offset (2 ^ 64) q.0))))
     (unless_well_formed (m.align == a) (codes "align=") m.align
     (λ e. (alignment_chars a m.align q.1 e))))
 
-pub access_well_formed : (a : ℕ) (m : MemArgTy) → printable_access a m ≡ true → WellFormed (spell_access a m)
-access_well_formed a m f = place_well_formed a m (and_parts (printable_place a m) (is_none m.ordering) f).0
+pub access_well_formed : (a : ℕ) (m : MemArgTy) → printable_access a m ≡ true
+    → WellFormed (spell_access a m)
+access_well_formed a m f =
+    place_well_formed a m (and_parts (printable_place a m) (is_none m.ordering) f).0
 
 -- ---- what a text spells can be written
 
@@ -368,10 +373,13 @@ module _ {A : Type 0} (g : Production A) (spell : A → List Tok) (printable : A
       both_here ordering g v.0 v.1 (spell_ordering v.0) (spell v.1) r
       (ordering_here v.0 (spell v.1 ++ r)) s
 
-  pub ordered_well_formed : (v : Ordering × A) → WellFormed (spell v.1) → WellFormed (spell_ordered spell v)
-  ordered_well_formed v n = well_formed_both (spell_ordering v.0) (spell v.1) (ordering_well_formed v.0) n
+  pub ordered_well_formed : (v : Ordering × A) → WellFormed (spell v.1)
+      → WellFormed (spell_ordered spell v)
+  ordered_well_formed v n =
+      well_formed_both (spell_ordering v.0) (spell v.1) (ordering_well_formed v.0) n
 
-  pub ordered_only : OnlyPrintable g printable → OnlyPrintable (ordered g) (printable_ordered printable)
+  pub ordered_only : OnlyPrintable g printable
+      → OnlyPrintable (ordered g) (printable_ordered printable)
   ordered_only m = only_seq (only_any ordering) m
 
 -- ---- atomic accesses
@@ -402,7 +410,8 @@ ordering_part None r e = fence_here None r e
 ordering_part (Some x) r e = fence_here (Some (ordering_in x)) r e
 
 -- in front of what begins neither an index nor an ordering nor one of its words
-pub atomic_here : (a : ℕ) (rmw : Bool) (m : MemArgTy) (r : List Tok) → printable_atomic a rmw m ≡ true
+pub atomic_here : (a : ℕ) (rmw : Bool) (m : MemArgTy) (r : List Tok)
+    → printable_atomic a rmw m ≡ true
     → EndsAccess r → begins_index r ≡ false → begins_ordering r ≡ false
     → (atomic_mem_arg a rmw).spells m (spell_atomic a m) r
 unfolding atomic_mem_arg
@@ -431,7 +440,8 @@ pub atomic_well_formed : (a : ℕ) (rmw : Bool) (m : MemArgTy) → printable_ato
     → WellFormed (spell_atomic a m)
 atomic_well_formed a rmw m f =
     let p = and_parts (printable_place a m) (printable_ordering rmw m.ordering) f in
-    well_formed_both (spell_access a m) (spell_option (λ x. spell_ordering (ordering_in x)) m.ordering)
+    well_formed_both (spell_access a m)
+    (spell_option (λ x. spell_ordering (ordering_in x)) m.ordering)
     (place_well_formed a m p.0)
     (well_formed_option (λ x. spell_ordering (ordering_in x)) (λ x. true) m.ordering
     (λ x h. (ordering_well_formed (ordering_in x))) (always m.ordering))
@@ -449,7 +459,8 @@ printable_with a rmw v h =
     let q = and_parts (printable_place a v.0) (is_none v.0.ordering) p.0 in
     rw (q.0) (printable_kind_of rmw v.1)
 
-pub atomic_only : (a : ℕ) (rmw : Bool) → OnlyPrintable (atomic_mem_arg a rmw) (printable_atomic a rmw)
+pub atomic_only : (a : ℕ) (rmw : Bool)
+    → OnlyPrintable (atomic_mem_arg a rmw) (printable_atomic a rmw)
 unfolding atomic_mem_arg
 atomic_only a rmw =
     only_made (λ _. true) (with_ordering rmw) (printable_atomic a rmw)
@@ -469,7 +480,7 @@ lane_given _ n a e = absurd cc
 
 lane_number : (n : ℕ) → is_unsigned 8 n ≡ true → lane_in (Integer (decimal n)) ≡ Some n
 lane_number n h =
-    let lt : n < 2 ^ 8 = less_by n (2 ^ 8) h in
+    let lt : n < 2 ^ 8 = ltb-true n (2 ^ 8) h in
     let d = decimal_is_IsNumeral n (omega arith) in
     let x = decimal n in
     let k : is_none (sign_of x) ≡ true = ap is_none (no_sign x d.0.1).0 in
@@ -553,7 +564,7 @@ lane_by false b c a t n k lane r d z y f g h i e o =
     (lane_here (lane_of lane) i r)
 lane_by true true true a (memory (number zero)) n k lane r d z y f g h i e o =
     subst (λ (v : LaneAccessTy). (lane_access a).spells v (spell_number lane) r)
-    (rw (equal_by n 0 z, equal_by k a y) refl) (alone a lane r o (lane_here (lane_of lane) i r))
+    (rw (eqb-true n 0 z, eqb-true k a y) refl) (alone a lane r o (lane_here (lane_of lane) i r))
 lane_by true b c a (memory (number (suc m))) n k lane r d z y f g h i e o = absurd cc
 lane_by true b c a (memory (name x)) n k lane r d z y f g h i e o = absurd cc
 lane_by true b c a (array j) n k lane r d z y f g h i e o = absurd cc
@@ -568,7 +579,8 @@ lane_access_here a l r f e o =
     let m = l.memarg in
     let p = and_parts (printable_access a m) (printable_lane l.lane) f in
     let q = and_parts (printable_place a m) (is_none m.ordering) p.0 in
-    let u = and_parts (printable_target m.target) (is_u64 m.offset && printable_alignment a m.align) q.0 in
+    let u =
+    and_parts (printable_target m.target) (is_u64 m.offset && printable_alignment a m.align) q.0 in
     let w = and_parts (is_u64 m.offset) (printable_alignment a m.align) u.1 in
     subst (λ (x : MemArgTy). (lane_access a).spells (access_of (x, l.lane))
     (spell_lane_access a l) r) (none_ordered m q.1)
@@ -579,7 +591,8 @@ pub lane_access_well_formed : (a : ℕ) (l : LaneAccessTy) → printable_lane_ac
     → WellFormed (spell_lane_access a l)
 lane_access_well_formed a l f =
     let p = and_parts (printable_access a l.memarg) (printable_lane l.lane) f in
-    well_formed_both (spell_access a l.memarg) (spell_lane l.lane) (access_well_formed a l.memarg p.0)
+    well_formed_both (spell_access a l.memarg) (spell_lane l.lane)
+    (access_well_formed a l.memarg p.0)
     (lane_well_formed l.lane p.1)
 
 alone_printable : (a : ℕ) (l : LaneArg) → printable_lane l ≡ true

@@ -44,23 +44,29 @@ use Rattle.wat_print.specs.WellFormed.{WellFormed, is_name}
 use Rattle.wat_print.specs.Parts.{grouped, spell_option, if_some, each}
 use Rattle.wat_print.specs.Reference.{spell_ref, printable_ref, spell_val, printable_val}
 use Rattle.wat_print.specs.Use.{or_empty, spell_use, printable_unnamed_use}
-use Rattle.wat_print.specs.Laws.Label.{label_here, label_well_formed, label_only, id_here, id_well_formed}
-use Rattle.wat_print.specs.Laws.Label.{id_only}
+use Rattle.wat_print.specs.Laws.Label.{label_here, label_well_formed, label_only, id_here}
+use Rattle.wat_print.specs.Laws.Label.{id_well_formed, id_only}
 use Rattle.wat_tokens.specs.Index.{identifier}
-use Rattle.wat_print.specs.Laws.Only.{OnlyPrintable, only_any, only_where, only_opt, only_many, only_seq}
-use Rattle.wat_print.specs.Laws.Only.{only_made, only_weaker, only_after, only_group, only_paren}
+use Rattle.wat_print.specs.Laws.Only.{OnlyPrintable, only_any, only_where, only_opt, only_many}
+use Rattle.wat_print.specs.Laws.Only.{only_seq, only_made, only_weaker, only_after, only_group}
+use Rattle.wat_print.specs.Laws.Only.{only_paren}
 use Rattle.wat_print.specs.Laws.Parts.{Spells, paren_here, word_here, group_here, many_here}
-use Rattle.wat_print.specs.Laws.Parts.{well_formed_both, well_formed_one, well_formed_word, well_formed_group, well_formed_paren}
-use Rattle.wat_print.specs.Laws.Parts.{well_formed_each, well_formed_option, each_all}
-use Rattle.wat_print.specs.Laws.Reference.{index_here, index_well_formed, index_only, ref_here, ref_well_formed}
-use Rattle.wat_print.specs.Laws.Reference.{ref_only, val_here, val_well_formed, val_only, val_more}
-use Rattle.wat_print.specs.Laws.Use.{EndsUse, unnamed_use_here, unnamed_use_well_formed, unnamed_use_only}
+use Rattle.wat_print.specs.Laws.Parts.{well_formed_both, well_formed_one, well_formed_word}
+use Rattle.wat_print.specs.Laws.Parts.{well_formed_group, well_formed_paren, well_formed_each}
+use Rattle.wat_print.specs.Laws.Parts.{well_formed_option, each_all}
+use Rattle.wat_print.specs.Laws.Reference.{index_here, index_well_formed, index_only, ref_here}
+use Rattle.wat_print.specs.Laws.Reference.{ref_well_formed, ref_only, val_here, val_well_formed}
+use Rattle.wat_print.specs.Laws.Reference.{val_only, val_more}
+use Rattle.wat_print.specs.Laws.Use.{EndsUse, unnamed_use_here, unnamed_use_well_formed}
+use Rattle.wat_print.specs.Laws.Use.{unnamed_use_only}
 use Rattle.wat_print_instr.specs.Control.{spell_block, printable_block, spell_call, printable_call}
-use Rattle.wat_print_instr.specs.Control.{spell_result, spell_select, printable_select, spell_branch}
-use Rattle.wat_print_instr.specs.Control.{printable_branch, spell_catch_kind, printable_catch_kind, spell_catch}
-use Rattle.wat_print_instr.specs.Control.{printable_catch, spell_try, printable_try, spell_handler, printable_handler}
-use Rattle.wat_print_instr.specs.Control.{spell_resume_table, printable_resume_table, spell_resume}
-use Rattle.wat_print_instr.specs.Control.{printable_resume, spell_throw, printable_throw}
+use Rattle.wat_print_instr.specs.Control.{spell_result, spell_select, printable_select}
+use Rattle.wat_print_instr.specs.Control.{spell_branch, printable_branch, spell_catch_kind}
+use Rattle.wat_print_instr.specs.Control.{printable_catch_kind, spell_catch, printable_catch}
+use Rattle.wat_print_instr.specs.Control.{spell_try, printable_try, spell_handler}
+use Rattle.wat_print_instr.specs.Control.{printable_handler, spell_resume_table}
+use Rattle.wat_print_instr.specs.Control.{printable_resume_table, spell_resume, printable_resume}
+use Rattle.wat_print_instr.specs.Control.{spell_throw, printable_throw}
 use Rattle.wat_print_instr.specs.Places.{spell_index_or_0}
 use Rattle.wat_print_instr.specs.Laws.Places.{both_here, index_or_0_well_formed}
 
@@ -140,7 +146,8 @@ abbrev pub EndsCall : List Tok → Type 0
 EndsCall r = EndsUse r × (begins_index r ≡ false)
 
 call_by : (o : Option Idx) (c : List Tok) (u : UseTy FuncTy) (r : List Tok)
-    → opt_spells begins_index index o c (spell_use u ++ r) → printable_unnamed_use u ≡ true → EndsUse r
+    → opt_spells begins_index index o c (spell_use u ++ r) → printable_unnamed_use u ≡ true
+    → EndsUse r
     → call_indirect.spells (call_of (or_zero o) u) (c ++ spell_use u) r
 unfolding call_indirect
 call_by o c u r s f e = (
@@ -176,10 +183,12 @@ call_here c r f e =
 pub call_well_formed : (c : CallTy) → printable_call c ≡ true → WellFormed (spell_call c)
 call_well_formed c f =
     let a = and_parts (printable_index c.table) (printable_unnamed_use c.ty) f in
-    well_formed_both (spell_index_or_0 c.table) (spell_use c.ty) (index_or_0_well_formed c.table a.0)
+    well_formed_both (spell_index_or_0 c.table) (spell_use c.ty)
+    (index_or_0_well_formed c.table a.0)
     (unnamed_use_well_formed c.ty a.1)
 
-zero_printable : (o : Option Idx) → if_some printable_index o ≡ true → printable_index (or_zero o) ≡ true
+zero_printable : (o : Option Idx) → if_some printable_index o ≡ true
+    → printable_index (or_zero o) ≡ true
 zero_printable (Some i) h = h
 zero_printable None h = refl
 
@@ -207,7 +216,8 @@ result_here ts f r =
     (many_here more val_type spell_val printable_val val_here (λ t x o. (val_more t x)) ts
     (RParen ∷ r) f refl)
 
-one_group : (ts : List ValTy) (r : List Tok) → each printable_val ts ≡ true → result_follows r ≡ false
+one_group : (ts : List ValTy) (r : List Tok) → each printable_val ts ≡ true
+    → result_follows r ≡ false
     → many_spells result_follows result_group (ts ∷ []) (spell_result ts) r
 one_group ts r f e =
     (spell_result ts, [], sym (append-nil (spell_result ts)), refl, result_here ts f r, (refl, e))
@@ -224,7 +234,8 @@ result_well_formed ts f =
     well_formed_group (codes "result") (flat_map spell_val ts) refl
     (well_formed_each spell_val printable_val val_well_formed ts f)
 
-pub select_well_formed : (o : Option (List ValTy)) → printable_select o ≡ true → WellFormed (spell_select o)
+pub select_well_formed : (o : Option (List ValTy)) → printable_select o ≡ true
+    → WellFormed (spell_select o)
 select_well_formed o f = well_formed_option spell_result (each printable_val) o result_well_formed f
 
 result_only : OnlyPrintable result_group (each printable_val)
@@ -244,7 +255,8 @@ select_only =
 pub branch_here : (b : BranchTy) → printable_branch b ≡ true → Spells cast_branch b (spell_branch b)
 unfolding cast_branch
 branch_here b f r =
-    let a = and_parts (printable_index b.label) (printable_ref b.from_type && printable_ref b.to_type) f in
+    let a =
+    and_parts (printable_index b.label) (printable_ref b.from_type && printable_ref b.to_type) f in
     let c = and_parts (printable_ref b.from_type) (printable_ref b.to_type) a.1 in
     let s = spell_ref b.from_type in
     let t = spell_ref b.to_type in (
@@ -259,11 +271,13 @@ branch_here b f r =
 
 pub branch_well_formed : (b : BranchTy) → printable_branch b ≡ true → WellFormed (spell_branch b)
 branch_well_formed b f =
-    let a = and_parts (printable_index b.label) (printable_ref b.from_type && printable_ref b.to_type) f in
+    let a =
+    and_parts (printable_index b.label) (printable_ref b.from_type && printable_ref b.to_type) f in
     let c = and_parts (printable_ref b.from_type) (printable_ref b.to_type) a.1 in
     well_formed_both (spell_index b.label) (spell_ref b.from_type ++ spell_ref b.to_type)
     (index_well_formed b.label a.0)
-    (well_formed_both (spell_ref b.from_type) (spell_ref b.to_type) (ref_well_formed b.from_type c.0)
+    (well_formed_both (spell_ref b.from_type) (spell_ref b.to_type)
+    (ref_well_formed b.from_type c.0)
     (ref_well_formed b.to_type c.1))
 
 pub branch_only : OnlyPrintable cast_branch printable_branch
@@ -321,7 +335,8 @@ unfolding catch_clause
 catch_here c f r =
     let a = and_parts (printable_catch_kind c.kind) (printable_index c.label) f in
     let k = spell_catch_kind c.kind in
-    paren_here (made (λ v. catch_of v.0 v.1) (seq catch_kind index)) c (k ++ spell_index c.label) r (
+    paren_here (made (λ v. catch_of v.0 v.1) (seq catch_kind index)) c
+    (k ++ spell_index c.label) r (
       (c.kind, c.label),
       both_here catch_kind index c.kind c.label k (spell_index c.label) (RParen ∷ r)
           (kind_here c.kind a.0 (spell_index c.label ++ RParen ∷ r))
@@ -330,9 +345,12 @@ catch_here c f r =
       refl,
     )
 
-kind_well_formed : (k : CatchKind Idx) → printable_catch_kind k ≡ true → WellFormed (spell_catch_kind k)
-kind_well_formed (Catch i) f = well_formed_word (codes "catch") (spell_index i) refl (index_well_formed i f)
-kind_well_formed (CatchRef i) f = well_formed_word (codes "catch_ref") (spell_index i) refl (index_well_formed i f)
+kind_well_formed : (k : CatchKind Idx) → printable_catch_kind k ≡ true
+    → WellFormed (spell_catch_kind k)
+kind_well_formed (Catch i) f =
+    well_formed_word (codes "catch") (spell_index i) refl (index_well_formed i f)
+kind_well_formed (CatchRef i) f =
+    well_formed_word (codes "catch_ref") (spell_index i) refl (index_well_formed i f)
 kind_well_formed CatchAll f = well_formed_one (Keyword (codes "catch_all")) refl
 kind_well_formed CatchAllRef f = well_formed_one (Keyword (codes "catch_all_ref")) refl
 
@@ -349,9 +367,11 @@ kind_only =
     only_where (begins_word (codes "catch"))
     (only_made (λ _. true) Catch printable_catch_kind (only_after (codes "catch") index_only))
     (only_where (begins_word (codes "catch_ref"))
-    (only_made (λ _. true) CatchRef printable_catch_kind (only_after (codes "catch_ref") index_only))
+    (only_made (λ _. true) CatchRef printable_catch_kind
+    (only_after (codes "catch_ref") index_only))
     (only_where (begins_word (codes "catch_all"))
-    (only_made (λ _. true) (λ _. CatchAll) printable_catch_kind (only_any (word (codes "catch_all"))))
+    (only_made (λ _. true) (λ _. CatchAll) printable_catch_kind
+    (only_any (word (codes "catch_all"))))
     (only_made (λ _. true) (λ _. CatchAllRef) printable_catch_kind
     (only_any (word (codes "catch_all_ref"))))))
 
@@ -359,7 +379,8 @@ pub catch_only : OnlyPrintable catch_clause printable_catch
 unfolding catch_clause
 catch_only =
     only_paren (only_made (λ _. true) (λ v. catch_of v.0 v.1) printable_catch
-    (only_weaker (λ v. printable_catch (catch_of v.0 v.1)) (λ v h. h) (only_seq kind_only index_only)))
+    (only_weaker (λ v. printable_catch (catch_of v.0 v.1)) (λ v h. h)
+    (only_seq kind_only index_only)))
 
 kind_begins : (k : CatchKind Idx) (l : Idx) (x : List Tok)
     → begins_catch (spell_catch (catch_of k l) ++ x) ≡ true
@@ -402,7 +423,8 @@ try_here t r f e k =
 pub try_well_formed : (t : TryTy) → printable_try t ≡ true → WellFormed (spell_try t)
 try_well_formed t f =
     let a = and_parts (printable_block t.block) (each printable_catch t.catches) f in
-    well_formed_both (spell_block t.block) (flat_map spell_catch t.catches) (block_well_formed t.block a.0)
+    well_formed_both (spell_block t.block) (flat_map spell_catch t.catches)
+    (block_well_formed t.block a.0)
     (well_formed_each spell_catch printable_catch catch_well_formed t.catches a.1)
 
 pub try_only : OnlyPrintable try_table printable_try
@@ -448,7 +470,8 @@ pub handler_well_formed : (h : HandleTy) → printable_handler h ≡ true → We
 handler_well_formed (on_label t l) f =
     let a = and_parts (printable_index t) (printable_index l) f in
     well_formed_group (codes "on") (spell_index t ++ spell_index l) refl
-    (well_formed_both (spell_index t) (spell_index l) (index_well_formed t a.0) (index_well_formed l a.1))
+    (well_formed_both (spell_index t) (spell_index l) (index_well_formed t a.0)
+    (index_well_formed l a.1))
 handler_well_formed (on_switch t) f =
     well_formed_group (codes "on") (spell_index t ++ Keyword (codes "switch") ∷ []) refl
     (well_formed_both (spell_index t) (Keyword (codes "switch") ∷ []) (index_well_formed t f)
@@ -461,7 +484,8 @@ aim_only =
     (only_made (λ _. true) (λ _. None) (if_some printable_index) (only_any (word (codes "switch"))))
     (only_made (λ _. true) Some (if_some printable_index) index_only)
 
-handler_printable : (t : Idx) (o : Option Idx) → printable_index t && if_some printable_index o ≡ true
+handler_printable : (t : Idx) (o : Option Idx)
+    → printable_index t && if_some printable_index o ≡ true
     → printable_handler (handler_to t o) ≡ true
 handler_printable t (Some l) h = h
 handler_printable t None h = (and_parts (printable_index t) true h).0
@@ -470,7 +494,8 @@ pub handler_only : OnlyPrintable handler printable_handler
 unfolding handler
 handler_only =
     only_group (codes "on") (only_made (λ _. true) (λ v. handler_to v.0 v.1) printable_handler
-    (only_weaker (λ v. printable_handler (handler_to v.0 v.1)) (λ v h. (handler_printable v.0 v.1 h))
+    (only_weaker (λ v. printable_handler (handler_to v.0 v.1))
+    (λ v h. (handler_printable v.0 v.1 h))
     (only_seq index_only aim_only)))
 
 handler_begins : (h : HandleTy) (x : List Tok) → begins_handler (spell_handler h ++ x) ≡ true
@@ -487,7 +512,8 @@ resume_table_here hs r f e =
 
 pub resume_table_well_formed : (hs : List HandleTy) → printable_resume_table hs ≡ true
     → WellFormed (spell_resume_table hs)
-resume_table_well_formed hs f = well_formed_each spell_handler printable_handler handler_well_formed hs f
+resume_table_well_formed hs f =
+    well_formed_each spell_handler printable_handler handler_well_formed hs f
 
 pub resume_table_only : OnlyPrintable resume_table printable_resume_table
 unfolding resume_table

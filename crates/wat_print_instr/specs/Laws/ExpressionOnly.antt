@@ -1,9 +1,8 @@
 -- Laws: each expression that tokens of a text spell can be written.
-use Rattle.std.specs.Prelude.{◌≡◌, ℕ, suc, ◌+◌, ◌<◌, ◌≤◌, Bool, true, false, ◌==◌}
-use Rattle.std.specs.Prelude.{List, [], ◌∷◌, ◌++◌, map, length, Option, Some, None, codes}
-use Rattle.std.specs.Prelude.{option_map}
+use Rattle.std.specs.Prelude.{◌≡◌, ℕ, suc, ◌+◌, ◌<◌, ◌≤◌, Bool, true, false, ◌==◌, List, [], ◌∷◌}
+use Rattle.std.specs.Prelude.{◌++◌, map, length, Option, Some, None, codes, option_map}
 use Rattle.std.proofs.Common.{refl, ap, subst, sym, ◌∙◌, append_assoc, append-nil, arith}
-use Rattle.std.proofs.lemmas.Bool.{and_parts, cond_both, or_right, or_left}
+use Rattle.std.proofs.lemmas.Bool.{cond_both, or_right, or_left, eqb-true, lt-ltb}
 use Rattle.std.proofs.lemmas.List.{append_cancel_right, map-append, length-append, length-map}
 use Rattle.wat_lexer.specs.Token.{Tok, LParen, RParen, String}
 use Rattle.wat_instr.specs.Instruction.{Instr, instruction, is_if, is_br_if, else_instr, end_instr}
@@ -18,12 +17,12 @@ use Rattle.wat_print.specs.WellFormed.{is_given}
 use Rattle.wat_print.specs.Parts.{each}
 use Rattle.wat_print.specs.Laws.Only.{OnlyPrintable}
 use Rattle.wat_print.specs.Laws.Parts.{each_both}
-use Rattle.wat_print_instr.specs.ExpressionForm.{HintedInstr, step_of, printable_step}
-use Rattle.wat_print_instr.specs.ExpressionForm.{steps_from}
+use Rattle.wat_print_instr.specs.ExpressionForm.{HintedInstr, step_of, printable_step, steps_from}
 use Rattle.wat_print_instr.specs.ExpressionForm.{printable_expression}
 use Rattle.wat_print_instr.specs.InstructionForm.{passes, printable_instruction}
 use Rattle.wat_print_instr.specs.Laws.Instruction.{instruction_only}
-use Rattle.wat_print_instr.specs.Laws.Numbers.{same_number, less_tested, equal_by}
+use Rattle.wat_print_instr.specs.Laws.Numbers.{same_number}
+use Rattle.wat_print_instr.specs.Laws.Places.{each_front}
 
 -- ---- tokens that a text can give, up to a rest
 
@@ -33,21 +32,13 @@ GivenTo ts r = (c : List Tok) × (ts ≡ c ++ r) × (each is_given c ≡ true)
 abbrev FrontOf : List Tok → List Tok → Type 0
 FrontOf ts r = (c : List Tok) × (ts ≡ c ++ r)
 
-given_both : (d e : List Tok) → each is_given (d ++ e) ≡ true
-    → (each is_given d ≡ true) × (each is_given e ≡ true)
-given_both [] e a = (refl, a)
-given_both (t ∷ d) e a =
-    let p = and_parts (is_given t) (each is_given (d ++ e)) a in
-    let q = given_both d e p.1 in
-    (rw (p.0) (q.0), q.1)
-
 given_split : (ts r x y : List Tok) → GivenTo ts r → ts ≡ x ++ y → FrontOf y r
     → (each is_given x ≡ true) × GivenTo y r
 given_split ts r x y g e f =
     let whole : g.0 ++ r ≡ (x ++ f.0) ++ r =
     sym g.1 ∙ e ∙ ap (λ (l : List Tok). x ++ l) f.1 ∙ sym (append_assoc x f.0 r) in
     let same : g.0 ≡ x ++ f.0 = append_cancel_right g.0 (x ++ f.0) r whole in
-    let p = given_both x f.0 (subst (λ (l : List Tok). each is_given l ≡ true) same g.2) in
+    let p = each_front is_given x f.0 (subst (λ (l : List Tok). each is_given l ≡ true) same g.2) in
     (p.0, (f.0, f.1, p.1))
 
 -- what is inside, up to the tokens k and a rest
@@ -55,7 +46,7 @@ given_inside : (b k d r : List Tok) → GivenTo b r → FrontOf b (k ++ d) → F
     → GivenTo b (k ++ d) × GivenTo d r
 given_inside b k d r g f h =
     let p = given_split b r (f.0 ++ k) d g (f.1 ∙ sym (append_assoc f.0 k d)) h in
-    let q = given_both f.0 k p.0 in
+    let q = each_front is_given f.0 k p.0 in
     ((f.0, f.1, q.0), p.1)
 
 front_through : (b k d r : List Tok) → FrontOf b (k ++ d) → FrontOf d r → FrontOf b r
@@ -150,7 +141,7 @@ HintAt None i = Unit {0}
 
 one_fits : (p : Option ℕ) (i : Instr) → printable_instruction i ≡ true → HintAt p i
     → printable_step (step_of p i) ≡ true
-one_fits (Some v) i f h = rw (h.1, less_tested v 2 h.0, f) refl
+one_fits (Some v) i f h = rw (h.1, lt-ltb v 2 h.0, f) refl
 one_fits None i f h = f
 
 own_fits : (i : Instr) (c m : List Tok) → each is_given c ≡ true → instruction.spells i c m
@@ -208,11 +199,13 @@ end_fits = refl
 else_fits : printable_step (step_of None else_instr) ≡ true
 else_fits = refl
 
-all_printable : (xs ys : List HintedInstr) → each printable_step xs ≡ true → each printable_step ys ≡ true
+all_printable : (xs ys : List HintedInstr) → each printable_step xs ≡ true
+    → each printable_step ys ≡ true
     → each printable_step (xs ++ ys) ≡ true
 all_printable xs ys f g = each_both printable_step xs ys f g
 
-and_printable : (x : HintedInstr) (xs : List HintedInstr) → printable_step x ≡ true → each printable_step xs ≡ true
+and_printable : (x : HintedInstr) (xs : List HintedInstr) → printable_step x ≡ true
+    → each printable_step xs ≡ true
     → each printable_step (x ∷ xs) ≡ true
 and_printable x xs f g = rw (f, g) refl
 
@@ -236,7 +229,8 @@ marked_printable p (Folded i ys xs) ts r (a, b, d, e, s, k, ly, lx) g h =
     let o = opened_fits i ts a b r g e k (front_through b (RParen ∷ []) d r fy fx) in
     let n = given_inside b (RParen ∷ []) d r o.1 fy fx in
     all_printable (marked None ys ++ step_of p i ∷ []) (marked None xs)
-    (all_printable (marked None ys) (step_of p i ∷ []) (marked_printable None ys b (RParen ∷ d) ly n.0 tt)
+    (all_printable (marked None ys) (step_of p i ∷ [])
+    (marked_printable None ys b (RParen ∷ d) ly n.0 tt)
     (and_printable (step_of p i) [] (one_fits p i o.0 (before_folded p i ys xs h)) refl))
     (marked_printable None xs d r lx n.1 tt)
 marked_printable p (Block i ys xs) ts r (a, b, d, e, s, k, ly, lx) g h =
@@ -247,7 +241,8 @@ marked_printable p (Block i ys xs) ts r (a, b, d, e, s, k, ly, lx) g h =
     all_printable (step_of p i ∷ (marked None ys ++ group_end)) (marked None xs)
     (and_printable (step_of p i) (marked None ys ++ group_end)
     (one_fits p i o.0 (before_block p i ys xs h))
-    (all_printable (marked None ys) group_end (marked_printable None ys b (RParen ∷ d) ly n.0 tt) refl))
+    (all_printable (marked None ys) group_end
+    (marked_printable None ys b (RParen ∷ d) ly n.0 tt) refl))
     (marked_printable None xs d r lx n.1 tt)
 marked_printable p (IfThen i ops th xs) ts r (a, b, d, e, q, s, k, u, lo, lt, lx) g h =
     let j = LParen ∷ keyword (codes "then") ∷ [] in
@@ -261,10 +256,12 @@ marked_printable p (IfThen i ops th xs) ts r (a, b, d, e, q, s, k, u, lo, lt, lx
     let w = given_inside d m e r n.1 ft fx in
     let c = marked None th ++ group_end in
     all_printable (marked None ops ++ (step_of p i ∷ c)) (marked None xs)
-    (all_printable (marked None ops) (step_of p i ∷ c) (marked_printable None ops b (j ++ d) lo n.0 tt)
+    (all_printable (marked None ops) (step_of p i ∷ c)
+    (marked_printable None ops b (j ++ d) lo n.0 tt)
     (and_printable (step_of p i) c
     (one_fits p i o.0 (before_if p i (value_before p (IfThen i ops th xs) h) (is_branch_if i s)))
-    (all_printable (marked None th) group_end (marked_printable None th d (m ++ e) lt w.0 tt) refl)))
+    (all_printable (marked None th) group_end
+    (marked_printable None th d (m ++ e) lt w.0 tt) refl)))
     (marked_printable None xs e r lx w.1 tt)
 marked_printable p (IfElse i ops th el xs) ts r (a, b, d, e, f, q, s, k, u, lo, lt, le, lx) g h =
     let j = LParen ∷ keyword (codes "then") ∷ [] in
@@ -283,14 +280,16 @@ marked_printable p (IfElse i ops th el xs) ts r (a, b, d, e, f, q, s, k, u, lo, 
     let c = marked None el ++ group_end in
     let t = marked None th ++ (step_of None else_instr ∷ c) in
     all_printable (marked None ops ++ (step_of p i ∷ t)) (marked None xs)
-    (all_printable (marked None ops) (step_of p i ∷ t) (marked_printable None ops b (j ++ d) lo n.0 tt)
+    (all_printable (marked None ops) (step_of p i ∷ t)
+    (marked_printable None ops b (j ++ d) lo n.0 tt)
     (and_printable (step_of p i) t
     (one_fits p i o.0
     (before_if p i (value_before p (IfElse i ops th el xs) h) (is_branch_if i s)))
     (all_printable (marked None th) (step_of None else_instr ∷ c)
     (marked_printable None th d (y ++ e) lt w.0 tt)
     (and_printable (step_of None else_instr) c refl
-    (all_printable (marked None el) group_end (marked_printable None el e (m ++ f) le z.0 tt) refl)))))
+    (all_printable (marked None el) group_end
+    (marked_printable None el e (m ++ f) le z.0 tt) refl)))))
     (marked_printable None xs f r lx z.1 tt)
 marked_printable p (Hinted v xs) ts r (d, e, lt, k, l) g h =
     let c = LParen ∷ hint_name ∷ String (v ∷ []) ∷ RParen ∷ [] in
@@ -430,7 +429,7 @@ low_hints b [] = tt
 low_hints b (x ∷ xs) = low_mark b x.hint (hints_from (b + 1) xs) (low_hints (b + 1) xs)
 
 not_here : (b n : ℕ) → b + 1 ≤ n → (n == b) ≡ true → ⊥
-not_here b n l e = omega (arith, equal_by n b e, l)
+not_here b n l e = omega (arith, eqb-true n b e, l)
 
 again_none : (b : ℕ) (i : Instr) (is : List Instr) (hs : List (ℕ × ℕ)) (xs : List HintedInstr)
     → steps_from (b + 1) is hs ≡ Some xs → LowAt (b + 1) hs

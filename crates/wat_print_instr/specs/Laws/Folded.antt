@@ -1,7 +1,6 @@
 -- Laws: folded instructions are read again, and each that tokens of a text spell can be written.
-use Rattle.std.specs.Prelude.{◌≡◌, ℕ, zero, suc, ◌<◌, Bool, true, false, not, ◌&&◌}
-use Rattle.std.specs.Prelude.{List, [], ◌∷◌, ◌++◌, length, Option, Some, None, codes}
-use Rattle.std.specs.Prelude.{option_map, is_some}
+use Rattle.std.specs.Prelude.{◌≡◌, ℕ, zero, suc, ◌<◌, Bool, true, false, not, ◌&&◌, List, [], ◌∷◌}
+use Rattle.std.specs.Prelude.{◌++◌, length, Option, Some, None, codes, option_map, is_some}
 use Rattle.std.specs.Str.{bytes_eq}
 use Rattle.std.proofs.Common.{refl, ap, subst, sym, ◌∙◌, append_assoc, append-nil, get_or, arith}
 use Rattle.std.proofs.lemmas.Bool.{and_parts, cond_both, not-true}
@@ -16,18 +15,19 @@ use Rattle.wat_mnemonics.specs.Table.{all_ops}
 use Rattle.wat_mnemonics.specs.declared.op.Op.{Op}
 use Rattle.wat_instr.specs.Instruction.{Instr}
 use Rattle.wat_expr.specs.Expression.{Expr}
-use Rattle.wat_expr.specs.Folded.{Groups, NoGroup, Group, groups, unfolded_groups}
-use Rattle.wat_expr.specs.Folded.{folded_spells}
+use Rattle.wat_expr.specs.Folded.{Groups, NoGroup, Group, groups, unfolded_groups, folded_spells}
 use Rattle.wat_expr.specs.FoldedProduction.{folded_instruction}
 use Rattle.wat_print.specs.WellFormed.{WellFormed, nothing}
 use Rattle.wat_print.specs.Parts.{each, spell_option}
 use Rattle.wat_print.specs.Laws.Parts.{well_formed_both, well_formed_paren, each_both}
 use Rattle.wat_print_instr.specs.FoldedForm.{takes_catches, is_catch, op_of, keeps_apart}
 use Rattle.wat_print_instr.specs.FoldedForm.{own_groups, first_apart, catch_first, groups_behind}
-use Rattle.wat_print_instr.specs.FoldedForm.{group_from, spell_groups, spell_folded, no_hints, printable_folded}
+use Rattle.wat_print_instr.specs.FoldedForm.{group_from, spell_groups, spell_folded, no_hints}
+use Rattle.wat_print_instr.specs.FoldedForm.{printable_folded}
 use Rattle.wat_print_instr.specs.InstructionForm.{spell_instruction, printable_instruction}
 use Rattle.wat_print_instr.specs.Laws.Expression.{EndsExpression, end_ends, word_unsought}
-use Rattle.wat_print_instr.specs.Laws.Instruction.{EndsOperand, instruction_here, instruction_well_formed}
+use Rattle.wat_print_instr.specs.Laws.Instruction.{EndsOperand, instruction_here}
+use Rattle.wat_print_instr.specs.Laws.Instruction.{instruction_well_formed}
 use Rattle.wat_print_instr.specs.Laws.Places.{each_front}
 
 -- ---- what a group begins with
@@ -117,19 +117,22 @@ group_text : (s g h t : List Tok)
 group_text s g h t = simp append_assoc
 
 -- that of the group's instruction, and those of the groups in it
-own_fits : (gs : Groups) (i : Instr) → each printable_instruction (unfolded_groups gs ++ i ∷ []) ≡ true
+own_fits : (gs : Groups) (i : Instr)
+    → each printable_instruction (unfolded_groups gs ++ i ∷ []) ≡ true
     → (each printable_instruction (unfolded_groups gs) ≡ true) × (printable_instruction i ≡ true)
 own_fits gs i f =
     let u = each_front printable_instruction (unfolded_groups gs) (i ∷ []) f in
     (u.0, (and_parts (printable_instruction i) true u.1).0)
 
-groups_listed : (gs : Groups) (r : List Tok) → each printable_instruction (unfolded_groups gs) ≡ true
+groups_listed : (gs : Groups) (r : List Tok)
+    → each printable_instruction (unfolded_groups gs) ≡ true
     → Readable gs → groups gs (spell_groups gs ++ RParen ∷ r) (RParen ∷ r)
 groups_listed NoGroup r f k = refl
 groups_listed (Group i gs hs) r f k =
     let d = spell_groups hs ++ RParen ∷ r in
     let b = spell_groups gs ++ RParen ∷ d in
-    let u = each_front printable_instruction (unfolded_groups gs ++ i ∷ []) (unfolded_groups hs) f in
+    let u =
+    each_front printable_instruction (unfolded_groups gs ++ i ∷ []) (unfolded_groups hs) f in
     let v = own_fits gs i u.0 in (
       spell_instruction i ++ b,
       b,
@@ -148,7 +151,8 @@ groups_well_formed : (gs : Groups) → each printable_instruction (unfolded_grou
     → WellFormed (spell_groups gs)
 groups_well_formed NoGroup f = nothing
 groups_well_formed (Group i gs hs) f =
-    let u = each_front printable_instruction (unfolded_groups gs ++ i ∷ []) (unfolded_groups hs) f in
+    let u =
+    each_front printable_instruction (unfolded_groups gs ++ i ∷ []) (unfolded_groups hs) f in
     let v = own_fits gs i u.0 in
     well_formed_both (in_parens (spell_instruction i ++ spell_groups gs)) (spell_groups hs)
     (well_formed_paren (spell_instruction i ++ spell_groups gs)
@@ -279,7 +283,8 @@ whole_spells e (Some (Group i gs NoGroup)) r w n f s k =
         groups_listed gs r v.0 w.2,
       ),
       ap (λ (l : List Instr). record { instrs = l; hints = e.hints }) (sym w.0)
-          ∙ ap (λ (l : List (ℕ × ℕ)). record { instrs = unfolded_groups gs ++ i ∷ []; hints = l }) n,
+          ∙ ap (λ (l : List (ℕ × ℕ)). record { instrs = unfolded_groups gs ++ i ∷ []; hints = l })
+          n,
     )
 whole_spells e (Some (Group i gs (Group j ks hs))) r w n f s k = absurd w
 
@@ -296,7 +301,8 @@ fits_of e f =
     (p.0, q.0, q.1)
 
 -- where no word that tells of a type is behind it
-pub folded_here : (e : Expr) (r : List Tok) → printable_folded e ≡ true → EndsExpression (RParen ∷ r)
+pub folded_here : (e : Expr) (r : List Tok) → printable_folded e ≡ true
+    → EndsExpression (RParen ∷ r)
     → folded_instruction.spells e (spell_folded e) r
 unfolding folded_instruction
 folded_here e r f k =
@@ -304,7 +310,8 @@ folded_here e r f k =
     whole_spells e (group_from [] e.instrs) r (from_whole [] e.instrs) (unhinted e.hints p.0) p.1
     p.2 k
 
-whole_well_formed : (is : List Instr) (o : Option Groups) → Whole is o → each printable_instruction is ≡ true
+whole_well_formed : (is : List Instr) (o : Option Groups) → Whole is o
+    → each printable_instruction is ≡ true
     → WellFormed (spell_option spell_groups o)
 whole_well_formed is None w f = nothing
 whole_well_formed is (Some NoGroup) w f = absurd w

@@ -44,7 +44,8 @@ given_group f y x g =
     let b = each_front is_given y (RParen ∷ x) a.1 in
     (a.0, b.0, b.1)
 
-groups_printable : (gs : Groups) (c r : List Tok) → groups gs (c ++ r) r → each is_given c ≡ true
+pub groups_printable : (gs : Groups) (c r : List Tok) → groups gs (c ++ r) r
+    → each is_given c ≡ true
     → each printable_instruction (unfolded_groups gs) ≡ true
 groups_printable NoGroup c r l g = refl
 groups_printable (Group i gs hs) c r (a, b, d, e, h, ly, lx) g =

@@ -1,9 +1,8 @@
 -- Laws: instructions are read again.
 use Rattle.std.specs.Prelude.{◌≡◌, ℕ, ℤ, suc, zero, ◌<◌, Bool, true, false, ◌&&◌, ◌==◌, List, []}
-use Rattle.std.specs.Prelude.{◌∷◌}
-use Rattle.std.specs.Prelude.{◌++◌, Option, Some, None, length}
+use Rattle.std.specs.Prelude.{◌∷◌, ◌++◌, Option, Some, None, length}
 use Rattle.std.proofs.Common.{refl, ap, subst, sym, ◌∙◌, get_or, arith}
-use Rattle.std.proofs.lemmas.Bool.{and_parts}
+use Rattle.std.proofs.lemmas.Bool.{and_parts, eqb-true}
 use Rattle.wat_lexer.specs.Token.{Tok, Keyword}
 use Rattle.wat_tokens.specs.Index.{Idx}
 use Rattle.wat_types.specs.Heap.{HeapTy}
@@ -49,20 +48,17 @@ use Rattle.wat_print.specs.WellFormed as well_formed
 use Rattle.wat_tokens.specs.Followed.{blank}
 use Rattle.wat_print_instr.specs.FoldedForm.{takes_catches}
 use Rattle.wat_print_instr.specs.InstructionForm.{found_nothing, found_block, found_label}
-use Rattle.wat_print_instr.specs.InstructionForm.{found_one_index}
-use Rattle.wat_print_instr.specs.InstructionForm.{found_two_indices, found_branches, found_call}
-use Rattle.wat_print_instr.specs.InstructionForm.{found_chosen}
+use Rattle.wat_print_instr.specs.InstructionForm.{found_one_index, found_two_indices}
+use Rattle.wat_print_instr.specs.InstructionForm.{found_branches, found_call, found_chosen}
 use Rattle.wat_print_instr.specs.InstructionForm.{found_access, found_ordered_index}
-use Rattle.wat_print_instr.specs.InstructionForm.{found_ordered_indices}
-use Rattle.wat_print_instr.specs.InstructionForm.{found_lane_access, found_lane, found_heap}
-use Rattle.wat_print_instr.specs.InstructionForm.{found_sized}
+use Rattle.wat_print_instr.specs.InstructionForm.{found_ordered_indices, found_lane_access}
+use Rattle.wat_print_instr.specs.InstructionForm.{found_lane, found_heap, found_sized}
 use Rattle.wat_print_instr.specs.InstructionForm.{found_reference, found_cast, found_integer}
-use Rattle.wat_print_instr.specs.InstructionForm.{found_float, found_fence}
-use Rattle.wat_print_instr.specs.InstructionForm.{found_vector, found_shuffled, found_caught}
-use Rattle.wat_print_instr.specs.InstructionForm.{found_resumed}
+use Rattle.wat_print_instr.specs.InstructionForm.{found_float, found_fence, found_vector}
+use Rattle.wat_print_instr.specs.InstructionForm.{found_shuffled, found_caught, found_resumed}
 use Rattle.wat_print_instr.specs.InstructionForm.{found_thrown, passes, OperandForm, form}
-use Rattle.wat_print_instr.specs.InstructionForm.{operand_form}
-use Rattle.wat_print_instr.specs.InstructionForm.{spell_instruction, printable_instruction}
+use Rattle.wat_print_instr.specs.InstructionForm.{operand_form, spell_instruction}
+use Rattle.wat_print_instr.specs.InstructionForm.{printable_instruction}
 use Rattle.wat_print_instr.specs.Printings.{i32_printing, i64_printing, index_or_0_printing}
 use Rattle.wat_print_instr.specs.Printings.{pair_printing, init_printing, copy_printing}
 use Rattle.wat_print_instr.specs.Printings.{sized_printing, br_table_printing, access_printing}
@@ -72,7 +68,7 @@ use Rattle.wat_print_instr.specs.Printings.{shuffle_printing, block_printing, ca
 use Rattle.wat_print_instr.specs.Printings.{select_printing, branch_printing, try_printing}
 use Rattle.wat_print_instr.specs.Printings.{resume_printing, throw_printing, end_label_printing}
 use Rattle.wat_print_instr.specs.Printings.{fence_printing, number_printing, nothing_printing}
-use Rattle.wat_print_instr.specs.Laws.Numbers.{equal_by, same_number}
+use Rattle.wat_print_instr.specs.Laws.Numbers.{same_number}
 use Rattle.std.specs.Prelude.{codes}
 use Rattle.std.specs.Str.{bytes_eq}
 use Rattle.wat_lexer.specs.Token.{LParen, Annotation}
@@ -248,13 +244,16 @@ pub record Forms (h : Op) (g : Production Operand) (f : OperandForm) : Type 0 wh
 module _ {w : Op} {A : Type 0} {g : Production A} (make : A → Operand)
     (from : Operand → Option A) (back : (v : A) → from (make v) ≡ Some v)
     (made_of : (o : Operand) (v : A) → from o ≡ Some v → make v ≡ o) (p : Printing g)
-    (here : (v : A) (r : List Tok) → p.printable v ≡ true → EndsOperand w r → g.spells v (p.spell v) r)
+    (here : (v : A) (r : List Tok) → p.printable v ≡ true → EndsOperand w r
+    → g.spells v (p.spell v) r)
   where
-    well_formed_by : (o : Option A) → passes p.printable o ≡ true → WellFormed (spell_option p.spell o)
+    well_formed_by : (o : Option A) → passes p.printable o ≡ true
+        → WellFormed (spell_option p.spell o)
     well_formed_by (Some v) h = p.well_formed v h
     well_formed_by None h = absurd cc
 
-    spells_by : (o : Operand) (x : Option A) (r : List Tok) → from o ≡ x → passes p.printable x ≡ true
+    spells_by : (o : Operand) (x : Option A) (r : List Tok) → from o ≡ x
+        → passes p.printable x ≡ true
         → EndsOperand w r → (made make g).spells o (spell_option p.spell x) r
     spells_by o (Some v) r e h k = (v, here v r h k, refl, made_of o v e)
     spells_by o None r e h k = absurd cc
@@ -263,7 +262,8 @@ module _ {w : Op} {A : Type 0} {g : Production A} (make : A → Operand)
         → (made make g).spells o c r → passes p.printable (from o) ≡ true
     only_by o c r a s =
         subst (λ (u : Operand). passes p.printable (from u) ≡ true) s.3
-        (subst (λ (x : Option A). passes p.printable x ≡ true) (sym (back s.0)) (p.only s.0 c r a s.1))
+        (subst (λ (x : Option A). passes p.printable x ≡ true) (sym (back s.0))
+        (p.only s.0 c r a s.1))
 
     forms_made : Forms w (made make g) (form from p)
     forms_made = record {
@@ -286,11 +286,13 @@ nothing_spells _ r h k = absurd cc
 nothing_only : (o : Operand) (c r : List Tok) → each is_given c ≡ true
     → (blank nothing).spells o c r → passes nothing_printing.printable (found_nothing o) ≡ true
 nothing_only o c r a s =
-    subst (λ (u : Operand). passes nothing_printing.printable (found_nothing u) ≡ true) (sym s.1) refl
+    subst (λ (u : Operand). passes nothing_printing.printable (found_nothing u) ≡ true)
+    (sym s.1) refl
 
 -- an instruction without an operand
 forms_nothing : {h : Op} → Forms h (blank nothing) (form found_nothing nothing_printing)
-forms_nothing = record { well_formed = nothing_well_formed; spells = nothing_spells; only = nothing_only }
+forms_nothing =
+    record { well_formed = nothing_well_formed; spells = nothing_spells; only = nothing_only }
 
 operand_forms : (h : Op) → Forms h (operand h) (operand_form h)
 unfolding operand
@@ -504,7 +506,7 @@ of_row i f =
     let h = op_of_row i.row in
     let a = and_parts (op_row h == i.row) ((operand_form h).printable i.operand) f in
     ap (λ (n : ℕ). record { row = n; operand = i.operand })
-    (equal_by (op_row h) i.row a.0)
+    (eqb-true (op_row h) i.row a.0)
 
 -- in front of what doesn't take part in it
 pub instruction_here : (i : Instr) (r : List Tok) → printable_instruction i ≡ true
@@ -515,7 +517,8 @@ instruction_here i r f e =
     subst (λ (x : Instr). instruction.spells x (spell_instruction i) r) (of_row i f)
     (spells_of h i.operand r a.1 e)
 
-pub instruction_well_formed : (i : Instr) → printable_instruction i ≡ true → WellFormed (spell_instruction i)
+pub instruction_well_formed : (i : Instr) → printable_instruction i ≡ true
+    → WellFormed (spell_instruction i)
 instruction_well_formed i f =
     let h = op_of_row i.row in
     let a = and_parts (op_row h == i.row) ((operand_form h).printable i.operand) f in

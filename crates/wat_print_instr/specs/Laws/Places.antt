@@ -1,8 +1,7 @@
 -- Laws: indices, pairs of them, and tables of branches are read again.
 use Rattle.std.specs.Prelude.{◌≡◌, ℕ, zero, suc, Bool, true, false, ◌&&◌, List, [], ◌∷◌, ◌++◌}
 use Rattle.std.specs.Prelude.{flat_map, Option, Some, None, unwrap_or}
-use Rattle.std.proofs.Common.{refl, ap, subst, sym, ◌∙◌, append_assoc, append-nil, inl}
-use Rattle.std.proofs.Common.{inr, lit≤}
+use Rattle.std.proofs.Common.{refl, ap, subst, sym, ◌∙◌, append_assoc, append-nil, inl, inr, lit≤}
 use Rattle.std.proofs.lemmas.Bool.{and_parts, cond_both}
 use Rattle.std.proofs.lemmas.Grind.{flat_map-append}
 use Rattle.wat_lexer.specs.Token.{Tok}
@@ -20,9 +19,9 @@ use Rattle.wat_print.specs.Limits.{spell_number}
 use Rattle.wat_print.specs.WellFormed.{WellFormed, nothing, is_given}
 use Rattle.wat_print.specs.Parts.{each, if_some}
 use Rattle.wat_print.specs.Laws.Only.{OnlyPrintable, only_where, only_opt, only_seq, only_made}
-use Rattle.wat_print.specs.Laws.Only.{only_weaker}
-use Rattle.wat_print.specs.Laws.Only.{only_many}
-use Rattle.wat_print.specs.Laws.Parts.{Spells, many_here, well_formed_both, well_formed_each, each_both}
+use Rattle.wat_print.specs.Laws.Only.{only_weaker, only_many}
+use Rattle.wat_print.specs.Laws.Parts.{Spells, many_here, well_formed_both, well_formed_each}
+use Rattle.wat_print.specs.Laws.Parts.{each_both}
 use Rattle.wat_print.specs.Laws.Reference.{index_here, index_well_formed, index_only}
 use Rattle.wat_print_instr.specs.Numbers.{is_unsigned}
 use Rattle.wat_print_instr.specs.Places.{is_index_0, spell_index_or_0, spell_pair, printable_pair}
@@ -82,7 +81,8 @@ pair_here p f r =
 pub pair_well_formed : (p : Idx × Idx) → printable_pair p ≡ true → WellFormed (spell_pair p)
 pair_well_formed p f =
     let a = and_parts (printable_index p.0) (printable_index p.1) f in
-    well_formed_both (spell_index p.0) (spell_index p.1) (index_well_formed p.0 a.0) (index_well_formed p.1 a.1)
+    well_formed_both (spell_index p.0) (spell_index p.1) (index_well_formed p.0 a.0)
+    (index_well_formed p.1 a.1)
 
 pub pair_only : OnlyPrintable index_pair printable_pair
 unfolding index_pair
@@ -125,7 +125,8 @@ pub init_only : OnlyPrintable init printable_pair
 unfolding init
 init_only =
     only_where (second begins_index) pair_only
-    (only_made (λ _. true) into_0 printable_pair (only_weaker (λ i. printable_pair (into_0 i)) (λ i h. h)
+    (only_made (λ _. true) into_0 printable_pair
+    (only_weaker (λ i. printable_pair (into_0 i)) (λ i h. h)
     index_only))
 
 -- ---- a destination and a source
@@ -205,7 +206,8 @@ all_here i is r f e =
       flat_map spell_index is,
       refl,
       index_here i a.0 (flat_map spell_index is ++ r),
-      many_here begins_index index spell_index printable_index index_here (λ j x o. (index_begins j x)) is
+      many_here begins_index index spell_index printable_index index_here
+          (λ j x o. (index_begins j x)) is
           r
           a.1 e,
     )
@@ -237,11 +239,13 @@ br_table_here b r f e =
     subst (λ (c : List Tok). BrTableSpells b c r) (default_last b.labels b.default)
     (table_by b.labels b.default r (all_printable b f) e)
 
-pub br_table_well_formed : (b : BrTableTy) → printable_br_table b ≡ true → WellFormed (spell_br_table b)
+pub br_table_well_formed : (b : BrTableTy) → printable_br_table b ≡ true
+    → WellFormed (spell_br_table b)
 br_table_well_formed b f =
     let a = and_parts (each printable_index b.labels) (printable_index b.default) f in
     well_formed_both (flat_map spell_index b.labels) (spell_index b.default)
-    (well_formed_each spell_index printable_index index_well_formed b.labels a.0) (index_well_formed b.default a.1)
+    (well_formed_each spell_index printable_index index_well_formed b.labels a.0)
+    (index_well_formed b.default a.1)
 
 pub each_front : {A : Type 0} (test : A → Bool) (vs ws : List A) → each test (vs ++ ws) ≡ true
     → (each test vs ≡ true) × (each test ws ≡ true)

@@ -1,10 +1,9 @@
 -- Laws: constants of 128 bits, and lanes that are shuffled, are read again.
 use Rattle.std.specs.Prelude.{◌≡◌, ℕ, ℤ, ◌+◌, Bool, true, false, ◌&&◌, ◌==◌, List, [], ◌∷◌}
 use Rattle.std.specs.Prelude.{◌++◌, codes, flat_map, length, take, drop}
-use Rattle.std.proofs.Common.{refl, subst, sym, append-nil, inl, inr, lit≤}
-use Rattle.std.proofs.Common.{arith}
+use Rattle.std.proofs.Common.{refl, subst, sym, append-nil, inl, inr, lit≤, arith}
 use Rattle.std.specs.Str.{bytes_eq}
-use Rattle.std.proofs.lemmas.Bool.{and_parts}
+use Rattle.std.proofs.lemmas.Bool.{and_parts, eqb-true}
 use Rattle.std.proofs.lemmas.Grind.{flat_map-append}
 use Rattle.std.proofs.lemmas.List.{length-append, take-append-drop, length-take, length-drop}
 use Rattle.wat_lexer.specs.Token.{Tok, Keyword}
@@ -24,15 +23,16 @@ use Rattle.wat_print.specs.WellFormed.{WellFormed, is_keyword}
 use Rattle.wat_print.specs.Parts.{each}
 use Rattle.wat_print.specs.Laws.Only.{OnlyPrintable, only_any, only_where, only_seq, only_made}
 use Rattle.wat_print.specs.Laws.Only.{only_weaker}
-use Rattle.wat_print.specs.Laws.Parts.{Spells, word_here, well_formed_word, well_formed_each, each_both}
+use Rattle.wat_print.specs.Laws.Parts.{Spells, word_here, well_formed_word, well_formed_each}
+use Rattle.wat_print.specs.Laws.Parts.{each_both}
 use Rattle.wat_print_instr.specs.Numbers.{Halves, spell_signed, is_signed, is_unsigned}
 use Rattle.wat_print_instr.specs.Numbers.{printable_number_of}
-use Rattle.wat_print_instr.specs.Vectors.{spell_lanes, spell_vector, printable_vector, spell_shuffle}
-use Rattle.wat_print_instr.specs.Vectors.{printable_shuffle}
-use Rattle.wat_print_instr.specs.Laws.Numbers.{equal_by, same_number, halves_8, halves_16}
-use Rattle.wat_print_instr.specs.Laws.Numbers.{halves_32, halves_64, signed_here, signed_well_formed}
-use Rattle.wat_print_instr.specs.Laws.Numbers.{signed_only, unsigned_here, unsigned_well_formed}
-use Rattle.wat_print_instr.specs.Laws.Numbers.{unsigned_only}
+use Rattle.wat_print_instr.specs.Vectors.{spell_lanes, spell_vector, printable_vector}
+use Rattle.wat_print_instr.specs.Vectors.{spell_shuffle, printable_shuffle}
+use Rattle.wat_print_instr.specs.Laws.Numbers.{same_number, halves_8, halves_16}
+use Rattle.wat_print_instr.specs.Laws.Numbers.{halves_32, halves_64, signed_here}
+use Rattle.wat_print_instr.specs.Laws.Numbers.{signed_well_formed, signed_only, unsigned_here}
+use Rattle.wat_print_instr.specs.Laws.Numbers.{unsigned_well_formed, unsigned_only}
 use Rattle.wat_print_instr.specs.Laws.Places.{both_here, each_front}
 
 -- ---- a number of values
@@ -104,7 +104,8 @@ module _ {A : Type 0} (spell : A → List Tok) (ok : A → Bool) where
       → printable_number_of 2 ok (p.0 ∷ (p.1 ∷ [])) ≡ true
   pair_fits p h = let a = and_parts (ok p.0) (ok p.1) h in rw (a.0, a.1) refl
 
-  two_only : (g : Production A) → OnlyPrintable g ok → OnlyPrintable (two g) (printable_number_of 2 ok)
+  two_only : (g : Production A) → OnlyPrintable g ok
+      → OnlyPrintable (two g) (printable_number_of 2 ok)
   unfolding two
   two_only g m =
       only_made (λ _. true) (λ v. v.0 ∷ (v.1 ∷ [])) (printable_number_of 2 ok)
@@ -117,8 +118,8 @@ module _ {A : Type 0} (spell : A → List Tok) (ok : A → Bool) where
       let a = and_parts (printable_number_of n ok p.0) (printable_number_of n ok p.1) h in
       let b = and_parts (length p.0 == n) (each ok p.0) a.0 in
       let c = and_parts (length p.1 == n) (each ok p.1) a.1 in
-      let d = equal_by (length p.0) n b.0 in
-      let e = equal_by (length p.1) n c.0 in
+      let d = eqb-true (length p.0) n b.0 in
+      let e = eqb-true (length p.1) n c.0 in
       let k : length (p.0 ++ p.1) ≡ n + n = omega (arith, length-append p.0 p.1) in
       rw (k, same_number (n + n)) (each_both ok p.0 p.1 b.1 c.1)
 
@@ -126,7 +127,8 @@ module _ {A : Type 0} (spell : A → List Tok) (ok : A → Bool) where
       → OnlyPrintable (twice g) (printable_number_of (n + n) ok)
   twice_only n g m =
       only_made (λ _. true) (λ v. v.0 ++ v.1) (printable_number_of (n + n) ok)
-      (only_weaker (λ v. printable_number_of (n + n) ok (v.0 ++ v.1)) (both_printable n) (only_seq m m))
+      (only_weaker (λ v. printable_number_of (n + n) ok (v.0 ++ v.1)) (both_printable n)
+      (only_seq m m))
 
   module _ (g : Production A) (m : OnlyPrintable g ok) where
     four_only : OnlyPrintable (four g) (printable_number_of 4 ok)
@@ -153,7 +155,7 @@ shape_here n w f bits g b s zs r h =
       (tt, zs),
       both_here (word w) g tt zs (Keyword w ∷ []) (flat_map spell_signed zs) r
           (word_here w b (flat_map spell_signed zs ++ r))
-          (s zs r (equal_by (length zs) n a.0) a.1),
+          (s zs r (eqb-true (length zs) n a.0) a.1),
       refl,
       refl,
     )
@@ -228,11 +230,13 @@ vector_well_formed (F32x4 xs) f = absurd cc
 vector_well_formed (F64x2 xs) f = absurd cc
 
 shape_only : {A : Type 0} {g : Production (List A)} {printable : List A → Bool} (w : List ℕ)
-    (f : List A → V128Const) → ((zs : List A) → printable zs ≡ true → printable_vector (f zs) ≡ true)
+    (f : List A → V128Const)
+    → ((zs : List A) → printable zs ≡ true → printable_vector (f zs) ≡ true)
     → OnlyPrintable g printable → OnlyPrintable (shaped w f g) printable_vector
 shape_only {printable = printable} w f h m =
     only_made (λ _. true) (λ v. f v.1) printable_vector
-    (only_weaker (λ v. printable_vector (f v.1)) (λ v e. (h v.1 e)) (only_seq (only_any (word w)) m))
+    (only_weaker (λ v. printable_vector (f v.1)) (λ v e. (h v.1 e))
+    (only_seq (only_any (word w)) m))
 
 pub unprintable : {P : Type 0} → false ≡ true → P
 unprintable h = absurd cc
@@ -248,7 +252,8 @@ unfolding two
 none_two = only_made (λ _. true) (λ v. v.0 ∷ (v.1 ∷ [])) never
     (only_weaker (λ v. false) (λ v h. absurd cc) (only_seq (none_only never) (none_only never)))
 
-none_twice : {A : Type 0} {g : Production (List A)} → OnlyPrintable g never → OnlyPrintable (twice g) never
+none_twice : {A : Type 0} {g : Production (List A)} → OnlyPrintable g never
+    → OnlyPrintable (twice g) never
 none_twice m = only_made (λ _. true) (λ v. v.0 ++ v.1) never
     (only_weaker (λ v. false) (λ v h. absurd cc) (only_seq m m))
 
@@ -292,15 +297,17 @@ shuffle_here s f r =
     let a = and_parts (length s.lanes == 16) (each (is_unsigned 8) s.lanes) f in (
       s.lanes,
       sixteen_here spell_number (is_unsigned 8) (unsigned 8)
-          (λ n h. (unsigned_here 8 n (lit≤ tt) h)) s.lanes r (equal_by (length s.lanes) 16 a.0) a.1,
+          (λ n h. (unsigned_here 8 n (lit≤ tt) h)) s.lanes r (eqb-true (length s.lanes) 16 a.0) a.1,
       refl,
       refl,
     )
 
-pub shuffle_well_formed : (s : I8x16Shuffle) → printable_shuffle s ≡ true → WellFormed (spell_shuffle s)
+pub shuffle_well_formed : (s : I8x16Shuffle) → printable_shuffle s ≡ true
+    → WellFormed (spell_shuffle s)
 shuffle_well_formed s f =
     let a = and_parts (length s.lanes == 16) (each (is_unsigned 8) s.lanes) f in
-    well_formed_each spell_number (is_unsigned 8) (λ n h. (unsigned_well_formed 8 n (lit≤ tt) h)) s.lanes a.1
+    well_formed_each spell_number (is_unsigned 8)
+    (λ n h. (unsigned_well_formed 8 n (lit≤ tt) h)) s.lanes a.1
 
 pub shuffle_only : OnlyPrintable shuffle printable_shuffle
 unfolding shuffle

@@ -22,11 +22,13 @@ use Rattle.wat_print_module.specs.CustomPlace.{spell_place_group}
 use Rattle.wat_print.specs.Strings.{spell_string, printable_string}
 use Rattle.wat_print_module.specs.Laws.Dylink.{dylink_here, dylink_well_formed, dylink_only}
 use Rattle.wat_print_module.specs.Laws.CustomPlace.{place_group_here, place_group_well_formed}
-use Rattle.wat_print_module.specs.Laws.Producers.{producers_here, producers_well_formed, producers_only}
+use Rattle.wat_print_module.specs.Laws.Producers.{producers_here, producers_well_formed}
+use Rattle.wat_print_module.specs.Laws.Producers.{producers_only}
 use Rattle.wat_print.specs.Laws.Strings.{text_here, text_well_formed, text_only}
 use Rattle.wat_print.specs.Laws.Strings.{string_here, string_well_formed, string_only}
-use Rattle.wat_print_module.specs.Laws.Strings.{annotated_here, only_annotated, well_formed_annotated}
-use Rattle.wat_print_module.specs.Laws.Strings.{custom_annotation, no_more_opens}
+use Rattle.wat_print_module.specs.Laws.Strings.{annotated_here, only_annotated}
+use Rattle.wat_print_module.specs.Laws.Strings.{well_formed_annotated, custom_annotation}
+use Rattle.wat_print_module.specs.Laws.Strings.{no_more_opens}
 
 -- ---- raw sections
 
@@ -38,7 +40,8 @@ data_opens (s ∷ ss) r e = refl
 data_here : (ss : List (List ℕ)) (r : List Tok) → each printable_string ss ≡ true → more r ≡ false
     → raw_data.spells ss (flat_map spell_string ss) r
 unfolding raw_data
-data_here ss r f e = many_here more string spell_string printable_string string_here (λ v x o. refl) ss r
+data_here ss r f e =
+    many_here more string spell_string printable_string string_here (λ v x o. refl) ss r
     f e
 
 -- up to the end of the group
@@ -96,7 +99,8 @@ custom_here (linked ss) r f e =
     inr (refl, inl (refl, (ss, dylink_here ss r f e, refl, refl)))
 custom_here (raw v) r f e = inr (refl, inr (refl, (v, raw_here v r f e, refl, refl)))
 
-pub custom_well_formed : (v : CustomTy) → printable_custom v ≡ true → WellFormed (spell_custom_group v)
+pub custom_well_formed : (v : CustomTy) → printable_custom v ≡ true
+    → WellFormed (spell_custom_group v)
 custom_well_formed (raw v) f = raw_well_formed v f
 custom_well_formed (produced fs) f = producers_well_formed fs f
 custom_well_formed (linked ss) f = dylink_well_formed ss f

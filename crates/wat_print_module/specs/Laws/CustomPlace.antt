@@ -8,13 +8,13 @@ use Rattle.wat_tokens.specs.Tests.{begins_word, begins_lparen}
 use Rattle.wat_links.specs.CustomPlace.{section, before, after, custom_place}
 use Rattle.wat_links.specs.Raw.{raw_place}
 use Rattle.wat_links.specs.declared.custom_place.CustomPlace.{CustomPlace}
-use Rattle.wat_links.specs.declared.custom_place.CustomPlace.TheVariants.{BeforeFirst, Before, After}
-use Rattle.wat_links.specs.declared.custom_place.CustomPlace.TheVariants.{AfterLast}
+use Rattle.wat_links.specs.declared.custom_place.CustomPlace.TheVariants.{BeforeFirst, Before}
+use Rattle.wat_links.specs.declared.custom_place.CustomPlace.TheVariants.{After, AfterLast}
 use Rattle.wat_links.specs.declared.custom_place.CustomPlaceAnchor.{CustomPlaceAnchor}
 use Rattle.wat_links.specs.declared.custom_place.CustomPlaceAnchor.TheVariants as anchor
 use Rattle.wat_print.specs.WellFormed.{is_keyword, WellFormed, nothing}
-use Rattle.wat_print.specs.Laws.Parts.{Spells, paren_here, word_here, well_formed_one, well_formed_word}
-use Rattle.wat_print.specs.Laws.Parts.{well_formed_paren}
+use Rattle.wat_print.specs.Laws.Parts.{Spells, paren_here, word_here, well_formed_one}
+use Rattle.wat_print.specs.Laws.Parts.{well_formed_word, well_formed_paren}
 use Rattle.wat_print.specs.Laws.Define.{after_here}
 use Rattle.wat_print_module.specs.CustomPlace.{section_word, spell_section, spell_place}
 use Rattle.wat_print_module.specs.CustomPlace.{spell_place_group}
@@ -99,8 +99,10 @@ pub custom_place_well_formed : (p : CustomPlace) → WellFormed (spell_place p)
 custom_place_well_formed BeforeFirst =
     well_formed_word (codes "before") (Keyword (codes "first") ∷ []) refl
     (well_formed_one (Keyword (codes "first")) refl)
-custom_place_well_formed (Before a) = well_formed_word (codes "before") (spell_section a) refl (section_well_formed a)
-custom_place_well_formed (After a) = well_formed_word (codes "after") (spell_section a) refl (section_well_formed a)
+custom_place_well_formed (Before a) =
+    well_formed_word (codes "before") (spell_section a) refl (section_well_formed a)
+custom_place_well_formed (After a) =
+    well_formed_word (codes "after") (spell_section a) refl (section_well_formed a)
 custom_place_well_formed AfterLast =
     well_formed_word (codes "after") (Keyword (codes "last") ∷ []) refl
     (well_formed_one (Keyword (codes "last")) refl)
@@ -127,6 +129,9 @@ place_group_here (After a) r e =
 
 pub place_group_well_formed : (p : CustomPlace) → WellFormed (spell_place_group p)
 place_group_well_formed AfterLast = nothing
-place_group_well_formed BeforeFirst = well_formed_paren (spell_place BeforeFirst) (custom_place_well_formed BeforeFirst)
-place_group_well_formed (Before a) = well_formed_paren (spell_place (Before a)) (custom_place_well_formed (Before a))
-place_group_well_formed (After a) = well_formed_paren (spell_place (After a)) (custom_place_well_formed (After a))
+place_group_well_formed BeforeFirst =
+    well_formed_paren (spell_place BeforeFirst) (custom_place_well_formed BeforeFirst)
+place_group_well_formed (Before a) =
+    well_formed_paren (spell_place (Before a)) (custom_place_well_formed (Before a))
+place_group_well_formed (After a) =
+    well_formed_paren (spell_place (After a)) (custom_place_well_formed (After a))

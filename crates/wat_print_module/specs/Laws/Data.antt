@@ -23,8 +23,7 @@ use Rattle.wat_print.specs.WellFormed.{WellFormed, nothing}
 use Rattle.wat_print.specs.Parts.{grouped, each, if_some}
 use Rattle.wat_print.specs.Laws.Label.{label_here, label_well_formed, label_only}
 use Rattle.wat_print.specs.Laws.Only.{OnlyPrintable, only_where, only_opt, only_seq, only_made}
-use Rattle.wat_print.specs.Laws.Only.{only_weaker}
-use Rattle.wat_print.specs.Laws.Only.{only_paren, only_after, only_group}
+use Rattle.wat_print.specs.Laws.Only.{only_weaker, only_paren, only_after, only_group}
 use Rattle.wat_print.specs.Laws.Parts.{paren_here, group_here, well_formed_word, well_formed_both}
 use Rattle.wat_print.specs.Laws.Parts.{well_formed_group}
 use Rattle.wat_print.specs.Laws.Reference.{index_here, index_well_formed, index_only}
@@ -36,11 +35,12 @@ use Rattle.wat_print_instr.specs.Laws.Instruction.{instruction_only}
 use Rattle.wat_print_instr.specs.Laws.Numbers.{unsigned_only}
 use Rattle.wat_print_instr.specs.Laws.Places.{both_here}
 use Rattle.wat_print_module.specs.Segments.{spell_offset, spell_data_memory, spell_data_kind}
-use Rattle.wat_print_module.specs.Segments.{printable_data_kind, printable_data_val, spell_data_vals}
-use Rattle.wat_print_module.specs.Segments.{spell_data, printable_data}
+use Rattle.wat_print_module.specs.Segments.{printable_data_kind, printable_data_val}
+use Rattle.wat_print_module.specs.Segments.{spell_data_vals, spell_data, printable_data}
 use Rattle.wat_print_module.specs.Laws.DataVal.{data_vals_here, data_vals_well_formed}
 use Rattle.wat_print_module.specs.Laws.DataVal.{data_vals_only}
-use Rattle.wat_print_module.specs.Laws.Folded.{NoTypeFirst, no_word, no_type_first, behind_printable}
+use Rattle.wat_print_module.specs.Laws.Folded.{NoTypeFirst, no_word, no_type_first}
+use Rattle.wat_print_module.specs.Laws.Folded.{behind_printable}
 
 -- ---- memories and offsets
 
@@ -181,12 +181,14 @@ data_here d r f =
 -- ---- they can be written
 
 pub offset_well_formed : (e : Expr) → printable_expression e ≡ true → WellFormed (spell_offset e)
-offset_well_formed e f = well_formed_group (codes "offset") (spell_expression e) refl (expression_well_formed e f)
+offset_well_formed e f =
+    well_formed_group (codes "offset") (spell_expression e) refl (expression_well_formed e f)
 
 memory_well_formed : (i : Idx) → printable_index i ≡ true → WellFormed (spell_data_memory i)
 memory_well_formed (number zero) f = nothing
 memory_well_formed (number (suc n)) f =
-    well_formed_group (codes "memory") (spell_index (number (suc n))) refl (index_well_formed (number (suc n)) f)
+    well_formed_group (codes "memory") (spell_index (number (suc n))) refl
+    (index_well_formed (number (suc n)) f)
 memory_well_formed (name x) f =
     well_formed_group (codes "memory") (spell_index (name x)) refl (index_well_formed (name x) f)
 
@@ -194,7 +196,8 @@ kind_well_formed : (k : DataKindTy) → printable_data_kind k ≡ true → WellF
 kind_well_formed passive f = nothing
 kind_well_formed (active i e) f =
     let a = and_parts (printable_index i) (printable_expression e) f in
-    well_formed_both (spell_data_memory i) (spell_offset e) (memory_well_formed i a.0) (offset_well_formed e a.1)
+    well_formed_both (spell_data_memory i) (spell_offset e) (memory_well_formed i a.0)
+    (offset_well_formed e a.1)
 
 pub data_well_formed : (d : DataTy) → printable_data d ≡ true → WellFormed (spell_data d)
 data_well_formed d f =
@@ -227,7 +230,8 @@ unfolding offset_inside head_last
 offset_only =
     only_where (begins_word (codes "offset")) (only_after (codes "offset") expression_only)
     (only_made (λ _. true) (λ v. head_behind v.0 v.1) printable_expression
-    (only_weaker (λ v. printable_expression (head_behind v.0 v.1)) (λ v f. (behind_printable v.0 v.1 f))
+    (only_weaker (λ v. printable_expression (head_behind v.0 v.1))
+    (λ v f. (behind_printable v.0 v.1 f))
     (only_seq instruction_only expression_only)))
 
 passive_or : (o : Option DataKindTy) → if_some printable_data_kind o ≡ true

@@ -5,7 +5,7 @@ use Rattle.std.specs.Prelude.{flat_map, codes, Some, decimal}
 use Rattle.std.specs.Int.{Width, w8, w16, w32, w64, cast_unsigned, to_le_bytes, bytes_low_first}
 use Rattle.std.specs.Int.{byte_at}
 use Rattle.std.proofs.Common.{refl, ap, subst, sym, ◌∙◌, inl, inr, arith, lit≤}
-use Rattle.std.proofs.lemmas.Bool.{and_parts, cond_both}
+use Rattle.std.proofs.lemmas.Bool.{and_parts, cond_both, ltb-true}
 use Rattle.std.proofs.lemmas.Bool.Decides.{nat_tests}
 use Rattle.std.proofs.lemmas.Fmt.{decimal_is_IsNumeral}
 use Rattle.std.proofs.lemmas.Int.{ints}
@@ -33,12 +33,10 @@ use Rattle.wat_print.specs.Text.{all_are}
 use Rattle.wat_print.specs.Laws.Bytes.{both_are, byte_is}
 use Rattle.wat_print.specs.Laws.Numbers.{decimal_printable, magnitude_decimal, no_sign}
 use Rattle.wat_print.specs.Laws.Only.{OnlyPrintable, only_any, only_one, only_where, only_made}
-use Rattle.wat_print.specs.Laws.Only.{only_weaker}
-use Rattle.wat_print.specs.Laws.Only.{only_many, only_paren, only_after}
+use Rattle.wat_print.specs.Laws.Only.{only_weaker, only_many, only_paren, only_after}
 use Rattle.wat_print.specs.Laws.Parts.{Spells, paren_here, many_here, well_formed_one}
 use Rattle.wat_print.specs.Laws.Parts.{well_formed_group, well_formed_each}
 use Rattle.wat_print.specs.Laws.Define.{after_here}
-use Rattle.wat_print_instr.specs.Laws.Numbers.{less_by}
 use Rattle.wat_print_instr.specs.Laws.Vectors.{none_only}
 use Rattle.wat_print_module.specs.Segments.{spell_data_val, printable_data_val, spell_data_vals}
 
@@ -72,7 +70,7 @@ byte_text b lt =
 byte_here : (b : ℕ) → is_byte b ≡ true
     → Spells (integer_as_bytes w8 8) (by_itself b) (spell_number b)
 byte_here b h r =
-    let lt = less_by b 256 h in
+    let lt = ltb-true b 256 h in
     (twos_complement 8 b, (Integer (decimal b), refl, byte_text b lt), refl, byte_back b lt)
 
 -- ---- all of them
@@ -105,7 +103,8 @@ numbers_here bs r f e =
           (map by_itself bs, numbers_many bs r f e, refl, bytes_each bs),
     )
 
-pub data_val_here : (v : DataValTy) → printable_data_val v ≡ true → Spells data_val v (spell_data_val v)
+pub data_val_here : (v : DataValTy) → printable_data_val v ≡ true
+    → Spells data_val v (spell_data_val v)
 unfolding data_val
 data_val_here (written bs) f r = inr (refl, (bs, (String bs, refl, refl), refl, refl))
 data_val_here (numbers bs) f r =
@@ -135,12 +134,14 @@ data_vals_here vs r f e =
 
 -- ---- they can be written
 
-numbers_well_formed : (bs : List ℕ) → all_are is_byte bs ≡ true → WellFormed (flat_map spell_number bs)
+numbers_well_formed : (bs : List ℕ) → all_are is_byte bs ≡ true
+    → WellFormed (flat_map spell_number bs)
 numbers_well_formed bs f =
     well_formed_each spell_number is_byte
     (λ b h.
-    (let lt = less_by b 256 h in
-    let low : b < 2 ^ 64 = omega arith in well_formed_one (Integer (decimal b)) (decimal_printable b low))) bs
+    (let lt = ltb-true b 256 h in
+    let low : b < 2 ^ 64 =
+    omega arith in well_formed_one (Integer (decimal b)) (decimal_printable b low))) bs
     (each_byte bs f)
   where
     each_byte : (bs : List ℕ) → all_are is_byte bs ≡ true → each is_byte bs ≡ true
@@ -148,14 +149,16 @@ numbers_well_formed bs f =
     each_byte (b ∷ bs) f =
         let a = and_parts (is_byte b) (all_are is_byte bs) f in rw (a.0) (each_byte bs a.1)
 
-pub data_val_well_formed : (v : DataValTy) → printable_data_val v ≡ true → WellFormed (spell_data_val v)
+pub data_val_well_formed : (v : DataValTy) → printable_data_val v ≡ true
+    → WellFormed (spell_data_val v)
 data_val_well_formed (written bs) f = well_formed_one (String bs) f
 data_val_well_formed (numbers bs) f =
     well_formed_group (codes "i8") (flat_map spell_number bs) refl (numbers_well_formed bs f)
 
 pub data_vals_well_formed : (vs : List DataValTy) → each printable_data_val vs ≡ true
     → WellFormed (spell_data_vals vs)
-data_vals_well_formed vs f = well_formed_each spell_data_val printable_data_val data_val_well_formed vs f
+data_vals_well_formed vs f =
+    well_formed_each spell_data_val printable_data_val data_val_well_formed vs f
 
 -- ---- what a text spells can be written
 

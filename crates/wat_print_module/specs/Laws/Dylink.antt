@@ -1,15 +1,13 @@
 -- Laws: the `dylink.0` section is read again.
-use Rattle.std.specs.Prelude.{◌≡◌, ℕ, ◌^◌, Bool, true, false, ◌&&◌, List, []}
-use Rattle.std.specs.Prelude.{◌∷◌, ◌++◌, codes, flat_map, map, fold, decimal, Option, Some}
-use Rattle.std.specs.Prelude.{None, unwrap_or}
+use Rattle.std.specs.Prelude.{◌≡◌, ℕ, ◌^◌, Bool, true, false, ◌&&◌, List, [], ◌∷◌, ◌++◌, codes}
+use Rattle.std.specs.Prelude.{flat_map, map, fold, decimal, Option, Some, None, unwrap_or}
 use Rattle.std.specs.Int.Bits.{bit_or, or_zero_l}
 use Rattle.std.specs.Str.{bytes_eq, is_utf8}
 use Rattle.std.proofs.Common.{refl, ap, subst, sym, ◌∙◌, append-nil, inl, inr, lit≤, arith}
-use Rattle.std.proofs.lemmas.Bool.{and_parts, cond_both}
+use Rattle.std.proofs.lemmas.Bool.{and_parts, cond_both, lt-ltb, ltb-true}
 use Rattle.std.proofs.lemmas.Grind.{flat_map-append}
 use Rattle.std.proofs.lemmas.Nat.{or_lt}
-use Rattle.wat_lexer.specs.Token.{Tok, LParen, RParen, Integer, String}
-use Rattle.wat_lexer.specs.Token.{Keyword}
+use Rattle.wat_lexer.specs.Token.{Tok, LParen, RParen, Integer, String, Keyword}
 use Rattle.wat_tokens.specs.Integers.{unsigned}
 use Rattle.wat_tokens.specs.Many.{many}
 use Rattle.wat_tokens.specs.ManySpells.{many_spells}
@@ -33,22 +31,23 @@ use Rattle.wat_print.specs.Limits.{spell_number}
 use Rattle.wat_print.specs.WellFormed.{is_given, is_keyword, WellFormed}
 use Rattle.wat_print.specs.Parts.{if_some, each}
 use Rattle.wat_print.specs.Laws.Numbers.{unsigned_decimal}
-use Rattle.wat_print.specs.Laws.Only.{OnlyPrintable, only_one, only_where, only_opt, only_many, only_seq}
-use Rattle.wat_print.specs.Laws.Only.{only_made, only_weaker, only_group}
-use Rattle.wat_print.specs.Laws.Parts.{Spells, group_here, many_here, well_formed_group, well_formed_both}
-use Rattle.wat_print.specs.Laws.Parts.{well_formed_each, each_both}
+use Rattle.wat_print.specs.Laws.Only.{OnlyPrintable, only_one, only_where, only_opt, only_many}
+use Rattle.wat_print.specs.Laws.Only.{only_seq, only_made, only_weaker, only_group}
+use Rattle.wat_print.specs.Laws.Parts.{Spells, group_here, many_here, well_formed_group}
+use Rattle.wat_print.specs.Laws.Parts.{well_formed_both, well_formed_each, each_both}
 use Rattle.wat_print_instr.specs.Numbers.{is_unsigned}
-use Rattle.wat_print_instr.specs.Laws.Numbers.{less_by, less_tested, unsigned_here, unsigned_well_formed}
-use Rattle.wat_print_instr.specs.Laws.Numbers.{unsigned_given, unsigned_only}
+use Rattle.wat_print_instr.specs.Laws.Numbers.{unsigned_here}
+use Rattle.wat_print_instr.specs.Laws.Numbers.{unsigned_well_formed, unsigned_given, unsigned_only}
 use Rattle.wat_print_instr.specs.Laws.Places.{both_here, each_front}
 use Rattle.wat_print_module.specs.Dylink.{spell_sizes, spell_names, spell_export_flags}
 use Rattle.wat_print_module.specs.Dylink.{spell_import_flags, spell_subsection, spell_dylink}
-use Rattle.wat_print_module.specs.Dylink.{printable_sizes, printable_export_flags, printable_import_flags}
-use Rattle.wat_print_module.specs.Dylink.{printable_subsection, is_filled, is_apart, are_cut, printable_dylink}
+use Rattle.wat_print_module.specs.Dylink.{printable_sizes, printable_export_flags}
+use Rattle.wat_print_module.specs.Dylink.{printable_import_flags, printable_subsection, is_filled}
+use Rattle.wat_print_module.specs.Dylink.{is_apart, are_cut, printable_dylink}
 use Rattle.wat_print.specs.Strings.{spell_string}
 use Rattle.wat_print.specs.Laws.Strings.{text_here, text_well_formed, text_only}
-use Rattle.wat_print_module.specs.Laws.Strings.{annotated_here, only_annotated, well_formed_annotated}
-use Rattle.wat_print_module.specs.Laws.Strings.{dylink_annotation}
+use Rattle.wat_print_module.specs.Laws.Strings.{annotated_here, only_annotated}
+use Rattle.wat_print_module.specs.Laws.Strings.{well_formed_annotated, dylink_annotation}
 
 -- ---- numbers and flags
 
@@ -64,7 +63,7 @@ u32_only = unsigned_only 32 (lit≤ tt)
 flag_here : (n : ℕ) → is_unsigned 32 n ≡ true → Spells flag_bits n (spell_number n)
 unfolding flag_bits
 flag_here n f r =
-    let lt = less_by n (2 ^ 32) f in
+    let lt = ltb-true n (2 ^ 32) f in
     (Integer (decimal n), refl, unsigned_decimal 32 n (omega arith) (omega arith))
 
 -- one number
@@ -78,7 +77,8 @@ flags_here n r f e = (
   or_zero_l n,
 )
 
-look_up_printable : {A : Type 0} (printable : A → Bool) (table : List (List ℕ × A)) (w : List ℕ) (v : A)
+look_up_printable : {A : Type 0} (printable : A → Bool) (table : List (List ℕ × A))
+    (w : List ℕ) (v : A)
     → each (λ e. printable e.1) table ≡ true → look_up table w ≡ Some v → printable v ≡ true
 look_up_printable printable [] w v a e = absurd cc
 look_up_printable {A = A} printable (x ∷ table) w v a e =
@@ -104,8 +104,8 @@ joined_printable : (ns : List ℕ) (n : ℕ) → is_unsigned 32 n ≡ true → e
 joined_printable [] n f g = f
 joined_printable (m ∷ ns) n f g =
     let a = and_parts (is_unsigned 32 m) (each (is_unsigned 32) ns) g in
-    let lt = or_lt 32 n m (less_by n (2 ^ 32) f) (less_by m (2 ^ 32) a.0) in
-    joined_printable ns (bit_or n m) (less_tested (bit_or n m) (2 ^ 32) lt) a.1
+    let lt = or_lt 32 n m (ltb-true n (2 ^ 32) f) (ltb-true m (2 ^ 32) a.0) in
+    joined_printable ns (bit_or n m) (lt-ltb (bit_or n m) (2 ^ 32) lt) a.1
 
 flags_only : OnlyPrintable symbol_flags (is_unsigned 32)
 unfolding symbol_flags flag_list
@@ -147,11 +147,13 @@ import_flags_here e f r =
       refl,
     )
 
-export_flags_well_formed : (e : List ℕ × ℕ) → printable_export_flags e ≡ true → WellFormed (spell_export_flags e)
+export_flags_well_formed : (e : List ℕ × ℕ) → printable_export_flags e ≡ true
+    → WellFormed (spell_export_flags e)
 export_flags_well_formed e f =
     let a = and_parts (is_utf8 e.0) (is_unsigned 32 e.1) f in
     well_formed_group (codes "export-info") (String e.0 ∷ spell_number e.1) refl
-    (well_formed_both (spell_string e.0) (spell_number e.1) (text_well_formed e.0 a.0) (u32_well_formed e.1 a.1))
+    (well_formed_both (spell_string e.0) (spell_number e.1) (text_well_formed e.0 a.0)
+    (u32_well_formed e.1 a.1))
 
 import_flags_well_formed : (e : List ℕ × List ℕ × ℕ) → printable_import_flags e ≡ true
     → WellFormed (spell_import_flags e)
@@ -160,7 +162,8 @@ import_flags_well_formed e f =
     let b = and_parts (is_utf8 e.1) (is_unsigned 32 e.2) a.1 in
     well_formed_group (codes "import-info") (String e.0 ∷ String e.1 ∷ spell_number e.2) refl
     (well_formed_both (spell_string e.0) (String e.1 ∷ spell_number e.2) (text_well_formed e.0 a.0)
-    (well_formed_both (spell_string e.1) (spell_number e.2) (text_well_formed e.1 b.0) (u32_well_formed e.2 b.1)))
+    (well_formed_both (spell_string e.1) (spell_number e.2) (text_well_formed e.1 b.0)
+    (u32_well_formed e.2 b.1)))
 
 export_flags_only : OnlyPrintable export_entry printable_export_flags
 unfolding export_entry
@@ -221,17 +224,20 @@ names_here w ns e f r =
     group_here w (many more text (lit≤ tt)) ns (flat_map spell_string ns) r e
     (many_here more text spell_string is_utf8 text_here (λ v x o. refl) ns (RParen ∷ r) f refl)
 
-sizes_well_formed : (w : List ℕ) (size align : ℕ) → is_keyword w ≡ true → printable_sizes size align ≡ true
+sizes_well_formed : (w : List ℕ) (size align : ℕ) → is_keyword w ≡ true
+    → printable_sizes size align ≡ true
     → WellFormed (spell_sizes w size align)
 sizes_well_formed w size align k f =
     let a = and_parts (is_unsigned 32 size) (is_unsigned 32 align) f in
     well_formed_group w (spell_number size ++ spell_number align) k
-    (well_formed_both (spell_number size) (spell_number align) (u32_well_formed size a.0) (u32_well_formed align a.1))
+    (well_formed_both (spell_number size) (spell_number align) (u32_well_formed size a.0)
+    (u32_well_formed align a.1))
 
 names_well_formed : (w : List ℕ) (ns : List (List ℕ)) → is_keyword w ≡ true → each is_utf8 ns ≡ true
     → WellFormed (spell_names w ns)
 names_well_formed w ns k f =
-    well_formed_group w (flat_map spell_string ns) k (well_formed_each spell_string is_utf8 text_well_formed ns f)
+    well_formed_group w (flat_map spell_string ns) k
+    (well_formed_each spell_string is_utf8 text_well_formed ns f)
 
 -- it is of neither exports nor imports
 abbrev is_lone : SubsectionTy → Bool
@@ -296,7 +302,8 @@ sizes_only : (w : List ℕ) → OnlyPrintable (sizes w) (λ v. printable_sizes v
 unfolding sizes
 sizes_only w =
     only_made (λ _. true) (λ o. unwrap_or o no_size) (λ v. printable_sizes v.0 v.1)
-    (only_weaker (λ o. printable_sizes (unwrap_or o no_size).0 (unwrap_or o no_size).1) or_none_printable
+    (only_weaker (λ o. printable_sizes (unwrap_or o no_size).0 (unwrap_or o no_size).1)
+    or_none_printable
     (only_opt (second (begins_word w)) (only_group w (only_seq u32_only u32_only))))
 
 names_only : (w : List ℕ) → OnlyPrintable (names_entry w) (each is_utf8)
@@ -315,7 +322,8 @@ lone_only =
     (only_made (λ _. true) needed printable_lone (names_only (codes "needed")))
     (only_where (begins_group (codes "runtime-path"))
     (only_made (λ _. true) runtime_path printable_lone (names_only (codes "runtime-path")))
-    (only_made (λ _. true) target_arch printable_lone (only_group (codes "target-arch") text_only))))
+    (only_made (λ _. true) target_arch printable_lone
+    (only_group (codes "target-arch") text_only))))
 
 -- ---- any entry
 
@@ -347,7 +355,8 @@ lone_more (target_arch n) x f = refl
 lone_more (export_info es) x f = absurd cc
 lone_more (import_info es) x f = absurd cc
 
-entry_more : (e : EntryTy) (x : List Tok) → printable_entry e ≡ true → more (spell_entry e ++ x) ≡ true
+entry_more : (e : EntryTy) (x : List Tok) → printable_entry e ≡ true
+    → more (spell_entry e ++ x) ≡ true
 entry_more (of_export e) x f = refl
 entry_more (of_import e) x f = refl
 entry_more (other s) x f = lone_more s x f
@@ -397,7 +406,8 @@ imports_printable : (es : List (List ℕ × List ℕ × ℕ))
 imports_printable [] = refl
 imports_printable (e ∷ es) = ap (λ (b : Bool). printable_import_flags e && b) (imports_printable es)
 
-one_printable : (s : SubsectionTy) → printable_subsection s ≡ true → each printable_entry (entries_in s) ≡ true
+one_printable : (s : SubsectionTy) → printable_subsection s ≡ true
+    → each printable_entry (entries_in s) ≡ true
 one_printable (mem_info ms ma ts ta) f = rw f refl
 one_printable (needed ns) f = rw f refl
 one_printable (export_info es) f = exports_printable es ∙ f
@@ -405,8 +415,10 @@ one_printable (import_info es) f = imports_printable es ∙ f
 one_printable (runtime_path ns) f = rw f refl
 one_printable (target_arch n) f = rw f refl
 
-one_given : (s : SubsectionTy) → each printable_entry (entries_in s) ≡ true → printable_subsection s ≡ true
-one_given (mem_info ms ma ts ta) f = (and_parts (printable_subsection (mem_info ms ma ts ta)) true f).0
+one_given : (s : SubsectionTy) → each printable_entry (entries_in s) ≡ true
+    → printable_subsection s ≡ true
+one_given (mem_info ms ma ts ta) f =
+    (and_parts (printable_subsection (mem_info ms ma ts ta)) true f).0
 one_given (needed ns) f = (and_parts (printable_subsection (needed ns)) true f).0
 one_given (export_info es) f = sym (exports_printable es) ∙ f
 one_given (import_info es) f = sym (imports_printable es) ∙ f
@@ -418,7 +430,8 @@ all_printable : (ss : List SubsectionTy) → each printable_subsection ss ≡ tr
 all_printable [] f = refl
 all_printable (s ∷ ss) f =
     let a = and_parts (printable_subsection s) (each printable_subsection ss) f in
-    each_both printable_entry (entries_in s) (flat_map entries_in ss) (one_printable s a.0) (all_printable ss a.1)
+    each_both printable_entry (entries_in s) (flat_map entries_in ss) (one_printable s a.0)
+    (all_printable ss a.1)
 
 all_given : (ss : List SubsectionTy) → each printable_entry (flat_map entries_in ss) ≡ true
     → each printable_subsection ss ≡ true
@@ -479,11 +492,13 @@ entries_here : (ss : List SubsectionTy) (r : List Tok) → each printable_subsec
 unfolding entries
 entries_here ss r f e =
     subst (λ (c : List Tok). many_spells more entry (flat_map entries_in ss) c r) (all_spelled ss)
-    (many_here more entry spell_entry printable_entry entry_here entry_more (flat_map entries_in ss) r
+    (many_here more entry spell_entry printable_entry entry_here entry_more
+    (flat_map entries_in ss) r
     (all_printable ss f) e)
 
 -- up to the end of the group
-pub dylink_here : (ss : List SubsectionTy) (r : List Tok) → printable_dylink ss ≡ true → more r ≡ false
+pub dylink_here : (ss : List SubsectionTy) (r : List Tok) → printable_dylink ss ≡ true
+    → more r ≡ false
     → dylink.spells ss (spell_dylink ss) r
 unfolding dylink cut_subsections
 dylink_here ss r f e =
@@ -491,13 +506,15 @@ dylink_here ss r f e =
     annotated_here (codes "dylink.0") cut_subsections ss (flat_map spell_subsection ss) r refl
     (entries_here ss r a.0 e, cut_by ss a.1)
 
-subsection_well_formed : (s : SubsectionTy) → printable_subsection s ≡ true → WellFormed (spell_subsection s)
+subsection_well_formed : (s : SubsectionTy) → printable_subsection s ≡ true
+    → WellFormed (spell_subsection s)
 subsection_well_formed (mem_info ms ma ts ta) f =
     let a = and_parts (printable_sizes ms ma) (printable_sizes ts ta) f in
     well_formed_group (codes "mem-info") (spell_sizes (codes "memory") ms ma
     ++ spell_sizes (codes "table") ts ta) refl
     (well_formed_both (spell_sizes (codes "memory") ms ma) (spell_sizes (codes "table") ts ta)
-    (sizes_well_formed (codes "memory") ms ma refl a.0) (sizes_well_formed (codes "table") ts ta refl a.1))
+    (sizes_well_formed (codes "memory") ms ma refl a.0)
+    (sizes_well_formed (codes "table") ts ta refl a.1))
 subsection_well_formed (needed ns) f = names_well_formed (codes "needed") ns refl f
 subsection_well_formed (export_info es) f =
     well_formed_each spell_export_flags printable_export_flags export_flags_well_formed es f
@@ -518,7 +535,8 @@ cut_holds : (ss : List SubsectionTy) (c r : List Tok) → each is_given c ≡ tr
     → printable_dylink ss ≡ true
 unfolding entries
 cut_holds ss c r a s =
-    let m : OnlyPrintable entries (each printable_entry) = only_many more entry_consumes entry_only in
+    let m : OnlyPrintable entries (each printable_entry) =
+    only_many more entry_consumes entry_only in
     rw (all_given ss (m.holds (flat_map entries_in ss) c r a s.0)) (cut_tested ss s.1)
 
 pub dylink_only : OnlyPrintable dylink printable_dylink

@@ -31,34 +31,35 @@ use Rattle.wat_print.specs.WellFormed.{WellFormed, nothing}
 use Rattle.wat_print.specs.Parts.{grouped, each, if_some, spell_option}
 use Rattle.wat_print.specs.Reference.{short_word, spell_long, spell_ref, printable_ref}
 use Rattle.wat_print.specs.Laws.Label.{label_here, label_well_formed, label_only}
-use Rattle.wat_print.specs.Laws.Only.{OnlyPrintable, only_where, only_opt, only_seq, only_made, only_many}
-use Rattle.wat_print.specs.Laws.Only.{only_after, only_group, only_weaker}
-use Rattle.wat_print.specs.Laws.Parts.{group_here, many_here, many_told, well_formed_word, well_formed_both}
-use Rattle.wat_print.specs.Laws.Parts.{well_formed_group, well_formed_each, well_formed_option, well_formed_one}
-use Rattle.wat_print.specs.Laws.Reference.{index_here, index_well_formed, index_only, ref_here, ref_well_formed}
-use Rattle.wat_print.specs.Laws.Reference.{ref_only, of_refs}
+use Rattle.wat_print.specs.Laws.Only.{OnlyPrintable, only_where, only_opt, only_seq, only_made}
+use Rattle.wat_print.specs.Laws.Only.{only_many, only_after, only_group, only_weaker}
+use Rattle.wat_print.specs.Laws.Parts.{group_here, many_here, many_told, well_formed_word}
+use Rattle.wat_print.specs.Laws.Parts.{well_formed_both, well_formed_group, well_formed_each}
+use Rattle.wat_print.specs.Laws.Parts.{well_formed_option, well_formed_one}
+use Rattle.wat_print.specs.Laws.Reference.{index_here, index_well_formed, index_only, ref_here}
+use Rattle.wat_print.specs.Laws.Reference.{ref_well_formed, ref_only, of_refs}
 use Rattle.wat_print.specs.Laws.Define.{after_here}
 use Rattle.wat_print_instr.specs.ExpressionForm.{spell_expression, printable_expression}
 use Rattle.wat_print_instr.specs.Laws.Expression.{expression_well_formed}
 use Rattle.wat_print_instr.specs.Laws.ExpressionOnly.{expression_only}
 use Rattle.wat_print_instr.specs.Laws.Numbers.{unsigned_only}
 use Rattle.wat_print_instr.specs.Laws.Places.{both_here}
-use Rattle.wat_print_module.specs.Segments.{spell_offset, spell_item, spell_payload, printable_payload}
-use Rattle.wat_print_module.specs.Segments.{spell_elem_table, spell_elem_kind, printable_elem_kind}
-use Rattle.wat_print_module.specs.Segments.{spell_elem, printable_elem}
+use Rattle.wat_print_module.specs.Segments.{spell_offset, spell_item, spell_payload}
+use Rattle.wat_print_module.specs.Segments.{printable_payload, spell_elem_table, spell_elem_kind}
+use Rattle.wat_print_module.specs.Segments.{printable_elem_kind, spell_elem, printable_elem}
 use Rattle.wat_print_module.specs.Laws.Data.{offset_well_formed}
 use Rattle.wat_print_module.specs.Laws.Folded.{no_word, NoTypeFirst, no_type_first, end_no_word}
 use Rattle.wat_print_module.specs.Laws.Folded.{expression_grouped, folded_only}
-use Rattle.wat_print_instr.specs.Laws.OperandFront.{type_apart, param_apart, result_apart}
+use Rattle.wat_print_instr.specs.Laws.OperandFront.{short_apart}
 
 -- ---- what a reference type begins with
 
 -- neither of the words is a shorthand
-short_apart : (t : AbstractHeapType)
+short_not : (t : AbstractHeapType)
     → (bytes_eq (short_word t) (codes "func") ≡ false)
     × (bytes_eq (short_word t) (codes "declare") ≡ false)
-short_apart word.Func = (refl, refl)
-short_apart _ = (refl, refl)
+short_not word.Func = (refl, refl)
+short_not _ = (refl, refl)
 
 -- the test says of what begins with a reference type
 pub of_ref : (test : List Tok → Bool) (b : Bool)
@@ -89,17 +90,17 @@ ref_not_word w f t c r = of_ref (begins_word w) false (λ s x. (f s)) (λ n h x.
 
 ref_no_func : (t : RefTy) (c r : List Tok)
     → begins_word (codes "func") ((spell_ref t ++ c) ++ r) ≡ false
-ref_no_func t c r = ref_not_word (codes "func") (λ s. (short_apart s).0) t c r
+ref_no_func t c r = ref_not_word (codes "func") (λ s. (short_not s).0) t c r
 
 ref_no_declare : (t : RefTy) (c r : List Tok)
     → begins_word (codes "declare") ((spell_ref t ++ c) ++ r) ≡ false
-ref_no_declare t c r = ref_not_word (codes "declare") (λ s. (short_apart s).1) t c r
+ref_no_declare t c r = ref_not_word (codes "declare") (λ s. (short_not s).1) t c r
 
 ref_no_type : (t : RefTy) (c r : List Tok) → NoTypeFirst ((spell_ref t ++ c) ++ r)
 ref_no_type t c r = (
-  ref_not_word (codes "type") type_apart.no_short t c r,
-  ref_not_word (codes "param") param_apart.no_short t c r,
-  ref_not_word (codes "result") result_apart.no_short t c r,
+  ref_not_word (codes "type") (short_apart (codes "type") refl) t c r,
+  ref_not_word (codes "param") (short_apart (codes "param") refl) t c r,
+  ref_not_word (codes "result") (short_apart (codes "result") refl) t c r,
 )
 
 -- ---- items and indices
@@ -314,9 +315,11 @@ pub items_well_formed : (es : List Expr) → each printable_expression es ≡ tr
     → WellFormed (flat_map spell_item es)
 items_well_formed es f =
     well_formed_each spell_item printable_expression
-    (λ e h. (well_formed_group (codes "item") (spell_expression e) refl (expression_well_formed e h))) es f
+    (λ e h. (well_formed_group (codes "item") (spell_expression e) refl
+    (expression_well_formed e h))) es f
 
-pub indices_well_formed : (is : List Idx) → each printable_index is ≡ true → WellFormed (flat_map spell_index is)
+pub indices_well_formed : (is : List Idx) → each printable_index is ≡ true
+    → WellFormed (flat_map spell_index is)
 indices_well_formed is f = well_formed_each spell_index printable_index index_well_formed is f
 
 payload_well_formed : (p : PayloadTy) → printable_payload p ≡ true → WellFormed (spell_payload p)
@@ -324,10 +327,12 @@ payload_well_formed (indices is) f =
     well_formed_word (codes "func") (flat_map spell_index is) refl (indices_well_formed is f)
 payload_well_formed (exprs t es) f =
     let a = and_parts (printable_ref t) (each printable_expression es) f in
-    well_formed_both (spell_ref t) (flat_map spell_item es) (ref_well_formed t a.0) (items_well_formed es a.1)
+    well_formed_both (spell_ref t) (flat_map spell_item es) (ref_well_formed t a.0)
+    (items_well_formed es a.1)
 
 table_well_formed : (i : Idx) → printable_index i ≡ true → WellFormed (spell_elem_table i)
-table_well_formed i f = well_formed_group (codes "table") (spell_index i) refl (index_well_formed i f)
+table_well_formed i f =
+    well_formed_group (codes "table") (spell_index i) refl (index_well_formed i f)
 
 kind_well_formed : (k : ElemKindTy) → printable_elem_kind k ≡ true → WellFormed (spell_elem_kind k)
 kind_well_formed passive f = nothing
@@ -335,7 +340,8 @@ kind_well_formed declared f = well_formed_one (Keyword (codes "declare")) refl
 kind_well_formed (active t e) f =
     let a = and_parts (if_some printable_index t) (printable_expression e) f in
     well_formed_both (spell_option spell_elem_table t) (spell_offset e)
-    (well_formed_option spell_elem_table printable_index t table_well_formed a.0) (offset_well_formed e a.1)
+    (well_formed_option spell_elem_table printable_index t table_well_formed a.0)
+    (offset_well_formed e a.1)
 
 pub elem_well_formed : (e : ElemTy) → printable_elem e ≡ true → WellFormed (spell_elem e)
 elem_well_formed e f =
@@ -378,7 +384,8 @@ any_payload_only : OnlyPrintable payload_or_indices printable_payload
 unfolding payload_or_indices
 any_payload_only =
     only_where (begins_word (codes "func")) func_only
-    (only_where begins_ref typed_only (only_made (λ _. true) indices printable_payload indices_only))
+    (only_where begins_ref typed_only
+    (only_made (λ _. true) indices printable_payload indices_only))
 
 abbrev printable_segment : Segment → Bool
 printable_segment s = printable_elem_kind s.0 && printable_payload s.1
@@ -396,9 +403,11 @@ offset_only : OnlyPrintable elem_offset printable_expression
 unfolding elem_offset
 offset_only = written_only (codes "offset")
 
-table_only : OnlyPrintable (made (λ i. Some i) (group (codes "table") index)) (if_some printable_index)
+table_only : OnlyPrintable (made (λ i. Some i) (group (codes "table") index))
+    (if_some printable_index)
 table_only =
-    only_made (λ _. true) (λ i. Some i) (if_some printable_index) (only_group (codes "table") index_only)
+    only_made (λ _. true) (λ i. Some i) (if_some printable_index)
+    (only_group (codes "table") index_only)
 
 number_only : OnlyPrintable table_number (if_some printable_index)
 unfolding table_number
@@ -411,10 +420,12 @@ unfolding active_segment in_table in_some_table
 active_only =
     only_where (begins_group (codes "table"))
     (only_made (λ _. true) active_of printable_segment
-    (only_weaker (λ v. printable_segment (active_of v)) (λ v f. (active_printable v.0 v.1.0 v.1.1 f))
+    (only_weaker (λ v. printable_segment (active_of v))
+    (λ v f. (active_printable v.0 v.1.0 v.1.1 f))
     (only_seq table_only (only_seq offset_only payload_only))))
     (only_made (λ _. true) active_of printable_segment
-    (only_weaker (λ v. printable_segment (active_of v)) (λ v f. (active_printable v.0 v.1.0 v.1.1 f))
+    (only_weaker (λ v. printable_segment (active_of v))
+    (λ v f. (active_printable v.0 v.1.0 v.1.1 f))
     (only_seq number_only (only_seq offset_only any_payload_only))))
 
 segment_only : OnlyPrintable segment printable_segment

@@ -17,10 +17,9 @@ use Rattle.wat_print.specs.Index.{spell_index, printable_index}
 use Rattle.wat_print.specs.WellFormed.{is_keyword, WellFormed}
 use Rattle.wat_print.specs.Parts.{grouped}
 use Rattle.wat_print.specs.Laws.Only.{OnlyPrintable, only_any, only_paren, only_seq, only_made}
-use Rattle.wat_print.specs.Laws.Only.{only_weaker}
-use Rattle.wat_print.specs.Laws.Only.{only_after}
-use Rattle.wat_print.specs.Laws.Parts.{Spells, paren_here, well_formed_one, well_formed_word, well_formed_group}
-use Rattle.wat_print.specs.Laws.Parts.{well_formed_both}
+use Rattle.wat_print.specs.Laws.Only.{only_weaker, only_after}
+use Rattle.wat_print.specs.Laws.Parts.{Spells, paren_here, well_formed_one, well_formed_word}
+use Rattle.wat_print.specs.Laws.Parts.{well_formed_group, well_formed_both}
 use Rattle.wat_print.specs.Laws.Reference.{index_here, index_well_formed, index_only}
 use Rattle.wat_print.specs.Laws.Define.{after_here}
 use Rattle.wat_print_instr.specs.Laws.Places.{both_here}
@@ -103,7 +102,8 @@ export_type_here e r f n =
     (both_here text sig_group e.0 e.1 (spell_string e.0) (spell_sig_group e.1) r
     (text_here e.0 a.0 (spell_sig_group e.1 ++ r)) (sig_group_here e.1 r a.1 n))
 
-pub export_type_well_formed : (e : ExportTypeTy) → printable_export_type e ≡ true → WellFormed (spell_export_type e)
+pub export_type_well_formed : (e : ExportTypeTy) → printable_export_type e ≡ true
+    → WellFormed (spell_export_type e)
 export_type_well_formed e f =
     let a = and_parts (is_utf8 e.0) (printable_sig e.1) f in
     well_formed_word (codes "export") (String e.0 ∷ spell_sig_group e.1) refl

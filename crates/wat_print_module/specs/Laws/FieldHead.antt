@@ -69,7 +69,8 @@ pub inline_import_well_formed : (i : List ℕ × List ℕ) → printable_inline_
 inline_import_well_formed i f =
     let a = and_parts (is_utf8 i.0) (is_utf8 i.1) f in
     well_formed_group (codes "import") (String i.0 ∷ String i.1 ∷ []) refl
-    (well_formed_both (String i.0 ∷ []) (String i.1 ∷ []) (text_well_formed i.0 a.0) (text_well_formed i.1 a.1))
+    (well_formed_both (String i.0 ∷ []) (String i.1 ∷ []) (text_well_formed i.0 a.0)
+    (text_well_formed i.1 a.1))
 
 pub inline_import_only : OnlyPrintable inline_import printable_inline_import
 unfolding inline_import
@@ -114,7 +115,8 @@ head_here h r f e =
 pub head_well_formed : (h : FieldHeadTy) → printable_head h ≡ true → WellFormed (spell_head h)
 head_well_formed h f =
     let a = and_parts (printable_label h.label) (printable_inline_export h.exports) f in
-    well_formed_both (spell_label h.label) (spell_inline_export h.exports) (label_well_formed h.label a.0)
+    well_formed_both (spell_label h.label) (spell_inline_export h.exports)
+    (label_well_formed h.label a.0)
     (inline_export_well_formed h.exports a.1)
 
 pub head_only : OnlyPrintable head printable_head

@@ -23,16 +23,18 @@ use Rattle.wat_print.specs.WellFormed.{WellFormed}
 use Rattle.wat_print.specs.Use.{spell_use, printable_use}
 use Rattle.wat_print.specs.Laws.Only.{OnlyPrintable, only_where, only_seq, only_made, only_weaker}
 use Rattle.wat_print.specs.Laws.Only.{only_group, only_after}
-use Rattle.wat_print.specs.Laws.Parts.{group_here, well_formed_word, well_formed_group, well_formed_both}
+use Rattle.wat_print.specs.Laws.Parts.{group_here, well_formed_word, well_formed_group}
+use Rattle.wat_print.specs.Laws.Parts.{well_formed_both}
 use Rattle.wat_print.specs.Laws.Use.{EndsUse, use_here, use_well_formed, use_only}
 use Rattle.wat_print.specs.Laws.Define.{after_here}
 use Rattle.wat_print_instr.specs.ExpressionForm.{spell_expression, printable_expression}
 use Rattle.wat_print_instr.specs.Laws.Expression.{OnWords, OnHints, expression_first}
-use Rattle.wat_print_instr.specs.Laws.Expression.{expression_no_type, expression_closed, expression_well_formed}
+use Rattle.wat_print_instr.specs.Laws.Expression.{expression_no_type, expression_closed}
+use Rattle.wat_print_instr.specs.Laws.Expression.{expression_well_formed}
 use Rattle.wat_print_instr.specs.Laws.ExpressionOnly.{expression_only}
 use Rattle.wat_print_instr.specs.Laws.Places.{both_here}
-use Rattle.wat_print_module.specs.FieldHead.{spell_inline_import, printable_inline_import, spell_head}
-use Rattle.wat_print_module.specs.FieldHead.{printable_head}
+use Rattle.wat_print_module.specs.FieldHead.{spell_inline_import, printable_inline_import}
+use Rattle.wat_print_module.specs.FieldHead.{spell_head, printable_head}
 use Rattle.wat_print_module.specs.Func.{spell_exact_use, spell_defined_func, printable_func_kind}
 use Rattle.wat_print_module.specs.Func.{printable_defined_func, spell_func, printable_func}
 use Rattle.wat_print_module.specs.Local.{spell_locals, printable_locals}
@@ -81,8 +83,10 @@ exact_here u false r f e =
       (u, use_here u r f (field_ends_use r e), refl, refl),
     )
 
-exact_well_formed : (u : FuncUse) (b : Bool) → printable_use u ≡ true → WellFormed (spell_exact_use u b)
-exact_well_formed u true f = well_formed_group (codes "exact") (spell_use u) refl (use_well_formed u f)
+exact_well_formed : (u : FuncUse) (b : Bool) → printable_use u ≡ true
+    → WellFormed (spell_exact_use u b)
+exact_well_formed u true f =
+    well_formed_group (codes "exact") (spell_use u) refl (use_well_formed u f)
 exact_well_formed u false f = use_well_formed u f
 
 -- ---- a type, locals and a body
@@ -215,7 +219,8 @@ func_well_formed f h =
     let a = and_parts (printable_head f.head) (printable_defined_func (f.ty, f.kind)) h in
     let c = spell_defined_func (f.ty, f.kind) in
     well_formed_word (codes "func") (spell_head f.head ++ c) refl
-    (well_formed_both (spell_head f.head) c (head_well_formed f.head a.0) (defined_well_formed f.ty f.kind a.1))
+    (well_formed_both (spell_head f.head) c (head_well_formed f.head a.0)
+    (defined_well_formed f.ty f.kind a.1))
 
 -- ---- what a text spells can be written
 
@@ -249,4 +254,5 @@ pub func_only : OnlyPrintable func printable_func
 unfolding func
 func_only =
     only_after (codes "func") (only_made (λ _. true) (λ v. func_of v.0 v.1) printable_func
-    (only_weaker (λ v. printable_func (func_of v.0 v.1)) (λ v h. h) (only_seq head_only defined_only)))
+    (only_weaker (λ v. printable_func (func_of v.0 v.1)) (λ v h. h)
+    (only_seq head_only defined_only)))

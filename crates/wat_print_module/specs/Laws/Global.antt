@@ -22,12 +22,13 @@ use Rattle.wat_print.specs.Laws.Parts.{well_formed_word, well_formed_both}
 use Rattle.wat_print.specs.Laws.Storage.{EndsGlobal, global_here, global_well_formed, global_only}
 use Rattle.wat_print.specs.Laws.Define.{after_here}
 use Rattle.wat_print_instr.specs.ExpressionForm.{spell_expression, printable_expression}
-use Rattle.wat_print_instr.specs.Laws.Expression.{expression_first, expression_closed, expression_well_formed}
-use Rattle.wat_print_instr.specs.Laws.Expression.{no_word_at_end, word_unsought}
+use Rattle.wat_print_instr.specs.Laws.Expression.{expression_first, expression_closed}
+use Rattle.wat_print_instr.specs.Laws.Expression.{expression_well_formed, no_word_at_end}
+use Rattle.wat_print_instr.specs.Laws.Expression.{word_unsought}
 use Rattle.wat_print_instr.specs.Laws.ExpressionOnly.{expression_only}
 use Rattle.wat_print_instr.specs.Laws.Places.{both_here}
-use Rattle.wat_print_module.specs.FieldHead.{spell_inline_import, printable_inline_import, spell_head}
-use Rattle.wat_print_module.specs.FieldHead.{printable_head}
+use Rattle.wat_print_module.specs.FieldHead.{spell_inline_import, printable_inline_import}
+use Rattle.wat_print_module.specs.FieldHead.{spell_head, printable_head}
 use Rattle.wat_print_module.specs.Global.{spell_defined_global, printable_defined_global}
 use Rattle.wat_print_module.specs.Global.{spell_global_field, printable_global_field}
 use Rattle.wat_print_module.specs.Laws.Body.{field_ends_expression}
@@ -114,7 +115,8 @@ defined_well_formed t (imported i) f =
     (global_well_formed t a.0)
 defined_well_formed t (inline x) f =
     let a = and_parts (printable_global t) (printable_expression x) f in
-    well_formed_both (spell_global t) (spell_expression x) (global_well_formed t a.0) (expression_well_formed x a.1)
+    well_formed_both (spell_global t) (spell_expression x) (global_well_formed t a.0)
+    (expression_well_formed x a.1)
 
 -- ---- globals
 
@@ -140,7 +142,8 @@ global_field_well_formed g f =
     let a = and_parts (printable_head g.head) (printable_defined_global (g.ty, g.kind)) f in
     let c = spell_defined_global (g.ty, g.kind) in
     well_formed_word (codes "global") (spell_head g.head ++ c) refl
-    (well_formed_both (spell_head g.head) c (head_well_formed g.head a.0) (defined_well_formed g.ty g.kind a.1))
+    (well_formed_both (spell_head g.head) c (head_well_formed g.head a.0)
+    (defined_well_formed g.ty g.kind a.1))
 
 -- ---- what a text spells can be written
 
@@ -165,6 +168,7 @@ defined_only =
 pub global_field_only : OnlyPrintable global printable_global_field
 unfolding global
 global_field_only =
-    only_after (codes "global") (only_made (λ _. true) (λ v. global_of v.0 v.1) printable_global_field
+    only_after (codes "global")
+    (only_made (λ _. true) (λ v. global_of v.0 v.1) printable_global_field
     (only_weaker (λ v. printable_global_field (global_of v.0 v.1)) (λ v h. h)
     (only_seq head_only defined_only)))

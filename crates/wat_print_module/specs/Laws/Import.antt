@@ -13,27 +13,27 @@ use Rattle.wat_links.specs.Import.{ItemsTy, single, group1, group2, ImportsTy, i
 use Rattle.wat_links.specs.Import.{item_follows, shared_sig, single_item, typed_list, named_list}
 use Rattle.wat_links.specs.Import.{typed_items, named_items, typed, import_choice}
 use Rattle.wat_links.specs.ImportItem.{sig_group, typed_item, named_item}
-use Rattle.wat_links.specs.Item.{ItemKindTy, func, SigTy}
-use Rattle.wat_links.specs.Item.{item_sig}
+use Rattle.wat_links.specs.Item.{ItemKindTy, func, SigTy, item_sig}
 use Rattle.wat_links.specs.ItemForms.{ItemsSpells}
 use Rattle.wat_links.specs.Laws.Forms.{items_from}
 use Rattle.wat_links.specs.Laws.Import.{typed_item_consumes, named_item_consumes}
 use Rattle.wat_print.specs.WellFormed.{is_given, WellFormed}
 use Rattle.wat_print.specs.Parts.{each}
 use Rattle.wat_print.specs.Laws.Only.{OnlyPrintable, only_where, only_paren, only_many, only_seq}
-use Rattle.wat_print.specs.Laws.Only.{only_made}
-use Rattle.wat_print.specs.Laws.Only.{only_weaker, only_after, only_group}
+use Rattle.wat_print.specs.Laws.Only.{only_made, only_weaker, only_after, only_group}
 use Rattle.wat_print.specs.Laws.Parts.{Spells, paren_here, group_here, many_here, well_formed_word}
 use Rattle.wat_print.specs.Laws.Parts.{well_formed_group, well_formed_both, well_formed_each}
 use Rattle.wat_print_instr.specs.Laws.Places.{both_here}
-use Rattle.wat_print_module.specs.Import.{spell_typed, printable_typed, spell_named, printable_shared}
-use Rattle.wat_print_module.specs.Import.{spell_items, printable_items, spell_imports, printable_imports}
+use Rattle.wat_print_module.specs.Import.{spell_typed, printable_typed, spell_named}
+use Rattle.wat_print_module.specs.Import.{printable_shared, spell_items, printable_items}
+use Rattle.wat_print_module.specs.Import.{spell_imports, printable_imports}
 use Rattle.wat_print.specs.Label.{spell_label}
 use Rattle.wat_print.specs.Laws.Define.{after_here}
-use Rattle.wat_print_module.specs.Item.{item_word, spell_item, spell_sig, printable_sig, spell_sig_group}
+use Rattle.wat_print_module.specs.Item.{item_word, spell_item, spell_sig, printable_sig}
+use Rattle.wat_print_module.specs.Item.{spell_sig_group}
 use Rattle.wat_print.specs.Strings.{spell_string}
-use Rattle.wat_print_module.specs.Laws.Item.{sig_here, sig_group_here, sig_group_well_formed, sig_only}
-use Rattle.wat_print_module.specs.Laws.Item.{sig_group_only}
+use Rattle.wat_print_module.specs.Laws.Item.{sig_here, sig_group_here, sig_group_well_formed}
+use Rattle.wat_print_module.specs.Laws.Item.{sig_only, sig_group_only}
 use Rattle.wat_print.specs.Laws.Strings.{text_here, text_well_formed, text_only}
 use Rattle.wat_print_module.specs.Laws.Folded.{no_word, not_a_word}
 use Rattle.wat_print_module.specs.Laws.Strings.{is_shut, shut_no_word}
@@ -58,7 +58,8 @@ typed_list_here : (xs : List (List ℕ × SigTy)) (r : List Tok) → each printa
     → item_follows r ≡ false → typed_list.spells xs (flat_map spell_typed xs) r
 unfolding typed_list
 typed_list_here xs r f e =
-    many_here item_follows typed_item spell_typed printable_typed typed_here (λ v x o. refl) xs r f e
+    many_here item_follows typed_item spell_typed printable_typed typed_here
+    (λ v x o. refl) xs r f e
 
 -- no kind of item has the word `item`
 item_word_other : (k : ItemKindTy) (x : List Tok)
@@ -127,20 +128,24 @@ typed_well_formed x f =
     (sig_group_well_formed x.1 a.1))
 
 named_well_formed : (n : List ℕ) → is_utf8 n ≡ true → WellFormed (spell_named n)
-named_well_formed n f = well_formed_group (codes "item") (spell_string n) refl (text_well_formed n f)
+named_well_formed n f =
+    well_formed_group (codes "item") (spell_string n) refl (text_well_formed n f)
 
 items_well_formed : (v : ItemsTy) → printable_items v ≡ true → WellFormed (spell_items v)
 items_well_formed (single n s) f =
     let a = and_parts (is_utf8 n) (printable_sig s) f in
-    well_formed_both (spell_string n) (spell_sig_group s) (text_well_formed n a.0) (sig_group_well_formed s a.1)
-items_well_formed (group1 xs) f = well_formed_each spell_typed printable_typed typed_well_formed xs f
+    well_formed_both (spell_string n) (spell_sig_group s) (text_well_formed n a.0)
+    (sig_group_well_formed s a.1)
+items_well_formed (group1 xs) f =
+    well_formed_each spell_typed printable_typed typed_well_formed xs f
 items_well_formed (group2 s ns) f =
     let a = and_parts (each is_utf8 ns) (printable_shared s) f in
     let b = and_parts (is_none s.label.id) (printable_sig s) a.1 in
     well_formed_both (flat_map spell_named ns) (spell_sig_group s)
     (well_formed_each spell_named is_utf8 named_well_formed ns a.0) (sig_group_well_formed s b.1)
 
-pub imports_well_formed : (v : ImportsTy) → printable_imports v ≡ true → WellFormed (spell_imports v)
+pub imports_well_formed : (v : ImportsTy) → printable_imports v ≡ true
+    → WellFormed (spell_imports v)
 imports_well_formed v f =
     let a = and_parts (is_utf8 v.from) (printable_items v.items) f in
     well_formed_word (codes "import") (String v.from ∷ spell_items v.items) refl
@@ -152,14 +157,16 @@ imports_well_formed v f =
 typed_only : OnlyPrintable typed_item printable_typed
 unfolding typed_item
 typed_only =
-    only_group (codes "item") (only_weaker printable_typed (λ v h. h) (only_seq text_only sig_group_only))
+    only_group (codes "item")
+    (only_weaker printable_typed (λ v h. h) (only_seq text_only sig_group_only))
 
 named_only : OnlyPrintable named_item is_utf8
 unfolding named_item
 named_only = only_group (codes "item") text_only
 
 shared_holds : (s : SigTy) (c r : List Tok) → each is_given c ≡ true
-    → (made_where (λ s. is_none s.label.id) (λ s. s) item_sig).spells s c r → printable_shared s ≡ true
+    → (made_where (λ s. is_none s.label.id) (λ s. s) item_sig).spells s c r
+    → printable_shared s ≡ true
 shared_holds s c r a p = rw (← p.3, p.2) (sig_only.holds p.0 c r a p.1)
 
 shared_only : OnlyPrintable shared_sig printable_shared

@@ -19,8 +19,7 @@ use Rattle.wat_links.specs.ImportItem.{sig_group}
 use Rattle.wat_links.specs.Item.{ItemKindTy, func, table, memory, global, tag, exact_func, SigTy}
 use Rattle.wat_links.specs.Item.{sig_of, func_use, func_kind, item_of, global_or_tag, item_sig}
 use Rattle.wat_print.specs.Label.{spell_label, printable_label}
-use Rattle.wat_print.specs.Limits.{spell_memory_type}
-use Rattle.wat_print.specs.Limits.{spell_table_type}
+use Rattle.wat_print.specs.Limits.{spell_memory_type, spell_table_type}
 use Rattle.wat_print.specs.WellFormed.{is_keyword, WellFormed}
 use Rattle.wat_print.specs.Parts.{spell_flag}
 use Rattle.wat_print.specs.Storage.{spell_global}
@@ -30,16 +29,15 @@ use Rattle.wat_print.specs.Laws.Limits.{EndsMemory, memory_type_here, memory_typ
 use Rattle.wat_print.specs.Laws.Limits.{memory_type_only, table_type_here, table_type_well_formed}
 use Rattle.wat_print.specs.Laws.Limits.{table_type_only}
 use Rattle.wat_print.specs.Laws.Only.{OnlyPrintable, only_where, only_paren, only_seq, only_made}
-use Rattle.wat_print.specs.Laws.Only.{only_weaker}
-use Rattle.wat_print.specs.Laws.Only.{only_after, only_group}
-use Rattle.wat_print.specs.Laws.Parts.{paren_here, group_here, well_formed_word, well_formed_group, well_formed_paren}
-use Rattle.wat_print.specs.Laws.Parts.{well_formed_both}
+use Rattle.wat_print.specs.Laws.Only.{only_weaker, only_after, only_group}
+use Rattle.wat_print.specs.Laws.Parts.{paren_here, group_here, well_formed_word, well_formed_group}
+use Rattle.wat_print.specs.Laws.Parts.{well_formed_paren, well_formed_both}
 use Rattle.wat_print.specs.Laws.Storage.{EndsGlobal, global_here, global_well_formed, global_only}
 use Rattle.wat_print.specs.Laws.Use.{EndsUse, use_here, use_well_formed, use_only}
 use Rattle.wat_print.specs.Laws.Define.{after_here}
 use Rattle.wat_print_instr.specs.Laws.Places.{both_here}
-use Rattle.wat_print_module.specs.Item.{item_word, spell_item, printable_item, spell_sig, printable_sig}
-use Rattle.wat_print_module.specs.Item.{spell_sig_group}
+use Rattle.wat_print_module.specs.Item.{item_word, spell_item, printable_item, spell_sig}
+use Rattle.wat_print_module.specs.Item.{printable_sig, spell_sig_group}
 use Rattle.wat_print_module.specs.Laws.Folded.{no_word, not_a_word}
 use Rattle.wat_print_module.specs.Laws.Fronts.{use_alone_first, global_first}
 use Rattle.wat_print_module.specs.Laws.Strings.{is_shut}
@@ -155,7 +153,8 @@ item_here w k l v d r e f i n s = (
   refl,
 )
 
-func_here : (l : Label) (u : UseTy FuncTy) (r : List Tok) → printable_label l ≡ true → printable_use u ≡ true
+func_here : (l : Label) (u : UseTy FuncTy) (r : List Tok) → printable_label l ≡ true
+    → printable_use u ≡ true
     → EndsSig r → item_sig.spells (sig_of l (func u)) (spell_sig (sig_of l (func u))) r
 unfolding item_sig func_kind
 func_here l u r f g e =
@@ -166,7 +165,8 @@ func_here l u r f g e =
           (inr (use_no_exact u r e.no_exact, (u, use_here u r g e.of_use, refl, refl))),
     )
 
-exact_here : (l : Label) (u : UseTy FuncTy) (r : List Tok) → printable_label l ≡ true → printable_use u ≡ true
+exact_here : (l : Label) (u : UseTy FuncTy) (r : List Tok) → printable_label l ≡ true
+    → printable_use u ≡ true
     → EndsSig r → item_sig.spells (sig_of l (exact_func u)) (spell_sig (sig_of l (exact_func u))) r
 unfolding item_sig func_kind
 exact_here l u r f g e =
@@ -186,7 +186,8 @@ exact_here l u r f g e =
           )),
     )
 
-sig_by : (l : Label) (k : ItemKindTy) (r : List Tok) → printable_label l ≡ true → printable_item k ≡ true
+sig_by : (l : Label) (k : ItemKindTy) (r : List Tok) → printable_label l ≡ true
+    → printable_item k ≡ true
     → EndsSig r → item_sig.spells (sig_of l k) (spell_sig (sig_of l k)) r
 unfolding item_sig global_or_tag
 sig_by l (func u) r f g e = func_here l u r f g e
@@ -266,7 +267,8 @@ item_well_formed (table t) f = table_type_well_formed t f
 item_well_formed (memory m) f = memory_type_well_formed m f
 item_well_formed (global g) f = global_well_formed g f
 item_well_formed (tag u) f = use_well_formed u f
-item_well_formed (exact_func u) f = well_formed_group (codes "exact") (spell_use u) refl (use_well_formed u f)
+item_well_formed (exact_func u) f =
+    well_formed_group (codes "exact") (spell_use u) refl (use_well_formed u f)
 
 item_word_printable : (k : ItemKindTy) → is_keyword (item_word k) ≡ true
 item_word_printable (func u) = refl
@@ -275,7 +277,8 @@ item_word_printable _ = refl
 pub sig_well_formed : (s : SigTy) → printable_sig s ≡ true → WellFormed (spell_sig s)
 sig_well_formed s f =
     let a = and_parts (printable_label s.label) (printable_item s.kind) f in
-    well_formed_word (item_word s.kind) (spell_label s.label ++ spell_item s.kind) (item_word_printable s.kind)
+    well_formed_word (item_word s.kind) (spell_label s.label ++ spell_item s.kind)
+    (item_word_printable s.kind)
     (well_formed_both (spell_label s.label) (spell_item s.kind) (label_well_formed s.label a.0)
     (item_well_formed s.kind a.1))
 
@@ -284,10 +287,12 @@ sig_group_well_formed s f = well_formed_paren (spell_sig s) (sig_well_formed s f
 
 -- ---- what a text spells can be written
 
-item_only : (w : List ℕ) (k : Production ItemKindTy) → OnlyPrintable k printable_item → OnlyPrintable (item_of w k) printable_sig
+item_only : (w : List ℕ) (k : Production ItemKindTy) → OnlyPrintable k printable_item
+    → OnlyPrintable (item_of w k) printable_sig
 item_only w k m =
     only_made (λ _. true) (λ v. sig_of v.0 v.1) printable_sig
-    (only_weaker (λ v. printable_sig (sig_of v.0 v.1)) (λ v h. h) (only_after w (only_seq label_only m)))
+    (only_weaker (λ v. printable_sig (sig_of v.0 v.1)) (λ v h. h)
+    (only_after w (only_seq label_only m)))
 
 func_kind_only : OnlyPrintable func_kind printable_item
 unfolding func_kind

@@ -16,17 +16,16 @@ use Rattle.wat_fields.specs.Local.{LocalTy, local_of, labelled_local, plain_loca
 use Rattle.wat_fields.specs.Local.{listed_locals, local_parser, local_group, local_follows}
 use Rattle.wat_fields.specs.Locals.{locals}
 use Rattle.wat_instr.specs.Laws.Sees.{fails_at_end}
-use Rattle.wat_print.specs.Label.{spell_label, printable_label, none_labelled}
-use Rattle.wat_print.specs.Label.{by_itself}
+use Rattle.wat_print.specs.Label.{spell_label, printable_label, none_labelled, by_itself}
 use Rattle.wat_print.specs.WellFormed.{WellFormed}
 use Rattle.wat_print.specs.Parts.{each}
 use Rattle.wat_print.specs.Reference.{spell_val, printable_val}
 use Rattle.wat_print.specs.Laws.Label.{label_here, label_well_formed, label_only}
 use Rattle.wat_print.specs.Laws.Only.{OnlyPrintable, only_where, only_many, only_seq, only_made}
-use Rattle.wat_print.specs.Laws.Only.{only_weaker}
-use Rattle.wat_print.specs.Laws.Only.{only_paren, only_after}
+use Rattle.wat_print.specs.Laws.Only.{only_weaker, only_paren, only_after}
 use Rattle.wat_print.specs.Laws.Parts.{Spells, paren_here, many_here, well_formed_word}
-use Rattle.wat_print.specs.Laws.Parts.{well_formed_group, well_formed_both, well_formed_each, each_all, and_also}
+use Rattle.wat_print.specs.Laws.Parts.{well_formed_group, well_formed_both, well_formed_each}
+use Rattle.wat_print.specs.Laws.Parts.{each_all, and_also}
 use Rattle.wat_print.specs.Laws.Reference.{val_here, val_well_formed, val_only, val_more, val_no_id}
 use Rattle.wat_print.specs.Laws.Reference.{val_no_name}
 use Rattle.wat_print.specs.Laws.Define.{after_here}
@@ -113,7 +112,8 @@ plain_here ls r f e =
 
 -- ---- locals of one group
 
-all_plain : (ls : List LocalTy) → none_labelled local_label ls ≡ true → each printable_local ls ≡ true
+all_plain : (ls : List LocalTy) → none_labelled local_label ls ≡ true
+    → each printable_local ls ≡ true
     → each is_plain ls ≡ true
 all_plain [] u f = refl
 all_plain (l ∷ ls) u f =
@@ -147,7 +147,8 @@ local_parser_here ls r f e =
 listed_well_formed : (l : LocalTy) → printable_local l ≡ true → WellFormed (spell_listed l)
 listed_well_formed l f =
     let a = and_parts (printable_label l.label) (printable_val l.ty) f in
-    well_formed_both (spell_label l.label) (spell_val l.ty) (label_well_formed l.label a.0) (val_well_formed l.ty a.1)
+    well_formed_both (spell_label l.label) (spell_val l.ty) (label_well_formed l.label a.0)
+    (val_well_formed l.ty a.1)
 
 pub local_parser_well_formed : (ls : List LocalTy) → printable_local_parser ls ≡ true
     → WellFormed (spell_local_parser ls)
@@ -190,7 +191,8 @@ pub locals_here : (ls : List LocalTy) (r : List Tok) → printable_locals ls ≡
 unfolding locals
 locals_here ls r f e = (map by_itself ls, locals_many ls r f e, refl, each_alone ls)
 
-pub locals_well_formed : (ls : List LocalTy) → printable_locals ls ≡ true → WellFormed (spell_locals ls)
+pub locals_well_formed : (ls : List LocalTy) → printable_locals ls ≡ true
+    → WellFormed (spell_locals ls)
 locals_well_formed ls f =
     well_formed_each spell_local printable_local
     (λ l h. (well_formed_group (codes "local") (spell_listed l) refl (listed_well_formed l h))) ls f
@@ -223,7 +225,8 @@ local_parser_only =
     only_after (codes "local") (only_where begins_label
     (only_made (λ _. true) (λ v. local_of v.0 v.1 ∷ []) printable_local_parser
     (only_weaker (λ v. printable_local_parser (local_of v.0 v.1 ∷ []))
-    (λ v h. (and_also (printable_label v.0 && printable_val v.1) h)) (only_seq label_only val_only)))
+    (λ v h. (and_also (printable_label v.0 && printable_val v.1) h))
+    (only_seq label_only val_only)))
     (only_weaker printable_local_parser plain_printable
     (only_many more val_type_consumes
     (only_made (λ _. true) (local_of no_label) is_plain val_only))))
@@ -239,5 +242,6 @@ pub locals_only : OnlyPrintable locals printable_locals
 unfolding locals
 locals_only =
     only_made (λ _. true) (λ gs. all_of gs) printable_locals
-    (only_weaker (λ gs. printable_locals (all_of gs)) (λ gs h. (each_all printable_local gs (groups_printable gs h)))
+    (only_weaker (λ gs. printable_locals (all_of gs))
+    (λ gs h. (each_all printable_local gs (groups_printable gs h)))
     (only_many local_follows local_group_consumes (only_paren local_parser_only)))

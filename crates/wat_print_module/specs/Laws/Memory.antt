@@ -7,8 +7,7 @@ use Rattle.wat_lexer.specs.Token.{Tok, LParen, RParen, Keyword, Integer}
 use Rattle.wat_tokens.specs.Groups.{group}
 use Rattle.wat_tokens.specs.NameAnnotation.{begins_name}
 use Rattle.wat_tokens.specs.Parts.{seq, made}
-use Rattle.wat_tokens.specs.Tests.{begins_word, begins_id}
-use Rattle.wat_tokens.specs.Tests.{ends}
+use Rattle.wat_tokens.specs.Tests.{begins_word, begins_id, ends}
 use Rattle.wat_types.specs.Limits.{is_64, pagesize, pagesize_or_none, memory_type}
 use Rattle.wat_types.specs.declared.limits.MemoryType.{MemoryType}
 use Rattle.wat_links.specs.Export.{begins_inline_export}
@@ -27,12 +26,12 @@ use Rattle.wat_print.specs.Laws.Limits.{memory_type_only, width_here, page_part,
 use Rattle.wat_print.specs.Laws.Limits.{page_only}
 use Rattle.wat_print.specs.Laws.Only.{OnlyPrintable, only_any, only_where, only_seq, only_made}
 use Rattle.wat_print.specs.Laws.Only.{only_after, only_group}
-use Rattle.wat_print.specs.Laws.Parts.{group_here, well_formed_word}
-use Rattle.wat_print.specs.Laws.Parts.{well_formed_both, well_formed_group, well_formed_flag, well_formed_option}
+use Rattle.wat_print.specs.Laws.Parts.{group_here, well_formed_word, well_formed_both}
+use Rattle.wat_print.specs.Laws.Parts.{well_formed_group, well_formed_flag, well_formed_option}
 use Rattle.wat_print.specs.Laws.Define.{after_here}
 use Rattle.wat_print_instr.specs.Laws.Places.{both_here}
-use Rattle.wat_print_module.specs.FieldHead.{spell_inline_import, printable_inline_import, spell_head}
-use Rattle.wat_print_module.specs.FieldHead.{printable_head}
+use Rattle.wat_print_module.specs.FieldHead.{spell_inline_import, printable_inline_import}
+use Rattle.wat_print_module.specs.FieldHead.{spell_head, printable_head}
 use Rattle.wat_print_module.specs.Memory.{spell_memory_kind, printable_memory_kind, spell_memory}
 use Rattle.wat_print_module.specs.Memory.{printable_memory}
 use Rattle.wat_print_module.specs.Segments.{printable_data_val, spell_data_vals}
@@ -183,7 +182,8 @@ memory_here m r f e =
 
 -- ---- they can be written
 
-kind_well_formed : (k : MemoryKindTy) → printable_memory_kind k ≡ true → WellFormed (spell_memory_kind k)
+kind_well_formed : (k : MemoryKindTy) → printable_memory_kind k ≡ true
+    → WellFormed (spell_memory_kind k)
 kind_well_formed (imported i t) f =
     let a = and_parts (printable_inline_import i) (printable_memory_type t) f in
     well_formed_both (spell_inline_import i) (spell_memory_type t) (inline_import_well_formed i a.0)
@@ -193,7 +193,8 @@ kind_well_formed (inline wide o d) f =
     let a = and_parts (if_some is_exponent o) (each printable_data_val d) f in
     let s = spell_option spell_page_size o in
     let x = grouped (codes "data") (spell_data_vals d) in
-    well_formed_both (spell_flag (codes "i64") wide) (s ++ x) (well_formed_flag (codes "i64") wide refl)
+    well_formed_both (spell_flag (codes "i64") wide) (s ++ x)
+    (well_formed_flag (codes "i64") wide refl)
     (well_formed_both s x (well_formed_option spell_page_size is_exponent o page_well_formed a.0)
     (well_formed_group (codes "data") (spell_data_vals d) refl (data_vals_well_formed d a.1)))
 
@@ -202,7 +203,8 @@ memory_well_formed m f =
     let a = and_parts (printable_head m.head) (printable_memory_kind m.kind) f in
     let k = spell_memory_kind m.kind in
     well_formed_word (codes "memory") (spell_head m.head ++ k) refl
-    (well_formed_both (spell_head m.head) k (head_well_formed m.head a.0) (kind_well_formed m.kind a.1))
+    (well_formed_both (spell_head m.head) k (head_well_formed m.head a.0)
+    (kind_well_formed m.kind a.1))
 
 -- ---- what a text spells can be written
 

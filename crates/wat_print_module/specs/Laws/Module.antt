@@ -2,7 +2,7 @@
 use Rattle.std.specs.Prelude.{◌≡◌, ℕ, Bool, true, false, ◌&&◌, List, [], ◌∷◌, ◌++◌, codes, flat_map}
 use Rattle.std.specs.Prelude.{Option, Some, None, zero, suc, slice_get}
 use Rattle.std.proofs.Common.{refl, inl, inr, lit≤, append_assoc, subst, sym}
-use Rattle.std.proofs.lemmas.Bool.{and_parts}
+use Rattle.std.proofs.lemmas.Bool.{and_parts, and_right}
 use Rattle.wat_lexer.specs.Token.{Tok, LParen, RParen}
 use Rattle.wat_tokens.specs.Groups.{paren}
 use Rattle.wat_tokens.specs.NameAnnotation.{begins_name}
@@ -26,25 +26,22 @@ use Rattle.wat_print.specs.WellFormed.{WellFormed}
 use Rattle.wat_print.specs.Parts.{each}
 use Rattle.wat_print.specs.Laws.Label.{label_here, label_well_formed, label_only}
 use Rattle.wat_print.specs.Laws.Only.{OnlyPrintable, only_where, only_many, only_seq, only_made}
-use Rattle.wat_print.specs.Laws.Only.{only_after}
-use Rattle.wat_print.specs.Laws.Only.{only_weaker, only_paren}
-use Rattle.wat_print.specs.Laws.Parts.{Spells, paren_here, many_here, well_formed_word, well_formed_both}
-use Rattle.wat_print.specs.Laws.Parts.{well_formed_each, well_formed_paren}
+use Rattle.wat_print.specs.Laws.Only.{only_after, only_weaker, only_paren}
+use Rattle.wat_print.specs.Laws.Parts.{Spells, paren_here, many_here, well_formed_word}
+use Rattle.wat_print.specs.Laws.Parts.{well_formed_both, well_formed_each, well_formed_paren}
 use Rattle.wat_print.specs.Laws.Printed.{cut_back, unspelled}
 use Rattle.wat_print.specs.Laws.Define.{after_here}
 use Rattle.wat_print_instr.specs.Laws.Places.{both_here}
-use Rattle.wat_print_module.specs.Field.{spell_module_field, printable_module_field, spell_field_group}
+use Rattle.wat_print_module.specs.Field.{spell_module_field, printable_module_field}
+use Rattle.wat_print_module.specs.Field.{spell_field_group}
 use Rattle.wat_print_module.specs.Module.{spell_module_kind, printable_module_kind, spell_module}
 use Rattle.wat_print_module.specs.Module.{printable_module, spell_module_group, fields_of_kind}
 use Rattle.wat_print_module.specs.Module.{UnprintableField, UnprintablePart, NonePart}
 use Rattle.wat_print.specs.Strings.{spell_string, printable_string}
-use Rattle.wat_print_module.specs.Laws.Field.{fields_here, field_group_well_formed, field_group_only}
+use Rattle.wat_print_module.specs.Laws.Field.{fields_here, field_group_well_formed}
+use Rattle.wat_print_module.specs.Laws.Field.{field_group_only}
 use Rattle.wat_print_module.specs.Laws.Folded.{no_word}
 use Rattle.wat_print.specs.Laws.Strings.{string_here, string_well_formed, string_only}
-
-after_false : (a b : Bool) → b ≡ false → a && b ≡ false
-after_false true b e = e
-after_false false b e = refl
 
 -- ---- what is in front
 
@@ -143,8 +140,10 @@ module_group_here m f r =
 
 -- ---- they can be written
 
-kind_well_formed : (k : ModuleKindTy) → printable_module_kind k ≡ true → WellFormed (spell_module_kind k)
-kind_well_formed (text fs) f = well_formed_each spell_field_group printable_module_field field_group_well_formed fs f
+kind_well_formed : (k : ModuleKindTy) → printable_module_kind k ≡ true
+    → WellFormed (spell_module_kind k)
+kind_well_formed (text fs) f =
+    well_formed_each spell_field_group printable_module_field field_group_well_formed fs f
 kind_well_formed (binary ss) f =
     well_formed_word (codes "binary") (flat_map spell_string ss) refl
     (well_formed_each spell_string printable_string string_well_formed ss f)
@@ -153,10 +152,12 @@ pub module_well_formed : (m : ModuleTy) → printable_module m ≡ true → Well
 module_well_formed m f =
     let a = and_parts (printable_label m.label) (printable_module_kind m.kind) f in
     well_formed_word (codes "module") (spell_label m.label ++ spell_module_kind m.kind) refl
-    (well_formed_both (spell_label m.label) (spell_module_kind m.kind) (label_well_formed m.label a.0)
+    (well_formed_both (spell_label m.label) (spell_module_kind m.kind)
+    (label_well_formed m.label a.0)
     (kind_well_formed m.kind a.1))
 
-pub module_group_well_formed : (m : ModuleTy) → printable_module m ≡ true → WellFormed (spell_module_group m)
+pub module_group_well_formed : (m : ModuleTy) → printable_module m ≡ true
+    → WellFormed (spell_module_group m)
 module_group_well_formed m f = well_formed_paren (spell_module m) (module_well_formed m f)
 
 -- the text of what was written on a new page
@@ -202,7 +203,8 @@ get_unprintable (g ∷ fs) zero f e h =
     let k : printable_module_field g ≡ false =
     subst (λ (v : ModuleFieldTy). printable_module_field v ≡ false) (sym same) h in rw k refl
 get_unprintable (g ∷ fs) (suc i) f e h =
-    after_false (printable_module_field g) (each printable_module_field fs) (get_unprintable fs i f e h)
+    and_right (printable_module_field g) (each printable_module_field fs)
+    (get_unprintable fs i f e h)
 
 kind_unprintable : (k : ModuleKindTy) (i : ℕ) → UnprintableField (fields_of_kind k) (Some i)
     → printable_module_kind k ≡ false
@@ -210,13 +212,19 @@ kind_unprintable (text fs) i u = get_unprintable fs i u.0 u.1 u.2
 kind_unprintable (binary ss) i u = absurd cc
 
 -- where a part can't be written, the module can't
-pub part_unprintable : (m : ModuleTy) (o : Option ℕ) → UnprintablePart m o → printable_module m ≡ false
+pub part_unprintable : (m : ModuleTy) (o : Option ℕ) → UnprintablePart m o
+    → printable_module m ≡ false
 part_unprintable m (Some i) u =
-    after_false (printable_label m.label) (printable_module_kind m.kind) (kind_unprintable m.kind i u)
+    and_right (printable_label m.label) (printable_module_kind m.kind)
+    (kind_unprintable m.kind i u)
 part_unprintable m None u = rw u refl
 
 -- no text spells it then
 pub part_none : (m : ModuleTy) (o : Option ℕ) → UnprintablePart m o → NonePart m o
-part_none m (Some i) u =
-    (u.0, u.1, unspelled field_group u.0 (printable_module_field u.0) u.2 (field_group_only.holds u.0))
+part_none m (Some i) u = (
+  u.0,
+  u.1,
+  unspelled field_group u.0 (printable_module_field u.0) u.2
+      (field_group_only.holds u.0),
+)
 part_none m None u = unspelled label m.label (printable_label m.label) u (label_only.holds m.label)

@@ -21,19 +21,19 @@ use Rattle.wat_links.specs.Producers.{with_entries, fields_of, producers}
 use Rattle.wat_links.specs.Laws.Producers.{producer_entry_consumes}
 use Rattle.wat_print.specs.WellFormed.{is_keyword, WellFormed, nothing}
 use Rattle.wat_print.specs.Parts.{each}
-use Rattle.wat_print.specs.Laws.Only.{OnlyPrintable, only_any, only_paren, only_many, only_seq, only_made}
-use Rattle.wat_print.specs.Laws.Only.{only_weaker}
+use Rattle.wat_print.specs.Laws.Only.{OnlyPrintable, only_any, only_paren, only_many, only_seq}
+use Rattle.wat_print.specs.Laws.Only.{only_made, only_weaker}
 use Rattle.wat_print.specs.Laws.Parts.{Spells, paren_here, well_formed_group, well_formed_both}
 use Rattle.wat_print.specs.Laws.Parts.{well_formed_each}
 use Rattle.wat_print_instr.specs.Laws.Places.{both_here}
 use Rattle.wat_print_module.specs.Producers.{ProducedTy, spell_produced, spell_produced_field}
-use Rattle.wat_print_module.specs.Producers.{spell_producers, printable_versioned, printable_produced_field}
-use Rattle.wat_print_module.specs.Producers.{field_of_word, fields_behind, printable_in_turn}
-use Rattle.wat_print_module.specs.Producers.{printable_producers}
+use Rattle.wat_print_module.specs.Producers.{spell_producers, printable_versioned}
+use Rattle.wat_print_module.specs.Producers.{printable_produced_field, field_of_word, fields_behind}
+use Rattle.wat_print_module.specs.Producers.{printable_in_turn, printable_producers}
 use Rattle.wat_print.specs.Strings.{spell_string}
 use Rattle.wat_print.specs.Laws.Strings.{text_here, text_well_formed, text_only}
-use Rattle.wat_print_module.specs.Laws.Strings.{annotated_here, only_annotated, well_formed_annotated}
-use Rattle.wat_print_module.specs.Laws.Strings.{producers_annotation}
+use Rattle.wat_print_module.specs.Laws.Strings.{annotated_here, only_annotated}
+use Rattle.wat_print_module.specs.Laws.Strings.{well_formed_annotated, producers_annotation}
 
 -- ---- the words of fields
 
@@ -211,7 +211,8 @@ Entries w fs =
     (xs : List Versioned) × (field_of_word w fs ≡ with_entries w xs) × (each printable_versioned xs
     ≡ true)
 
-filled : (w : List ℕ) (xs : List Versioned) → not (no_items xs) && each printable_versioned xs ≡ true
+filled : (w : List ℕ) (xs : List Versioned)
+    → not (no_items xs) && each printable_versioned xs ≡ true
     → (w, xs) ∷ [] ≡ with_entries w xs
 filled w [] h = absurd cc
 filled w (x ∷ xs) h = refl
@@ -256,11 +257,14 @@ threes fs h =
     let p = codes "processed-by" in
     let gs = fields_behind l fs in
     let hs = fields_behind s gs in
-    let a = and_parts (each printable_produced_field (field_of_word l fs)) (printable_in_turn (s ∷ p ∷ []) gs) h
+    let a = and_parts (each printable_produced_field (field_of_word l fs))
+    (printable_in_turn (s ∷ p ∷ []) gs) h
     in
-    let b = and_parts (each printable_produced_field (field_of_word s gs)) (printable_in_turn (p ∷ []) hs) a.1
+    let b = and_parts (each printable_produced_field (field_of_word s gs))
+    (printable_in_turn (p ∷ []) hs) a.1
     in
-    let c = and_parts (each printable_produced_field (field_of_word p hs)) (no_items (fields_behind p hs))
+    let c =
+    and_parts (each printable_produced_field (field_of_word p hs)) (no_items (fields_behind p hs))
     b.1 in
     let x = entries_there l fs a.0 in
     let y = entries_there s gs b.0 in
@@ -309,15 +313,18 @@ producers_here fs r f e =
 
 -- ---- they can be written
 
-produced_well_formed : (w : List ℕ) → is_keyword w ≡ true → (x : Versioned) → printable_versioned x ≡ true
+produced_well_formed : (w : List ℕ) → is_keyword w ≡ true → (x : Versioned)
+    → printable_versioned x ≡ true
     → WellFormed (spell_produced w x)
 produced_well_formed w k x f =
     let a = and_parts (is_utf8 x.0) (is_utf8 x.1) f in
     well_formed_group w (spell_string x.0 ++ spell_string x.1) k
-    (well_formed_both (spell_string x.0) (spell_string x.1) (text_well_formed x.0 a.0) (text_well_formed x.1 a.1))
+    (well_formed_both (spell_string x.0) (spell_string x.1) (text_well_formed x.0 a.0)
+    (text_well_formed x.1 a.1))
 
 entries_well_formed : (w : List ℕ) → is_keyword w ≡ true → (xs : List Versioned) (d : List Tok)
-    → each printable_versioned xs ≡ true → WellFormed d → WellFormed (flat_map (spell_produced w) xs ++ d)
+    → each printable_versioned xs ≡ true → WellFormed d
+    → WellFormed (flat_map (spell_produced w) xs ++ d)
 entries_well_formed w k xs d f n =
     well_formed_both (flat_map (spell_produced w) xs) d
     (well_formed_each (spell_produced w) printable_versioned (produced_well_formed w k) xs f) n
@@ -330,11 +337,13 @@ producers_well_formed fs f =
     let c = flat_map (spell_produced (codes "processed-by")) t.processors in
     let same = ap (λ (gs : List ProducedTy). flat_map spell_produced_field gs) t.are
     ∙ spelled_are t.languages t.sdks t.processors in
-    well_formed_annotated (codes "producers") (flat_map spell_produced_field fs) producers_annotation refl
+    well_formed_annotated (codes "producers") (flat_map spell_produced_field fs)
+    producers_annotation refl
     (subst (λ (d : List Tok). WellFormed d) (sym same)
     (entries_well_formed (codes "language") refl t.languages (b ++ (c ++ [])) t.printable_languages
     (entries_well_formed (codes "sdk") refl t.sdks (c ++ []) t.printable_sdks
-    (entries_well_formed (codes "processed-by") refl t.processors [] t.printable_processors nothing))))
+    (entries_well_formed (codes "processed-by") refl t.processors []
+    t.printable_processors nothing))))
 
 -- ---- what a text spells can be written
 
@@ -344,7 +353,8 @@ entry_only =
     only_paren (only_weaker (λ e. printable_versioned e.1) (λ v h. h)
     (only_seq (only_any field_word) (only_seq text_only text_only)))
 
-field_printable : (k : ProducerField) (es : List ProducerTy) → each (λ e. printable_versioned e.1) es ≡ true
+field_printable : (k : ProducerField) (es : List ProducerTy)
+    → each (λ e. printable_versioned e.1) es ≡ true
     → each printable_versioned (field_entries k es) ≡ true
 field_printable k [] h = refl
 field_printable k (e ∷ es) h =
@@ -352,7 +362,8 @@ field_printable k (e ∷ es) h =
     by_test (same_field e.0 k) (λ s. (rw (s, a.0) (field_printable k es a.1)))
     (λ s. (rw s (field_printable k es a.1)))
 
-turn_printable : (xs ys zs : List Versioned) → each printable_versioned xs ≡ true → each printable_versioned ys ≡ true
+turn_printable : (xs ys zs : List Versioned) → each printable_versioned xs ≡ true
+    → each printable_versioned ys ≡ true
     → each printable_versioned zs ≡ true
     → printable_producers ((with_entries (codes "language") xs ++ with_entries (codes "sdk") ys)
     ++ with_entries (codes "processed-by") zs) ≡ true

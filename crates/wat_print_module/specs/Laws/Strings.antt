@@ -1,6 +1,5 @@
 -- Laws: strings of bytes and annotations are read again, and what stands behind groups.
-use Rattle.std.specs.Prelude.{◌≡◌, ℕ, ◌<◌, Bool, true, false, List, [], ◌∷◌}
-use Rattle.std.specs.Prelude.{codes, slice_index}
+use Rattle.std.specs.Prelude.{◌≡◌, ℕ, ◌<◌, Bool, true, false, List, [], ◌∷◌, codes, slice_index}
 use Rattle.std.specs.Str.{is_utf8, bytes_eq}
 use Rattle.std.proofs.Common.{refl, rules}
 use Rattle.std.proofs.lemmas.Str.{is_utf8-from_IsUtf8, IsUtf8-from_ascii}
@@ -26,7 +25,8 @@ annotated_here n g v d r e s = (
   refl,
 )
 
-pub only_annotated : {A : Type 0} {g : Production A} {printable : A → Bool} (n : List ℕ) → OnlyPrintable g printable
+pub only_annotated : {A : Type 0} {g : Production A} {printable : A → Bool} (n : List ℕ)
+    → OnlyPrintable g printable
     → OnlyPrintable (annotation n g) printable
 only_annotated {printable = printable} n m =
     only_made (λ _. true) (λ v. v.1) printable (only_seq (only_any (annotation_token n)) m)
@@ -52,7 +52,8 @@ dylink_ascii i = search (rules)
 pub dylink_annotation : is_name (codes "dylink.0") ≡ true
 dylink_annotation = ascii_name (codes "dylink.0") (λ i. (dylink_ascii i))
 
-pub well_formed_annotated : (n : List ℕ) (d : List Tok) → is_name n ≡ true → is_standard n ≡ true → WellFormed d
+pub well_formed_annotated : (n : List ℕ) (d : List Tok) → is_name n ≡ true → is_standard n ≡ true
+    → WellFormed d
     → WellFormed (in_parens (Annotation n ∷ d))
 well_formed_annotated n d f s m = noted n d [] f s m nothing
 

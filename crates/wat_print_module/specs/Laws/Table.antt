@@ -4,7 +4,7 @@ use Rattle.std.specs.Prelude.{[], ◌∷◌, ◌++◌, codes, decimal, flat_map,
 use Rattle.std.specs.Prelude.{get_or, ◌+◌, option_map}
 use Rattle.std.specs.Str.{bytes_eq}
 use Rattle.std.proofs.Common.{refl, ap, subst, sym, ◌∙◌, inl, inr}
-use Rattle.std.proofs.lemmas.Bool.{and_parts}
+use Rattle.std.proofs.lemmas.Bool.{and_parts, eqb-true}
 use Rattle.wat_lexer.specs.Token.{Tok, LParen, RParen, Keyword, Integer}
 use Rattle.wat_tokens.specs.Groups.{group}
 use Rattle.wat_tokens.specs.Index.{Idx, number, name}
@@ -34,30 +34,31 @@ use Rattle.wat_print.specs.Limits.{spell_number, spell_table_type, printable_tab
 use Rattle.wat_print.specs.WellFormed.{WellFormed}
 use Rattle.wat_print.specs.Parts.{grouped, spell_flag, spell_option, each, if_some}
 use Rattle.wat_print.specs.Reference.{short_word, spell_ref, printable_ref}
-use Rattle.wat_print.specs.Laws.Limits.{table_type_here, table_type_well_formed}
-use Rattle.wat_print.specs.Laws.Limits.{width_here}
-use Rattle.wat_print.specs.Laws.Parts.{flag_here, group_here, well_formed_word, well_formed_both, well_formed_group}
-use Rattle.wat_print.specs.Laws.Parts.{well_formed_flag, well_formed_option}
+use Rattle.wat_print.specs.Laws.Limits.{table_type_here, table_type_well_formed, width_here}
+use Rattle.wat_print.specs.Laws.Parts.{flag_here, group_here, well_formed_word, well_formed_both}
+use Rattle.wat_print.specs.Laws.Parts.{well_formed_group, well_formed_flag, well_formed_option}
 use Rattle.wat_print.specs.Laws.Reference.{ref_here, ref_well_formed}
 use Rattle.wat_print.specs.Laws.Define.{after_here}
 use Rattle.wat_print_instr.specs.ExpressionForm.{HintedInstr, step_of, spell_step, printable_step}
 use Rattle.wat_print_instr.specs.ExpressionForm.{steps_from, hint_for, hints_after}
 use Rattle.wat_print_instr.specs.ExpressionForm.{spell_expression, printable_expression}
 use Rattle.wat_print_instr.specs.InstructionForm.{passes}
-use Rattle.wat_print_instr.specs.Laws.Expression.{EndsExpression, expression_closed, expression_well_formed}
-use Rattle.wat_print_instr.specs.Laws.Numbers.{equal_by, same_number}
+use Rattle.wat_print_instr.specs.Laws.Expression.{EndsExpression, expression_closed}
+use Rattle.wat_print_instr.specs.Laws.Expression.{expression_well_formed, next_step}
+use Rattle.wat_print_instr.specs.Laws.Numbers.{same_number}
 use Rattle.wat_print_instr.specs.Laws.Places.{both_here}
-use Rattle.wat_print_module.specs.FieldHead.{spell_inline_import, printable_inline_import, spell_head}
-use Rattle.wat_print_module.specs.FieldHead.{printable_head}
+use Rattle.wat_print_module.specs.FieldHead.{spell_inline_import, printable_inline_import}
+use Rattle.wat_print_module.specs.FieldHead.{spell_head, printable_head}
 use Rattle.wat_print_module.specs.Table.{heap_number, same_flag, same_heap, same_ref}
 use Rattle.wat_print_module.specs.Table.{spell_elements, printable_elements, printable_initial}
-use Rattle.wat_print_module.specs.Table.{spell_table_kind, printable_table_kind, spell_table, printable_table}
+use Rattle.wat_print_module.specs.Table.{spell_table_kind, printable_table_kind, spell_table}
+use Rattle.wat_print_module.specs.Table.{printable_table}
 use Rattle.wat_print_module.specs.Laws.Elem.{of_ref, ref_not_word, ref_begins, items_here}
 use Rattle.wat_print_module.specs.Laws.Elem.{indices_here, items_well_formed, indices_well_formed}
 use Rattle.wat_print_module.specs.Laws.FieldHead.{EndsHead, head_here, head_well_formed}
 use Rattle.wat_print_module.specs.Laws.FieldHead.{inline_import_here, inline_import_well_formed}
-use Rattle.wat_print_module.specs.Laws.Folded.{next_is}
 use Rattle.wat_print_module.specs.Laws.Fronts.{no_export}
+use Rattle.wat_print_module.specs.Laws.Folded.{Steps}
 
 -- ---- types that are the same
 
@@ -99,7 +100,7 @@ same_heaps (abstract_ a t) (abstract_ b u) e =
     let p = and_parts (same_flag a b) (heap_number t == heap_number u) e in
     let q : t ≡ u =
     sym (heap_back t)
-    ∙ ap (λ (n : ℕ). get_or heaps n word.Func) (equal_by (heap_number t) (heap_number u) p.1)
+    ∙ ap (λ (n : ℕ). get_or heaps n word.Func) (eqb-true (heap_number t) (heap_number u) p.1)
     ∙ heap_back u in
     ap (λ (c : Bool). abstract_ c t) (same_flags a b p.0)
     ∙ ap (λ (s : AbstractHeapType). abstract_ b s) q
@@ -298,15 +299,12 @@ steps_more : (h : Option ℕ) (i : Instr) (o : Option (List HintedInstr)) (r : L
 steps_more h i (Some xs) r f = step_more h i (flat_map spell_step xs) r
 steps_more h i None r f = absurd cc
 
-abbrev Steps : Type 0
-Steps = Option (List HintedInstr)
-
 instrs_more : (is : List Instr) (hs : List (ℕ × ℕ)) (r : List Tok) → not (no_items is) ≡ true
     → passes (each printable_step) (steps_from 0 is hs) ≡ true
     → more (spell_option (flat_map spell_step) (steps_from 0 is hs) ++ r) ≡ true
 instrs_more [] hs r e f = absurd cc
 instrs_more (i ∷ is) hs r e f =
-    let same = next_is 0 i is hs in
+    let same = next_step 0 i is hs in
     subst (λ (o : Steps). more (spell_option (flat_map spell_step) o ++ r) ≡ true) (sym same)
     (steps_more (hint_for 0 hs) i (steps_from (0 + 1) is (hints_after 0 hs)) r
     (subst (λ (o : Steps). passes (each printable_step) o ≡ true) same f))
@@ -405,25 +403,29 @@ table_here t r f e =
 
 -- ---- they can be written
 
-elements_well_formed : (t : RefTy) (p : PayloadTy) → printable_elements t p ≡ true → WellFormed (spell_elements p)
+elements_well_formed : (t : RefTy) (p : PayloadTy) → printable_elements t p ≡ true
+    → WellFormed (spell_elements p)
 elements_well_formed t (indices is) f =
     indices_well_formed is (and_parts (is_funcref t) (each printable_index is) f).1
 elements_well_formed t (exprs u es) f =
     let a = and_parts (same_ref t u) _ f in
-    items_well_formed es (and_parts (not (is_funcref t && no_items es)) (each printable_expression es) a.1).1
+    items_well_formed es
+    (and_parts (not (is_funcref t && no_items es)) (each printable_expression es) a.1).1
 
 initial_well_formed : (e : Expr) → printable_initial e ≡ true → WellFormed (spell_expression e)
 initial_well_formed e f =
     expression_well_formed e (and_parts (not (no_items e.instrs)) (printable_expression e) f).1
 
-kind_well_formed : (k : TableKindTy) → printable_table_kind k ≡ true → WellFormed (spell_table_kind k)
+kind_well_formed : (k : TableKindTy) → printable_table_kind k ≡ true
+    → WellFormed (spell_table_kind k)
 kind_well_formed (imported i t) f =
     let a = and_parts (printable_inline_import i) (printable_table_type t) f in
     well_formed_both (spell_inline_import i) (spell_table_type t) (inline_import_well_formed i a.0)
     (table_type_well_formed t a.1)
 kind_well_formed (normal t o) f =
     let a = and_parts (printable_table_type t) (if_some printable_initial o) f in
-    well_formed_both (spell_table_type t) (spell_option spell_expression o) (table_type_well_formed t a.0)
+    well_formed_both (spell_table_type t) (spell_option spell_expression o)
+    (table_type_well_formed t a.0)
     (well_formed_option spell_expression printable_initial o initial_well_formed a.1)
 kind_well_formed (inline t is64 shared p) f =
     let a = and_parts (not (shared && is64)) _ f in
@@ -442,4 +444,5 @@ table_well_formed t f =
     let a = and_parts (printable_head t.head) (printable_table_kind t.kind) f in
     let k = spell_table_kind t.kind in
     well_formed_word (codes "table") (spell_head t.head ++ k) refl
-    (well_formed_both (spell_head t.head) k (head_well_formed t.head a.0) (kind_well_formed t.kind a.1))
+    (well_formed_both (spell_head t.head) k (head_well_formed t.head a.0)
+    (kind_well_formed t.kind a.1))

@@ -28,13 +28,12 @@ use Rattle.wat_print.specs.Parts.{each, if_some}
 use Rattle.wat_print.specs.Reference.{printable_ref}
 use Rattle.wat_print.specs.Laws.Limits.{table_type_only}
 use Rattle.wat_print.specs.Laws.Only.{OnlyPrintable, only_any, only_where, only_seq, only_made}
-use Rattle.wat_print.specs.Laws.Only.{only_after}
-use Rattle.wat_print.specs.Laws.Only.{only_group}
+use Rattle.wat_print.specs.Laws.Only.{only_after, only_group}
 use Rattle.wat_print.specs.Laws.Reference.{ref_only}
 use Rattle.wat_print_instr.specs.ExpressionForm.{printable_expression}
 use Rattle.wat_print_instr.specs.Laws.ExpressionOnly.{expression_only}
-use Rattle.wat_print_module.specs.Table.{printable_elements, printable_initial, printable_table_kind}
-use Rattle.wat_print_module.specs.Table.{printable_table}
+use Rattle.wat_print_module.specs.Table.{printable_elements, printable_initial}
+use Rattle.wat_print_module.specs.Table.{printable_table_kind, printable_table}
 use Rattle.wat_print_module.specs.Laws.Elem.{items_only, indices_only}
 use Rattle.wat_print_module.specs.Laws.FieldHead.{head_only, inline_import_only}
 use Rattle.wat_print_module.specs.Laws.Table.{ref_again}
@@ -89,7 +88,8 @@ funcs_printable (i ∷ is) f =
     let a = and_parts (printable_index i) (each printable_index is) f in
     rw (func_fits i a.0) (funcs_printable is a.1)
 
-funcs_by : (t : RefTy) (is : List Idx) (b : Bool) → is_funcref t ≡ b → each printable_index is ≡ true
+funcs_by : (t : RefTy) (is : List Idx) (b : Bool) → is_funcref t ≡ b
+    → each printable_index is ≡ true
     → printable_elements t (if b then indices is else exprs t (map ref_func_of is)) ≡ true
 funcs_by t is true e f = rw (e, f) refl
 funcs_by t is false e f = rw (ref_again t, e, funcs_printable is f) refl
@@ -184,14 +184,16 @@ parts_only =
     (only_seq ref_only (only_group (codes "elem") listed_only)))
 
 inline_fits : (k : TableKindTy) (c r : List Tok) → each is_given c ≡ true
-    → begins_inline_elems (c ++ r) ≡ true → inline_table.spells k c r → printable_table_kind k ≡ true
+    → begins_inline_elems (c ++ r) ≡ true → inline_table.spells k c r
+    → printable_table_kind k ≡ true
 unfolding inline_table
 inline_fits k c r a t s =
     let v = s.0 in
     let f = parts_only.holds v c r a s.1 in
     let p = and_parts (printable_ref v.1.1.0) (printable_listed v.1.1.1) f in
     subst (λ (w : TableKindTy). printable_table_kind w ≡ true) s.3
-    (rw (not_wide v.0 v.1.0 (wide_apart v c r t s.1), p.0, listed_printable v.1.1.0 v.1.1.1 p.1) refl)
+    (rw (not_wide v.0 v.1.0 (wide_apart v c r t s.1), p.0, listed_printable v.1.1.0 v.1.1.1 p.1)
+    refl)
 
 -- ---- by its type
 
@@ -238,7 +240,8 @@ initial_only = record { holds = initial_holds }
 
 -- ---- tables
 
-other_only : OnlyPrintable (where_else begins_normal normal_table imported_table) printable_table_kind
+other_only : OnlyPrintable (where_else begins_normal normal_table imported_table)
+    printable_table_kind
 unfolding normal_table imported_table
 other_only =
     only_where begins_normal

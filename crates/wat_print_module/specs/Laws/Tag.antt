@@ -1,6 +1,5 @@
 -- Laws: tags are read again.
-use Rattle.std.specs.Prelude.{◌≡◌, ℕ, true, ◌&&◌, List, ◌++◌, codes, Option, Some}
-use Rattle.std.specs.Prelude.{None}
+use Rattle.std.specs.Prelude.{◌≡◌, ℕ, true, ◌&&◌, List, ◌++◌, codes, Option, Some, None}
 use Rattle.std.proofs.Common.{refl}
 use Rattle.std.proofs.lemmas.Bool.{and_parts}
 use Rattle.wat_lexer.specs.Token.{Tok}
@@ -25,8 +24,8 @@ use Rattle.wat_print.specs.Laws.Parts.{well_formed_word, well_formed_both, well_
 use Rattle.wat_print.specs.Laws.Use.{use_here, use_well_formed, use_only}
 use Rattle.wat_print.specs.Laws.Define.{after_here}
 use Rattle.wat_print_instr.specs.Laws.Places.{both_here}
-use Rattle.wat_print_module.specs.FieldHead.{spell_inline_import, printable_inline_import, spell_head}
-use Rattle.wat_print_module.specs.FieldHead.{printable_head}
+use Rattle.wat_print_module.specs.FieldHead.{spell_inline_import, printable_inline_import}
+use Rattle.wat_print_module.specs.FieldHead.{spell_head, printable_head}
 use Rattle.wat_print_module.specs.Tag.{spell_tag, printable_tag}
 use Rattle.wat_print_module.specs.Laws.FieldHead.{EndsField, EndsHead, head_here, head_well_formed}
 use Rattle.wat_print_module.specs.Laws.FieldHead.{head_only, inline_import_here}
@@ -67,7 +66,8 @@ pub tag_here : (t : TagTy) (r : List Tok) → printable_tag t ≡ true → EndsF
     → tag.spells t (spell_tag t) r
 unfolding tag
 tag_here t r f e =
-    let a = and_parts (printable_head t.head) (if_some printable_inline_import t.import && printable_use t.ty) f in
+    let a = and_parts (printable_head t.head)
+    (if_some printable_inline_import t.import && printable_use t.ty) f in
     let b = and_parts (if_some printable_inline_import t.import) (printable_use t.ty) a.1 in
     let i = spell_option spell_inline_import t.import in
     let u = spell_use t.ty in
@@ -85,13 +85,15 @@ tag_here t r f e =
 
 pub tag_well_formed : (t : TagTy) → printable_tag t ≡ true → WellFormed (spell_tag t)
 tag_well_formed t f =
-    let a = and_parts (printable_head t.head) (if_some printable_inline_import t.import && printable_use t.ty) f in
+    let a = and_parts (printable_head t.head)
+    (if_some printable_inline_import t.import && printable_use t.ty) f in
     let b = and_parts (if_some printable_inline_import t.import) (printable_use t.ty) a.1 in
     let i = spell_option spell_inline_import t.import in
     well_formed_word (codes "tag") (spell_head t.head ++ (i ++ spell_use t.ty)) refl
     (well_formed_both (spell_head t.head) (i ++ spell_use t.ty) (head_well_formed t.head a.0)
     (well_formed_both i (spell_use t.ty)
-    (well_formed_option spell_inline_import printable_inline_import t.import inline_import_well_formed b.0)
+    (well_formed_option spell_inline_import printable_inline_import t.import
+    inline_import_well_formed b.0)
     (use_well_formed t.ty b.1)))
 
 pub tag_only : OnlyPrintable tag printable_tag

@@ -30,6 +30,7 @@ pub returns-in_err-write_expression-clause-refused :
 returns-in_err-write_expression-clause-refused c =
     let v = expression_view c.args.value.now in
     let h : c.in_err-write_expression.field-0.0 ≢ Memory → NoneSpells expression v =
-    λ n. unspelled expression v (printable_expression v) (c.in_err-write_expression.ensures.refused n)
+    λ n. unspelled expression v (printable_expression v)
+    (c.in_err-write_expression.ensures.refused n)
     (expression_only.holds v) in
     search (rules, h)

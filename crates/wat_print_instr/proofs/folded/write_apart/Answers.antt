@@ -5,7 +5,8 @@ use Rattle.wat_print.specs.Parts.{each}
 use Rattle.wat_print.specs.declared.fault.Refused.TheVariants.{Memory}
 use Rattle.wat_print_instr.specs.FoldedForm.{first_apart}
 use Rattle.wat_print_instr.specs.InstructionForm.{printable_instruction}
-use Rattle.wat_print_instr.proofs.FoldedWritten.{apart_written, one_unprintable, before_unprintable, behind_unprintable}
+use Rattle.wat_print_instr.proofs.FoldedWritten.{apart_written, one_unprintable, before_unprintable}
+use Rattle.wat_print_instr.proofs.FoldedWritten.{behind_unprintable}
 use Rattle.wat_print_instr.proofs.folded.write_apart.Goals as goal
 
 pub returns-clause-written : goal.returns-clause-written

@@ -20,6 +20,7 @@ returns-in_err-write_own-clause-refused c =
     let k = c.in_err-write_own.ensures.refused in
     let h : c.in_err-write_own.field-0.0 ≢ Memory
     → each printable_instruction (map instruction_view c.args.instrs.now) ≡ false =
-    λ n. not_each_item instruction_view printable_instruction c.args.instrs.now c.loop-instr.instr-index
+    λ n. not_each_item instruction_view printable_instruction c.args.instrs.now
+    c.loop-instr.instr-index
     c.instr-item.result c.loop-instr-test.true c.instr-item.is (k n) in
     search (rules, h)

@@ -7,4 +7,5 @@ use Rattle.wat_print_instr.proofs.folded.write_each_own.Given as goal
 
 abbrev pub invariant-loop-instr : goal.invariant-loop-instr
 invariant-loop-instr l =
-    Wrote instruction_view spell_own printable_instruction (take l.instr-index l.instrs) l.fn.out l.out
+    Wrote instruction_view spell_own printable_instruction (take l.instr-index l.instrs)
+    l.fn.out l.out

@@ -6,4 +6,5 @@ use Rattle.wat_print_module.proofs.data_val.write_data_vals.Given as goal
 
 abbrev pub invariant-loop-value : goal.invariant-loop-value
 invariant-loop-value l =
-    Wrote data_val_view spell_data_val printable_data_val (take l.value-index l.values) l.fn.out l.out
+    Wrote data_val_view spell_data_val printable_data_val (take l.value-index l.values)
+    l.fn.out l.out

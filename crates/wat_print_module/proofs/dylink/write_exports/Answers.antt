@@ -8,4 +8,5 @@ loop-entry-preserved c =
     wrote_more dylink_export_view spell_export_flags printable_export_flags c.args.entries.now
     c.loop-entry.entry-index _
     c.args.out.now c.loop-entry.out c.write_export.new.out c.loop-entry-test.true
-    c.loop-entry.invariant c.in_ok-write_export.ensures.written c.in_ok-write_export.ensures.printable
+    c.loop-entry.invariant c.in_ok-write_export.ensures.written
+    c.in_ok-write_export.ensures.printable

@@ -6,5 +6,6 @@ use Rattle.wat_print_module.proofs.dylink.write_exports.Given as goal
 
 abbrev pub invariant-loop-entry : goal.invariant-loop-entry
 invariant-loop-entry l =
-    Wrote dylink_export_view spell_export_flags printable_export_flags (take l.entry-index l.entries)
+    Wrote dylink_export_view spell_export_flags printable_export_flags
+    (take l.entry-index l.entries)
     l.fn.out l.out

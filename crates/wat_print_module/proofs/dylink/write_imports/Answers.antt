@@ -8,4 +8,5 @@ loop-entry-preserved c =
     wrote_more dylink_import_view spell_import_flags printable_import_flags c.args.entries.now
     c.loop-entry.entry-index _
     c.args.out.now c.loop-entry.out c.write_import.new.out c.loop-entry-test.true
-    c.loop-entry.invariant c.in_ok-write_import.ensures.written c.in_ok-write_import.ensures.printable
+    c.loop-entry.invariant c.in_ok-write_import.ensures.written
+    c.in_ok-write_import.ensures.printable

@@ -6,5 +6,6 @@ use Rattle.wat_print_module.proofs.dylink.write_imports.Given as goal
 
 abbrev pub invariant-loop-entry : goal.invariant-loop-entry
 invariant-loop-entry l =
-    Wrote dylink_import_view spell_import_flags printable_import_flags (take l.entry-index l.entries)
+    Wrote dylink_import_view spell_import_flags printable_import_flags
+    (take l.entry-index l.entries)
     l.fn.out l.out

@@ -6,5 +6,6 @@ use Rattle.wat_print_module.proofs.dylink.write_subsections.Given as goal
 
 abbrev pub invariant-loop-subsection : goal.invariant-loop-subsection
 invariant-loop-subsection l =
-    Wrote subsection_view spell_subsection printable_subsection (take l.subsection-index l.subsections)
+    Wrote subsection_view spell_subsection printable_subsection
+    (take l.subsection-index l.subsections)
     l.fn.out l.out

@@ -7,4 +7,5 @@ use Rattle.wat_print_module.proofs.elem.write_items.Given as goal
 
 abbrev pub invariant-loop-item : goal.invariant-loop-item
 invariant-loop-item l =
-    WroteLines expression_view spell_item printable_expression (take l.item-index l.items) l.fn.out l.out
+    WroteLines expression_view spell_item printable_expression (take l.item-index l.items)
+    l.fn.out l.out

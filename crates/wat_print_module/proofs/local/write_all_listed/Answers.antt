@@ -10,7 +10,8 @@ pub loop-local-preserved : goal.loop-local-preserved
 loop-local-preserved c =
     wrote_more local_view spell_listed printable_local c.args.locals.now c.loop-local.local-index _
     c.args.out.now c.loop-local.out c.write_listed.new.out c.loop-local-test.true
-    c.loop-local.invariant c.in_ok-write_listed.ensures.written c.in_ok-write_listed.ensures.printable
+    c.loop-local.invariant c.in_ok-write_listed.ensures.written
+    c.in_ok-write_listed.ensures.printable
 
 pub returns-in_err-write_listed-clause-refused : goal.returns-in_err-write_listed-clause-refused
 returns-in_err-write_listed-clause-refused c =

@@ -6,4 +6,5 @@ use Rattle.wat_print_module.proofs.module.write_fields.Given as goal
 
 abbrev pub invariant-loop-number : goal.invariant-loop-number
 invariant-loop-number l =
-    WroteLines field_view spell_field_group printable_module_field (take l.number l.fields) l.fn.out l.out
+    WroteLines field_view spell_field_group printable_module_field (take l.number l.fields)
+    l.fn.out l.out

@@ -7,4 +7,5 @@ loop-entry-preserved c =
     wrote_more (λ e. (e.0.now, e.1.now)) (spell_produced c.args.word.now) printable_versioned
     c.args.entries.now c.loop-entry.entry-index _
     c.args.out.now c.loop-entry.out c.write_produced.new.out c.loop-entry-test.true
-    c.loop-entry.invariant c.in_ok-write_produced.ensures.written c.in_ok-write_produced.ensures.printable
+    c.loop-entry.invariant c.in_ok-write_produced.ensures.written
+    c.in_ok-write_produced.ensures.printable

@@ -5,9 +5,8 @@ use Rattle.wat_expr.specs.Expression.{expression_view, hint_view}
 use Rattle.wat_instr.specs.Instruction.{instruction_view}
 use Rattle.wat_print.specs.declared.fault.Refused.TheVariants.{Memory}
 use Rattle.wat_print_instr.specs.FoldedForm.{printable_folded}
-use Rattle.wat_print_instr.proofs.FoldedWritten.{folded_written, folded_printable}
-use Rattle.wat_print_instr.proofs.FoldedWritten.{last_unprintable, others_unprintable}
-use Rattle.wat_print_instr.proofs.FoldedWritten.{seen_last, hints_none}
+use Rattle.wat_print_instr.proofs.FoldedWritten.{folded_written, folded_printable, last_unprintable}
+use Rattle.wat_print_instr.proofs.FoldedWritten.{others_unprintable, seen_last, hints_none}
 use Rattle.wat_print_instr.proofs.folded.FoldedInstructionPrintCode.write.Goals as goal
 
 pub returns-clause-written : goal.returns-clause-written
