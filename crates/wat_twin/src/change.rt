@@ -4,8 +4,8 @@ ghost use Rattle.std.specs.Prelude.{◌≡◌, ◌<◌, Bool, drop, length};
 ghost use Rattle.std.proofs.Math.ListN.{get_or};
 ghost use Rattle.std.specs.Str.{bytes_eq};
 ghost use Rattle.wat_lexer.specs.View.{view, toks, no_entry};
-ghost use Rattle.wat_twin.specs.Tokens.{bytes_of, is_literal, begins_literal, takes_floats, is_type};
-ghost use Rattle.wat_twin.specs.Tokens.{is_float_word, change_of, is_changed};
+ghost use Rattle.wat_twin.specs.Tokens.{begins_literal, bytes_of, change_of, is_changed};
+ghost use Rattle.wat_twin.specs.Tokens.{is_float_word, is_literal, is_type, takes_floats};
 
 use crate::float::is_float;
 use wat_lexer::token::Token;
