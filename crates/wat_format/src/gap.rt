@@ -1,7 +1,7 @@
 //! The blanks between two pieces (Text Format, Lexical Format, "White Space").
 
-ghost use Rattle.std.specs.Prelude.{◌≡◌, ◌++◌, ◌&&◌, List, ℕ, true, OnOk, string_bytes};
-ghost use Rattle.wat_format.specs.Shapes.{follows, is_opening, repeated, gap_bytes, no_gap};
+ghost use Rattle.std.specs.Prelude.{◌≡◌, ◌++◌, ◌&&◌, List, ℕ, true, OnOk, replicate, string_bytes};
+ghost use Rattle.wat_format.specs.Shapes.{follows, is_opening, gap_bytes, no_gap};
 ghost use Rattle.wat_format.specs.Shapes.{gap_first, Separates};
 
 use crate::piece::Shape;
@@ -62,7 +62,7 @@ fn fits(gap: Gap, last: Shape, directly: bool, first: u8) -> bool
 }
 
 fn put_lines(out: &mut String, times: usize) -> Result<(), AllocError>
-    ensures { OnOk result (string_bytes out.new ≡ string_bytes out.old ++ repeated times 10) }
+    ensures { OnOk result (string_bytes out.new ≡ string_bytes out.old ++ replicate times 10) }
 {
     'turns: for _ in 0..times {
         out.push_str("\n")?;
@@ -71,7 +71,7 @@ fn put_lines(out: &mut String, times: usize) -> Result<(), AllocError>
 }
 
 fn put_spaces(out: &mut String, times: usize) -> Result<(), AllocError>
-    ensures { OnOk result (string_bytes out.new ≡ string_bytes out.old ++ repeated times 32) }
+    ensures { OnOk result (string_bytes out.new ≡ string_bytes out.old ++ replicate times 32) }
 {
     'turns: for _ in 0..times {
         out.push_str(" ")?;
