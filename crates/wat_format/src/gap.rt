@@ -9,7 +9,7 @@ use std::alloc::AllocError;
 
 /// Blanks that are made: ends of lines, LF each, and spaces behind them.
 #[derive(Clone, Copy, Debug)]
-pub struct Gap {
+pub(crate) struct Gap {
     pub lines: usize,
     pub spaces: usize,
 }
@@ -89,7 +89,7 @@ fn put_gap(out: &mut String, gap: Gap) -> Result<(), AllocError>
 
 /// Writes the gap that is wanted between a piece and the byte that begins the next. The blanks that
 /// are there in the text are written where none is wanted or it can't be.
-pub fn put_blanks(
+pub(crate) fn put_blanks(
     out: &mut String,
     wanted: Option<Gap>,
     blanks: &str,
