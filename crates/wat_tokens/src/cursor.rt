@@ -192,7 +192,8 @@ impl<'p> Cursor<'p> {
         }
     }
 
-    /// Whether a group that begins with the annotation of the name, given without its `@`, is there.
+    /// Whether a group that begins with the annotation of the name, given without its `@`, is
+    /// there.
     pub fn annotation_is(self, name: &str) -> bool
         ensures { result ≡ begins_annotation name.now (in_front self.entry) }
     {

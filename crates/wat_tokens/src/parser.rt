@@ -8,7 +8,7 @@ ghost use Rattle.wat_lexer.specs.Place.{offset_of};
 ghost use Rattle.wat_lexer.specs.Sight.{visible_tokens, hidden_count};
 ghost use Rattle.wat_lexer.specs.Token.{Placed, LParen, RParen};
 ghost use Rattle.wat_lexer.specs.View.{toks, AreSkips};
-ghost use Rattle.wat_tokens.specs.Counts.{Carries, Counted, Quiet, SameSettings};
+ghost use Rattle.wat_tokens.specs.Counts.{Carries, Quiet, SameSettings};
 ghost use Rattle.wat_tokens.specs.Lookup.{in_front, FirstIs};
 ghost use Rattle.wat_tokens.specs.Error.{Error};
 ghost use Rattle.wat_tokens.specs.PartSpells.{one_reads};

@@ -69,8 +69,8 @@ impl<'a> Parser<'a> {
     /// Where none is, it is refused with the first fault that is met, and the parser then has
     /// some end of its tokens left.
     pub fn parse<T: Parse<'a>>(&mut self) -> Result<T, Error>
-        // The tokens that were taken spell the value, and where tokens in front spell one, it is
-        // that one: `sound`, `accepts`, `refused`.
+        // The tokens that were taken spell the value. Where tokens in front spell one, it is that
+        // one, or memory ran out: `sound`, `accepts`, `refused`.
         ensures reads { ReadsPrefix T.view T.grammar result self.old self.new }
         // Memory comes only of a type that can hold a vector or a box.
         ensures memory { IfErr result (λ e. e.fault ≡ Memory → T.view.may_own ≡ true) }
