@@ -138,6 +138,10 @@ near_limit = 4294967296
 abbrev pub text_limit : ℕ
 text_limit = 281474976710656
 
+-- a list has at most so many items: 2^63 - 1
+abbrev pub most_items : ℕ
+most_items = 9223372036854775807
+
 -- what is kept of a token has room for a word between two places: 32 bits for the first and 16 for
 -- how many bytes it has
 abbrev pub HasRoom : ℕ → ℕ → Type 0

@@ -1,6 +1,6 @@
 //! Where the groups of annotations end.
 
-ghost use Rattle.std.specs.Prelude.{◌≡◌, ◌≢◌, ◌+◌, ◌-◌, ◌≤◌, ◌<◌, Bool, true, false, IfOk, IfErr};
+ghost use Rattle.std.specs.Prelude.{◌≡◌, ◌+◌, ◌-◌, ◌≤◌, ◌<◌, Bool, true, false, IfOk};
 ghost use Rattle.std.specs.Prelude.{MatchOption, length, drop};
 ghost use Rattle.wat_lexer.specs.Cut.{Closed, FirstUnclosed};
 ghost use Rattle.wat_lexer.specs.Sight.{begins_hidden_group, hidden_count};

@@ -1,8 +1,8 @@
 //! Where a piece of the text ends.
 
-ghost use Rattle.std.specs.Prelude.{◌≡◌, ◌+◌, ◌-◌, ◌≤◌, ◌<◌, ◌⊎◌, Bool, true, false, option_map};
+ghost use Rattle.std.specs.Prelude.{◌≡◌, ◌+◌, ◌-◌, ◌≤◌, ◌<◌, true, false, option_map};
 ghost use Rattle.std.specs.Prelude.{IfOk, IfSome, length, drop, slice_range, slice_index};
-ghost use Rattle.wat_lexer.specs.Bytes.{is_idchar, is_space, is_line_end};
+ghost use Rattle.wat_lexer.specs.Bytes.{is_idchar, is_space};
 ghost use Rattle.wat_lexer.specs.Scan.{behind_comment, behind_line, behind_run, behind_spaces};
 ghost use Rattle.wat_lexer.specs.Scan.{all_idchars, Between, RunEndIs};
 

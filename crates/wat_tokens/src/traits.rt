@@ -33,7 +33,7 @@ pub trait Parse<'a>: Sized {
 
     /// Takes the tokens of a value that is in front.
     ///
-    /// Where none does, it is refused with the first fault that is met, and the parser then has
+    /// Where none is, it is refused with the first fault that is met, and the parser then has
     /// some end of its tokens left. Memory may be answered where the value isn't bare.
     fn parse(parser: &mut Parser<'a>) -> Result<Self, Error>
         ensures reads { ReadsAt cost view grammar result parser.old parser.new };
@@ -66,11 +66,11 @@ pub trait Peek {
 impl<'a> Parser<'a> {
     /// Takes the value that is in front.
     ///
-    /// Where none does, it is refused with the first fault that is met, and the parser then has
+    /// Where none is, it is refused with the first fault that is met, and the parser then has
     /// some end of its tokens left.
     pub fn parse<T: Parse<'a>>(&mut self) -> Result<T, Error>
-        // The tokens that were taken spell the value, and where tokens in front spell one, it is
-        // that one: `sound`, `accepts`, `refused`.
+        // The tokens that were taken spell the value. Where tokens in front spell one, it is that
+        // one, or memory ran out: `sound`, `accepts`, `refused`.
         ensures reads { ReadsPrefix T.view T.grammar result self.old self.new }
         // Memory comes only of a type that can hold a vector or a box.
         ensures memory { IfErr result (λ e. e.fault ≡ Memory → T.view.may_own ≡ true) }
