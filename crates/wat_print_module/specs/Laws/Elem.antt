@@ -148,37 +148,27 @@ typed_here t es r f e =
       refl,
     )
 
+functions_here : (is : List Idx) (r : List Tok) → each printable_index is ≡ true → ends r ≡ true
+    → (made indices (after_word (codes "func") index_list)).spells (indices is)
+    (spell_payload (indices is)) r
+functions_here is r f e = (
+  is,
+  after_here (codes "func") index_list is (flat_map spell_index is) r refl (indices_here is r f e),
+  refl,
+  refl,
+)
+
 payload_here : (p : PayloadTy) (r : List Tok) → printable_payload p ≡ true → ends r ≡ true
     → payload.spells p (spell_payload p) r
 unfolding payload
-payload_here (indices is) r f e =
-    inl (
-      refl,
-      (
-        is,
-        after_here (codes "func") index_list is (flat_map spell_index is) r refl
-            (indices_here is r f e),
-        refl,
-        refl,
-      ),
-    )
+payload_here (indices is) r f e = inl (refl, functions_here is r f e)
 payload_here (exprs t es) r f e =
     inr (ref_no_func t (flat_map spell_item es) r, typed_here t es r f e)
 
 any_payload_here : (p : PayloadTy) (r : List Tok) → printable_payload p ≡ true → ends r ≡ true
     → payload_or_indices.spells p (spell_payload p) r
 unfolding payload_or_indices
-any_payload_here (indices is) r f e =
-    inl (
-      refl,
-      (
-        is,
-        after_here (codes "func") index_list is (flat_map spell_index is) r refl
-            (indices_here is r f e),
-        refl,
-        refl,
-      ),
-    )
+any_payload_here (indices is) r f e = inl (refl, functions_here is r f e)
 any_payload_here (exprs t es) r f e =
     let x = flat_map spell_item es in
     inr (ref_no_func t x r, inl (ref_begins t x r, typed_here t es r f e))
