@@ -24,8 +24,9 @@ use std::alloc::Global;
 use wat_expr::{BranchHint, Expression};
 use wat_instr::Instruction;
 use wat_mnemonics::{IndexedOp, LabelOp, Op, ScalarOp};
-use wat_print::{Layout, Output, Refused, read_value};
+use wat_print::{Layout, Output, Refused};
 use wat_tokens::Fault;
+use wat_tokens::whole_text::read_text;
 
 /// Whether the instruction is `br_if` or `if`.
 fn may_branch(instr: &Instruction) -> bool
@@ -246,7 +247,7 @@ pub fn expression_read_again<'a>(
 {
     let printed = print_expression(alloc, value, layout)?;
     let text = arena.try_alloc_str(printed.as_str())?;
-    match read_value::<Expression>(alloc, text, arena) {
+    match read_text::<Expression>(alloc, text, arena, true) {
         Ok(again) => Ok(again),
         Err(error) => match error.fault {
             Fault::Memory => Err(Refused::Memory),

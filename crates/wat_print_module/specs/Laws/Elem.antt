@@ -38,6 +38,7 @@ use Rattle.wat_print.specs.Laws.Parts.{well_formed_both, well_formed_group, well
 use Rattle.wat_print.specs.Laws.Parts.{well_formed_option, well_formed_one}
 use Rattle.wat_print.specs.Laws.Reference.{index_here, index_well_formed, index_only, ref_here}
 use Rattle.wat_print.specs.Laws.Reference.{ref_well_formed, ref_only, of_refs}
+use Rattle.wat_print.specs.Laws.Reference.{index_group_well_formed}
 use Rattle.wat_print.specs.Laws.Define.{after_here}
 use Rattle.wat_print_instr.specs.ExpressionForm.{spell_expression, printable_expression}
 use Rattle.wat_print_instr.specs.Laws.Expression.{expression_well_formed}
@@ -322,7 +323,7 @@ payload_well_formed (exprs t es) f =
 
 table_well_formed : (i : Idx) → printable_index i ≡ true → WellFormed (spell_elem_table i)
 table_well_formed i f =
-    well_formed_group (codes "table") (spell_index i) refl (index_well_formed i f)
+    index_group_well_formed (codes "table") refl i f
 
 kind_well_formed : (k : ElemKindTy) → printable_elem_kind k ≡ true → WellFormed (spell_elem_kind k)
 kind_well_formed passive f = nothing
