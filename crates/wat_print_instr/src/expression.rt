@@ -87,7 +87,7 @@ fn begins_part(op: Op) -> bool {
 
 /// Breaks the line in front of an instruction, if it is to stand on a line of its own. One that
 /// ends a part of a block stands as far to the left as the block.
-#[tactic(auto, using(wat_print::specs::Laws::Written::puts_line, wat_print::specs::Laws::Written::puts_put))]
+#[tactic(auto, using(crate::proofs::Walked::line_or_nothing))]
 fn begin_step(out: &mut Output, op: Op, on_lines: bool) -> Result<(), Refused>
     ensures written { OnOk result (Writes [] out.old out.new) }
     ensures refused { IfErr result (λ e. e ≡ Memory) }
