@@ -10,12 +10,15 @@ use Rattle.wat_print.specs.Layout.{Writes}
 use Rattle.wat_print.specs.Parts.{each, spell_option}
 use Rattle.wat_print.specs.Text.{Page}
 use Rattle.wat_print.specs.Laws.Parts.{each_both}
-use Rattle.wat_print.specs.Laws.Written.{puts_both, puts_put}
+use Rattle.wat_print.specs.Laws.Written.{puts_both, puts_put, puts_line}
 use Rattle.wat_print_instr.specs.ExpressionForm.{HintedInstr, step_of, spell_step, printable_step}
 use Rattle.wat_print_instr.specs.ExpressionForm.{steps_from, hint_for, hints_after}
 use Rattle.wat_print_instr.specs.ExpressionForm.{spell_expression, printable_expression}
 use Rattle.wat_print_instr.specs.InstructionForm.{passes}
 use Rattle.wat_print_instr.specs.Laws.Expression.{next_step}
+
+-- a line break, or nothing
+pub ruleset line_or_nothing = (puts_line, puts_put)
 
 -- From p to q the steps before the index b were written, and what is left of the instructions and
 -- of the hints gives those behind them.

@@ -24,8 +24,9 @@ use std::alloc::Global;
 use wat_expr::{BranchHint, Expression};
 use wat_instr::Instruction;
 use wat_mnemonics::{IndexedOp, LabelOp, Op, ScalarOp};
-use wat_print::{Layout, Output, Refused, read_value};
+use wat_print::{Layout, Output, Refused};
 use wat_tokens::Fault;
+use wat_tokens::whole_text::read_text;
 
 /// Whether the instruction is `br_if` or `if`.
 fn may_branch(instr: &Instruction) -> bool
@@ -86,7 +87,7 @@ fn begins_part(op: Op) -> bool {
 
 /// Breaks the line in front of an instruction, if it is to stand on a line of its own. One that
 /// ends a part of a block stands as far to the left as the block.
-#[tactic(auto, using(wat_print::specs::Laws::Written::puts_line, wat_print::specs::Laws::Written::puts_put))]
+#[tactic(auto, using(crate::proofs::Walked::line_or_nothing))]
 fn begin_step(out: &mut Output, op: Op, on_lines: bool) -> Result<(), Refused>
     ensures written { OnOk result (Writes [] out.old out.new) }
     ensures refused { IfErr result (λ e. e ≡ Memory) }
@@ -246,7 +247,7 @@ pub fn expression_read_again<'a>(
 {
     let printed = print_expression(alloc, value, layout)?;
     let text = arena.try_alloc_str(printed.as_str())?;
-    match read_value::<Expression>(alloc, text, arena) {
+    match read_text::<Expression>(alloc, text, arena, true) {
         Ok(again) => Ok(again),
         Err(error) => match error.fault {
             Fault::Memory => Err(Refused::Memory),

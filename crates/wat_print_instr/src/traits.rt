@@ -10,6 +10,9 @@ ghost use Rattle.wat_print.specs.declared.fault.Refused.TheVariants.{Memory};
 use wat_print::{Output, Print, Refused};
 
 /// A type whose values are written on one line, and read again as the same values.
+///
+/// It says more than [`Print`], which lets lines break between tokens. So what is written of an
+/// instruction is told to the token.
 pub trait PrintCode {
     /// What contracts see of a value.
     ghost View: { Type 0 };

@@ -2,4 +2,3 @@ pub mod Grouped
 mod OnLines
 mod Produced
 mod Unprintable
-mod Written

@@ -26,7 +26,7 @@ use crate::elem::{write_indices, write_items};
 use crate::field_head::{write_head, write_inline_import};
 use crate::traits::PrintPart;
 use wat_expr::Expression;
-use wat_fields::{ElemPayload, Table, TableKind};
+use wat_fields::{ElemPayload, Table, TableKind, is_funcref};
 use wat_links::InlineImport;
 use wat_print::limits::{write_flag, write_table_type};
 use wat_print::reference::write_ref;
@@ -70,19 +70,6 @@ fn same_type(a: &RefType, b: &RefType) -> bool
     same_flag(a.nullable, b.nullable) && same_heap(&a.heap, &b.heap)
 }
 
-/// Whether it is the type that `funcref` is.
-fn is_funcref(ty: &RefType) -> bool
-    ensures { result ≡ is_funcref (ref_view ty.now) }
-{
-    match ty.heap {
-        HeapType::Abstract {
-            shared: false,
-            ty: AbstractHeapType::Func,
-        } => ty.nullable,
-        _ => false,
-    }
-}
-
 /// Writes indices in a table whose elements have the type. They are refused where it isn't
 /// `funcref`.
 fn write_functions(out: &mut Output, ty: &RefType, list: &[Index]) -> Result<(), Refused>
@@ -93,7 +80,7 @@ fn write_functions(out: &mut Output, ty: &RefType, list: &[Index]) -> Result<(),
     ensures refused { IfErr result (λ e. e ≢ Memory → printable_elements (ref_view ty.now)
         (indices (map index_view list.now)) ≡ false) }
 {
-    if !is_funcref(ty) {
+    if !is_funcref(*ty) {
         return Err(Refused::Table);
     }
     write_indices(out, list)
@@ -104,7 +91,7 @@ fn is_bare_funcref(ty: &RefType, list: &[Expression]) -> bool
     ensures { result ≡ is_funcref (ref_view ty.now) && no_items
         (map expression_view list.now) }
 {
-    is_funcref(ty) && list.is_empty()
+    is_funcref(*ty) && list.is_empty()
 }
 
 /// Writes expressions in a table whose elements have the type. They are refused where they are of

@@ -34,9 +34,8 @@ use Rattle.wat_print.specs.Parts.{each, if_some, spell_option}
 use Rattle.wat_print.specs.Laws.Only.{OnlyPrintable, only_any, only_one, only_where, only_opt}
 use Rattle.wat_print.specs.Laws.Only.{only_seq, only_made, only_group, only_weaker}
 use Rattle.wat_print.specs.Laws.Parts.{Spells, group_here, word_here, well_formed_one}
-use Rattle.wat_print.specs.Laws.Parts.{well_formed_both, well_formed_group, well_formed_option}
-use Rattle.wat_print.specs.Laws.Parts.{and_also}
-use Rattle.wat_print.specs.Laws.Reference.{index_here, index_well_formed, index_only}
+use Rattle.wat_print.specs.Laws.Parts.{well_formed_both, well_formed_option, and_also}
+use Rattle.wat_print.specs.Laws.Reference.{index_here, index_only, index_group_well_formed}
 use Rattle.wat_print_instr.specs.Access.{spell_target, printable_target, spell_unless, spell_access}
 use Rattle.wat_print_instr.specs.Access.{printable_alignment, printable_place, printable_access}
 use Rattle.wat_print_instr.specs.Access.{spell_ordering, ordering_in, spell_atomic}
@@ -82,7 +81,7 @@ target_here (array i) x f e =
 target_well_formed : (t : TargetTy) → printable_target t ≡ true → WellFormed (spell_target t)
 target_well_formed (memory i) f = index_or_0_well_formed i f
 target_well_formed (array i) f =
-    well_formed_group (codes "type") (spell_index i) refl (index_well_formed i f)
+    index_group_well_formed (codes "type") refl i f
 
 target_only : OnlyPrintable target printable_target
 unfolding target

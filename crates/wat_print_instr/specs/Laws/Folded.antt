@@ -19,7 +19,7 @@ use Rattle.wat_expr.specs.Folded.{Groups, NoGroup, Group, groups, unfolded_group
 use Rattle.wat_expr.specs.FoldedProduction.{folded_instruction}
 use Rattle.wat_print.specs.WellFormed.{WellFormed, nothing}
 use Rattle.wat_print.specs.Parts.{each, spell_option}
-use Rattle.wat_print.specs.Laws.Parts.{well_formed_both, well_formed_paren, each_both}
+use Rattle.wat_print.specs.Laws.Parts.{well_formed_both, well_formed_paren, each_both, each_front}
 use Rattle.wat_print_instr.specs.FoldedForm.{takes_catches, is_catch, op_of, keeps_apart}
 use Rattle.wat_print_instr.specs.FoldedForm.{own_groups, first_apart, catch_first, groups_behind}
 use Rattle.wat_print_instr.specs.FoldedForm.{group_from, spell_groups, spell_folded, no_hints}
@@ -28,7 +28,6 @@ use Rattle.wat_print_instr.specs.InstructionForm.{spell_instruction, printable_i
 use Rattle.wat_print_instr.specs.Laws.Expression.{EndsExpression, end_ends, word_unsought}
 use Rattle.wat_print_instr.specs.Laws.Instruction.{EndsOperand, instruction_here}
 use Rattle.wat_print_instr.specs.Laws.Instruction.{instruction_well_formed}
-use Rattle.wat_print_instr.specs.Laws.Places.{each_front}
 
 -- ---- what a group begins with
 

@@ -25,24 +25,16 @@ use Rattle.wat_expr.specs.Laws.Facts.{group_is}
 use Rattle.wat_expr.specs.Laws.Folded.{groups_between}
 use Rattle.wat_print.specs.WellFormed.{is_given}
 use Rattle.wat_print.specs.Parts.{each}
-use Rattle.wat_print.specs.Laws.Only.{OnlyPrintable}
-use Rattle.wat_print.specs.Laws.Parts.{each_both}
+use Rattle.wat_print.specs.Laws.Only.{OnlyPrintable, given_group}
+use Rattle.wat_print.specs.Laws.Parts.{each_both, each_front}
 use Rattle.wat_print_instr.specs.FoldedForm.{takes_catches, is_catch, op_of, keeps_apart}
 use Rattle.wat_print_instr.specs.FoldedForm.{first_apart, catch_first, groups_behind, group_from}
 use Rattle.wat_print_instr.specs.FoldedForm.{own_groups, printable_folded}
 use Rattle.wat_print_instr.specs.InstructionForm.{printable_instruction}
 use Rattle.wat_print_instr.specs.Laws.Folded.{catch_told, group_last}
 use Rattle.wat_print_instr.specs.Laws.Instruction.{instruction_only}
-use Rattle.wat_print_instr.specs.Laws.Places.{each_front}
 
 -- ---- its instructions can be written
-
-given_group : (f y x : List Tok) → each is_given (LParen ∷ (f ++ (y ++ (RParen ∷ x)))) ≡ true
-    → (each is_given f ≡ true) × (each is_given y ≡ true) × (each is_given x ≡ true)
-given_group f y x g =
-    let a = each_front is_given f (y ++ (RParen ∷ x)) g in
-    let b = each_front is_given y (RParen ∷ x) a.1 in
-    (a.0, b.0, b.1)
 
 pub groups_printable : (gs : Groups) (c r : List Tok) → groups gs (c ++ r) r
     → each is_given c ≡ true

@@ -1,6 +1,6 @@
 -- Laws: numbers with a sign, and words that end in a number, are read again.
 use Rattle.std.specs.Prelude.{List, ◌≡◌, ℕ, ℤ, zero, suc, pos, negsuc, ◌^◌, ◌-◌, ◌<◌, ◌≤◌, ◌==◌}
-use Rattle.std.specs.Prelude.{◌-ℤ◌, neg_ℤ, true, false, nat_lt, nat_le}
+use Rattle.std.specs.Prelude.{◌-ℤ◌, neg_ℤ, true, nat_lt, nat_le}
 use Rattle.std.specs.Prelude.{Option, Some, None, option_map, decimal}
 use Rattle.std.specs.Fmt.{signed_decimal}
 use Rattle.std.proofs.Common.{refl, lit≤, arith, subst, sym}

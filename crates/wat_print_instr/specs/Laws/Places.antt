@@ -1,5 +1,5 @@
 -- Laws: indices, pairs of them, and tables of branches are read again.
-use Rattle.std.specs.Prelude.{◌≡◌, ℕ, zero, suc, Bool, true, false, ◌&&◌, List, [], ◌∷◌, ◌++◌}
+use Rattle.std.specs.Prelude.{◌≡◌, ℕ, zero, suc, true, false, ◌&&◌, List, [], ◌∷◌, ◌++◌}
 use Rattle.std.specs.Prelude.{flat_map, Option, Some, None, unwrap_or}
 use Rattle.std.proofs.Common.{refl, ap, subst, sym, ◌∙◌, append_assoc, append-nil, inl, inr, lit≤}
 use Rattle.std.proofs.lemmas.Bool.{and_parts, cond_both}
@@ -21,7 +21,7 @@ use Rattle.wat_print.specs.Parts.{each, if_some}
 use Rattle.wat_print.specs.Laws.Only.{OnlyPrintable, only_where, only_opt, only_seq, only_made}
 use Rattle.wat_print.specs.Laws.Only.{only_weaker, only_many}
 use Rattle.wat_print.specs.Laws.Parts.{Spells, many_here, well_formed_both, well_formed_each}
-use Rattle.wat_print.specs.Laws.Parts.{each_both}
+use Rattle.wat_print.specs.Laws.Parts.{each_both, each_front}
 use Rattle.wat_print.specs.Laws.Reference.{index_here, index_well_formed, index_only}
 use Rattle.wat_print_instr.specs.Numbers.{is_unsigned}
 use Rattle.wat_print_instr.specs.Places.{is_index_0, spell_index_or_0, spell_pair, printable_pair}
@@ -246,14 +246,6 @@ br_table_well_formed b f =
     well_formed_both (flat_map spell_index b.labels) (spell_index b.default)
     (well_formed_each spell_index printable_index index_well_formed b.labels a.0)
     (index_well_formed b.default a.1)
-
-pub each_front : {A : Type 0} (test : A → Bool) (vs ws : List A) → each test (vs ++ ws) ≡ true
-    → (each test vs ≡ true) × (each test ws ≡ true)
-each_front test [] ws f = (refl, f)
-each_front test (v ∷ vs) ws f =
-    let a = and_parts (test v) (each test (vs ++ ws)) f in
-    let b = each_front test vs ws a.1 in
-    (rw (a.0) (b.0), b.1)
 
 indices_only : OnlyPrintable indices (λ v. printable_index v.0 && each printable_index v.1)
 indices_only = only_seq index_only (only_many begins_index (lit≤ tt) index_only)

@@ -24,7 +24,7 @@ use Rattle.wat_print.specs.Parts.{each}
 use Rattle.wat_print.specs.Laws.Only.{OnlyPrintable, only_any, only_where, only_seq, only_made}
 use Rattle.wat_print.specs.Laws.Only.{only_weaker}
 use Rattle.wat_print.specs.Laws.Parts.{Spells, word_here, well_formed_word, well_formed_each}
-use Rattle.wat_print.specs.Laws.Parts.{each_both}
+use Rattle.wat_print.specs.Laws.Parts.{each_both, each_front}
 use Rattle.wat_print_instr.specs.Numbers.{Halves, spell_signed, is_signed, is_unsigned}
 use Rattle.wat_print_instr.specs.Numbers.{printable_number_of}
 use Rattle.wat_print_instr.specs.Vectors.{spell_lanes, spell_vector, printable_vector}
@@ -33,7 +33,7 @@ use Rattle.wat_print_instr.specs.Laws.Numbers.{same_number, halves_8, halves_16}
 use Rattle.wat_print_instr.specs.Laws.Numbers.{halves_32, halves_64, signed_here}
 use Rattle.wat_print_instr.specs.Laws.Numbers.{signed_well_formed, signed_only, unsigned_here}
 use Rattle.wat_print_instr.specs.Laws.Numbers.{unsigned_well_formed, unsigned_only}
-use Rattle.wat_print_instr.specs.Laws.Places.{both_here, each_front}
+use Rattle.wat_print_instr.specs.Laws.Places.{both_here}
 
 -- ---- a number of values
 

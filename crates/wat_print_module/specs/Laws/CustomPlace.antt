@@ -24,17 +24,7 @@ use Rattle.wat_print_module.specs.CustomPlace.{spell_place_group}
 pub section_here : (a : CustomPlaceAnchor) → Spells section a (spell_section a)
 unfolding section
 section_here anchor.«Type» r = (Keyword (codes "type"), refl, refl)
-section_here anchor.Import r = (Keyword (codes "import"), refl, refl)
-section_here anchor.Func r = (Keyword (codes "func"), refl, refl)
-section_here anchor.Table r = (Keyword (codes "table"), refl, refl)
-section_here anchor.Memory r = (Keyword (codes "memory"), refl, refl)
-section_here anchor.Global r = (Keyword (codes "global"), refl, refl)
-section_here anchor.Export r = (Keyword (codes "export"), refl, refl)
-section_here anchor.Start r = (Keyword (codes "start"), refl, refl)
-section_here anchor.Elem r = (Keyword (codes "elem"), refl, refl)
-section_here anchor.Code r = (Keyword (codes "code"), refl, refl)
-section_here anchor.Data r = (Keyword (codes "data"), refl, refl)
-section_here anchor.Tag r = (Keyword (codes "tag"), refl, refl)
+section_here a r = (Keyword (section_word a), refl, refl)
 
 section_printable : (a : CustomPlaceAnchor) → is_keyword (section_word a) ≡ true
 section_printable anchor.«Type» = refl

@@ -26,7 +26,7 @@ use Rattle.wat_print.specs.Laws.Only.{OnlyPrintable, only_where, only_opt, only_
 use Rattle.wat_print.specs.Laws.Only.{only_weaker, only_paren, only_after, only_group}
 use Rattle.wat_print.specs.Laws.Parts.{paren_here, group_here, well_formed_word, well_formed_both}
 use Rattle.wat_print.specs.Laws.Parts.{well_formed_group}
-use Rattle.wat_print.specs.Laws.Reference.{index_here, index_well_formed, index_only}
+use Rattle.wat_print.specs.Laws.Reference.{index_here, index_only, index_group_well_formed}
 use Rattle.wat_print.specs.Laws.Define.{after_here}
 use Rattle.wat_print_instr.specs.ExpressionForm.{spell_expression, printable_expression}
 use Rattle.wat_print_instr.specs.Laws.Expression.{expression_closed, expression_well_formed}
@@ -187,10 +187,9 @@ offset_well_formed e f =
 memory_well_formed : (i : Idx) → printable_index i ≡ true → WellFormed (spell_data_memory i)
 memory_well_formed (number zero) f = nothing
 memory_well_formed (number (suc n)) f =
-    well_formed_group (codes "memory") (spell_index (number (suc n))) refl
-    (index_well_formed (number (suc n)) f)
+    index_group_well_formed (codes "memory") refl (number (suc n)) f
 memory_well_formed (name x) f =
-    well_formed_group (codes "memory") (spell_index (name x)) refl (index_well_formed (name x) f)
+    index_group_well_formed (codes "memory") refl (name x) f
 
 kind_well_formed : (k : DataKindTy) → printable_data_kind k ≡ true → WellFormed (spell_data_kind k)
 kind_well_formed passive f = nothing

@@ -4,7 +4,7 @@ use Rattle.std.specs.Prelude.{flat_map, map, fold, decimal, Option, Some, None, 
 use Rattle.std.specs.Int.Bits.{bit_or, or_zero_l}
 use Rattle.std.specs.Str.{bytes_eq, is_utf8}
 use Rattle.std.proofs.Common.{refl, ap, subst, sym, ◌∙◌, append-nil, inl, inr, lit≤, arith}
-use Rattle.std.proofs.lemmas.Bool.{and_parts, cond_both, lt-ltb, ltb-true}
+use Rattle.std.proofs.lemmas.Bool.{and_parts, lt-ltb, ltb-true}
 use Rattle.std.proofs.lemmas.Grind.{flat_map-append}
 use Rattle.std.proofs.lemmas.Nat.{or_lt}
 use Rattle.wat_lexer.specs.Token.{Tok, LParen, RParen, Integer, String, Keyword}
@@ -14,7 +14,7 @@ use Rattle.wat_tokens.specs.ManySpells.{many_spells}
 use Rattle.wat_tokens.specs.Parts.{seq, made}
 use Rattle.wat_tokens.specs.Spelled.{in_parens}
 use Rattle.wat_tokens.specs.Strings.{text}
-use Rattle.wat_tokens.specs.Tests.{begins_group, begins_word, second, more, look_up}
+use Rattle.wat_tokens.specs.Tests.{begins_group, begins_word, second, more}
 use Rattle.wat_links.specs.CutForm.{entries, CutSpells}
 use Rattle.wat_links.specs.Cutting.{cut_subsections, dylink}
 use Rattle.wat_links.specs.Dylink.{SubsectionTy, mem_info, needed, export_info, import_info}
@@ -33,12 +33,13 @@ use Rattle.wat_print.specs.Parts.{if_some, each}
 use Rattle.wat_print.specs.Laws.Numbers.{unsigned_decimal}
 use Rattle.wat_print.specs.Laws.Only.{OnlyPrintable, only_one, only_where, only_opt, only_many}
 use Rattle.wat_print.specs.Laws.Only.{only_seq, only_made, only_weaker, only_group}
+use Rattle.wat_print.specs.Laws.Only.{look_up_printable}
 use Rattle.wat_print.specs.Laws.Parts.{Spells, group_here, many_here, well_formed_group}
-use Rattle.wat_print.specs.Laws.Parts.{well_formed_both, well_formed_each, each_both}
+use Rattle.wat_print.specs.Laws.Parts.{well_formed_both, well_formed_each, each_both, each_front}
 use Rattle.wat_print_instr.specs.Numbers.{is_unsigned}
 use Rattle.wat_print_instr.specs.Laws.Numbers.{unsigned_here}
 use Rattle.wat_print_instr.specs.Laws.Numbers.{unsigned_well_formed, unsigned_given, unsigned_only}
-use Rattle.wat_print_instr.specs.Laws.Places.{both_here, each_front}
+use Rattle.wat_print_instr.specs.Laws.Places.{both_here}
 use Rattle.wat_print_module.specs.Dylink.{spell_sizes, spell_names, spell_export_flags}
 use Rattle.wat_print_module.specs.Dylink.{spell_import_flags, spell_subsection, spell_dylink}
 use Rattle.wat_print_module.specs.Dylink.{printable_sizes, printable_export_flags}
@@ -76,17 +77,6 @@ flags_here n r f e = (
   refl,
   or_zero_l n,
 )
-
-look_up_printable : {A : Type 0} (printable : A → Bool) (table : List (List ℕ × A))
-    (w : List ℕ) (v : A)
-    → each (λ e. printable e.1) table ≡ true → look_up table w ≡ Some v → printable v ≡ true
-look_up_printable printable [] w v a e = absurd cc
-look_up_printable {A = A} printable (x ∷ table) w v a e =
-    let p = and_parts (printable x.1) (each (λ e. printable e.1) table) a in
-    cond_both (bytes_eq w x.0) (Some x.1) (look_up table w)
-    (λ (o : Option A). o ≡ Some v → printable v ≡ true)
-    (λ k f. (let same : x.1 ≡ v = cc in subst (λ (u : A). printable u ≡ true) same (p.0)))
-    (λ k f. (look_up_printable printable table w v p.1 f)) e
 
 flag_given : (t : Tok) (n : ℕ) → is_given t ≡ true → flag_of t ≡ Some n → is_unsigned 32 n ≡ true
 flag_given (Integer x) n a e = unsigned_given 32 (lit≤ tt) (Integer x) n a e

@@ -38,6 +38,7 @@ use Rattle.wat_print.specs.Laws.Parts.{well_formed_both, well_formed_group, well
 use Rattle.wat_print.specs.Laws.Parts.{well_formed_option, well_formed_one}
 use Rattle.wat_print.specs.Laws.Reference.{index_here, index_well_formed, index_only, ref_here}
 use Rattle.wat_print.specs.Laws.Reference.{ref_well_formed, ref_only, of_refs}
+use Rattle.wat_print.specs.Laws.Reference.{index_group_well_formed}
 use Rattle.wat_print.specs.Laws.Define.{after_here}
 use Rattle.wat_print_instr.specs.ExpressionForm.{spell_expression, printable_expression}
 use Rattle.wat_print_instr.specs.Laws.Expression.{expression_well_formed}
@@ -148,37 +149,27 @@ typed_here t es r f e =
       refl,
     )
 
+functions_here : (is : List Idx) (r : List Tok) → each printable_index is ≡ true → ends r ≡ true
+    → (made indices (after_word (codes "func") index_list)).spells (indices is)
+    (spell_payload (indices is)) r
+functions_here is r f e = (
+  is,
+  after_here (codes "func") index_list is (flat_map spell_index is) r refl (indices_here is r f e),
+  refl,
+  refl,
+)
+
 payload_here : (p : PayloadTy) (r : List Tok) → printable_payload p ≡ true → ends r ≡ true
     → payload.spells p (spell_payload p) r
 unfolding payload
-payload_here (indices is) r f e =
-    inl (
-      refl,
-      (
-        is,
-        after_here (codes "func") index_list is (flat_map spell_index is) r refl
-            (indices_here is r f e),
-        refl,
-        refl,
-      ),
-    )
+payload_here (indices is) r f e = inl (refl, functions_here is r f e)
 payload_here (exprs t es) r f e =
     inr (ref_no_func t (flat_map spell_item es) r, typed_here t es r f e)
 
 any_payload_here : (p : PayloadTy) (r : List Tok) → printable_payload p ≡ true → ends r ≡ true
     → payload_or_indices.spells p (spell_payload p) r
 unfolding payload_or_indices
-any_payload_here (indices is) r f e =
-    inl (
-      refl,
-      (
-        is,
-        after_here (codes "func") index_list is (flat_map spell_index is) r refl
-            (indices_here is r f e),
-        refl,
-        refl,
-      ),
-    )
+any_payload_here (indices is) r f e = inl (refl, functions_here is r f e)
 any_payload_here (exprs t es) r f e =
     let x = flat_map spell_item es in
     inr (ref_no_func t x r, inl (ref_begins t x r, typed_here t es r f e))
@@ -332,7 +323,7 @@ payload_well_formed (exprs t es) f =
 
 table_well_formed : (i : Idx) → printable_index i ≡ true → WellFormed (spell_elem_table i)
 table_well_formed i f =
-    well_formed_group (codes "table") (spell_index i) refl (index_well_formed i f)
+    index_group_well_formed (codes "table") refl i f
 
 kind_well_formed : (k : ElemKindTy) → printable_elem_kind k ≡ true → WellFormed (spell_elem_kind k)
 kind_well_formed passive f = nothing

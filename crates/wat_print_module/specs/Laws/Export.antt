@@ -37,10 +37,7 @@ use Rattle.wat_print_module.specs.Laws.Folded.{no_word}
 pub export_kind_here : (k : ExportKind) → Spells export_kind k (spell_export_kind k)
 unfolding export_kind
 export_kind_here code.Func r = (Keyword (codes "func"), refl, refl)
-export_kind_here code.Table r = (Keyword (codes "table"), refl, refl)
-export_kind_here code.Memory r = (Keyword (codes "memory"), refl, refl)
-export_kind_here code.Global r = (Keyword (codes "global"), refl, refl)
-export_kind_here code.Tag r = (Keyword (codes "tag"), refl, refl)
+export_kind_here k r = (Keyword (export_kind_word k), refl, refl)
 
 export_word_printable : (k : ExportKind) → is_keyword (export_kind_word k) ≡ true
 export_word_printable code.Func = refl

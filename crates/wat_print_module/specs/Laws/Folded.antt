@@ -17,12 +17,11 @@ use Rattle.wat_fields.specs.Offset.{head_behind}
 use Rattle.wat_print.specs.WellFormed.{is_given}
 use Rattle.wat_print.specs.Parts.{grouped, each}
 use Rattle.wat_print.specs.Laws.Only.{OnlyPrintable}
-use Rattle.wat_print.specs.Laws.Parts.{group_here}
+use Rattle.wat_print.specs.Laws.Parts.{group_here, each_front}
 use Rattle.wat_print_instr.specs.ExpressionForm.{HintedInstr, step_of, printable_step, steps_from}
 use Rattle.wat_print_instr.specs.ExpressionForm.{hint_for, hints_after, spell_expression}
 use Rattle.wat_print_instr.specs.ExpressionForm.{printable_expression}
 use Rattle.wat_print_instr.specs.InstructionForm.{passes, printable_instruction}
-use Rattle.wat_print_instr.specs.Laws.Places.{each_front}
 use Rattle.wat_print_instr.specs.Laws.Expression.{expression_closed, next_step}
 use Rattle.wat_print_instr.specs.Laws.FoldedOnly.{groups_printable}
 

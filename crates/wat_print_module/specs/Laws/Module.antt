@@ -1,5 +1,5 @@
 -- Laws: modules are read again.
-use Rattle.std.specs.Prelude.{◌≡◌, ℕ, Bool, true, false, ◌&&◌, List, [], ◌∷◌, ◌++◌, codes, flat_map}
+use Rattle.std.specs.Prelude.{◌≡◌, ℕ, Bool, true, false, List, [], ◌∷◌, ◌++◌, codes, flat_map}
 use Rattle.std.specs.Prelude.{Option, Some, None, zero, suc, slice_get}
 use Rattle.std.proofs.Common.{refl, inl, inr, lit≤, append_assoc, subst, sym}
 use Rattle.std.proofs.lemmas.Bool.{and_parts, and_right}

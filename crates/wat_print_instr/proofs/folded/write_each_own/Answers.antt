@@ -2,10 +2,9 @@ use Rattle.std.proofs.Common.{rules, ◌≡◌, ◌≢◌, false, map}
 use Rattle.wat_instr.specs.Instruction.{instruction_view}
 use Rattle.wat_print.specs.Parts.{each}
 use Rattle.wat_print.specs.declared.fault.Refused.TheVariants.{Memory}
-use Rattle.wat_print.specs.Laws.Written.{not_each_item}
+use Rattle.wat_print.specs.Laws.Written.{not_each_item, wrote_item}
 use Rattle.wat_print_instr.specs.FoldedForm.{spell_own}
 use Rattle.wat_print_instr.specs.InstructionForm.{printable_instruction}
-use Rattle.wat_print_instr.proofs.Written.{wrote_item}
 use Rattle.wat_print_instr.proofs.folded.write_each_own.Goals as goal
 
 pub loop-instr-preserved : goal.loop-instr-preserved

@@ -1,8 +1,7 @@
 use Rattle.std.proofs.Common.{rules, ◌≡◌, ◌≢◌, false, map}
 use Rattle.wat_print.specs.Parts.{each}
 use Rattle.wat_print.specs.declared.fault.Refused.TheVariants.{Memory}
-use Rattle.wat_print.specs.Laws.Written.{not_each_item}
-use Rattle.wat_print_instr.proofs.Written.{wrote_item}
+use Rattle.wat_print.specs.Laws.Written.{not_each_item, wrote_item}
 use Rattle.wat_print_instr.proofs.traits.write_each.Goals as goal
 
 pub loop-value-preserved : goal.loop-value-preserved

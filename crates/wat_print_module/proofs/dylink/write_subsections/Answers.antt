@@ -1,6 +1,6 @@
 use Rattle.wat_links.specs.Dylink.{subsection_view}
 use Rattle.wat_print_module.specs.Dylink.{spell_subsection, printable_subsection}
-use Rattle.wat_print_module.proofs.Written.{wrote_item}
+use Rattle.wat_print.specs.Laws.Written.{wrote_item}
 use Rattle.wat_print_module.proofs.dylink.write_subsections.Goals as goal
 
 pub loop-subsection-preserved : goal.loop-subsection-preserved

@@ -3,8 +3,7 @@ use Rattle.wat_links.specs.Import.{typed_view}
 use Rattle.wat_print_module.specs.Import.{spell_typed, printable_typed}
 use Rattle.wat_print.specs.Parts.{each}
 use Rattle.wat_print.specs.declared.fault.Refused.TheVariants.{Memory}
-use Rattle.wat_print.specs.Laws.Written.{not_each_item}
-use Rattle.wat_print_module.proofs.Written.{wrote_item}
+use Rattle.wat_print.specs.Laws.Written.{not_each_item, wrote_item}
 use Rattle.wat_print_module.proofs.import.write_typed_items.Goals as goal
 
 pub loop-item-preserved : goal.loop-item-preserved
