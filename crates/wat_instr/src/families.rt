@@ -97,7 +97,7 @@ pub(crate) fn read_label<'a, P: Sink<'a>>(
 
 /// An instruction with an index.
 impl<'a> OperandOf<'a, IndexedOp> for Index<'a> {
-    ghost word = { λ op. ops.Indexed op };
+    ghost op_of = { λ op. ops.Indexed op };
 
     ghost seen = { λ x. operands.one_index (index_view x) };
 
@@ -136,7 +136,7 @@ pub(crate) fn read_call_indirect<'a, P: Sink<'a>>(
 
 /// An instruction with a table.
 impl<'a> OperandOf<'a, TableOp> for TableArg<'a> {
-    ghost word = { λ op. ops.Table op };
+    ghost op_of = { λ op. ops.Table op };
 
     ghost seen = { λ x. operands.one_index (table_arg_view x) };
 
@@ -176,7 +176,7 @@ pub(crate) fn read_access<'a, P: Sink<'a>>(
 
 /// An instruction with a memory.
 impl<'a> OperandOf<'a, MemoryOp> for MemoryArg<'a> {
-    ghost word = { λ op. ops.Memory op };
+    ghost op_of = { λ op. ops.Memory op };
 
     ghost seen = { λ x. operands.one_index (memory_arg_view x) };
 
@@ -196,7 +196,7 @@ impl<'a> OperandOf<'a, MemoryOp> for MemoryArg<'a> {
 
 /// A field of a structure.
 impl<'a> OperandOf<'a, StructOp> for StructAccess<'a> {
-    ghost word = { λ op. ops.Struct op };
+    ghost op_of = { λ op. ops.Struct op };
 
     ghost seen = { λ x. operands.two_indices (struct_access_view x) };
 
@@ -216,7 +216,7 @@ impl<'a> OperandOf<'a, StructOp> for StructAccess<'a> {
 
 /// An array, and the segment that it is filled from.
 impl<'a> OperandOf<'a, ArrayInitOp> for ArrayInit<'a> {
-    ghost word = { λ op. ops.ArrayInit op };
+    ghost op_of = { λ op. ops.ArrayInit op };
 
     ghost seen = { λ x. operands.two_indices (array_init_view x) };
 
@@ -274,7 +274,7 @@ pub(crate) fn read_rmw_access<'a, P: Sink<'a>>(
 
 /// An atomic access to what an index names.
 impl<'a> OperandOf<'a, OrderedIndexOp> for Ordered<Index<'a>> {
-    ghost word = { λ op. ops.OrderedIndex op };
+    ghost op_of = { λ op. ops.OrderedIndex op };
 
     ghost seen = { λ x. operands.ordered_index (ordered_view index_view x) };
 
@@ -294,7 +294,7 @@ impl<'a> OperandOf<'a, OrderedIndexOp> for Ordered<Index<'a>> {
 
 /// An atomic access to a table.
 impl<'a> OperandOf<'a, OrderedTableOp> for Ordered<TableArg<'a>> {
-    ghost word = { λ op. ops.OrderedTable op };
+    ghost op_of = { λ op. ops.OrderedTable op };
 
     ghost seen = { λ x. operands.ordered_index (ordered_view table_arg_view x) };
 
@@ -314,7 +314,7 @@ impl<'a> OperandOf<'a, OrderedTableOp> for Ordered<TableArg<'a>> {
 
 /// An atomic access to a field of a structure.
 impl<'a> OperandOf<'a, OrderedStructOp> for Ordered<StructAccess<'a>> {
-    ghost word = { λ op. ops.OrderedStruct op };
+    ghost op_of = { λ op. ops.OrderedStruct op };
 
     ghost seen = { λ x. operands.ordered_indices (ordered_view struct_access_view x) };
 
@@ -353,7 +353,7 @@ pub(crate) fn read_lane_access<'a, P: Sink<'a>>(
 
 /// A lane that is taken out or replaced.
 impl<'a> OperandOf<'a, LaneOp> for LaneArg {
-    ghost word = { λ op. ops.Lane op };
+    ghost op_of = { λ op. ops.Lane op };
 
     ghost seen = { operands.lane };
 
