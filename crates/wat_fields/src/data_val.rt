@@ -87,7 +87,7 @@ impl<'a> Parse<'a> for DataVal<'a> {
 }
 
 /// Values, to the end.
-#[tactic(auto, using(crate::specs::Laws::DataVal::data_val_consumes), unfolding(crate::specs::DataVals::data_vals))]
+#[tactic(auto, using(crate::proofs::Lists::consumes), unfolding(crate::specs::DataVals::data_vals))]
 pub(crate) fn read_vals<'a>(parser: &mut Parser<'a>) -> Result<Vec<DataVal<'a>>>
     ensures reads { Reads (owning (λ v. data_vals_view v.items) no_items) data_vals result
         parser.old parser.new }

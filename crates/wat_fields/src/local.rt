@@ -135,7 +135,7 @@ impl<'a> Group<'a, Local<'a>> for LocalGroup {
 impl<'a> Local<'a> {
     /// The locals of all groups, in order: groups go on as long as the second token is `local`,
     /// whatever the first is. Where that is no `(`, it is refused with Unexpected, at the first.
-    #[tactic(auto, using(wat_tokens::specs::Laws::Joined::joined_reads, crate::specs::Laws::Local::local_group_consumes), unfolding(crate::specs::Locals::locals))]
+    #[tactic(auto, using(crate::proofs::Lists::joins), unfolding(crate::specs::Locals::locals))]
     pub(crate) fn parse_remainder(parser: &mut Parser<'a>) -> Result<Vec<Local<'a>>>
         ensures reads { Reads (owning (λ ls. locals_view ls.items) no_items) locals result
             parser.old parser.new }

@@ -17,7 +17,7 @@ use wat_tokens::{Parse, Parser, Result};
 
 /// A value, and an expression directly behind it.
 ///
-/// The value's type is a parameter, as in [`wat_tokens::whole`]: a body that holds a value of a
+/// The value's type is a parameter, as in [`wat_tokens::enclosed`]: a body that holds a value of a
 /// large type over a call that may refuse is proved slowly.
 fn read_before_items<'a, T: Parse<'a> + Drop>(
     parser: &mut Parser<'a>,

@@ -81,7 +81,7 @@ impl<'a> Spanned<'a, Expression<'a>> for Item {
 }
 
 /// Items, to the end.
-#[tactic(auto, using(crate::specs::Laws::Payload::item_consumes), unfolding(crate::specs::Payload::item_list))]
+#[tactic(auto, using(crate::proofs::Lists::consumes), unfolding(crate::specs::Payload::item_list))]
 fn read_items<'a>(parser: &mut Parser<'a>) -> Result<Vec<Expression<'a>>>
     ensures reads { ReadsAt turns_too (owning (λ v. map expression_view v.items) no_items) item_list
         result parser.old parser.new }
@@ -130,7 +130,7 @@ impl<'a> Spanned<'a, Expression<'a>> for RefFunc {
 }
 
 /// Indices, to the end, each as `ref.func` of it, as a payload of the type.
-#[tactic(auto, using(crate::specs::Laws::RefFuncs::ref_func_consumes), unfolding(crate::specs::RefFuncs::ref_funcs_of, crate::specs::RefFuncs::ref_funcs))]
+#[tactic(auto, using(crate::proofs::Lists::consumes), unfolding(crate::specs::RefFuncs::ref_funcs_of, crate::specs::RefFuncs::ref_funcs))]
 fn read_ref_funcs<'a>(parser: &mut Parser<'a>, ty: RefType<'a>) -> Result<ElemPayload<'a>>
     ensures reads { Reads (owning payload_view bare_payload) (ref_funcs_of (ref_view ty.entry))
         result parser.old parser.new }
