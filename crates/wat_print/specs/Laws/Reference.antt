@@ -13,7 +13,7 @@ use Rattle.wat_tokens.specs.NameAnnotation.{begins_name}
 use Rattle.wat_tokens.specs.Parts.{seq, flag}
 use Rattle.wat_tokens.specs.Tests.{begins_word, begins_group, begins_id, more, word_in}
 use Rattle.wat_types.specs.Heap.{HeapTy, concrete, exact, abstract_, heap_type}
-use Rattle.wat_types.specs.Heap.{abstract_heap_type}
+use Rattle.wat_types.specs.Heap.{abstract_heap_type, abstract_word}
 use Rattle.wat_types.specs.Reference.{RefTy, ref_type, shorthand, short}
 use Rattle.wat_types.specs.Value.{ValTy, i32, i64, f32, f64, v128, ref, val_type, begins_plain}
 use Rattle.wat_types.specs.Value.{plain_words}
@@ -22,7 +22,6 @@ use Rattle.wat_types.specs.declared.heap.AbstractHeapType.TheVariants as word
 use Rattle.wat_print.specs.WellFormed.{is_keyword, is_given, WellFormed}
 use Rattle.wat_print.specs.Index.{spell_index, printable_index}
 use Rattle.wat_print.specs.Parts.{grouped, spell_flag}
-use Rattle.wat_print.specs.Reference.{abstract_word}
 use Rattle.wat_print.specs.Reference.{spell_abstract, spell_heap, printable_heap, short_word}
 use Rattle.wat_print.specs.Reference.{spell_long, spell_reference, spell_ref, printable_ref}
 use Rattle.wat_print.specs.Reference.{spell_val, printable_val}
