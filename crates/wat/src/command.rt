@@ -10,7 +10,7 @@ use wat_text::Task;
 
 /// What the program is asked for.
 #[derive(Clone, Copy, Debug, PartialEq, Eq)]
-pub enum Command {
+pub(crate) enum Command {
     /// To read the files that the words name behind so many, or standard input if there are none.
     Read(Task, usize),
     /// To format them, or if it is so only to say which would change.
@@ -97,7 +97,7 @@ fn command_with(first: &str, further: &[String]) -> Option<Command>
 }
 
 /// What the words behind the program's name ask for, if it is anything.
-pub fn command_of(words: &[String]) -> Option<Command>
+pub(crate) fn command_of(words: &[String]) -> Option<Command>
     ensures { result ≡ command_of (map string_bytes words.now) }
 {
     let (first, further) = words.split_first()?;

@@ -13,7 +13,7 @@ use wat_text::bytes_formatted;
 
 /// What becomes of a formatted text.
 #[derive(Clone, Copy, Debug, PartialEq, Eq)]
-pub enum Way {
+pub(crate) enum Way {
     /// It is written.
     Show,
     /// Its name is written if it would change.
@@ -107,7 +107,7 @@ fn said_of_name<P: Places, T: Watcher>(
 
 /// To format what names stand for.
 #[derive(Drop)]
-pub struct Formatting<P> {
+pub(crate) struct Formatting<P> {
     pub way: Way,
     pub places: P,
 }

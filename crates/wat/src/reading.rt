@@ -72,7 +72,7 @@ fn shown_of_name<S: Sources, T: Watcher>(
 
 /// To read what names stand for as modules.
 #[derive(Drop)]
-pub struct Reading<S> {
+pub(crate) struct Reading<S> {
     pub task: Task,
     pub sources: S,
 }

@@ -43,7 +43,12 @@ fn fill<F: Write + OpenFile + Drop>(
 /// The text is written to a new file in the same folder, with the permissions of the old one, which
 /// then takes its place. Whatever fails before that, the old file stays as it is, and the new one
 /// is removed.
-pub fn replace_file<R: Files>(rt: &R, alloc: Global, name: &str, text: &str) -> io::Result<()> {
+pub(crate) fn replace_file<R: Files>(
+    rt: &R,
+    alloc: Global,
+    name: &str,
+    text: &str,
+) -> io::Result<()> {
     let path = rt.canonicalize(alloc, name)?;
     let found = rt.metadata(path.as_str())?;
     if !found.is_file() {

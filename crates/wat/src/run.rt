@@ -13,19 +13,19 @@ use wat_show::output::write_all_of;
 use wat_show::{RunError, Watched};
 
 /// Who is told how a run goes.
-pub trait Watcher {
+pub(crate) trait Watcher {
     /// What a name stands for can't be read or replaced, or memory ran out.
     fn unread(&self, name: &str, error: &io::Error);
 
     /// Why no module is printed, or no text formatted: lines of their own.
-    fn refused(&self, said: &[u8]);
+    fn refused(&self, report: &[u8]);
 
     /// So many names of all are done.
     fn done(&mut self, count: usize, all: usize);
 }
 
 /// What is done with what a name stands for.
-pub trait Work {
+pub(crate) trait Work {
     /// From the one to the other, that is to be written of the name, and that is its status.
     ghost says: { Self → Self → List ℕ → List ℕ → ℕ → Type 0 };
 
@@ -60,7 +60,7 @@ fn say_of_name<J: Work, W: Write, T: Watcher>(
 /// before the next. Answers the greatest status of them, and 0 if there are none.
 ///
 /// At the first write that fails it answers Write.
-pub fn run<J: Work, W: Write, T: Watcher>(
+pub(crate) fn run<J: Work, W: Write, T: Watcher>(
     alloc: Global,
     work: &mut J,
     names: &[String],

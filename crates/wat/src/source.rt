@@ -10,7 +10,7 @@ use std::io::{Input, Read};
 use std::rt::Files;
 
 /// What a name stands for: bytes that can be read.
-pub trait Sources {
+pub(crate) trait Sources {
     /// A read of what the name stands for can give these bytes.
     ghost gives: { Self → List ℕ → List ℕ → Type 0 };
 
@@ -24,7 +24,7 @@ pub trait Sources {
 }
 
 /// Sources of which each can be replaced.
-pub trait Places: Sources {
+pub(crate) trait Places: Sources {
     /// From the one to the other, these bytes were put in the place of what the name stands for.
     ghost puts: { Self → Self → List ℕ → List ℕ → Type 0 };
 
@@ -46,7 +46,7 @@ fn all_of<R: Read + Drop>(alloc: Global, reader: R) -> io::Result<Vec<u8>>
 
 /// The files of the system, by their paths.
 #[derive(Drop)]
-pub struct SystemFiles<'a, R> {
+pub(crate) struct SystemFiles<'a, R> {
     pub rt: &'a R,
 }
 
@@ -71,7 +71,7 @@ impl<'a, R: Files> Places for SystemFiles<'a, R> {
 
 /// Standard input, whatever its name.
 #[derive(Drop)]
-pub struct StandardInput<'a, R> {
+pub(crate) struct StandardInput<'a, R> {
     pub rt: &'a R,
 }
 

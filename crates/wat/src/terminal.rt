@@ -11,21 +11,21 @@ const SILENCE: u64 = 2;
 
 /// Standard error. If it is a terminal, a line says every two seconds how far a long run is.
 #[derive(Drop)]
-pub struct Terminal<'a> {
+pub(crate) struct Terminal<'a> {
     rt: &'a HostRuntime,
     /// When something was last said of how far the run is. None: nothing is ever said of that.
-    said: Option<Instant>,
+    last_progress: Option<Instant>,
 }
 
 impl<'a> Terminal<'a> {
     /// Standard error of the process.
     pub fn new(rt: &'a HostRuntime) -> Terminal<'a> {
-        let said = if rt.stderr().is_terminal() {
+        let last_progress = if rt.stderr().is_terminal() {
             Instant::now(rt).ok()
         } else {
             None
         };
-        Terminal { rt, said }
+        Terminal { rt, last_progress }
     }
 }
 
@@ -37,20 +37,20 @@ impl Watcher for Terminal<'_> {
         };
     }
 
-    fn refused(&self, said: &[u8]) {
-        let _ = self.rt.stderr().write_all(said);
+    fn refused(&self, report: &[u8]) {
+        let _ = self.rt.stderr().write_all(report);
     }
 
     fn done(&mut self, count: usize, all: usize) {
-        let Some(said) = self.said else {
+        let Some(last) = self.last_progress else {
             return;
         };
         let Ok(now) = Instant::now(self.rt) else {
             return;
         };
-        if now.duration_since(said).as_secs() >= SILENCE {
+        if now.duration_since(last).as_secs() >= SILENCE {
             let _ = eprintln!(self.rt; "wat: {count} of {all} texts are read");
-            self.said = Some(now);
+            self.last_progress = Some(now);
         }
     }
 }

@@ -1,12 +1,11 @@
 //! The library for C: what is said of one text, as functions that C and all that calls C can call.
 //!
-//! A text and the room for what is said of it are the caller's, each a pointer and a length in bytes.
-//! Nothing is kept from one call to the next, so calls can be made side by side. `bindings/wat.h`
-//! declares the functions and says what each does.
+//! A text and the room for what is said of it are the caller's, each a pointer and a length in
+//! bytes. Nothing is kept from one call to the next, so calls can be made side by side.
+//! `bindings/wat.h` declares the functions and says what each does.
 #![tactic(auto)]
 
-ghost use Rattle.std.specs.Prelude.{◌≡◌, codes};
-ghost use Rattle.std.specs.Prelude.{pos};
+ghost use Rattle.std.specs.Prelude.{◌≡◌, codes, pos};
 ghost use Rattle.wat_c.specs.Answers.{Answered, Filled, FormatsBytes, layout_of};
 ghost use Rattle.wat_text.specs.Outcomes.{SaysOfBytes};
 ghost use Rattle.wat_text.specs.declared.task.Task.TheVariants.{Check, Show, Print};

@@ -1,18 +1,18 @@
 -- The bytes of gaps.
-use Rattle.std.proofs.Common.{◌≡◌, ℕ, zero, suc, ◌+◌, ◌-◌, ◌<◌, List, [], ◌∷◌, ◌++◌, length, refl, ap, sym, ◌∙◌, arith, append_assoc}
-use Rattle.std.specs.Prelude.{Bool, true, false, nat_lt, ◌==◌, ◌&&◌}
+use Rattle.std.proofs.Common.{◌≡◌, ℕ, zero, suc, List, [], ◌∷◌, ◌++◌, length, refl, ap, sym, ◌∙◌, arith}
+use Rattle.std.specs.Prelude.{Bool, true, false, nat_lt, replicate, ◌==◌, ◌&&◌}
 use Rattle.std.proofs.lemmas.Bool.Decides.{nat_tests}
 use Rattle.wat_lexer.specs.Bytes.{is_space}
-use Rattle.wat_format.specs.Shapes.{repeated, gap_bytes, no_gap, gap_first, no_bytes, follows, Follows, is_opening, AllSpaces, Separates}
+use Rattle.wat_format.specs.Shapes.{gap_bytes, no_gap, gap_first, no_bytes, follows, Follows, is_opening, AllSpaces, Separates}
 use Rattle.wat_format.specs.declared.piece.Shape.{Shape}
 use Rattle.wat_format.specs.declared.piece.Shape.TheVariants as of
 
-repeated_spaces : (n b : ℕ) → is_space b ≡ true → AllSpaces (repeated n b)
-repeated_spaces zero b h = tt
-repeated_spaces (suc n) b h = (h, repeated_spaces n b h)
+replicate_spaces : (n b : ℕ) → is_space b ≡ true → AllSpaces (replicate n b)
+replicate_spaces zero b h = tt
+replicate_spaces (suc n) b h = (h, replicate_spaces n b h)
 
 gap_spaces : (lines spaces : ℕ) → AllSpaces (gap_bytes lines spaces)
-gap_spaces zero spaces = repeated_spaces spaces 32 refl
+gap_spaces zero spaces = replicate_spaces spaces 32 refl
 gap_spaces (suc n) spaces = (refl, gap_spaces n spaces)
 
 some_lt : (n : ℕ) → nat_lt 0 (suc n) ≡ true
@@ -51,12 +51,6 @@ follows_less s (_ ∷ _) y b h = h
 pub block_followed : (x : List ℕ) → Follows of.Block x
 block_followed [] = tt
 block_followed (_ ∷ _) = refl
-
--- one byte more, of so many that are still to be written
-pub one_more : (old now new : List ℕ) (b n i : ℕ) → i < n → new ≡ now ++ b ∷ [] → now ++ repeated (n - i) b ≡ old ++ repeated n b → new ++ repeated (n - (i + 1)) b ≡ old ++ repeated n b
-one_more old now new b n i lt e h =
-    let left : n - i ≡ suc (n - (i + 1)) = omega arith in
-    rw (e, append_assoc) (rw left at h)
 
 pub line_follows : (s : Shape) → follows s 10 ≡ true
 line_follows of.Line = refl

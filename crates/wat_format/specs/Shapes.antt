@@ -1,7 +1,7 @@
 -- Pieces of a text by their shapes.
-use Rattle.std.specs.Prelude.{◌≡◌, ◌≤◌, ◌<◌, ◌+◌, ◌-◌, ℕ, zero, suc, nat_lt, if◌then◌else◌, Bool}
+use Rattle.std.specs.Prelude.{◌≡◌, ◌≤◌, ◌<◌, ◌+◌, ◌-◌, ℕ, nat_lt, if◌then◌else◌, Bool}
 use Rattle.std.specs.Prelude.{true, false, not, ◌==◌, ◌&&◌, ◌⊎◌, List, [], ◌∷◌, ◌++◌, length}
-use Rattle.std.specs.Prelude.{drop, slice_index}
+use Rattle.std.specs.Prelude.{drop, replicate, slice_index}
 use Rattle.std.specs.List.{AllByRecursion}
 use Rattle.wat_lexer.specs.Bytes.{is_space, is_line_end}
 use Rattle.wat_lexer.specs.Cut.{Inside, Begins, Run, in_no_run, Broken}
@@ -55,13 +55,9 @@ abbrev pub WrongAt : List ℕ → ℕ → Error → Type 0
 WrongAt text at e =
     (offset_of e.span ≤ length text) × Broken (drop at text) e.fault (drop (offset_of e.span) text)
 
-abbrev pub repeated : ℕ → ℕ → List ℕ
-repeated zero b = []
-repeated (suc n) b = b ∷ repeated n b
-
 -- line breaks, and spaces behind them
 abbrev pub gap_bytes : ℕ → ℕ → List ℕ
-gap_bytes lines spaces = repeated lines 10 ++ repeated spaces 32
+gap_bytes lines spaces = replicate lines 10 ++ replicate spaces 32
 
 -- there are neither
 abbrev pub no_gap : ℕ → ℕ → Bool

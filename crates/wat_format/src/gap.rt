@@ -1,7 +1,7 @@
 //! The blanks between two pieces (Text Format, Lexical Format, "White Space").
 
-ghost use Rattle.std.specs.Prelude.{◌≡◌, ◌++◌, ◌&&◌, List, ℕ, true, OnOk, string_bytes};
-ghost use Rattle.wat_format.specs.Shapes.{follows, is_opening, repeated, gap_bytes, no_gap};
+ghost use Rattle.std.specs.Prelude.{◌≡◌, ◌++◌, ◌&&◌, List, ℕ, true, OnOk, replicate, string_bytes};
+ghost use Rattle.wat_format.specs.Shapes.{follows, is_opening, gap_bytes, no_gap};
 ghost use Rattle.wat_format.specs.Shapes.{gap_first, Separates};
 
 use crate::piece::Shape;
@@ -9,7 +9,7 @@ use std::alloc::AllocError;
 
 /// Blanks that are made: ends of lines, LF each, and spaces behind them.
 #[derive(Clone, Copy, Debug)]
-pub struct Gap {
+pub(crate) struct Gap {
     pub lines: usize,
     pub spaces: usize,
 }
@@ -62,7 +62,7 @@ fn fits(gap: Gap, last: Shape, directly: bool, first: u8) -> bool
 }
 
 fn put_lines(out: &mut String, times: usize) -> Result<(), AllocError>
-    ensures { OnOk result (string_bytes out.new ≡ string_bytes out.old ++ repeated times 10) }
+    ensures { OnOk result (string_bytes out.new ≡ string_bytes out.old ++ replicate times 10) }
 {
     'turns: for _ in 0..times {
         out.push_str("\n")?;
@@ -71,7 +71,7 @@ fn put_lines(out: &mut String, times: usize) -> Result<(), AllocError>
 }
 
 fn put_spaces(out: &mut String, times: usize) -> Result<(), AllocError>
-    ensures { OnOk result (string_bytes out.new ≡ string_bytes out.old ++ repeated times 32) }
+    ensures { OnOk result (string_bytes out.new ≡ string_bytes out.old ++ replicate times 32) }
 {
     'turns: for _ in 0..times {
         out.push_str(" ")?;
@@ -89,7 +89,7 @@ fn put_gap(out: &mut String, gap: Gap) -> Result<(), AllocError>
 
 /// Writes the gap that is wanted between a piece and the byte that begins the next. The blanks that
 /// are there in the text are written where none is wanted or it can't be.
-pub fn put_blanks(
+pub(crate) fn put_blanks(
     out: &mut String,
     wanted: Option<Gap>,
     blanks: &str,

@@ -16,7 +16,7 @@ const MOST_STEPS: usize = 50;
 
 /// What is known of the text up to the end of a piece.
 #[derive(Drop)]
-pub struct Layout {
+pub(crate) struct Layout {
     /// How many flat blocks are open in each group around the innermost, the outermost first.
     around: Vec<usize>,
     /// How many flat blocks are open in the innermost group.

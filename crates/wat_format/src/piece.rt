@@ -11,7 +11,7 @@ use wat_lexer::scan::{comment_end, line_end, run_end};
 
 /// What a piece is.
 #[derive(Clone, Copy, Debug)]
-pub enum Shape {
+pub(crate) enum Shape {
     /// A comment up to the end of the line.
     Line,
     /// A comment in `(;` and `;)`.
@@ -26,7 +26,7 @@ pub enum Shape {
 
 /// A piece, and where it ends.
 #[derive(Clone, Copy, Debug)]
-pub struct Piece {
+pub(crate) struct Piece {
     pub shape: Shape,
     pub end: usize,
 }
@@ -103,7 +103,7 @@ fn word(text: &[u8], at: usize) -> Result<Piece, Error>
 }
 
 /// The piece at a place where no space is.
-pub fn piece_at(text: &[u8], at: usize) -> Result<Piece, Error>
+pub(crate) fn piece_at(text: &[u8], at: usize) -> Result<Piece, Error>
     requires inside { at < length text.now }
     requires no_space { is_space (slice_index text.now at) ≡ false }
     ensures within { IfOk result (λ p. (at < p.end) × (p.end ≤ length text.now)) }

@@ -20,13 +20,13 @@ fn add_marked(out: &mut String, mark: &str, bytes: &[u8]) -> Result<bool, AllocE
 }
 
 /// Adds the report of a text, where it is no module.
-fn add_said(out: &mut String, row: &Row<'_>) -> Result<bool, AllocError> {
-    let mut said = Vec::new(row.alloc);
+fn add_reported(out: &mut String, row: &Row<'_>) -> Result<bool, AllocError> {
+    let mut report = Vec::new(row.alloc);
     match read_module(row.alloc, row.text, row.arena) {
         Ok(_module) => {}
-        Err(error) => add_report(&mut said, "a.wat", row.text, error)?,
+        Err(error) => add_report(&mut report, "a.wat", row.text, error)?,
     }
-    add_marked(out, "-", &said)
+    add_marked(out, "-", &report)
 }
 
 /// Adds what the program shows of a text in a mode, and its status.
@@ -65,7 +65,7 @@ fn add_nearest(out: &mut String, row: &Row<'_>) -> Result<bool, AllocError> {
 /// Adds the answer of a row of what is said of a text.
 pub fn add_row(out: &mut String, row: &Row<'_>) -> Result<bool, AllocError> {
     match row.kind {
-        "report" => add_said(out, row),
+        "report" => add_reported(out, row),
         "show" => add_shown(out, row),
         "line" => add_place(out, row),
         "nearest" => add_nearest(out, row),

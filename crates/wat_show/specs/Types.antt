@@ -2,34 +2,15 @@
 use Rattle.std.specs.Prelude.{ℕ, true, false, List, ◌++◌, map, flat_map, codes, decimal}
 use Rattle.std.specs.Prelude.{if◌then◌else◌}
 use Rattle.wat_tokens.specs.Index.{Idx, number, name}
-use Rattle.wat_types.specs.Heap.{HeapTy, concrete, exact, abstract_}
+use Rattle.wat_types.specs.Heap.{HeapTy, abstract_word, concrete, exact, abstract_}
 use Rattle.wat_types.specs.Reference.{RefTy}
 use Rattle.wat_types.specs.Value.{ValTy, i32, i64, f32, f64, v128, ref}
 use Rattle.wat_types.specs.Group.{FuncTy, ParamTy}
-use Rattle.wat_types.specs.declared.heap.AbstractHeapType.{AbstractHeapType}
-use Rattle.wat_types.specs.declared.heap.AbstractHeapType.TheVariants as word
 
 -- its number, or `$` and its name
 abbrev pub index_text : Idx → List ℕ
 index_text (number n) = decimal n
 index_text (name n) = codes "$" ++ n
-
--- its word
-abbrev pub abstract_text : AbstractHeapType → List ℕ
-abstract_text word.Func = codes "func"
-abstract_text word.Extern = codes "extern"
-abstract_text word.Exn = codes "exn"
-abstract_text word.Cont = codes "cont"
-abstract_text word.Any = codes "any"
-abstract_text word.Eq = codes "eq"
-abstract_text word.Struct = codes "struct"
-abstract_text word.Array = codes "array"
-abstract_text word.I31 = codes "i31"
-abstract_text word.NoFunc = codes "nofunc"
-abstract_text word.NoExtern = codes "noextern"
-abstract_text word.NoExn = codes "noexn"
-abstract_text word.NoCont = codes "nocont"
-abstract_text word.None = codes "none"
 
 -- a text between what opens it and `)`
 abbrev pub within : List ℕ → List ℕ → List ℕ
@@ -39,8 +20,8 @@ within front text = front ++ (text ++ codes ")")
 abbrev pub heap_text : HeapTy → List ℕ
 heap_text (concrete i) = index_text i
 heap_text (exact i) = within (codes "(exact ") (index_text i)
-heap_text (abstract_ true t) = within (codes "(shared ") (abstract_text t)
-heap_text (abstract_ false t) = abstract_text t
+heap_text (abstract_ true t) = within (codes "(shared ") (abstract_word t)
+heap_text (abstract_ false t) = abstract_word t
 
 -- `(ref null HEAP)` or `(ref HEAP)`
 abbrev pub ref_text : RefTy → List ℕ

@@ -34,7 +34,7 @@ use wat_links::{Custom, ExportKind, ImportItems};
 use wat_tokens::Index;
 
 /// A piece that holds bytes.
-pub trait Piece {
+pub(crate) trait Piece {
     /// Its bytes.
     ghost bytes: { Self → List ℕ };
 
@@ -61,7 +61,7 @@ impl<'a> Piece for DataVal<'a> {
 
 /// How many bytes the pieces have together. Pieces may share their bytes, so they may be more than
 /// memory has.
-pub fn total<P: Piece>(pieces: &[P]) -> u128
+pub(crate) fn total<P: Piece>(pieces: &[P]) -> u128
     ensures { result ≡ byte_count (map P.bytes pieces.now) }
 {
     let mut count = 0;

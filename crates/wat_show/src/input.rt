@@ -9,7 +9,7 @@ use std::io::Read;
 
 /// Reads to the end: to the first read that gives nothing. A read that gives less than it was asked
 /// for is not the end.
-pub fn read_all<R: Read>(alloc: Global, reader: &mut Watched<R>) -> Result<Vec<u8>, RunError>
+pub(crate) fn read_all<R: Read>(alloc: Global, reader: &mut Watched<R>) -> Result<Vec<u8>, RunError>
     ensures all { IfOk result (λ bytes.
         ReadsAll (R.remaining reader.old.inner) (R.remaining reader.new.inner) bytes.items) }
     ensures part { OnErr result

@@ -8,18 +8,18 @@ pub mod expressions;
 pub mod fields;
 pub mod modules;
 pub mod types;
-pub mod words;
+mod words;
 
 // What is read from and written to.
-pub mod input;
+mod input;
 pub mod output;
 pub mod watched;
 
 // The run.
 pub mod error;
 pub mod mode;
-pub mod refusal;
-pub mod value;
+mod refusal;
+mod value;
 
 pub use error::RunError;
 pub use mode::{Mode, run};

@@ -10,7 +10,7 @@ use std::alloc::{AllocError, Global};
 use wat_tokens::{Error, Fault};
 
 /// The one line of a refusal, and its status. Want of memory has none.
-pub fn refused(alloc: Global, error: Error) -> Result<(Vec<u8>, u8), AllocError>
+pub(crate) fn refused(alloc: Global, error: Error) -> Result<(Vec<u8>, u8), AllocError>
     ensures fault { IfOk result (λ made. error.fault ≢ Memory) }
     ensures line { IfOk result (λ made. made.0.items ≡ refusal error.fault (offset_of error.span)) }
     ensures status { IfOk result (λ made. made.1 ≡ 1) }

@@ -6,7 +6,7 @@ ghost use Rattle.wat_types.specs.Heap.{heap_view, abstract_};
 ghost use Rattle.wat_types.specs.Reference.{ref_view};
 ghost use Rattle.wat_types.specs.Value.{val_view};
 ghost use Rattle.wat_types.specs.Function.{function_view, params_view};
-ghost use Rattle.wat_show.specs.Types.{index_text, abstract_text, within, heap_text, ref_text};
+ghost use Rattle.wat_show.specs.Types.{index_text, within, heap_text, ref_text};
 ghost use Rattle.wat_show.specs.Types.{val_text, types_text, param_types, function_text};
 
 use crate::words::{add, add_byte, add_number};
@@ -23,27 +23,6 @@ pub fn add_index(out: &mut Vec<u8>, index: &Index) -> Result<(), AllocError>
             add_byte(out, b'$')?;
             add(out, id.name())
         }
-    }
-}
-
-fn abstract_word(ty: AbstractHeapType) -> &'static str
-    ensures { result.now ≡ abstract_text ty }
-{
-    match ty {
-        AbstractHeapType::Func => "func",
-        AbstractHeapType::Extern => "extern",
-        AbstractHeapType::Exn => "exn",
-        AbstractHeapType::Cont => "cont",
-        AbstractHeapType::Any => "any",
-        AbstractHeapType::Eq => "eq",
-        AbstractHeapType::Struct => "struct",
-        AbstractHeapType::Array => "array",
-        AbstractHeapType::I31 => "i31",
-        AbstractHeapType::NoFunc => "nofunc",
-        AbstractHeapType::NoExtern => "noextern",
-        AbstractHeapType::NoExn => "noexn",
-        AbstractHeapType::NoCont => "nocont",
-        AbstractHeapType::None => "none",
     }
 }
 
@@ -65,10 +44,10 @@ fn add_abstract(out: &mut Vec<u8>, shared: bool, ty: AbstractHeapType) -> Result
     ensures { OnOk result (out.new.items ≡ out.old.items ++ heap_text (abstract_ shared ty)) }
 {
     if !shared {
-        return add(out, abstract_word(ty));
+        return add(out, ty.word());
     }
     add(out, "(shared ")?;
-    add(out, abstract_word(ty))?;
+    add(out, ty.word())?;
     add(out, ")")
 }
 

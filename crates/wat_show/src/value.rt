@@ -28,7 +28,7 @@ use wat_tokens::whole_text::read_text;
 use wat_types::FunctionType;
 
 /// A type whose values are read from a text and listed.
-pub trait Listed<'a>: Sized {
+pub(crate) trait Listed<'a>: Sized {
     /// What contracts see of a value.
     ghost View: { Type 0 };
 
@@ -124,7 +124,7 @@ impl<'a> Listed<'a> for Module<'a> {
 }
 
 /// What is shown of a text that is to be a value of the type.
-pub fn show_value<'a, T: Listed<'a> + Drop>(
+pub(crate) fn show_value<'a, T: Listed<'a> + Drop>(
     alloc: Global,
     text: &'a str,
     arena: &'a Bump,

@@ -8,7 +8,7 @@ use std::alloc::AllocError;
 
 /// Adds a text to the output.
 #[inline(always)]
-pub fn add(out: &mut Vec<u8>, text: &str) -> Result<(), AllocError>
+pub(crate) fn add(out: &mut Vec<u8>, text: &str) -> Result<(), AllocError>
     ensures { OnOk result (out.new.items ≡ out.old.items ++ text.now) }
 {
     out.extend_from_slice(text.as_bytes())
@@ -16,7 +16,7 @@ pub fn add(out: &mut Vec<u8>, text: &str) -> Result<(), AllocError>
 
 /// Adds one byte to the output.
 #[inline(always)]
-pub fn add_byte(out: &mut Vec<u8>, byte: u8) -> Result<(), AllocError>
+pub(crate) fn add_byte(out: &mut Vec<u8>, byte: u8) -> Result<(), AllocError>
     ensures { OnOk result (out.new.items ≡ out.old.items ++ byte ∷ []) }
 {
     out.push(byte)?;
@@ -24,7 +24,7 @@ pub fn add_byte(out: &mut Vec<u8>, byte: u8) -> Result<(), AllocError>
 }
 
 /// Adds a number in decimal digits.
-pub fn add_number(out: &mut Vec<u8>, number: usize) -> Result<(), AllocError>
+pub(crate) fn add_number(out: &mut Vec<u8>, number: usize) -> Result<(), AllocError>
     ensures { OnOk result (out.new.items ≡ out.old.items ++ decimal number) }
 {
     if number >= 10 {
@@ -35,7 +35,7 @@ pub fn add_number(out: &mut Vec<u8>, number: usize) -> Result<(), AllocError>
 }
 
 /// Adds a number with its sign, in decimal digits.
-pub fn add_signed(out: &mut Vec<u8>, number: i64) -> Result<(), AllocError>
+pub(crate) fn add_signed(out: &mut Vec<u8>, number: i64) -> Result<(), AllocError>
     ensures { OnOk result (out.new.items ≡ out.old.items ++ signed_decimal number) }
 {
     if number >= 0 {
@@ -57,7 +57,7 @@ fn add_large(out: &mut Vec<u8>, number: u128) -> Result<(), AllocError>
 }
 
 /// Adds words and a number in decimal digits, on a line.
-pub fn add_counted(out: &mut Vec<u8>, words: &str, number: u128) -> Result<(), AllocError>
+pub(crate) fn add_counted(out: &mut Vec<u8>, words: &str, number: u128) -> Result<(), AllocError>
     ensures { OnOk result (out.new.items ≡ out.old.items ++ counted words.now number) }
 {
     add(out, words)?;

@@ -1,7 +1,6 @@
 -- Steps over bytes.
-use Rattle.std.proofs.Common.{◌≡◌, ℕ, suc, ◌+◌, ◌-◌, ◌<◌, ◌≤◌, List, [], ◌∷◌, ◌++◌, length, drop, get_or, refl, arith, add-one, drop-cons, append_assoc}
+use Rattle.std.proofs.Common.{◌≡◌, ℕ, ◌+◌, ◌<◌, ◌≤◌, List, ◌∷◌, length, drop, get_or, refl, add-one, drop-cons}
 use Rattle.std.specs.Prelude.{Bool}
-use Rattle.wat_twin.specs.Text.{spaces}
 use Rattle.std.proofs.Math.ListN.{drop_of_length-le}
 use Rattle.wat_twin.specs.Float.{next, place_after}
 use Rattle.wat_twin.specs.declared.float.Place.{Place}
@@ -16,9 +15,3 @@ place_step hex p i x h = rw (at_front i x h) refl
 pub place_end : (hex : Bool) (p : Place) (i : ℕ) (x : List ℕ) → length x ≤ i → place_after hex p (drop i x) ≡ p
 unfolding place_after
 place_end hex p i x h = rw (drop_of_length-le x h) refl
-
--- one space more, of so many that are still to be written
-pub one_more : (old now new : List ℕ) (n i : ℕ) → i < n → new ≡ now ++ 32 ∷ [] → now ++ spaces (n - i) ≡ old ++ spaces n → new ++ spaces (n - (i + 1)) ≡ old ++ spaces n
-one_more old now new n i lt e h =
-    let left : n - i ≡ suc (n - (i + 1)) = omega arith in
-    rw (e, append_assoc) (rw left at h)

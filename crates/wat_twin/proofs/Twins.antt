@@ -1,6 +1,7 @@
 -- The twin of a text is cut into the twin of its tokens.
 use Rattle.std.proofs.Common.{◌≡◌, ℕ, zero, suc, ◌+◌, ◌-◌, ◌<◌, ◌≤◌, List, [], ◌∷◌, ◌++◌, length, drop, refl, sym, ◌∙◌, ap, subst, arith, inr, append_assoc, length-append}
-use Rattle.std.specs.Prelude.{Bool, false, codes, None}
+use Rattle.std.specs.Prelude.{Bool, false, codes, None, replicate}
+use Rattle.std.proofs.lemmas.List.{length-replicate}
 use Rattle.std.proofs.Math.Seq.{take-append-add, drop-append-add, drop-append_seam}
 use Rattle.wat_lexer.specs.Cut.{Blank, Token, Begins, in_no_run, Idchars, Run, Cuts, IsCut}
 use Rattle.wat_lexer.specs.Cut as cut
@@ -8,7 +9,7 @@ use Rattle.wat_lexer.specs.Laws.Fronts.{one_cut}
 use Rattle.wat_lexer.specs.Number.{read}
 use Rattle.wat_lexer.specs.Token.{Tok, Placed, Keyword, Integer, tokens_of, is_open}
 use Rattle.wat_twin.specs.Tokens.{with_i, changed, all_changed, changes_of}
-use Rattle.wat_twin.specs.Text.{Patch, spaces, zero_bytes, patch_of, patches, rebuilt, twin_text, offsets_of, IsTwin}
+use Rattle.wat_twin.specs.Text.{Patch, zero_bytes, patch_of, patches, rebuilt, twin_text, offsets_of, IsTwin}
 use Rattle.wat_twin.specs.declared.change.Change.{Change}
 use Rattle.wat_twin.specs.declared.change.Change.TheVariants as of
 use Rattle.wat_twin.proofs.Changes.{Fits, AllFit, all_fit, literal_plain, word_plain}
@@ -106,15 +107,11 @@ word_cons n from behind b y s ps us all ends e ih =
       cuts = rw front (place_is n from behind (w ++ z) (Keyword w) us (ap (λ i. from + i) size ∙ e) (cut.token n behind (w ++ z) w z (Keyword w) us refl (run_of w chars, ends_run s z ih.start ends, (refl, chars, 105, y, refl, refl)) ih.cuts));
     }
 
-pub zero_size : (m : ℕ) → length (spaces m) ≡ m
-zero_size zero = refl
-zero_size (suc m) = ap (λ n. suc n) (zero_size m)
-
-spaces_cut : (n m : ℕ) (z : List ℕ) (us : List Placed) → Cuts n false z us → Cuts n false (spaces m ++ z) us
+spaces_cut : (n m : ℕ) (z : List ℕ) (us : List Placed) → Cuts n false z us → Cuts n false (replicate m 32 ++ z) us
 spaces_cut n zero z us c = c
-spaces_cut n (suc m) z us c = cut.blank n false (32 ∷ (spaces m ++ z)) (32 ∷ []) (spaces m ++ z) us refl (cut.space 32 (spaces m ++ z) refl) (spaces_cut n m z us c)
+spaces_cut n (suc m) z us c = cut.blank n false (32 ∷ (replicate m 32 ++ z)) (32 ∷ []) (replicate m 32 ++ z) us refl (cut.space 32 (replicate m 32 ++ z) refl) (spaces_cut n m z us c)
 
-spaces_begin : (m : ℕ) (z : List ℕ) → Begins in_no_run z → Begins in_no_run (spaces m ++ z)
+spaces_begin : (m : ℕ) (z : List ℕ) → Begins in_no_run z → Begins in_no_run (replicate m 32 ++ z)
 spaces_begin zero z h = h
 spaces_begin (suc m) z h = refl
 
@@ -126,13 +123,13 @@ literal_twin : (n from m : ℕ) (behind : Bool) (x s : List ℕ) (ps : List Patc
 literal_twin n from m behind x s ps us is all some ends e ih =
     let w = zero_bytes m in
     let z = rebuilt (from + length x) s ps in
-    let long : length w ≡ length x = omega (arith, zero_size (m - 1)) in
+    let long : length w ≡ length x = omega (arith, length-replicate {A = ℕ} (m - 1) 32) in
     let front : rebuilt from (x ++ s) (record { at = from; bytes = w } ∷ ps) ≡ w ++ z = patched_whole w x s from ps long ih.starts in
     let size : length (w ++ z) ≡ length (x ++ s) = omega (arith, length-append w z, length-append x s, ih.size) in record {
       starts = omega arith;
       size = rw front size;
-      start = rw front (starts_idchar x (48 ∷ []) s (spaces (m - 1) ++ z) all some (refl, tt) (omega arith));
-      cuts = rw front (place_is n from behind (w ++ z) (Integer (codes "0")) us (ap (λ i. from + i) size ∙ e) (cut.token n behind (w ++ z) (48 ∷ []) (spaces (m - 1) ++ z) (Integer (codes "0")) us refl (zero_token behind (spaces (m - 1) ++ z) (spaces_begin (m - 1) z (ends_run s z ih.start ends))) (spaces_cut n (m - 1) z us ih.cuts)));
+      start = rw front (starts_idchar x (48 ∷ []) s (replicate (m - 1) 32 ++ z) all some (refl, tt) (omega arith));
+      cuts = rw front (place_is n from behind (w ++ z) (Integer (codes "0")) us (ap (λ i. from + i) size ∙ e) (cut.token n behind (w ++ z) (48 ∷ []) (replicate (m - 1) 32 ++ z) (Integer (codes "0")) us refl (zero_token behind (replicate (m - 1) 32 ++ z) (spaces_begin (m - 1) z (ends_run s z ih.start ends))) (spaces_cut n (m - 1) z us ih.cuts)));
     }
 
 word_twin : (n from : ℕ) (behind : Bool) (x s k : List ℕ) (ps : List Patch) (us : List Placed) → x ≡ k → Idchars x → 0 < length x → Begins in_no_run s → from + length (x ++ s) ≡ n → TwinIs n (from + length x) false s ps us → TwinIs n from behind (x ++ s) (record { at = from; bytes = 105 ∷ [] } ∷ ps) (record { token = with_i (Keyword k); offset = from } ∷ us)

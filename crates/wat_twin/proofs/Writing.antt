@@ -3,6 +3,7 @@ use Rattle.std.proofs.Common.{◌≡◌, ℕ, zero, suc, ◌+◌, ◌-◌, ◌<�
 use Rattle.std.specs.Prelude.{Bool, true, false, slice_range, None}
 use Rattle.std.specs.Str.{IsUtf8, IsCharBoundary}
 use Rattle.std.proofs.Math.Seq.{drop-append_seam, take-length}
+use Rattle.std.proofs.lemmas.List.{length-replicate}
 use Rattle.std.proofs.lemmas.Bool.Decides.{nat_tests}
 use Rattle.std.proofs.lemmas.Str.{IsCharBoundary-start, IsCharBoundary-before_ascii, IsCharBoundary-after_ascii}
 use Rattle.wat_lexer.specs.Bytes.{is_idchar}
@@ -19,7 +20,6 @@ use Rattle.wat_twin.specs.declared.change.Change.{Change}
 use Rattle.wat_twin.specs.declared.change.Change.TheVariants as of
 use Rattle.wat_twin.proofs.Changes.{Fits, fits, Plain, literal_plain, word_plain}
 use Rattle.wat_twin.proofs.Seen.{skip_patches}
-use Rattle.wat_twin.proofs.Twins.{zero_size}
 
 -- THE FIRST TOKEN
 
@@ -197,7 +197,7 @@ step_written text out done at of.Keep ps h s = rw (append-nil out) refl
 step_written text out done at of.Word ps h s = rw (rebuilt_step text done at (105 ∷ []) ps h, append_assoc out) refl
 step_written text out done at (of.Literal m) ps h s =
     let some : 0 < m = s refl in
-    let long : length (zero_bytes m) ≡ m = omega (arith, zero_size (m - 1)) in
+    let long : length (zero_bytes m) ≡ m = omega (arith, length-replicate {A = ℕ} (m - 1) 32) in
     let step : rebuilt done (drop done text) (record { at = at; bytes = zero_bytes m } ∷ ps) ≡ (slice_range text done at ++ zero_bytes m) ++ rebuilt (at + m) (drop (at + m) text) ps = rw long at (rebuilt_step text done at (zero_bytes m) ps h) in
     rw (step, append_assoc out) refl
 

@@ -1,6 +1,6 @@
 -- The twin of a text: its bytes with some exchanged.
-use Rattle.std.specs.Prelude.{◌≡◌, ℕ, zero, suc, ◌+◌, ◌-◌, List, [], ◌∷◌, ◌++◌, length, take, drop}
-use Rattle.std.specs.Prelude.{map}
+use Rattle.std.specs.Prelude.{◌≡◌, ℕ, ◌+◌, ◌-◌, List, [], ◌∷◌, ◌++◌, length, take, drop, map}
+use Rattle.std.specs.Prelude.{replicate}
 use Rattle.wat_lexer.specs.Cut.{IsCut}
 use Rattle.wat_lexer.specs.Token.{Placed, tokens_of}
 use Rattle.wat_twin.specs.Tokens.{changes_of, twin_tokens}
@@ -12,13 +12,9 @@ pub record Patch : Type 0 where
   pub at : ℕ
   pub bytes : List ℕ
 
-abbrev pub spaces : ℕ → List ℕ
-spaces zero = []
-spaces (suc n) = 32 ∷ spaces n
-
 -- `0` and spaces, so many bytes in all
 abbrev pub zero_bytes : ℕ → List ℕ
-zero_bytes n = 48 ∷ spaces (n - 1)
+zero_bytes n = 48 ∷ replicate (n - 1) 32
 
 -- of a token at the place; an `i` is 105
 abbrev pub patch_of : Change → ℕ → List Patch

@@ -4,8 +4,8 @@ ghost use Rattle.std.specs.Prelude.{◌≡◌, ◌<◌, Bool, drop, length};
 ghost use Rattle.std.proofs.Math.ListN.{get_or};
 ghost use Rattle.std.specs.Str.{bytes_eq};
 ghost use Rattle.wat_lexer.specs.View.{view, toks, no_entry};
-ghost use Rattle.wat_twin.specs.Tokens.{bytes_of, is_literal, begins_literal, takes_floats, is_type};
-ghost use Rattle.wat_twin.specs.Tokens.{is_float_word, change_of, is_changed};
+ghost use Rattle.wat_twin.specs.Tokens.{begins_literal, bytes_of, change_of, is_changed};
+ghost use Rattle.wat_twin.specs.Tokens.{is_float_word, is_literal, is_type, takes_floats};
 
 use crate::float::is_float;
 use wat_lexer::token::Token;
@@ -13,7 +13,7 @@ use wat_lexer::tokens::Tokens;
 
 /// What becomes of a token.
 #[derive(Clone, Copy)]
-pub enum Change {
+pub(crate) enum Change {
     /// It stays.
     Keep,
     /// An `i` for its first letter.
@@ -74,7 +74,7 @@ fn is_literal_at(tokens: &Tokens, at: usize) -> bool
 
 /// What becomes of a visible token, where the next visible one is at another place. The flags: it
 /// is behind a `(`; it is behind a word that was changed, or a literal that was.
-pub fn change_of(tokens: &Tokens, at: usize, next: usize, opened: bool, row: bool) -> Change
+pub(crate) fn change_of(tokens: &Tokens, at: usize, next: usize, opened: bool, row: bool) -> Change
     requires { at < length tokens.now }
     ensures { result ≡ change_of opened row (begins_literal (toks (drop next tokens.now)))
         ((get_or tokens.now at no_entry).token) }
@@ -89,7 +89,7 @@ pub fn change_of(tokens: &Tokens, at: usize, next: usize, opened: bool, row: boo
     }
 }
 
-pub fn is_changed(change: Change) -> bool
+pub(crate) fn is_changed(change: Change) -> bool
     ensures { result ≡ is_changed change }
 {
     !matches!(change, Change::Keep)

@@ -11,7 +11,7 @@ use wat_lexer::string::digit_value;
 
 /// Where a place lies in a number.
 #[derive(Clone, Copy)]
-pub enum Place {
+pub(crate) enum Place {
     /// Before the first digit.
     Start,
     /// Behind a digit in front of the point.
@@ -175,7 +175,7 @@ fn without_sign(x: &[u8]) -> &[u8]
 
 /// Whether the bytes are a float literal of the standard.
 #[tactic(auto, unfolding(crate::specs::Float::is_float))]
-pub fn is_float(x: &[u8]) -> bool
+pub(crate) fn is_float(x: &[u8]) -> bool
     ensures { result ≡ is_float x.now }
 {
     is_magnitude(without_sign(x))

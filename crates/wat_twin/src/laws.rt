@@ -39,8 +39,8 @@ pub fn same_number()
     ensures { (ts : List Tok) → length (twin_tokens ts) ≡ length ts }
 {}
 
-/// A hidden group is read as a blank: tokens that are the same but for hidden groups have twins that
-/// are the same but for these.
+/// A hidden group is read as a blank: tokens that are the same but for hidden groups have twins
+/// that are the same but for these.
 pub fn same_visible()
     ensures { (ts us : List Tok) → visible_tokens false ts ≡ visible_tokens false us
         → visible_tokens false (twin_tokens ts) ≡ visible_tokens false (twin_tokens us) }

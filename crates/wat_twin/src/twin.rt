@@ -1,13 +1,13 @@
 //! The twin of a text.
 
 ghost use Rattle.std.specs.Prelude.{◌≡◌, ◌+◌, ◌++◌, ◌≤◌, ◌<◌, ℕ, List, IfOk, IfErr, OnOk, true};
-ghost use Rattle.std.specs.Prelude.{length, string_bytes, slice_range};
+ghost use Rattle.std.specs.Prelude.{length, replicate, string_bytes, slice_range};
 ghost use Rattle.std.specs.Str.{IsCharBoundary};
 ghost use Rattle.wat_lexer.specs.Cut.{FirstFault, IsCut};
 ghost use Rattle.wat_lexer.specs.Place.{offset_of};
 ghost use Rattle.wat_lexer.specs.Token.{Placed};
 ghost use Rattle.wat_lexer.specs.View.{AreSkips, IfFault, placed};
-ghost use Rattle.wat_twin.specs.Text.{spaces, twin_text, IsTwin};
+ghost use Rattle.wat_twin.specs.Text.{twin_text, IsTwin};
 ghost use Rattle.wat_twin.specs.Tokens.{is_changed};
 ghost use Rattle.wat_twin.specs.Written.{written, written_to, size_of};
 
@@ -30,7 +30,7 @@ fn part(text: &str, from: usize, end: usize) -> &str
 }
 
 fn put_spaces(out: &mut String, times: usize) -> Result<(), AllocError>
-    ensures { OnOk result (string_bytes out.new ≡ string_bytes out.old ++ spaces times) }
+    ensures { OnOk result (string_bytes out.new ≡ string_bytes out.old ++ replicate times 32) }
 {
     'turns: for _ in 0..times {
         out.push_str(" ")?;

@@ -20,8 +20,8 @@ struct Row {
     beside: Option<usize>,
 }
 
-/// What is told of the text.
-fn tells(rt: &impl Abort, alloc: Global, row: &Row) -> Result<(), Fail> {
+/// Whether the faults that are found in the text are those of the row.
+fn check_row(rt: &impl Abort, alloc: Global, row: &Row) -> Result<(), Fail> {
     let text = row.text;
     let arena = Bump::new(alloc);
     let found = field_faults::<u32>(alloc, text, &arena, MOST)?;
@@ -196,9 +196,9 @@ const ROWS: [Row; 19] = [
 ];
 
 #[test]
-fn told(rt: HostRuntime) -> Result<(), Fail> {
+fn faults_of_fields_are_found(rt: HostRuntime) -> Result<(), Fail> {
     for row in &ROWS {
-        tells(&rt, rt.alloc(), row)?;
+        check_row(&rt, rt.alloc(), row)?;
     }
     Ok(())
 }
@@ -212,7 +212,7 @@ const REFUSED: [(&str, Fault, usize); 4] = [
 ];
 
 #[test]
-fn refused(rt: HostRuntime) -> Result<(), Fail> {
+fn texts_without_a_cut_are_refused(rt: HostRuntime) -> Result<(), Fail> {
     for (text, fault, offset) in REFUSED {
         let arena = Bump::new(rt.alloc());
         match field_faults::<u32>(rt.alloc(), text, &arena, MOST) {

@@ -27,8 +27,9 @@ fn list_of_one(alloc: Global) -> Result<Vec<u8>, AllocError> {
     Ok(list)
 }
 
-/// Says what a call left, and fails if the call did. A test that fails before the call says nothing.
-fn said(
+/// Prints what a call left, and fails if the call did. A test that fails before the call prints
+/// nothing.
+fn check_outcome(
     rt: &(impl Abort + Print),
     found: Result<Outcome, Error>,
     parts: usize,
@@ -63,7 +64,7 @@ fn written(alloc: Global) -> Result<Outcome, Error> {
 
 #[test]
 fn an_opcode_is_written_whole(rt: HostRuntime) -> Result<(), Fail> {
-    said(&rt, written(rt.alloc()), 2, &[0xaa, 0xfd, 0x6e])
+    check_outcome(&rt, written(rt.alloc()), 2, &[0xaa, 0xfd, 0x6e])
 }
 
 /// Puts three bytes behind a list.
@@ -84,7 +85,7 @@ fn pushed(alloc: Global) -> Result<Outcome, Error> {
 
 #[test]
 fn data_is_pushed_whole(rt: HostRuntime) -> Result<(), Fail> {
-    said(&rt, pushed(rt.alloc()), 3, &[0xaa, 1, 2, 3])
+    check_outcome(&rt, pushed(rt.alloc()), 3, &[0xaa, 1, 2, 3])
 }
 
 /// Lists the signatures of an import of two items.
@@ -103,7 +104,7 @@ fn listed(alloc: Global) -> Result<Outcome, Error> {
 
 #[test]
 fn signatures_are_listed_whole(rt: HostRuntime) -> Result<(), Fail> {
-    said(&rt, listed(rt.alloc()), 2, &[])
+    check_outcome(&rt, listed(rt.alloc()), 2, &[])
 }
 
 /// An index, wherever it stands.
@@ -136,5 +137,5 @@ fn copied(alloc: Global) -> Result<Outcome, Error> {
 
 #[test]
 fn an_instruction_is_copied_whole(rt: HostRuntime) -> Result<(), Fail> {
-    said(&rt, copied(rt.alloc()), 3, &[])
+    check_outcome(&rt, copied(rt.alloc()), 3, &[])
 }
