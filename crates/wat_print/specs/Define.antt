@@ -63,7 +63,8 @@ printable_parents None is = no_items is
 
 abbrev pub printable_described : DefTy → Bool
 printable_described d =
-    if_some printable_index d.describes && (if_some printable_index d.descriptor && printable_kind d.kind)
+    if_some printable_index d.describes
+    && (if_some printable_index d.descriptor && printable_kind d.kind)
 
 abbrev pub printable_def : DefTy → Bool
 printable_def d = printable_parents d.final_type d.parents && printable_described d

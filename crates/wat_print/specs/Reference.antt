@@ -1,6 +1,7 @@
 -- How heap types, reference types and value types are written.
 use Rattle.std.specs.Prelude.{ℕ, Bool, true, false, List, [], ◌∷◌, ◌++◌, codes}
 use Rattle.wat_lexer.specs.Token.{Tok, Keyword}
+pub use Rattle.wat_types.specs.Heap.{abstract_word}
 use Rattle.wat_types.specs.Heap.{HeapTy, concrete, exact, abstract_}
 use Rattle.wat_types.specs.Reference.{RefTy}
 use Rattle.wat_types.specs.Value.{ValTy, i32, i64, f32, f64, v128, ref}
@@ -10,22 +11,6 @@ use Rattle.wat_print.specs.Index.{spell_index, printable_index}
 use Rattle.wat_print.specs.Parts.{grouped, spell_flag}
 
 -- ---- heap types
-
-abbrev pub abstract_word : AbstractHeapType → List ℕ
-abstract_word word.Func = codes "func"
-abstract_word word.Extern = codes "extern"
-abstract_word word.Exn = codes "exn"
-abstract_word word.Cont = codes "cont"
-abstract_word word.Any = codes "any"
-abstract_word word.Eq = codes "eq"
-abstract_word word.Struct = codes "struct"
-abstract_word word.Array = codes "array"
-abstract_word word.I31 = codes "i31"
-abstract_word word.NoFunc = codes "nofunc"
-abstract_word word.NoExtern = codes "noextern"
-abstract_word word.NoExn = codes "noexn"
-abstract_word word.NoCont = codes "nocont"
-abstract_word word.None = codes "none"
 
 abbrev pub spell_abstract : AbstractHeapType → List Tok
 spell_abstract t = Keyword (abstract_word t) ∷ []

@@ -10,8 +10,8 @@ use Rattle.wat_lexer.specs.Token.{Reserved, is_open, is_close}
 
 -- ---- one token
 
--- a byte in a string: itself, if it may stand so, and the string is UTF-8 or the byte is ASCII; else
--- its two hex digits
+-- a byte in a string: itself, if it may stand so, and the string is UTF-8 or the byte is ASCII;
+-- else its two hex digits
 abbrev pub escape : Bool → ℕ → List ℕ
 escape utf8 b =
     if is_raw b && (utf8 || nat_lt b 128) then b ∷ []
@@ -58,7 +58,7 @@ pub record Page : Type 0 where
 abbrev pub blank_page : Bool → Page
 blank_page lines = record { bytes = []; tight = true; lines = lines }
 
--- what stands before a token: a space, but at the start, behind `(` and before `)`
+-- what stands in front of a token: a space, but at the start, behind `(` and in front of `)`
 abbrev pub gap : Bool → Tok → List ℕ
 gap tight t = if tight || is_close t then [] else 32 ∷ []
 

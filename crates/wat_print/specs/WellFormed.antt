@@ -33,7 +33,8 @@ pub data WellFormed : List Tok → Type 0 where
   nothing : WellFormed []
   token : (t : Tok) (r : List Tok) → is_printable t ≡ true → WellFormed r → WellFormed (t ∷ r)
   group : (a r : List Tok) → WellFormed a → WellFormed r → WellFormed (LParen ∷ (a ++ RParen ∷ r))
-  noted : (n : List ℕ) (a r : List Tok) → is_name n ≡ true → is_standard n ≡ true → WellFormed a → WellFormed r
+  noted : (n : List ℕ) (a r : List Tok) → is_name n ≡ true → is_standard n ≡ true → WellFormed a
+      → WellFormed r
       → WellFormed (LParen ∷ (Annotation n ∷ (a ++ RParen ∷ r)))
 
 -- a token that a text can give: names are UTF-8 and not empty, an integer is written as one, a

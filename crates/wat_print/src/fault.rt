@@ -40,8 +40,8 @@ pub enum Refused {
     /// No text is read as a floating-point number.
     #[error("a floating-point number has no text")]
     Float = 8,
-    /// A hint stands before another instruction than `br_if` or `if`, is neither 0 nor 1, or isn't
-    /// in the order of the instructions (Branch Hinting, Custom Annotation
+    /// A hint stands in front of another instruction than `br_if` or `if`, is neither 0 nor 1, or
+    /// isn't in the order of the instructions (Branch Hinting, Custom Annotation
     /// `@metadata.code.branch_hint`).
     #[error("a hint has no instruction that it can stand before")]
     Hint = 9,
@@ -54,8 +54,8 @@ pub enum Refused {
     /// or the entries of a `dylink.0` section aren't gathered as a text gathers them.
     #[error("a custom section has a form that no text is read as")]
     Section = 11,
-    /// An integer isn't written as one (Text Format, Values, "Integers"). None that was read is such a
-    /// one.
+    /// An integer isn't written as one (Text Format, Values, "Integers"). None that was read is
+    /// such a one.
     #[error("an integer isn't written as one")]
     Integer = 12,
     /// A folded instruction has no instruction; or a `try_table` is its last and a `catch` or

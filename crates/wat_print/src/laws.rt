@@ -1,13 +1,12 @@
 //! Laws of texts.
 
-ghost use Rattle.std.specs.Prelude.{◌≡◌, ℕ, List, true};
+ghost use Rattle.std.specs.Prelude.{◌≡◌, ℕ, List, true, Bool};
 ghost use Rattle.wat_lexer.specs.Cut.{IsCut};
 ghost use Rattle.wat_lexer.specs.Sight.{visible_tokens};
 ghost use Rattle.wat_lexer.specs.Token.{Tok, Placed, tokens_of};
 ghost use Rattle.wat_print.specs.Layout.{Writes};
 ghost use Rattle.wat_print.specs.WellFormed.{WellFormed, is_given};
 ghost use Rattle.wat_print.specs.Text.{Page, printed_text, blank_page};
-ghost use Rattle.std.specs.Prelude.{Bool};
 ghost use Rattle.std.specs.Str.{IsUtf8};
 ghost use Rattle.wat_print.specs.Parts.{each};
 

@@ -2,7 +2,8 @@
 //! Specification, Text Format, "Types").
 //!
 //! [`print`] makes a text of a value whose type has [`Print`]. The text is cut into tokens that
-//! spell this value and no other, and [`read_value`] reads it again.
+//! spell this value and no other, and [`read_text`](wat_tokens::whole_text::read_text) reads it
+//! again.
 #![tactic(auto)]
 
 pub mod define;
@@ -24,5 +25,5 @@ pub mod type_use;
 
 pub use fault::Refused;
 pub use output::{Layout, Output};
-pub use printed::{print, read_value};
+pub use printed::print;
 pub use traits::Print;

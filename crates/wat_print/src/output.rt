@@ -1,9 +1,8 @@
 //! A text that is written token by token.
 
 ghost use Rattle.std.specs.Prelude.{◌≡◌, ◌≢◌, ◌∷◌, ◌++◌, ◌*◌, [], ◌<◌, ℕ, true, false};
-ghost use Rattle.std.specs.Prelude.{if◌then◌else◌, OnOk, IfOk, IfErr, decimal, string_bytes};
+ghost use Rattle.std.specs.Prelude.{if◌then◌else◌, OnOk, IfErr, decimal, string_bytes};
 ghost use Rattle.std.specs.Prelude.{encode_utf8, flat_map};
-ghost use Rattle.std.specs.Char.{digit_char};
 ghost use Rattle.std.specs.Fmt.{signed_decimal};
 ghost use Rattle.std.specs.Str.{is_utf8};
 ghost use Rattle.wat_lexer.specs.Bytes.{is_idchar};
@@ -19,6 +18,8 @@ ghost use Rattle.wat_print.specs.Printed.{may_break};
 use crate::fault::Refused;
 use std::alloc::{AllocError, Global};
 use std::marker::Model;
+use wat_lexer::scan::is_idchar;
+use wat_lexer::string::hex_digit;
 
 /// How many groups and blocks at most a line is indented for. So a line has 100 spaces more than
 /// its tokens at most, and the text of deep nesting stays as long as its tokens, 100 times over.
@@ -36,12 +37,12 @@ pub enum Layout {
 
 /// A text that is written, so far.
 ///
-/// Between two tokens stands one space, or a line break with spaces; neither behind `(` nor before
-/// `)`. Memory that is refused may leave the beginning of a token behind.
+/// Between two tokens stands one space, or a line break with spaces; neither behind `(` nor in
+/// front of `)`. Memory that is refused may leave the beginning of a token behind.
 #[derive(Drop)]
 pub struct Output {
     text: String,
-    /// Whether no blank is wanted before the next token.
+    /// Whether no blank is wanted in front of the next token.
     tight: bool,
     /// Whether lines may be broken.
     lines: bool,
@@ -121,7 +122,7 @@ impl Output {
         self.blocks = 0;
     }
 
-    /// A space, where one is wanted before a token other than `)`.
+    /// A space, where one is wanted in front of a token other than `)`.
     fn space(&mut self) -> Result<(), AllocError>
         ensures { OnOk result (self.new ≡ record self.old {
           bytes = self.old.bytes ++ (if self.old.tight then [] else 32 ∷ []);
@@ -264,7 +265,7 @@ impl Output {
     }
 
     /// A character of a text in a string.
-    #[tactic(auto, using(crate::specs::Laws::Characters::character_ascii, crate::specs::Laws::Characters::character_whole))]
+    #[tactic(auto, using(crate::specs::Laws::Characters::character_written))]
     fn push_character(&mut self, c: char) -> Result<(), AllocError>
         ensures { OnOk result (self.new ≡ record self.old {
           bytes = self.old.bytes ++ flat_map (escape true) (encode_utf8 c);
@@ -287,8 +288,8 @@ impl Output {
             return Ok(());
         }
         self.text.push_str("\\")?;
-        self.text.push(hex_digit(byte / 16))?;
-        self.text.push(hex_digit(byte % 16))?;
+        self.text.push(char::from(hex_digit(byte / 16)))?;
+        self.text.push(char::from(hex_digit(byte % 16)))?;
         Ok(())
     }
 
@@ -346,8 +347,8 @@ impl Output {
         Ok(())
     }
 
-    /// Writes a string. One that is UTF-8 keeps its characters past ASCII, and in any other each byte
-    /// past ASCII is `\hh`.
+    /// Writes a string. One that is UTF-8 keeps its characters past ASCII, and in any other each
+    /// byte past ASCII is `\hh`.
     pub fn string(&mut self, content: &[u8]) -> Result<(), Refused>
         ensures written { OnOk result (self.new ≡ put self.old (Text content.now ∷ [])) }
         ensures refused { IfErr result (λ e. e ≡ Memory) }
@@ -366,30 +367,11 @@ fn are_idchars(bytes: &[u8]) -> bool
     ensures { result ≡ all_are is_idchar bytes.now }
 {
     for b in bytes {
-        if !idchar(*b) {
+        if !is_idchar(*b) {
             return false;
         }
     }
     true
-}
-
-/// Whether the byte is an idchar.
-fn idchar(b: u8) -> bool
-    ensures { result ≡ is_idchar b }
-{
-    matches!(
-        b,
-        33 | 35..=39 | 42..=43 | 45..=58 | 60..=90 | 92 | 94..=122 | 124 | 126
-    )
-}
-
-/// The hex digit of a number below 16.
-fn hex_digit(n: u8) -> char
-    requires { n < 16 }
-    ensures value { result ≡ digit_char n }
-    ensures ascii { result < 128 }
-{
-    char::from(if n < 10 { b'0' + n } else { b'a' + (n - 10) })
 }
 
 /// Puts two spaces behind the text, so many times.

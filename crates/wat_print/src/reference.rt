@@ -8,9 +8,8 @@ ghost use Rattle.wat_types.specs.Value.{ValTy, val_view, val_type};
 ghost use Rattle.wat_print.specs.Index.{spell_index, printable_index};
 ghost use Rattle.wat_print.specs.Printings.{index_printing, abstract_printing, heap_printing};
 ghost use Rattle.wat_print.specs.Printings.{ref_printing, val_printing};
-ghost use Rattle.wat_print.specs.Reference.{abstract_word, short_word, spell_heap, printable_heap};
-ghost use Rattle.wat_print.specs.Reference.{spell_long, spell_ref, printable_ref, spell_val};
-ghost use Rattle.wat_print.specs.Reference.{printable_val};
+ghost use Rattle.wat_print.specs.Reference.{short_word, spell_heap, printable_heap, spell_long};
+ghost use Rattle.wat_print.specs.Reference.{spell_ref, printable_ref, spell_val, printable_val};
 ghost use Rattle.wat_print.specs.Text.{put};
 ghost use Rattle.wat_print.specs.declared.fault.Refused.TheVariants.{Memory};
 
@@ -33,39 +32,17 @@ pub fn write_index(out: &mut Output, index: &Index) -> Result<(), Refused>
     }
 }
 
-/// The word for the heap type.
-fn word_of(ty: AbstractHeapType) -> &'static str
-    ensures { result.now ≡ abstract_word ty }
-{
-    match ty {
-        AbstractHeapType::Func => "func",
-        AbstractHeapType::Extern => "extern",
-        AbstractHeapType::Exn => "exn",
-        AbstractHeapType::Cont => "cont",
-        AbstractHeapType::Any => "any",
-        AbstractHeapType::Eq => "eq",
-        AbstractHeapType::Struct => "struct",
-        AbstractHeapType::Array => "array",
-        AbstractHeapType::I31 => "i31",
-        AbstractHeapType::NoFunc => "nofunc",
-        AbstractHeapType::NoExtern => "noextern",
-        AbstractHeapType::NoExn => "noexn",
-        AbstractHeapType::NoCont => "nocont",
-        AbstractHeapType::None => "none",
-    }
-}
-
 /// Writes an abstract heap type.
 fn write_abstract(out: &mut Output, shared: bool, ty: AbstractHeapType) -> Result<(), Refused>
     ensures written { OnOk result (out.new ≡ put out.old (spell_heap (abstract_ shared ty))) }
     ensures refused { IfErr result (λ e. e ≡ Memory) }
 {
     if !shared {
-        return out.word(word_of(ty));
+        return out.word(ty.word());
     }
     out.open()?;
     out.word("shared")?;
-    out.word(word_of(ty))?;
+    out.word(ty.word())?;
     out.close()
 }
 
@@ -169,8 +146,7 @@ impl Print for Index<'_> {
 
     #[tactic(auto, using(crate::specs::Laws::Written::puts_put))]
     fn write(&self, out: &mut Output) -> Result<(), Refused> {
-        write_index(out, self)?;
-        Ok(())
+        write_index(out, self)
     }
 }
 
@@ -187,8 +163,7 @@ impl Print for AbstractHeapType {
 
     #[tactic(auto, using(crate::specs::Laws::Written::puts_put))]
     fn write(&self, out: &mut Output) -> Result<(), Refused> {
-        write_abstract(out, false, *self)?;
-        Ok(())
+        write_abstract(out, false, *self)
     }
 }
 
@@ -203,8 +178,7 @@ impl Print for HeapType<'_> {
 
     #[tactic(auto, using(crate::specs::Laws::Written::puts_put))]
     fn write(&self, out: &mut Output) -> Result<(), Refused> {
-        write_heap(out, self)?;
-        Ok(())
+        write_heap(out, self)
     }
 }
 
@@ -219,8 +193,7 @@ impl Print for RefType<'_> {
 
     #[tactic(auto, using(crate::specs::Laws::Written::puts_put))]
     fn write(&self, out: &mut Output) -> Result<(), Refused> {
-        write_ref(out, self)?;
-        Ok(())
+        write_ref(out, self)
     }
 }
 
@@ -235,7 +208,6 @@ impl Print for ValType<'_> {
 
     #[tactic(auto, using(crate::specs::Laws::Written::puts_put))]
     fn write(&self, out: &mut Output) -> Result<(), Refused> {
-        write_val(out, self)?;
-        Ok(())
+        write_val(out, self)
     }
 }

@@ -1,9 +1,8 @@
 -- Laws: the bytes of UTF-8.
 use Rattle.std.specs.Prelude.{◌≡◌, ℕ, Bool, ◌+◌, ◌/◌, ◌%◌, ◌<◌, true, List, [], ◌∷◌, ◌++◌}
 use Rattle.std.specs.Prelude.{encode_utf8}
-use Rattle.std.specs.Str.{encode_utf8_all}
+use Rattle.std.specs.Str.{encode_utf8_all, IsUtf8}
 use Rattle.std.specs.Char.{IsScalar}
-use Rattle.std.specs.Str.{IsUtf8}
 use Rattle.std.proofs.Common.{refl, subst, arith, inl, inr, ltb}
 use Rattle.std.proofs.Math.Utf8.{scalar, scalars, scalar_cases, encode}
 use Rattle.std.proofs.lemmas.Bool.{and_parts, cond_both}

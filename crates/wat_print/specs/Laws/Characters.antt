@@ -53,6 +53,9 @@ character_ascii c h =
     let lt : c < 128 = grind (arith, nat_tests) in
     rw (encode_ascii c lt, h) (append-nil (escape true c))
 
+-- how a character is written in a text
+pub ruleset character_written = (character_ascii, character_whole)
+
 -- ---- a text
 
 -- one character more

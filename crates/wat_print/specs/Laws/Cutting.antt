@@ -17,8 +17,8 @@ use Rattle.wat_print.specs.Laws.Quoted.{quoted_is, idchars_are, idchars_run, str
 
 -- ---- the text from the left
 
--- pieces, each behind what stands before it; the flags say whether lines may be broken, and whether
--- no blank is wanted
+-- pieces, each behind what stands in front of it; the flags say whether lines may be broken, and
+-- whether no blank is wanted
 abbrev pub laid : Bool → Bool → List LayoutPart → List ℕ
 laid lines tight [] = []
 laid lines tight (one t ∷ r) = gap tight t ++ (token_text t ++ laid lines (is_open t) r)
@@ -176,7 +176,8 @@ cut_gap n false false LParen y us h c = cut_space n 32 false y us refl c
 cut_gap n false false RParen y us h c = c
 cut_gap n false false _ y us h c = cut_space n 32 false y us refl c
 
-cut_laid : (n : ℕ) (lines behind tight : Bool) (ps : List LayoutPart) → AllPrintable behind (tokens_in ps)
+cut_laid : (n : ℕ) (lines behind tight : Bool) (ps : List LayoutPart)
+    → AllPrintable behind (tokens_in ps)
     → (behind ≡ true → tight ≡ true) → CutInto n behind (laid lines tight ps) (tokens_in ps)
 cut_laid n lines behind tight [] f h = ([], done n behind, refl)
 cut_laid n lines behind tight (one t ∷ r) f h =

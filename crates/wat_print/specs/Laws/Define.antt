@@ -24,9 +24,10 @@ use Rattle.wat_types.specs.Laws.Define.{grouped_type_consumes}
 use Rattle.wat_types.specs.Recursion.{types, rec}
 use Rattle.wat_types.specs.StructType.{struct_type}
 use Rattle.wat_print.specs.Define.{spell_kind, printable_kind, spell_describes, spell_descriptor}
-use Rattle.wat_print.specs.Define.{spell_described, spell_shared, spell_sub, spell_def, printable_parents}
-use Rattle.wat_print.specs.Define.{printable_described, printable_def, spell_type, printable_type, spell_grouped_type}
-use Rattle.wat_print.specs.Define.{spell_rec, printable_rec}
+use Rattle.wat_print.specs.Define.{spell_described, spell_shared, spell_sub, spell_def}
+use Rattle.wat_print.specs.Define.{printable_parents, printable_described, printable_def}
+use Rattle.wat_print.specs.Define.{spell_type, printable_type, spell_grouped_type, spell_rec}
+use Rattle.wat_print.specs.Define.{printable_rec}
 use Rattle.wat_print.specs.Function.{spell_function}
 use Rattle.wat_print.specs.Index.{spell_index, printable_index}
 use Rattle.wat_print.specs.Label.{spell_label, printable_label}
@@ -36,12 +37,14 @@ use Rattle.wat_print.specs.Storage.{spell_field}
 use Rattle.wat_print.specs.Struct.{spell_struct}
 use Rattle.wat_print.specs.Laws.Function.{function_here, function_well_formed, function_only}
 use Rattle.wat_print.specs.Laws.Label.{label_here, label_well_formed, label_only}
-use Rattle.wat_print.specs.Laws.Only.{OnlyPrintable, only_any, only_where, only_seq, only_made, only_opt}
-use Rattle.wat_print.specs.Laws.Only.{only_many, only_paren, only_after, only_weaker}
+use Rattle.wat_print.specs.Laws.Only.{OnlyPrintable, only_any, only_where, only_seq, only_made}
+use Rattle.wat_print.specs.Laws.Only.{only_opt, only_many, only_paren, only_after, only_weaker}
 use Rattle.wat_print.specs.Laws.Parts.{Spells, paren_here, word_here, flag_here, many_here}
-use Rattle.wat_print.specs.Laws.Parts.{well_formed_word, well_formed_paren, well_formed_group, well_formed_both, well_formed_each}
-use Rattle.wat_print.specs.Laws.Parts.{well_formed_option, well_formed_flag}
+use Rattle.wat_print.specs.Laws.Parts.{well_formed_word, well_formed_paren, well_formed_group}
+use Rattle.wat_print.specs.Laws.Parts.{well_formed_both, well_formed_each, well_formed_option}
+use Rattle.wat_print.specs.Laws.Parts.{well_formed_flag}
 use Rattle.wat_print.specs.Laws.Reference.{index_here, index_well_formed, index_only}
+use Rattle.wat_print.specs.Laws.Reference.{index_group_well_formed}
 use Rattle.wat_print.specs.Laws.Storage.{field_here, field_well_formed, field_only}
 use Rattle.wat_print.specs.Laws.Struct.{struct_here, struct_well_formed, struct_only}
 
@@ -122,10 +125,14 @@ kind_here (cont i) r h e =
     )
 
 pub kind_well_formed : (k : InnerKindTy) → printable_kind k ≡ true → WellFormed (spell_kind k)
-kind_well_formed (func f) h = well_formed_word (codes "func") (spell_function f) refl (function_well_formed f h)
-kind_well_formed (struct_ ms) h = well_formed_word (codes "struct") (spell_struct ms) refl (struct_well_formed ms h)
-kind_well_formed (array f) h = well_formed_word (codes "array") (spell_field f) refl (field_well_formed f h)
-kind_well_formed (cont i) h = well_formed_word (codes "cont") (spell_index i) refl (index_well_formed i h)
+kind_well_formed (func f) h =
+    well_formed_word (codes "func") (spell_function f) refl (function_well_formed f h)
+kind_well_formed (struct_ ms) h =
+    well_formed_word (codes "struct") (spell_struct ms) refl (struct_well_formed ms h)
+kind_well_formed (array f) h =
+    well_formed_word (codes "array") (spell_field f) refl (field_well_formed f h)
+kind_well_formed (cont i) h =
+    well_formed_word (codes "cont") (spell_index i) refl (index_well_formed i h)
 
 pub kind_only : OnlyPrintable kind printable_kind
 unfolding kind
@@ -213,7 +220,9 @@ inner_front w k o None x f e a b c d = descriptor_front w k o x e a b c d
 
 -- the tests of what is in the parentheses
 abbrev PrintableCore : InnerKindTy → Option Idx → Option Idx → Type 0
-PrintableCore k o p = (if_some printable_index p ≡ true) × (if_some printable_index o ≡ true) × (printable_kind k ≡ true)
+PrintableCore k o p =
+    (if_some printable_index p ≡ true) × (if_some printable_index o ≡ true)
+    × (printable_kind k ≡ true)
 
 inner_here : (k : InnerKindTy) (o p : Option Idx) (r : List Tok) → PrintableCore k o p
     → group_follows (RParen ∷ r) ≡ false
@@ -383,8 +392,8 @@ sub_here b final k o p is r h f =
         flat_map spell_index is,
         s,
         refl,
-        many_here begins_index index spell_index printable_index index_here index_front is (s ++ x) h
-            (shared_opens begins_index b k o p x (λ y. refl)),
+        many_here begins_index index spell_index printable_index index_here index_front is
+            (s ++ x) h (shared_opens begins_index b k o p x (λ y. refl)),
         shared_here b k o p x f refl,
       ),
     )
@@ -420,14 +429,16 @@ def_in : (d : DefTy) (final : Option Bool)
 def_in d (Some final) = refl
 def_in d None = shared_in d.shared d.kind d.descriptor d.describes
 
-core_parts : (d : DefTy) → printable_described d ≡ true → PrintableCore d.kind d.descriptor d.describes
+core_parts : (d : DefTy) → printable_described d ≡ true
+    → PrintableCore d.kind d.descriptor d.describes
 core_parts d h =
     let a = and_parts (if_some printable_index d.describes) _ h in
     let b = and_parts (if_some printable_index d.descriptor) (printable_kind d.kind) a.1 in
     (a.0, b.0, b.1)
 
 -- a definition in its parentheses
-pub def_here : (d : DefTy) (r : List Tok) → printable_def d ≡ true → group_follows (RParen ∷ r) ≡ false
+pub def_here : (d : DefTy) (r : List Tok) → printable_def d ≡ true
+    → group_follows (RParen ∷ r) ≡ false
     → (paren type_def).spells d (spell_def d) r
 def_here d r h e =
     let a = and_parts (printable_parents d.final_type d.parents) (printable_described d) h in
@@ -469,7 +480,8 @@ label_part t r f =
     (sym (append_assoc x (RParen ∷ []) r))
     (def_no_name d.shared d.kind d.descriptor d.describes d.final_type d.parents (RParen ∷ r))))
 
-pub type_here : (t : TypeTy) (r : List Tok) → printable_type t ≡ true → group_follows (RParen ∷ r) ≡ false
+pub type_here : (t : TypeTy) (r : List Tok) → printable_type t ≡ true
+    → group_follows (RParen ∷ r) ≡ false
     → type_.spells t (spell_type t) r
 unfolding type_
 type_here t r f e =
@@ -486,7 +498,8 @@ grouped_here : (t : TypeTy) → printable_type t ≡ true → Spells grouped_typ
 grouped_here t f r = paren_here type_ t (spell_type t) r (type_here t (RParen ∷ r) f refl)
 
 -- where the second token that follows isn't `type`
-pub rec_here : (ts : List TypeTy) (r : List Tok) → printable_rec ts ≡ true → second begins_type r ≡ false
+pub rec_here : (ts : List TypeTy) (r : List Tok) → printable_rec ts ≡ true
+    → second begins_type r ≡ false
     → rec.spells ts (spell_rec ts) r
 unfolding rec types
 rec_here ts r f e =
@@ -503,10 +516,10 @@ described_well_formed d h =
     well_formed_both (spell_option spell_describes d.describes)
     (spell_option spell_descriptor d.descriptor ++ k)
     (well_formed_option spell_describes printable_index d.describes
-    (λ i f. (well_formed_group (codes "describes") (spell_index i) refl (index_well_formed i f))) a.0)
+    (index_group_well_formed (codes "describes") refl) a.0)
     (well_formed_both (spell_option spell_descriptor d.descriptor) k
     (well_formed_option spell_descriptor printable_index d.descriptor
-    (λ i f. (well_formed_group (codes "descriptor") (spell_index i) refl (index_well_formed i f))) a.1)
+    (index_group_well_formed (codes "descriptor") refl) a.1)
     (well_formed_paren (spell_kind d.kind) (kind_well_formed d.kind a.2)))
 
 well_formed_shared : (b : Bool) (x : List Tok) → WellFormed x
@@ -524,7 +537,8 @@ sub_well_formed d (Some final) f h =
     well_formed_group (codes "sub") (spell_flag (codes "final") final ++ (i ++ spell_shared d)) refl
     (well_formed_both (spell_flag (codes "final") final) (i ++ spell_shared d)
     (well_formed_flag (codes "final") final refl)
-    (well_formed_both i (spell_shared d) (well_formed_each spell_index printable_index index_well_formed d.parents f)
+    (well_formed_both i (spell_shared d)
+    (well_formed_each spell_index printable_index index_well_formed d.parents f)
     (shared_well_formed d h)))
 sub_well_formed d None f h = shared_well_formed d h
 
@@ -543,7 +557,8 @@ type_well_formed t f =
 pub rec_well_formed : (ts : List TypeTy) → printable_rec ts ≡ true → WellFormed (spell_rec ts)
 rec_well_formed ts f =
     well_formed_word (codes "rec") (flat_map spell_grouped_type ts) refl
-    (well_formed_each spell_grouped_type printable_type (λ t h. (well_formed_paren (spell_type t) (type_well_formed t h))) ts
+    (well_formed_each spell_grouped_type printable_type
+    (λ t h. (well_formed_paren (spell_type t) (type_well_formed t h))) ts
     f)
 
 -- ---- what a text spells can be written

@@ -18,22 +18,22 @@ use Rattle.wat_types.specs.Laws.Order.{in_order-holds}
 use Rattle.wat_types.specs.Laws.Value.{val_type_consumes}
 use Rattle.wat_types.specs.Order.{in_order}
 use Rattle.wat_types.specs.Value.{ValTy, val_type}
-use Rattle.wat_print.specs.Function.{param_label, spell_param, printable_param, spell_group, param_groups}
-use Rattle.wat_print.specs.Function.{result_groups, groups_of, spell_function, printable_function}
+use Rattle.wat_print.specs.Function.{param_label, spell_param, printable_param, spell_group}
+use Rattle.wat_print.specs.Function.{param_groups, result_groups, groups_of, spell_function}
+use Rattle.wat_print.specs.Function.{printable_function}
 use Rattle.wat_print.specs.Label.{spell_label, printable_label, none_labelled, in_groups}
 use Rattle.wat_print.specs.WellFormed.{is_given, WellFormed}
 use Rattle.wat_print.specs.Parts.{each}
 use Rattle.wat_print.specs.Reference.{spell_val, printable_val}
 use Rattle.wat_print.specs.Use.{printable_unnamed}
-use Rattle.wat_print.specs.Laws.Label.{label_well_formed, printable_parts, parts_here, in_groups_printable}
-use Rattle.wat_print.specs.Laws.Label.{in_groups_all, label_only}
+use Rattle.wat_print.specs.Laws.Label.{label_well_formed, printable_parts, parts_here}
+use Rattle.wat_print.specs.Laws.Label.{in_groups_printable, in_groups_all, label_only}
 use Rattle.wat_print.specs.Laws.Only.{OnlyPrintable, only_where, only_seq, only_made, only_many}
-use Rattle.wat_print.specs.Laws.Only.{only_group}
-use Rattle.wat_print.specs.Laws.Only.{only_weaker}
+use Rattle.wat_print.specs.Laws.Only.{only_group, only_weaker}
 use Rattle.wat_print.specs.Laws.Parts.{and_also, each_both, Spells, group_here, many_here}
 use Rattle.wat_print.specs.Laws.Parts.{well_formed_group, well_formed_both, well_formed_each}
-use Rattle.wat_print.specs.Laws.Reference.{val_here, val_well_formed, val_more, val_no_id, val_no_name}
-use Rattle.wat_print.specs.Laws.Reference.{val_only}
+use Rattle.wat_print.specs.Laws.Reference.{val_here, val_well_formed, val_more, val_no_id}
+use Rattle.wat_print.specs.Laws.Reference.{val_no_name, val_only}
 
 -- ---- one group
 
@@ -57,8 +57,8 @@ params_here : (ps : List ParamTy) (r : List Tok) → printable_params ps ≡ tru
     → (params true).spells ps (flat_map spell_param ps) (RParen ∷ r)
 unfolding params plain_params
 params_here ps r f =
-    parts_here val_type spell_val printable_val (λ _. true) val_any (λ r. refl) (λ t x. refl) val_more
-    val_no_id val_no_name param_of param_label param_type (λ p. refl) ps r f
+    parts_here val_type spell_val printable_val (λ _. true) val_any (λ r. refl) (λ t x. refl)
+    val_more val_no_id val_no_name param_of param_label param_type (λ p. refl) ps r f
 
 abbrev pub printable_group : Group → Bool
 printable_group (param ps) = printable_params ps
@@ -68,10 +68,12 @@ results_here : (ts : List ValTy) (r : List Tok) → each printable_val ts ≡ tr
     → val_types.spells ts (flat_map spell_val ts) (RParen ∷ r)
 unfolding val_types
 results_here ts r f =
-    many_here more val_type spell_val printable_val val_here (λ t x h. (val_more t x)) ts (RParen ∷ r) f
+    many_here more val_type spell_val printable_val val_here (λ t x h. (val_more t x)) ts
+    (RParen ∷ r) f
     refl
 
-pub func_group_here : (g : Group) → printable_group g ≡ true → Spells (func_group true) g (spell_group g)
+pub func_group_here : (g : Group) → printable_group g ≡ true
+    → Spells (func_group true) g (spell_group g)
 unfolding func_group
 func_group_here (param ps) f r =
     let d = flat_map spell_param ps in
@@ -113,8 +115,8 @@ param_groups_printable : (ps : List ParamTy) → each printable_param ps ≡ tru
     → each printable_group (param_groups ps) ≡ true
 param_groups_printable ps f =
     each_param (in_groups param_label ps)
-    (in_groups_printable val_type spell_val printable_val (λ _. true) val_any (λ r. refl) (λ t x. refl) val_more
-    val_no_id val_no_name param_of param_label param_type (λ p. refl) ps f)
+    (in_groups_printable val_type spell_val printable_val (λ _. true) val_any (λ r. refl)
+    (λ t x. refl) val_more val_no_id val_no_name param_of param_label param_type (λ p. refl) ps f)
 
 result_groups_printable : (ts : List ValTy) → each printable_val ts ≡ true
     → each printable_group (result_groups ts) ≡ true
@@ -122,7 +124,8 @@ result_groups_printable [] f = refl
 result_groups_printable (t ∷ ts) f = rw f refl
 
 -- the groups that are written can be
-pub groups_printable : (f : FuncTy) → printable_function f ≡ true → each printable_group (groups_of f) ≡ true
+pub groups_printable : (f : FuncTy) → printable_function f ≡ true
+    → each printable_group (groups_of f) ≡ true
 groups_printable f h =
     let a = and_parts (each printable_param f.params) (each printable_val f.results) h in
     each_both printable_group (param_groups f.params) (result_groups f.results)
@@ -187,7 +190,8 @@ function_by f gs r a h e = (
   a.1,
 )
 
-pub function_here : (f : FuncTy) (r : List Tok) → printable_function f ≡ true → group_follows r ≡ false
+pub function_here : (f : FuncTy) (r : List Tok) → printable_function f ≡ true
+    → group_follows r ≡ false
     → function_type.spells f (spell_function f) r
 function_here f r h e = function_by f (groups_of f) r (groups_are f) (groups_printable f h) e
 
@@ -195,7 +199,8 @@ pub labels_none : (ps : List ParamTy) → none_labelled param_label ps ≡ unlab
 labels_none [] = refl
 labels_none (p ∷ ps) = ap (λ (b : Bool). not (labelled p.label) && b) (labels_none ps)
 
-pub unnamed_here : (f : FuncTy) (r : List Tok) → printable_unnamed f ≡ true → group_follows r ≡ false
+pub unnamed_here : (f : FuncTy) (r : List Tok) → printable_unnamed f ≡ true
+    → group_follows r ≡ false
     → function_type_no_names.spells f (spell_function f) r
 unfolding function_groups
 unnamed_here f r h e =
@@ -207,25 +212,30 @@ unnamed_here f r h e =
 param_well_formed : (p : ParamTy) → printable_param p ≡ true → WellFormed (spell_param p)
 param_well_formed p f =
     let a = and_parts (printable_label p.label) (printable_val p.ty) f in
-    well_formed_both (spell_label p.label) (spell_val p.ty) (label_well_formed p.label a.0) (val_well_formed p.ty a.1)
+    well_formed_both (spell_label p.label) (spell_val p.ty) (label_well_formed p.label a.0)
+    (val_well_formed p.ty a.1)
 
 group_well_formed : (g : Group) → printable_group g ≡ true → WellFormed (spell_group g)
 group_well_formed (param ps) f =
     well_formed_group (codes "param") (flat_map spell_param ps) refl
-    (well_formed_each spell_param printable_param param_well_formed ps (and_parts _ (each printable_param ps) f).1)
+    (well_formed_each spell_param printable_param param_well_formed ps
+    (and_parts _ (each printable_param ps) f).1)
 group_well_formed (result ts) f =
     well_formed_group (codes "result") (flat_map spell_val ts) refl
     (well_formed_each spell_val printable_val val_well_formed ts f)
 
-pub groups_well_formed : (gs : List Group) → each printable_group gs ≡ true → WellFormed (flat_map spell_group gs)
+pub groups_well_formed : (gs : List Group) → each printable_group gs ≡ true
+    → WellFormed (flat_map spell_group gs)
 groups_well_formed gs f = well_formed_each spell_group printable_group group_well_formed gs f
 
-pub function_well_formed : (f : FuncTy) → printable_function f ≡ true → WellFormed (spell_function f)
+pub function_well_formed : (f : FuncTy) → printable_function f ≡ true
+    → WellFormed (spell_function f)
 function_well_formed f h = groups_well_formed (groups_of f) (groups_printable f h)
 
 pub unnamed_well_formed : (f : FuncTy) → printable_unnamed f ≡ true → WellFormed (spell_function f)
 unnamed_well_formed f h =
-    function_well_formed f (and_parts (none_labelled param_label f.params) (printable_function f) h).1
+    function_well_formed f
+    (and_parts (none_labelled param_label f.params) (printable_function f) h).1
 
 -- ---- what a text spells can be written
 
@@ -239,7 +249,8 @@ params_only =
     only_where begins_label
     (only_made (λ _. true) labelled_param (each printable_param)
     (only_weaker (λ v. (printable_label v.0 && printable_val v.1) && true)
-    (λ v h. (and_also (printable_label v.0 && printable_val v.1) h)) (only_seq label_only val_only)))
+    (λ v h. (and_also (printable_label v.0 && printable_val v.1) h))
+    (only_seq label_only val_only)))
     (only_many more val_type_consumes (only_made (λ _. true) plain_param printable_param val_only))
 
 group_only : OnlyPrintable (func_group true) group_given

@@ -1,10 +1,10 @@
 -- Laws: the tokens that a text gives.
-use Rattle.std.specs.Prelude.{◌≡◌, ℕ, zero, suc, ◌+◌, ◌*◌, ◌<◌, nat_lt, ◌==◌, slice_index, Bool}
+use Rattle.std.specs.Prelude.{◌≡◌, ℕ, zero, suc, ◌+◌, ◌*◌, ◌<◌, ◌==◌, slice_index, Bool}
 use Rattle.std.specs.Prelude.{true, false, List, [], ◌∷◌, ◌++◌, Option, Some, None, length}
 use Rattle.std.specs.Char.{digit_value}
 use Rattle.std.specs.Str.{IsUtf8, is_utf8}
 use Rattle.std.proofs.Common.{refl, subst, arith, rules, inl, inr}
-use Rattle.std.proofs.lemmas.Bool.{and_parts, cond_both}
+use Rattle.std.proofs.lemmas.Bool.{and_parts, cond_both, ltb-true}
 use Rattle.std.proofs.lemmas.Bool.Decides.{nat_tests}
 use Rattle.std.proofs.lemmas.Str.{is_utf8-from_IsUtf8, IsUtf8-from_ascii}
 use Rattle.wat_lexer.specs.Bytes.{is_idchar}
@@ -56,17 +56,14 @@ escape_byte c v =
     (λ e. cond_both (c == 39) _ _ (IsByteIn v) (λ e. some_byte 39 v refl)
     (λ e. cond_both (c == 92) _ _ (IsByteIn v) (λ e. some_byte 92 v refl) (λ e. none_byte v))))))
 
-low : (n m : ℕ) → nat_lt n m ≡ true → n < m
-low n m h = grind (arith, nat_tests)
-
 two_digits : (a b : ℕ) → a < 16 → b < 16 → is_byte (a * 16 + b) ≡ true
 two_digits a b h k = byte_is (a * 16 + b) (omega arith)
 
 hex_value : (h l : ℕ) → is_hex h ≡ true → is_hex l ≡ true
     → is_byte (digit_value h * 16 + digit_value l) ≡ true
 hex_value h l p q =
-    two_digits (digit_value h) (digit_value l) (low (digit_value h) 16 p)
-    (low (digit_value l) 16 q)
+    two_digits (digit_value h) (digit_value l) (ltb-true (digit_value h) 16 p)
+    (ltb-true (digit_value l) 16 q)
 
 element_given : (x v : List ℕ) → Element x v → all_are is_byte x ≡ true → all_are is_byte v ≡ true
 element_given x v (raw_byte b h) a = a

@@ -1,7 +1,6 @@
 -- Laws: integers are written as they are read.
 use Rattle.std.specs.Prelude.{◌≡◌, ℕ, ◌+◌, ◌*◌, ◌<◌, ◌≤◌, Bool, true, false, ◌&&◌, ◌||◌, ◌==◌}
-use Rattle.std.specs.Prelude.{nat_lt, List, [], ◌∷◌, drop, Option, Some}
-use Rattle.std.specs.Prelude.{is_some}
+use Rattle.std.specs.Prelude.{nat_lt, List, [], ◌∷◌, drop, Option, Some, is_some}
 use Rattle.std.specs.Char.{digit_value}
 use Rattle.std.proofs.Common.{refl, subst, arith}
 use Rattle.std.proofs.lemmas.Bool.{and_parts, cond_both}

@@ -20,9 +20,10 @@ use Rattle.wat_print.specs.Label.{by_itself, in_groups}
 use Rattle.wat_print.specs.WellFormed.{is_name, is_given, WellFormed, nothing, noted}
 use Rattle.wat_print.specs.Parts.{each, spell_option, if_some}
 use Rattle.wat_print.specs.Laws.Bytes.{utf8_bytes}
-use Rattle.wat_print.specs.Laws.Only.{OnlyPrintable, only_any, only_one, only_opt, only_paren, only_seq}
-use Rattle.wat_print.specs.Laws.Only.{only_made}
-use Rattle.wat_print.specs.Laws.Parts.{Spells, many_told, well_formed_one, well_formed_both, well_formed_option}
+use Rattle.wat_print.specs.Laws.Only.{OnlyPrintable, only_any, only_one, only_opt, only_paren}
+use Rattle.wat_print.specs.Laws.Only.{only_seq, only_made}
+use Rattle.wat_print.specs.Laws.Parts.{Spells, many_told, well_formed_one, well_formed_both}
+use Rattle.wat_print.specs.Laws.Parts.{well_formed_option}
 use Rattle.wat_print.specs.Laws.Quoted.{if_cases}
 use Rattle.wat_print.specs.Laws.Strings.{text_only}
 
@@ -104,7 +105,7 @@ label_well_formed l f =
 
 -- ---- parts that may have one
 
-labelled_front : (i n : Option (List ℕ)) (x : List Tok) → labelled (label_of i n) ≡ true
+pub labelled_front : (i n : Option (List ℕ)) (x : List Tok) → labelled (label_of i n) ≡ true
     → begins_label (spell_label (label_of i n) ++ x) ≡ true
 labelled_front (Some i) n x h = refl
 labelled_front None (Some n) x h = refl
@@ -262,7 +263,8 @@ module _ {T P : Type 0} (g : Production T) (spell : T → List Tok) (printable :
     alone_by true p e f = rw (e, f) refl
     alone_by false p e f = rw (e, f) refl
 
-    all_alone : (ps : List P) → each printable_part ps ≡ true → each printable_parts (map by_itself ps) ≡ true
+    all_alone : (ps : List P) → each printable_part ps ≡ true
+        → each printable_parts (map by_itself ps) ≡ true
     all_alone [] f = refl
     all_alone (p ∷ ps) f =
         let a = and_parts (printable_part p) (each printable_part ps) f in

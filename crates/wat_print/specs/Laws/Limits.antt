@@ -3,7 +3,7 @@ use Rattle.std.specs.Prelude.{◌≡◌, ℕ, ◌^◌, ◌-◌, ◌<◌, ◌≤�
 use Rattle.std.specs.Prelude.{◌++◌, Option, Some, None, codes, decimal}
 use Rattle.std.proofs.Common.{refl, arith, subst, inl, inr}
 use Rattle.std.proofs.Math.Pow.{pow_mono}
-use Rattle.std.proofs.lemmas.Bool.{and_parts}
+use Rattle.std.proofs.lemmas.Bool.{and_parts, lt-ltb, ltb-true}
 use Rattle.std.proofs.lemmas.Bool.Decides.{nat_tests}
 use Rattle.wat_lexer.specs.Token.{Tok, LParen, RParen, Integer}
 use Rattle.wat_tokens.specs.Integers.{unsigned, unsigned_of}
@@ -17,39 +17,35 @@ use Rattle.wat_types.specs.PageSize.{ExponentSpells}
 use Rattle.wat_types.specs.Reference.{RefTy}
 use Rattle.wat_types.specs.declared.limits.Limits.{Limits}
 use Rattle.wat_types.specs.declared.limits.MemoryType.{MemoryType}
-use Rattle.wat_print.specs.Limits.{spell_number, is_u64, spell_limits, printable_limits, spell_page_size}
-use Rattle.wat_print.specs.Limits.{is_exponent, spell_memory_type, printable_memory_type}
-use Rattle.wat_print.specs.Limits.{spell_table_type, printable_table_type}
+use Rattle.wat_print.specs.Limits.{spell_number, is_u64, spell_limits, printable_limits}
+use Rattle.wat_print.specs.Limits.{spell_page_size, is_exponent, spell_memory_type}
+use Rattle.wat_print.specs.Limits.{printable_memory_type, spell_table_type, printable_table_type}
 use Rattle.wat_print.specs.WellFormed.{is_given, WellFormed}
 use Rattle.wat_print.specs.Parts.{each, spell_flag, spell_option, if_some}
 use Rattle.wat_print.specs.Reference.{spell_ref, printable_ref}
 use Rattle.wat_print.specs.Laws.Numbers.{decimal_printable, unsigned_decimal, unsigned_fits}
-use Rattle.wat_print.specs.Laws.Only.{OnlyPrintable, only_any, only_one, only_opt, only_seq, only_made}
-use Rattle.wat_print.specs.Laws.Only.{only_group}
+use Rattle.wat_print.specs.Laws.Only.{OnlyPrintable, only_any, only_one, only_opt, only_seq}
+use Rattle.wat_print.specs.Laws.Only.{only_made, only_group}
 use Rattle.wat_print.specs.Laws.Parts.{Spells, word_here, group_here, flag_here, well_formed_one}
-use Rattle.wat_print.specs.Laws.Parts.{well_formed_group, well_formed_both, well_formed_option, well_formed_flag}
+use Rattle.wat_print.specs.Laws.Parts.{well_formed_group, well_formed_both, well_formed_option}
+use Rattle.wat_print.specs.Laws.Parts.{well_formed_flag}
 use Rattle.wat_print.specs.Laws.Reference.{ref_here, ref_well_formed, ref_only, of_refs}
 
 -- ---- numbers
-
-below : (n m : ℕ) → nat_lt n m ≡ true → n < m
-below n m h = grind (arith, nat_tests)
-
-is_below : (n m : ℕ) → n < m → nat_lt n m ≡ true
-is_below n m h = grind (arith, nat_tests)
 
 number_here : (bits n : ℕ) → n < 2 ^ 64 → n ≤ 2 ^ bits - 1
     → Spells (unsigned bits) n (spell_number n)
 number_here bits n lt le r = (Integer (decimal n), refl, unsigned_decimal bits n lt le)
 
 u64_here : (n : ℕ) → is_u64 n ≡ true → Spells (unsigned 64) n (spell_number n)
-u64_here n h = let lt = below n (2 ^ 64) h in number_here 64 n lt (omega arith)
+u64_here n h = let lt = ltb-true n (2 ^ 64) h in number_here 64 n lt (omega arith)
 
 u64_well_formed : (n : ℕ) → is_u64 n ≡ true → WellFormed (spell_number n)
-u64_well_formed n h = well_formed_one (Integer (decimal n)) (decimal_printable n (below n (2 ^ 64) h))
+u64_well_formed n h =
+    well_formed_one (Integer (decimal n)) (decimal_printable n (ltb-true n (2 ^ 64) h))
 
 u64_given : (t : Tok) (n : ℕ) → is_given t ≡ true → unsigned_of 64 t ≡ Some n → is_u64 n ≡ true
-u64_given (Integer x) n a e = let le = unsigned_fits 64 x n e in is_below n (2 ^ 64) (omega arith)
+u64_given (Integer x) n a e = let le = unsigned_fits 64 x n e in lt-ltb n (2 ^ 64) (omega arith)
 u64_given LParen n a e = absurd cc
 u64_given _ n a e = absurd cc
 
@@ -111,18 +107,18 @@ power_below k lt = pow_mono {i = k} {j = 31} (omega arith)
 pub page_here : (k : ℕ) → is_exponent k ≡ true → Spells pagesize k (spell_page_size k)
 unfolding pagesize page_exponent
 page_here k h r =
-    let le = power_below k (below k 32 h) in
+    let le = power_below k (ltb-true k 32 h) in
     group_here (codes "pagesize") page_exponent k (spell_number (2 ^ k)) r refl
     (2 ^ k, number_here 32 (2 ^ k) (omega arith) (omega arith) (RParen ∷ r), refl)
 
 pub page_well_formed : (k : ℕ) → is_exponent k ≡ true → WellFormed (spell_page_size k)
 page_well_formed k h =
-    let le = power_below k (below k 32 h) in
+    let le = power_below k (ltb-true k 32 h) in
     well_formed_group (codes "pagesize") (spell_number (2 ^ k)) refl
     (well_formed_one (Integer (decimal (2 ^ k))) (decimal_printable (2 ^ k) (omega arith)))
 
 below_by : (k : ℕ) (b : Bool) → nat_lt k 32 ≡ b → 2 ^ k ≤ 2 ^ 32 - 1 → k < 32
-below_by k true e h = below k 32 e
+below_by k true e h = ltb-true k 32 e
 below_by k false e h =
     let ge : 32 ≤ k = grind (arith, nat_tests) in
     absurd (omega (arith, pow_mono {i = 32} {j = k} ge))
@@ -139,7 +135,7 @@ exponent_holds : (k : ℕ) (c r : List Tok) → each is_given c ≡ true → Exp
     → is_exponent k ≡ true
 exponent_holds k c r a s =
     let le = u32_given s.1.0 s.0 s.1.2 in
-    is_below k 32 (not_above k (subst (λ (n : ℕ). n ≤ 2 ^ 32 - 1) s.2 le))
+    lt-ltb k 32 (not_above k (subst (λ (n : ℕ). n ≤ 2 ^ 32 - 1) s.2 le))
 
 exponent_only : OnlyPrintable page_exponent is_exponent
 unfolding page_exponent
@@ -176,7 +172,8 @@ memory_rest : (b : Bool) (o : Option ℕ) (r : List Tok) → EndsMemory r
 memory_rest true o r e = refl
 memory_rest false o r e = (page_front o r e).0
 
-pub memory_type_here : (m : MemoryType) (r : List Tok) → printable_memory_type m ≡ true → EndsMemory r
+pub memory_type_here : (m : MemoryType) (r : List Tok) → printable_memory_type m ≡ true
+    → EndsMemory r
     → memory_type.spells m (spell_memory_type m) r
 unfolding memory_type
 memory_type_here m r f e =
@@ -201,7 +198,8 @@ memory_type_here m r f e =
       refl,
     )
 
-pub memory_type_well_formed : (m : MemoryType) → printable_memory_type m ≡ true → WellFormed (spell_memory_type m)
+pub memory_type_well_formed : (m : MemoryType) → printable_memory_type m ≡ true
+    → WellFormed (spell_memory_type m)
 memory_type_well_formed m f =
     let a = and_parts (printable_limits m.limits) (if_some is_exponent m.page_size_log2) f in
     let p = spell_option spell_page_size m.page_size_log2 in
@@ -260,10 +258,12 @@ table_type_here t f r =
       refl,
     )
 
-pub table_type_well_formed : (t : TableTy) → printable_table_type t ≡ true → WellFormed (spell_table_type t)
+pub table_type_well_formed : (t : TableTy) → printable_table_type t ≡ true
+    → WellFormed (spell_table_type t)
 table_type_well_formed t f =
     let a = and_parts (printable_limits t.limits) (printable_ref t.elem) f in
-    well_formed_both (spell_flag (codes "shared") t.shared) (spell_limits t.limits ++ spell_ref t.elem)
+    well_formed_both (spell_flag (codes "shared") t.shared)
+    (spell_limits t.limits ++ spell_ref t.elem)
     (well_formed_flag (codes "shared") t.shared refl)
     (well_formed_both (spell_limits t.limits) (spell_ref t.elem) (limits_well_formed t.limits a.0)
     (ref_well_formed t.elem a.1))

@@ -45,9 +45,11 @@ all_more : (behind : Bool) (r : List Tok) → AllPrintable false r → AllPrinta
 all_more behind [] h = tt
 all_more behind (t ∷ r) h = (printable_more behind t h.0, h.1)
 
-well_formed_printable : (ts s : List Tok) → WellFormed ts → AllPrintable false s → AllPrintable false (ts ++ s)
+well_formed_printable : (ts s : List Tok) → WellFormed ts → AllPrintable false s
+    → AllPrintable false (ts ++ s)
 well_formed_printable ts s nothing f = f
-well_formed_printable ts s (token t r h n) f = (fits false t h, all_more (is_open t) (r ++ s) (well_formed_printable r s n f))
+well_formed_printable ts s (token t r h n) f =
+    (fits false t h, all_more (is_open t) (r ++ s) (well_formed_printable r s n f))
 well_formed_printable ts s (group a r n m) f = (
   tt,
   all_more true ((a ++ RParen ∷ r) ++ s) (subst (λ (l : List Tok). AllPrintable false l)
@@ -96,7 +98,8 @@ note_deep n depth r = refl
 well_formed_deep : (ts s : List Tok) (depth : ℕ) → WellFormed ts
     → behind_group depth (ts ++ s) ≡ behind_group depth s
 well_formed_deep ts s depth nothing = refl
-well_formed_deep ts s depth (token t r h n) = plain_deep t depth (r ++ s) h ∙ well_formed_deep r s depth n
+well_formed_deep ts s depth (token t r h n) =
+    plain_deep t depth (r ++ s) h ∙ well_formed_deep r s depth n
 well_formed_deep ts s depth (group a r n m) =
     open_deep depth ((a ++ RParen ∷ r) ++ s) ∙ ap (λ (l : List Tok). behind_group (depth + 1) l)
     (append_assoc a (RParen ∷ r) s)
@@ -192,7 +195,8 @@ noted_seen : (k : List ℕ) (r : List Tok) → is_standard k ≡ true
 unfolding visible
 noted_seen k r h = rw h refl
 
-well_formed_seen : (ts s : List Tok) → WellFormed ts → visible true None (ts ++ s) ≡ ts ++ visible true None s
+well_formed_seen : (ts s : List Tok) → WellFormed ts
+    → visible true None (ts ++ s) ≡ ts ++ visible true None s
 well_formed_seen ts s nothing = refl
 well_formed_seen ts s (token t r h n) = plain_seen t (r ++ s) h
     ∙ ap (λ (l : List Tok). t ∷ l) (well_formed_seen r s n)
@@ -226,12 +230,15 @@ well_formed_visible ts n =
 
 pub well_formed_closed : (ts : List Tok) → WellFormed ts → Closed ts
 well_formed_closed ts n =
-    all_closed ts (subst (λ (l : List Tok). AllShut l) (append-nil ts) (well_formed_shut ts [] n tt))
+    all_closed ts
+    (subst (λ (l : List Tok). AllShut l) (append-nil ts) (well_formed_shut ts [] n tt))
 
 -- what is laid out of such tokens is cut into them
-pub well_formed_cut : (ts : List Tok) (lines : Bool) (q : Page) → WellFormed ts → Writes ts (blank_page lines) q
+pub well_formed_cut : (ts : List Tok) (lines : Bool) (q : Page) → WellFormed ts
+    → Writes ts (blank_page lines) q
     → (ps : List Placed) × IsCut q.bytes ps × (tokens_of ps ≡ ts)
 well_formed_cut ts lines q n w =
-    let f = subst (λ (l : List Tok). AllPrintable false l) (append-nil ts) (well_formed_printable ts [] n tt) in
+    let f = subst (λ (l : List Tok). AllPrintable false l) (append-nil ts)
+    (well_formed_printable ts [] n tt) in
     let c = page_cuts (length q.bytes) ts lines q f w in
     (c.0, (c.1, subst (λ (l : List Tok). Closed l) (sym c.2) (well_formed_closed ts n)), c.2)

@@ -4,7 +4,7 @@ use Rattle.std.specs.Prelude.{nat_le, List, [], ◌∷◌, Option, Some, None, d
 use Rattle.std.specs.Char.{digit_value}
 use Rattle.std.specs.Str.Parse.{AllDigits, digits_value, digits_value_after, IsNumeral}
 use Rattle.std.proofs.Common.{refl, arith, subst}
-use Rattle.std.proofs.lemmas.Bool.{cond_both}
+use Rattle.std.proofs.lemmas.Bool.{cond_both, leb-true}
 use Rattle.std.proofs.lemmas.Bool.Decides.{nat_tests}
 use Rattle.std.proofs.lemmas.Fmt.{decimal_is_IsNumeral}
 use Rattle.std.proofs.lemmas.Str.Parse.{digit_from_value}
@@ -79,15 +79,12 @@ unsigned_decimal bits n lt le =
 
 -- ---- a number that a text gives
 
-at_most : (n m : ℕ) → nat_le n m ≡ true → n ≤ m
-at_most n m h = grind (arith, nat_tests)
-
 up_to_fits : (limit n : ℕ) (o : Option ℕ) → up_to limit o ≡ Some n → n ≤ limit
 up_to_fits limit n None e = absurd cc
 up_to_fits limit n (Some m) e =
     cond_both (nat_le m limit) (Some m) None (λ (o : Option ℕ). o ≡ Some n → n ≤ limit)
     (λ k f. (let same : m ≡ n = cc in
-    subst (λ (j : ℕ). j ≤ limit) same (at_most m limit k)))
+    subst (λ (j : ℕ). j ≤ limit) same (leb-true m limit k)))
     (λ k f. absurd cc) e
 
 sign_fits : (s : Option Sign) (bits n : ℕ) (o : Option ℕ) → unsigned_by s bits o ≡ Some n

@@ -1,8 +1,9 @@
 -- Laws: what tokens that a text can give spell can be written, part by part.
 use Rattle.std.specs.Prelude.{◌≡◌, ◌≤◌, ℕ, Bool, true, ◌&&◌, List, [], ◌∷◌, ◌++◌, Option, Some}
 use Rattle.std.specs.Prelude.{None}
+use Rattle.std.specs.Str.{bytes_eq}
 use Rattle.std.proofs.Common.{refl, subst, inl, inr}
-use Rattle.std.proofs.lemmas.Bool.{and_parts}
+use Rattle.std.proofs.lemmas.Bool.{and_parts, cond_both}
 use Rattle.wat_lexer.specs.Token.{Tok, LParen, RParen}
 use Rattle.wat_tokens.specs.Groups.{paren, group}
 use Rattle.wat_tokens.specs.Many.{many}
@@ -10,29 +11,46 @@ use Rattle.wat_tokens.specs.ManySpells.{many_spells}
 use Rattle.wat_tokens.specs.Parens.{NoParens}
 use Rattle.wat_tokens.specs.Parts.{one, seq, where_else, made_where, opt, word, after_word}
 use Rattle.wat_tokens.specs.Production.{Production}
+use Rattle.wat_tokens.specs.Tests.{look_up}
 use Rattle.wat_print.specs.WellFormed.{is_given}
 use Rattle.wat_print.specs.Parts.{each, if_some}
+use Rattle.wat_print.specs.Laws.Parts.{each_front}
 
 -- each value that tokens of a text spell passes the test
 pub record OnlyPrintable {A : Type 0} (g : Production A) (printable : A → Bool) : Type 0 where
-  pub holds : (v : A) (c r : List Tok) → each is_given c ≡ true → g.spells v c r → printable v ≡ true
-
-given_both : (d e : List Tok) → each is_given (d ++ e) ≡ true
-    → (each is_given d ≡ true) × (each is_given e ≡ true)
-given_both [] e a = (refl, a)
-given_both (t ∷ d) e a =
-    let p = and_parts (is_given t) (each is_given (d ++ e)) a in
-    let q = given_both d e p.1 in
-    (rw (p.0) (q.0), q.1)
+  pub holds : (v : A) (c r : List Tok) → each is_given c ≡ true → g.spells v c r
+      → printable v ≡ true
 
 given_parts : (c d e : List Tok) → c ≡ d ++ e → each is_given c ≡ true
     → (each is_given d ≡ true) × (each is_given e ≡ true)
-given_parts c d e s a = given_both d e (subst (λ (l : List Tok). each is_given l ≡ true) s a)
+given_parts c d e s a =
+    each_front is_given d e (subst (λ (l : List Tok). each is_given l ≡ true) s a)
+
+-- what a `(` opens, in three parts: up to a place, up to its `)`, and behind it
+pub given_group : (f y x : List Tok) → each is_given (LParen ∷ (f ++ (y ++ (RParen ∷ x)))) ≡ true
+    → (each is_given f ≡ true) × (each is_given y ≡ true) × (each is_given x ≡ true)
+given_group f y x g =
+    let a = each_front is_given f (y ++ (RParen ∷ x)) g in
+    let b = each_front is_given y (RParen ∷ x) a.1 in
+    (a.0, b.0, b.1)
+
+-- a value that a word of a table names
+pub look_up_printable : {A : Type 0} (printable : A → Bool) (table : List (List ℕ × A)) (w : List ℕ)
+    (v : A) → each (λ e. printable e.1) table ≡ true → look_up table w ≡ Some v
+    → printable v ≡ true
+look_up_printable printable [] w v a e = absurd cc
+look_up_printable {A = A} printable (x ∷ table) w v a e =
+    let p = and_parts (printable x.1) (each (λ e. printable e.1) table) a in
+    cond_both (bytes_eq w x.0) (Some x.1) (look_up table w)
+    (λ (o : Option A). o ≡ Some v → printable v ≡ true)
+    (λ k f. (let same : x.1 ≡ v = cc in subst (λ (u : A). printable u ≡ true) same (p.0)))
+    (λ k f. (look_up_printable printable table w v p.1 f)) e
 
 pub only_any : {A : Type 0} (g : Production A) → OnlyPrintable g (λ _. true)
 only_any g = record { holds = λ v c r a s. refl }
 
-pub only_one : {A : Type 0} (value_of : Tok → Option A) (flat : NoParens value_of) (printable : A → Bool)
+pub only_one : {A : Type 0} (value_of : Tok → Option A) (flat : NoParens value_of)
+    (printable : A → Bool)
     → ((t : Tok) (v : A) → is_given t ≡ true → value_of t ≡ Some v → printable v ≡ true)
     → OnlyPrintable (one value_of flat) printable
 only_one value_of flat printable h =
@@ -42,13 +60,15 @@ only_one value_of flat printable h =
     }
 
 where_holds : {A : Type 0} {g h : Production A} {printable : A → Bool} (test : List Tok → Bool)
-    → OnlyPrintable g printable → OnlyPrintable h printable → (v : A) (c r : List Tok) → each is_given c ≡ true
+    → OnlyPrintable g printable → OnlyPrintable h printable → (v : A) (c r : List Tok)
+    → each is_given c ≡ true
     → (where_else test g h).spells v c r → printable v ≡ true
 where_holds test m n v c r a s =
     elim s [ inl k ↦ m.holds v c r a k.1 | inr k ↦ n.holds v c r a k.1 ]
 
 pub only_where : {A : Type 0} {g h : Production A} {printable : A → Bool} (test : List Tok → Bool)
-    → OnlyPrintable g printable → OnlyPrintable h printable → OnlyPrintable (where_else test g h) printable
+    → OnlyPrintable g printable → OnlyPrintable h printable
+    → OnlyPrintable (where_else test g h) printable
 only_where test m n = record { holds = where_holds test m n }
 
 opt_holds : {A : Type 0} {g : Production A} {printable : A → Bool} (begins : List Tok → Bool)
@@ -78,7 +98,8 @@ many_holds begins m (v ∷ vs) c r a s =
     rw (m.holds v s.0 (s.1 ++ r) p.0 s.4) (many_holds begins m vs s.1 r p.1 s.5)
 
 pub only_many : {A : Type 0} {g : Production A} {printable : A → Bool} (begins : List Tok → Bool)
-    (consumes : 1 ≤ g.least) → OnlyPrintable g printable → OnlyPrintable (many begins g consumes) (each printable)
+    (consumes : 1 ≤ g.least) → OnlyPrintable g printable
+    → OnlyPrintable (many begins g consumes) (each printable)
 only_many begins consumes m = record { holds = many_holds begins m }
 
 pub only_seq : {A B : Type 0} {g : Production A} {h : Production B} {f : A → Bool} {k : B → Bool}
@@ -89,7 +110,8 @@ only_seq m n =
           rw (m.holds v.0 s.0 (s.1 ++ r) p.0 s.3, n.holds v.1 s.1 r p.1 s.4) refl);
     }
 
-pub only_made : {A B : Type 0} {g : Production A} (ok : A → Bool) (make : A → B) (printable : B → Bool)
+pub only_made : {A B : Type 0} {g : Production A} (ok : A → Bool) (make : A → B)
+    (printable : B → Bool)
     → OnlyPrintable g (λ v. printable (make v)) → OnlyPrintable (made_where ok make g) printable
 only_made {B = B} ok make printable m =
     record {
@@ -101,10 +123,13 @@ pub only_weaker : {A : Type 0} {g : Production A} {f : A → Bool} (k : A → Bo
     → ((v : A) → f v ≡ true → k v ≡ true) → OnlyPrintable g f → OnlyPrintable g k
 only_weaker k h m = record { holds = λ v c r a s. h v (m.holds v c r a s) }
 
-pub only_after : {A : Type 0} {g : Production A} {printable : A → Bool} (w : List ℕ) → OnlyPrintable g printable
+pub only_after : {A : Type 0} {g : Production A} {printable : A → Bool} (w : List ℕ)
+    → OnlyPrintable g printable
     → OnlyPrintable (after_word w g) printable
-only_after {printable = printable} w m = only_made (λ _. true) (λ v. v.1) printable (only_seq (only_any (word w)) m)
+only_after {printable = printable} w m =
+    only_made (λ _. true) (λ v. v.1) printable (only_seq (only_any (word w)) m)
 
-pub only_group : {A : Type 0} {g : Production A} {printable : A → Bool} (w : List ℕ) → OnlyPrintable g printable
+pub only_group : {A : Type 0} {g : Production A} {printable : A → Bool} (w : List ℕ)
+    → OnlyPrintable g printable
     → OnlyPrintable (group w g) printable
 only_group w m = only_paren (only_after w m)

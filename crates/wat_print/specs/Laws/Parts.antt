@@ -105,15 +105,18 @@ well_formed_both a b (well_formed.group c r m k) n =
     (well_formed.group c (r ++ b) m (well_formed_both r b k n))
 well_formed_both a b (well_formed.noted x c r h e m k) n =
     subst (λ (l : List Tok). WellFormed (LParen ∷ (Annotation x ∷ l)))
-    (sym (append_assoc c (RParen ∷ r) b)) (well_formed.noted x c (r ++ b) h e m (well_formed_both r b k n))
+    (sym (append_assoc c (RParen ∷ r) b))
+    (well_formed.noted x c (r ++ b) h e m (well_formed_both r b k n))
 
 pub well_formed_one : (t : Tok) → is_printable t ≡ true → WellFormed (t ∷ [])
 well_formed_one t h = token t [] h nothing
 
-pub well_formed_word : (w : List ℕ) (d : List Tok) → is_keyword w ≡ true → WellFormed d → WellFormed (Keyword w ∷ d)
+pub well_formed_word : (w : List ℕ) (d : List Tok) → is_keyword w ≡ true → WellFormed d
+    → WellFormed (Keyword w ∷ d)
 well_formed_word w d h n = token (Keyword w) d h n
 
-pub well_formed_group : (w : List ℕ) (d : List Tok) → is_keyword w ≡ true → WellFormed d → WellFormed (grouped w d)
+pub well_formed_group : (w : List ℕ) (d : List Tok) → is_keyword w ≡ true → WellFormed d
+    → WellFormed (grouped w d)
 well_formed_group w d h n = well_formed.group (Keyword w ∷ d) [] (token (Keyword w) d h n) nothing
 
 pub well_formed_paren : (d : List Tok) → WellFormed d → WellFormed (in_parens d)
@@ -145,6 +148,14 @@ each_both test [] ws f g = g
 each_both test (v ∷ vs) ws f g =
     let p = and_parts (test v) (each test vs) f in
     rw (p.0) (each_both test vs ws p.1 g)
+
+pub each_front : {A : Type 0} (test : A → Bool) (vs ws : List A) → each test (vs ++ ws) ≡ true
+    → (each test vs ≡ true) × (each test ws ≡ true)
+each_front test [] ws f = (refl, f)
+each_front test (v ∷ vs) ws f =
+    let a = and_parts (test v) (each test (vs ++ ws)) f in
+    let b = each_front test vs ws a.1 in
+    (rw (a.0) (b.0), b.1)
 
 -- the test passes of each part of each group
 pub each_all : {A : Type 0} (test : A → Bool) (gs : List (List A))

@@ -1,9 +1,8 @@
 -- Laws: indices, heap types, reference types and value types are read again.
-use Rattle.std.specs.Prelude.{◌≡◌, ℕ, ◌^◌, ◌<◌, Bool, true, false, nat_lt, List, [], ◌∷◌, ◌++◌}
+use Rattle.std.specs.Prelude.{◌≡◌, ℕ, ◌^◌, Bool, true, false, nat_lt, List, [], ◌∷◌, ◌++◌}
 use Rattle.std.specs.Prelude.{codes, decimal, ◌≤◌, ◌-◌, Option, Some, None, option_map}
 use Rattle.std.proofs.Common.{refl, arith, inl, inr, subst}
-use Rattle.std.specs.Str.{bytes_eq}
-use Rattle.std.proofs.lemmas.Bool.{and_parts, cond_both}
+use Rattle.std.proofs.lemmas.Bool.{ltb-true}
 use Rattle.std.proofs.lemmas.Bool.Decides.{nat_tests}
 use Rattle.wat_lexer.specs.Number.{unsigned_value}
 use Rattle.wat_lexer.specs.Token.{Tok, LParen, RParen, Keyword, Id, Integer}
@@ -12,8 +11,9 @@ use Rattle.wat_tokens.specs.Groups.{group}
 use Rattle.wat_tokens.specs.Index.{Idx, number, name, index, index_of, begins_index}
 use Rattle.wat_tokens.specs.NameAnnotation.{begins_name}
 use Rattle.wat_tokens.specs.Parts.{seq, flag}
-use Rattle.wat_tokens.specs.Tests.{begins_word, begins_group, begins_id, more, word_in, look_up}
-use Rattle.wat_types.specs.Heap.{HeapTy, concrete, exact, abstract_, heap_type, abstract_heap_type}
+use Rattle.wat_tokens.specs.Tests.{begins_word, begins_group, begins_id, more, word_in}
+use Rattle.wat_types.specs.Heap.{HeapTy, concrete, exact, abstract_, heap_type}
+use Rattle.wat_types.specs.Heap.{abstract_heap_type, abstract_word}
 use Rattle.wat_types.specs.Reference.{RefTy, ref_type, shorthand, short}
 use Rattle.wat_types.specs.Value.{ValTy, i32, i64, f32, f64, v128, ref, val_type, begins_plain}
 use Rattle.wat_types.specs.Value.{plain_words}
@@ -21,52 +21,41 @@ use Rattle.wat_types.specs.declared.heap.AbstractHeapType.{AbstractHeapType}
 use Rattle.wat_types.specs.declared.heap.AbstractHeapType.TheVariants as word
 use Rattle.wat_print.specs.WellFormed.{is_keyword, is_given, WellFormed}
 use Rattle.wat_print.specs.Index.{spell_index, printable_index}
-use Rattle.wat_print.specs.Parts.{spell_flag, each}
-use Rattle.wat_print.specs.Reference.{abstract_word, spell_abstract, spell_heap, printable_heap}
-use Rattle.wat_print.specs.Reference.{short_word, spell_long, spell_reference, spell_ref, printable_ref}
+use Rattle.wat_print.specs.Parts.{grouped, spell_flag}
+use Rattle.wat_print.specs.Reference.{spell_abstract, spell_heap, printable_heap, short_word}
+use Rattle.wat_print.specs.Reference.{spell_long, spell_reference, spell_ref, printable_ref}
 use Rattle.wat_print.specs.Reference.{spell_val, printable_val}
 use Rattle.wat_print.specs.Laws.Numbers.{decimal_printable, unsigned_decimal, unsigned_fits}
 use Rattle.wat_print.specs.Laws.Only.{OnlyPrintable, only_any, only_one, only_where, only_made}
-use Rattle.wat_print.specs.Laws.Only.{only_group}
-use Rattle.wat_print.specs.Laws.Only.{only_seq}
-use Rattle.wat_print.specs.Laws.Parts.{Spells, group_here, flag_here, well_formed_one, well_formed_group}
-use Rattle.wat_print.specs.Laws.Parts.{well_formed_both, well_formed_flag}
+use Rattle.wat_print.specs.Laws.Only.{only_group, look_up_printable, only_seq}
+use Rattle.wat_print.specs.Laws.Parts.{Spells, group_here, flag_here, well_formed_one}
+use Rattle.wat_print.specs.Laws.Parts.{well_formed_group, well_formed_both, well_formed_flag}
 
 -- ---- indices
 
-number_small : (n : ℕ) → nat_lt n (2 ^ 32) ≡ true → n < 2 ^ 32
-number_small n h = grind (arith, nat_tests)
-
 pub index_here : (i : Idx) → printable_index i ≡ true → Spells index i (spell_index i)
 index_here (number n) h r =
-    let lt = number_small n h in
+    let lt = ltb-true n (2 ^ 32) h in
     (Integer (decimal n), refl, rw (unsigned_decimal 32 n (omega arith) (omega arith)) refl)
 index_here (name x) h r = (Id x, refl, refl)
 
 pub index_well_formed : (i : Idx) → printable_index i ≡ true → WellFormed (spell_index i)
 index_well_formed (number n) h =
-    let lt = number_small n h in
+    let lt = ltb-true n (2 ^ 32) h in
     well_formed_one (Integer (decimal n)) (decimal_printable n (omega arith))
 index_well_formed (name x) h = well_formed_one (Id x) h
+
+-- in its parentheses behind a word
+pub index_group_well_formed : (w : List ℕ) → is_keyword w ≡ true → (i : Idx)
+    → printable_index i ≡ true → WellFormed (grouped w (spell_index i))
+index_group_well_formed w k i h = well_formed_group w (spell_index i) k (index_well_formed i h)
 
 -- ---- heap types
 
 pub abstract_here : (t : AbstractHeapType) → Spells abstract_heap_type t (spell_abstract t)
 unfolding abstract_heap_type
 abstract_here word.Func r = (Keyword (codes "func"), refl, refl)
-abstract_here word.Extern r = (Keyword (codes "extern"), refl, refl)
-abstract_here word.Exn r = (Keyword (codes "exn"), refl, refl)
-abstract_here word.Cont r = (Keyword (codes "cont"), refl, refl)
-abstract_here word.Any r = (Keyword (codes "any"), refl, refl)
-abstract_here word.Eq r = (Keyword (codes "eq"), refl, refl)
-abstract_here word.Struct r = (Keyword (codes "struct"), refl, refl)
-abstract_here word.Array r = (Keyword (codes "array"), refl, refl)
-abstract_here word.I31 r = (Keyword (codes "i31"), refl, refl)
-abstract_here word.NoFunc r = (Keyword (codes "nofunc"), refl, refl)
-abstract_here word.NoExtern r = (Keyword (codes "noextern"), refl, refl)
-abstract_here word.NoExn r = (Keyword (codes "noexn"), refl, refl)
-abstract_here word.NoCont r = (Keyword (codes "nocont"), refl, refl)
-abstract_here word.None r = (Keyword (codes "none"), refl, refl)
+abstract_here t r = (Keyword (abstract_word t), refl, refl)
 
 abstract_printable : (t : AbstractHeapType) → is_keyword (abstract_word t) ≡ true
 abstract_printable word.Func = refl
@@ -118,7 +107,7 @@ heap_here (abstract_ false t) f r = inr (
 
 pub heap_well_formed : (h : HeapTy) → printable_heap h ≡ true → WellFormed (spell_heap h)
 heap_well_formed (concrete i) f = index_well_formed i f
-heap_well_formed (exact i) f = well_formed_group (codes "exact") (spell_index i) refl (index_well_formed i f)
+heap_well_formed (exact i) f = index_group_well_formed (codes "exact") refl i f
 heap_well_formed (abstract_ true t) f =
     well_formed_group (codes "shared") (spell_abstract t) refl (abstract_well_formed t)
 heap_well_formed (abstract_ false t) f = abstract_well_formed t
@@ -128,19 +117,7 @@ heap_well_formed (abstract_ false t) f = abstract_well_formed t
 short_here : (t : AbstractHeapType) → Spells shorthand t (Keyword (short_word t) ∷ [])
 unfolding shorthand
 short_here word.Func r = (Keyword (codes "funcref"), refl, refl)
-short_here word.Extern r = (Keyword (codes "externref"), refl, refl)
-short_here word.Exn r = (Keyword (codes "exnref"), refl, refl)
-short_here word.Cont r = (Keyword (codes "contref"), refl, refl)
-short_here word.Any r = (Keyword (codes "anyref"), refl, refl)
-short_here word.Eq r = (Keyword (codes "eqref"), refl, refl)
-short_here word.Struct r = (Keyword (codes "structref"), refl, refl)
-short_here word.Array r = (Keyword (codes "arrayref"), refl, refl)
-short_here word.I31 r = (Keyword (codes "i31ref"), refl, refl)
-short_here word.NoFunc r = (Keyword (codes "nullfuncref"), refl, refl)
-short_here word.NoExtern r = (Keyword (codes "nullexternref"), refl, refl)
-short_here word.NoExn r = (Keyword (codes "nullexnref"), refl, refl)
-short_here word.NoCont r = (Keyword (codes "nullcontref"), refl, refl)
-short_here word.None r = (Keyword (codes "nullref"), refl, refl)
+short_here t r = (Keyword (short_word t), refl, refl)
 
 short_printable : (t : AbstractHeapType) → is_keyword (short_word t) ≡ true
 short_printable word.Func = refl
@@ -197,10 +174,13 @@ long_well_formed : (b : Bool) (h : HeapTy) → printable_heap h ≡ true → Wel
 long_well_formed b h f =
     let n = spell_flag (codes "null") b in
     well_formed_group (codes "ref") (n ++ spell_heap h) refl
-    (well_formed_both n (spell_heap h) (well_formed_flag (codes "null") b refl) (heap_well_formed h f))
+    (well_formed_both n (spell_heap h) (well_formed_flag (codes "null") b refl)
+    (heap_well_formed h f))
 
-well_formed_parts : (b : Bool) (h : HeapTy) → printable_heap h ≡ true → WellFormed (spell_reference b h)
-well_formed_parts true (abstract_ false t) f = well_formed_one (Keyword (short_word t)) (short_printable t)
+well_formed_parts : (b : Bool) (h : HeapTy) → printable_heap h ≡ true
+    → WellFormed (spell_reference b h)
+well_formed_parts true (abstract_ false t) f =
+    well_formed_one (Keyword (short_word t)) (short_printable t)
 well_formed_parts true (abstract_ true t) f = long_well_formed true (abstract_ true t) f
 well_formed_parts true (concrete i) f = long_well_formed true (concrete i) f
 well_formed_parts true (exact i) f = long_well_formed true (exact i) f
@@ -279,9 +259,11 @@ number_given (Some n) i h e =
     let f : nat_lt n (2 ^ 32) ≡ true = grind (arith, nat_tests) in
     subst (λ (j : Idx). printable_index j ≡ true) k f
 
-index_given : (t : Tok) (i : Idx) → is_given t ≡ true → index_of t ≡ Some i → printable_index i ≡ true
+index_given : (t : Tok) (i : Idx) → is_given t ≡ true → index_of t ≡ Some i
+    → printable_index i ≡ true
 index_given (Integer x) i a e = number_given (unsigned_value 32 x) i (unsigned_fits 32 x) e
-index_given (Id n) i a e = let k : name n ≡ i = cc in subst (λ (j : Idx). printable_index j ≡ true) k a
+index_given (Id n) i a e =
+    let k : name n ≡ i = cc in subst (λ (j : Idx). printable_index j ≡ true) k a
 index_given LParen i a e = absurd cc
 index_given _ i a e = absurd cc
 
@@ -311,16 +293,6 @@ ref_only =
     (only_where (begins_group (codes "shared"))
     (only_made (λ _. true) (short true) printable_ref (only_any (group (codes "shared") shorthand)))
     (only_made (λ _. true) (short false) printable_ref (only_any shorthand)))
-
-look_up_printable : {A : Type 0} (printable : A → Bool) (table : List (List ℕ × A)) (w : List ℕ) (v : A)
-    → each (λ e. printable e.1) table ≡ true → look_up table w ≡ Some v → printable v ≡ true
-look_up_printable printable [] w v a e = absurd cc
-look_up_printable {A = A} printable (x ∷ table) w v a e =
-    let p = and_parts (printable x.1) (each (λ e. printable e.1) table) a in
-    cond_both (bytes_eq w x.0) (Some x.1) (look_up table w)
-    (λ (o : Option A). o ≡ Some v → printable v ≡ true)
-    (λ k f. (let same : x.1 ≡ v = cc in subst (λ (u : A). printable u ≡ true) same (p.0)))
-    (λ k f. (look_up_printable printable table w v p.1 f)) e
 
 plain_given : (t : Tok) (v : ValTy) → is_given t ≡ true → word_in plain_words t ≡ Some v
     → printable_val v ≡ true

@@ -8,42 +8,27 @@ use Rattle.wat_tokens.specs.Tests.{begins_word, second}
 use Rattle.wat_types.specs.FieldType.{FieldTy, field_of, field_type}
 use Rattle.wat_tokens.specs.Spelled.{in_parens}
 use Rattle.wat_types.specs.Heap.{HeapTy, concrete, exact, abstract_}
+use Rattle.wat_types.specs.Reference.{RefTy}
 use Rattle.wat_types.specs.Storage.{StorageTy, i8, i16, val, storage_type, GlobalTy, long_global}
 use Rattle.wat_types.specs.Storage.{global_type_of, plain_global, global_type}
-use Rattle.wat_types.specs.Value.{ValTy, i32, i64, f32, f64, v128, ref, val_type}
+use Rattle.wat_types.specs.Value.{ValTy, ref, val_type}
 use Rattle.wat_types.specs.declared.heap.AbstractHeapType.{AbstractHeapType}
 use Rattle.wat_types.specs.declared.heap.AbstractHeapType.TheVariants as words
 use Rattle.wat_print.specs.WellFormed.{WellFormed}
 use Rattle.wat_print.specs.Parts.{spell_flag}
-use Rattle.wat_print.specs.Reference.{short_word, spell_reference, spell_val, printable_val}
+use Rattle.wat_print.specs.Reference.{short_word, spell_ref, spell_reference, spell_val}
+use Rattle.wat_print.specs.Reference.{printable_val}
 use Rattle.wat_print.specs.Storage.{spell_storage, printable_storage, spell_field_of, spell_field}
-use Rattle.wat_print.specs.Storage.{printable_field, spell_global_of, spell_global, printable_global}
+use Rattle.wat_print.specs.Storage.{printable_field, spell_global_of, spell_global}
+use Rattle.wat_print.specs.Storage.{printable_global}
 use Rattle.wat_print.specs.Laws.Only.{OnlyPrintable, only_any, only_where, only_paren, only_seq}
-use Rattle.wat_print.specs.Laws.Only.{only_made}
-use Rattle.wat_print.specs.Laws.Only.{only_group}
+use Rattle.wat_print.specs.Laws.Only.{only_made, only_group}
 use Rattle.wat_print.specs.Laws.Parts.{Spells, paren_here, word_here, group_here, flag_here}
-use Rattle.wat_print.specs.Laws.Parts.{well_formed_one, well_formed_group, well_formed_paren, well_formed_both, well_formed_flag}
+use Rattle.wat_print.specs.Laws.Parts.{well_formed_one, well_formed_group, well_formed_paren}
+use Rattle.wat_print.specs.Laws.Parts.{well_formed_both, well_formed_flag}
 use Rattle.wat_print.specs.Laws.Reference.{of_refs, val_here, val_well_formed, val_only}
 
 -- ---- words that no value type begins with
-
-pub record NoType (w : List ℕ) : Type 0 where
-  pub no_i32 : bytes_eq (codes "i32") w ≡ false
-  pub no_i64 : bytes_eq (codes "i64") w ≡ false
-  pub no_f32 : bytes_eq (codes "f32") w ≡ false
-  pub no_f64 : bytes_eq (codes "f64") w ≡ false
-  pub no_v128 : bytes_eq (codes "v128") w ≡ false
-  pub no_short : (t : AbstractHeapType) → bytes_eq (short_word t) w ≡ false
-
-val_no_word : (w : List ℕ) (t : ValTy) (x : List Tok) → NoType w
-    → begins_word w (spell_val t ++ x) ≡ false
-val_no_word w i32 x n = n.no_i32
-val_no_word w i64 x n = n.no_i64
-val_no_word w f32 x n = n.no_f32
-val_no_word w f64 x n = n.no_f64
-val_no_word w v128 x n = n.no_v128
-val_no_word w (ref t) x n =
-    of_refs (begins_word w) false (λ k y. n.no_short k) (λ b h y. refl) t.nullable t.heap x
 
 no_mut : (t : AbstractHeapType) → bytes_eq (short_word t) (codes "mut") ≡ false
 no_mut words.Func = refl
@@ -61,61 +46,39 @@ no_i16 : (t : AbstractHeapType) → bytes_eq (short_word t) (codes "i16") ≡ fa
 no_i16 words.Func = refl
 no_i16 _ = refl
 
-pub val_no_mut : (t : ValTy) (x : List Tok) → begins_word (codes "mut") (spell_val t ++ x) ≡ false
-val_no_mut t x =
-    val_no_word (codes "mut") t x (record {
-      no_i32 = refl;
-      no_i64 = refl;
-      no_f32 = refl;
-      no_f64 = refl;
-      no_v128 = refl;
-      no_short = no_mut;
-    })
+refs_no_word : (w : List ℕ) → ((t : AbstractHeapType) → bytes_eq (short_word t) w ≡ false)
+    → (t : RefTy) (x : List Tok) → begins_word w (spell_ref t ++ x) ≡ false
+refs_no_word w n t x =
+    of_refs (begins_word w) false (λ k y. n k) (λ b h y. refl) t.nullable t.heap x
 
-val_no_shared : (t : ValTy) (x : List Tok)
-    → begins_word (codes "shared") (spell_val t ++ x) ≡ false
-val_no_shared t x =
-    val_no_word (codes "shared") t x (record {
-      no_i32 = refl;
-      no_i64 = refl;
-      no_f32 = refl;
-      no_f64 = refl;
-      no_v128 = refl;
-      no_short = no_shared;
-    })
+pub val_no_mut : (t : ValTy) (x : List Tok) → begins_word (codes "mut") (spell_val t ++ x) ≡ false
+val_no_mut (ref t) x = refs_no_word (codes "mut") no_mut t x
+val_no_mut _ x = refl
+
+val_no_shared : (t : ValTy) (x : List Tok) → begins_word (codes "shared") (spell_val t ++ x) ≡ false
+val_no_shared (ref t) x = refs_no_word (codes "shared") no_shared t x
+val_no_shared _ x = refl
 
 val_no_i8 : (t : ValTy) (x : List Tok) → begins_word (codes "i8") (spell_val t ++ x) ≡ false
-val_no_i8 t x =
-    val_no_word (codes "i8") t x (record {
-      no_i32 = refl;
-      no_i64 = refl;
-      no_f32 = refl;
-      no_f64 = refl;
-      no_v128 = refl;
-      no_short = no_i8;
-    })
+val_no_i8 (ref t) x = refs_no_word (codes "i8") no_i8 t x
+val_no_i8 _ x = refl
 
 val_no_i16 : (t : ValTy) (x : List Tok) → begins_word (codes "i16") (spell_val t ++ x) ≡ false
-val_no_i16 t x =
-    val_no_word (codes "i16") t x (record {
-      no_i32 = refl;
-      no_i64 = refl;
-      no_f32 = refl;
-      no_f64 = refl;
-      no_v128 = refl;
-      no_short = no_i16;
-    })
+val_no_i16 (ref t) x = refs_no_word (codes "i16") no_i16 t x
+val_no_i16 _ x = refl
 
 -- ---- storage types
 
-pub storage_here : (t : StorageTy) → printable_storage t ≡ true → Spells storage_type t (spell_storage t)
+pub storage_here : (t : StorageTy) → printable_storage t ≡ true
+    → Spells storage_type t (spell_storage t)
 unfolding storage_type
 storage_here i8 f r = inl (refl, (tt, word_here (codes "i8") refl r, refl, refl))
 storage_here i16 f r = inr (refl, inl (refl, (tt, word_here (codes "i16") refl r, refl, refl)))
 storage_here (val t) f r =
     inr (val_no_i8 t r, inr (val_no_i16 t r, (t, val_here t f r, refl, refl)))
 
-pub storage_well_formed : (t : StorageTy) → printable_storage t ≡ true → WellFormed (spell_storage t)
+pub storage_well_formed : (t : StorageTy) → printable_storage t ≡ true
+    → WellFormed (spell_storage t)
 storage_well_formed i8 f = well_formed_one (Keyword (codes "i8")) refl
 storage_well_formed i16 f = well_formed_one (Keyword (codes "i16")) refl
 storage_well_formed (val t) f = val_well_formed t f
@@ -177,8 +140,10 @@ pub field_here : (f : FieldTy) (r : List Tok) → printable_field f ≡ true
     → begins_word (codes "mut") r ≡ false → field_type.spells f (spell_field f) r
 field_here f r h e = field_parts f.mutable f.ty r h e
 
-field_of_well_formed : (b : Bool) (t : StorageTy) → printable_storage t ≡ true → WellFormed (spell_field_of b t)
-field_of_well_formed true t h = well_formed_group (codes "mut") (spell_storage t) refl (storage_well_formed t h)
+field_of_well_formed : (b : Bool) (t : StorageTy) → printable_storage t ≡ true
+    → WellFormed (spell_field_of b t)
+field_of_well_formed true t h =
+    well_formed_group (codes "mut") (spell_storage t) refl (storage_well_formed t h)
 field_of_well_formed false t h = storage_well_formed t h
 
 pub field_well_formed : (f : FieldTy) → printable_field f ≡ true → WellFormed (spell_field f)
@@ -263,7 +228,8 @@ long_well_formed shared mutable t f =
     let m = spell_flag (codes "mut") mutable in
     well_formed_paren (s ++ (m ++ spell_val t))
     (well_formed_both s (m ++ spell_val t) (well_formed_flag (codes "shared") shared refl)
-    (well_formed_both m (spell_val t) (well_formed_flag (codes "mut") mutable refl) (val_well_formed t f)))
+    (well_formed_both m (spell_val t) (well_formed_flag (codes "mut") mutable refl)
+    (val_well_formed t f)))
 
 global_of_well_formed : (shared mutable : Bool) (t : ValTy) → printable_val t ≡ true
     → WellFormed (spell_global_of shared mutable t)

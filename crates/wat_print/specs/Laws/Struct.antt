@@ -7,7 +7,7 @@ use Rattle.wat_tokens.specs.Joined.{all_of}
 use Rattle.wat_tokens.specs.NameAnnotation.{begins_name}
 use Rattle.wat_tokens.specs.Tests.{begins_word, begins_id, more}
 use Rattle.wat_types.specs.FieldType.{FieldTy, field_type}
-use Rattle.wat_types.specs.Label.{begins_label}
+use Rattle.wat_types.specs.Label.{begins_label, no_label}
 use Rattle.wat_types.specs.Laws.FieldType.{field_type_consumes}
 use Rattle.wat_types.specs.Laws.Struct.{member_group_consumes}
 use Rattle.wat_types.specs.Storage.{StorageTy, i8, i16, val}
@@ -15,18 +15,17 @@ use Rattle.wat_types.specs.Value.{ValTy}
 use Rattle.wat_types.specs.Struct.{MemberTy, member_of, labelled_member, plain_members, members}
 use Rattle.wat_types.specs.Struct.{member_group}
 use Rattle.wat_types.specs.StructType.{struct_type}
-use Rattle.wat_types.specs.Label.{no_label}
 use Rattle.wat_print.specs.Label.{printable_label, in_groups, spell_label}
 use Rattle.wat_print.specs.WellFormed.{WellFormed}
 use Rattle.wat_print.specs.Parts.{grouped, each}
 use Rattle.wat_print.specs.Reference.{spell_val}
 use Rattle.wat_print.specs.Storage.{spell_storage, spell_field_of, spell_field, printable_field}
-use Rattle.wat_print.specs.Struct.{member_label, spell_member, printable_member, spell_struct, printable_struct}
-use Rattle.wat_print.specs.Laws.Label.{label_well_formed, label_only, printable_parts, parts_here, in_groups_printable}
-use Rattle.wat_print.specs.Laws.Label.{in_groups_all}
+use Rattle.wat_print.specs.Struct.{member_label, spell_member, printable_member, spell_struct}
+use Rattle.wat_print.specs.Struct.{printable_struct}
+use Rattle.wat_print.specs.Laws.Label.{label_well_formed, label_only, printable_parts, parts_here}
+use Rattle.wat_print.specs.Laws.Label.{in_groups_printable, in_groups_all}
 use Rattle.wat_print.specs.Laws.Only.{OnlyPrintable, only_where, only_seq, only_made, only_many}
-use Rattle.wat_print.specs.Laws.Only.{only_group}
-use Rattle.wat_print.specs.Laws.Only.{only_weaker}
+use Rattle.wat_print.specs.Laws.Only.{only_group, only_weaker}
 use Rattle.wat_print.specs.Laws.Parts.{and_also, each_all, Spells, group_here, many_here}
 use Rattle.wat_print.specs.Laws.Parts.{well_formed_group, well_formed_both, well_formed_each}
 use Rattle.wat_print.specs.Laws.Reference.{val_more, val_no_id, val_no_name}
@@ -86,8 +85,8 @@ field_in m = m.field
 
 abbrev printable_members : List MemberTy → Bool
 printable_members ms =
-    printable_parts field_type spell_field printable_field no_mut field_told (λ r. refl) field_no_mut field_more
-    field_no_id field_no_name member_of member_label field_in (λ m. refl) ms
+    printable_parts field_type spell_field printable_field no_mut field_told (λ r. refl)
+    field_no_mut field_more field_no_id field_no_name member_of member_label field_in (λ m. refl) ms
 
 members_here : (ms : List MemberTy) (r : List Tok) → printable_members ms ≡ true
     → members.spells ms (flat_map spell_member ms) (RParen ∷ r)
@@ -111,8 +110,8 @@ groups_printable : (ms : List MemberTy) → printable_struct ms ≡ true
     → each printable_members (in_groups member_label ms) ≡ true
 groups_printable ms f =
     in_groups_printable field_type spell_field printable_field no_mut field_told
-    (λ r. refl) field_no_mut field_more
-    field_no_id field_no_name member_of member_label field_in (λ m. refl) ms f
+    (λ r. refl) field_no_mut field_more field_no_id field_no_name member_of member_label field_in
+    (λ m. refl) ms f
 
 -- at the end of the group that they are in
 pub struct_here : (ms : List MemberTy) (r : List Tok) → printable_struct ms ≡ true → more r ≡ false
@@ -132,14 +131,18 @@ member_well_formed m f =
     well_formed_both (spell_label m.label) (spell_field m.field) (label_well_formed m.label a.0)
     (field_well_formed m.field a.1)
 
-members_well_formed : (ms : List MemberTy) → printable_members ms ≡ true → WellFormed (spell_members ms)
+members_well_formed : (ms : List MemberTy) → printable_members ms ≡ true
+    → WellFormed (spell_members ms)
 members_well_formed ms f =
     well_formed_group (codes "field") (flat_map spell_member ms) refl
-    (well_formed_each spell_member printable_member member_well_formed ms (and_parts _ (each printable_member ms) f).1)
+    (well_formed_each spell_member printable_member member_well_formed ms
+    (and_parts _ (each printable_member ms) f).1)
 
-pub struct_well_formed : (ms : List MemberTy) → printable_struct ms ≡ true → WellFormed (spell_struct ms)
+pub struct_well_formed : (ms : List MemberTy) → printable_struct ms ≡ true
+    → WellFormed (spell_struct ms)
 struct_well_formed ms f =
-    well_formed_each spell_members printable_members members_well_formed (in_groups member_label ms) (groups_printable ms f)
+    well_formed_each spell_members printable_members members_well_formed (in_groups member_label ms)
+    (groups_printable ms f)
 
 -- ---- what a text spells can be written
 
@@ -149,7 +152,8 @@ members_only =
     only_where begins_label
     (only_made (λ _. true) labelled_member printable_struct
     (only_weaker (λ v. (printable_label v.0 && printable_field v.1) && true)
-    (λ v h. (and_also (printable_label v.0 && printable_field v.1) h)) (only_seq label_only field_only)))
+    (λ v h. (and_also (printable_label v.0 && printable_field v.1) h))
+    (only_seq label_only field_only)))
     (only_many more field_type_consumes
     (only_made (λ _. true) (member_of no_label) printable_member field_only))
 

@@ -7,9 +7,8 @@ use Rattle.wat_lexer.specs.Token.{Tok, RParen}
 use Rattle.wat_tokens.specs.Index.{Idx, index}
 use Rattle.wat_tokens.specs.PartSpells.{opt_spells}
 use Rattle.wat_tokens.specs.Production.{Production}
-use Rattle.wat_types.specs.Function.{function_type, function_groups}
+use Rattle.wat_types.specs.Function.{function_type, function_groups, bare_function}
 use Rattle.wat_types.specs.FunctionNoNames.{function_type_no_names}
-use Rattle.wat_types.specs.Function.{bare_function}
 use Rattle.wat_types.specs.Group.{Group, param, result, FuncTy, ParamTy, begins_func, group_follows}
 use Rattle.wat_types.specs.Value.{ValTy}
 use Rattle.wat_tokens.specs.Views.{no_items}
@@ -22,14 +21,14 @@ use Rattle.wat_print.specs.WellFormed.{WellFormed}
 use Rattle.wat_print.specs.Parts.{each, spell_option, if_some}
 use Rattle.wat_print.specs.Use.{spell_type_index, or_empty, spell_inline, spell_use, printable_use}
 use Rattle.wat_print.specs.Use.{printable_unnamed, printable_unnamed_use}
-use Rattle.wat_print.specs.Laws.Function.{printable_group, AreGroupsOf, groups_printable, groups_are}
-use Rattle.wat_print.specs.Laws.Function.{function_by, groups_well_formed, labels_none, function_only}
-use Rattle.wat_print.specs.Laws.Function.{unnamed_only}
+use Rattle.wat_print.specs.Laws.Function.{printable_group, AreGroupsOf, groups_printable}
+use Rattle.wat_print.specs.Laws.Function.{groups_are, function_by, groups_well_formed, labels_none}
+use Rattle.wat_print.specs.Laws.Function.{function_only, unnamed_only}
 use Rattle.wat_print.specs.Laws.Only.{OnlyPrintable, only_opt, only_seq, only_made, only_group}
 use Rattle.wat_print.specs.Laws.Only.{only_weaker}
-use Rattle.wat_print.specs.Laws.Parts.{group_here, well_formed_group, well_formed_both, well_formed_option}
+use Rattle.wat_print.specs.Laws.Parts.{group_here, well_formed_both, well_formed_option}
 use Rattle.wat_print.specs.Laws.Quoted.{if_cases}
-use Rattle.wat_print.specs.Laws.Reference.{index_here, index_well_formed, index_only}
+use Rattle.wat_print.specs.Laws.Reference.{index_here, index_group_well_formed, index_only}
 
 -- ---- inline types
 
@@ -56,7 +55,8 @@ empty_groups : (f : FuncTy) (gs : List Group) → AreGroupsOf f gs → AreGroups
 empty_groups f [] a = a
 empty_groups f (g ∷ gs) a = a
 
-empty_printable : (gs : List Group) → each printable_group gs ≡ true → each printable_group (or_empty gs) ≡ true
+empty_printable : (gs : List Group) → each printable_group gs ≡ true
+    → each printable_group (or_empty gs) ≡ true
 empty_printable [] h = refl
 empty_printable (g ∷ gs) h = h
 
@@ -67,7 +67,8 @@ inline_here f r h e =
     function_by f (or_empty gs) r (empty_groups f gs (groups_are f))
     (empty_printable gs (groups_printable f h)) e
 
-unnamed_inline_here : (f : FuncTy) (r : List Tok) → printable_unnamed f ≡ true → group_follows r ≡ false
+unnamed_inline_here : (f : FuncTy) (r : List Tok) → printable_unnamed f ≡ true
+    → group_follows r ≡ false
     → function_type_no_names.spells f (spell_inline f) r
 unfolding function_groups
 unnamed_inline_here f r h e =
@@ -90,7 +91,8 @@ module _ (g : Production FuncTy) (printable : FuncTy → Bool)
         (inline_front begins_func true group_func (groups_of f) r, here f r h e.2)
     inline_part None r h e = (refl, e.1)
 
-    index_part : (i : Option Idx) (o : Option FuncTy) (r : List Tok) → if_some printable_index i ≡ true
+    index_part : (i : Option Idx) (o : Option FuncTy) (r : List Tok)
+        → if_some printable_index i ≡ true
         → EndsUse r
         → opt_spells type_follows type_index i (spell_option spell_type_index i)
         (spell_option spell_inline o ++ r)
@@ -127,7 +129,8 @@ use_here u r f e =
     let a = and_parts (if_some printable_index u.index) (if_some printable_function u.inline) f in
     use_of_here function_type printable_function inline_here u r a.0 a.1 e
 
-pub unnamed_use_here : (u : UseTy FuncTy) (r : List Tok) → printable_unnamed_use u ≡ true → EndsUse r
+pub unnamed_use_here : (u : UseTy FuncTy) (r : List Tok) → printable_unnamed_use u ≡ true
+    → EndsUse r
     → (type_use begins_func function_type_no_names).spells u (spell_use u) r
 unnamed_use_here u r f e =
     let a = and_parts (if_some printable_index u.index) (if_some printable_unnamed u.inline) f in
@@ -136,21 +139,22 @@ unnamed_use_here u r f e =
 -- ---- they can be written
 
 inline_well_formed : (f : FuncTy) → printable_function f ≡ true → WellFormed (spell_inline f)
-inline_well_formed f h = groups_well_formed (or_empty (groups_of f)) (empty_printable (groups_of f) (groups_printable f h))
-
-type_index_well_formed : (i : Idx) → printable_index i ≡ true → WellFormed (spell_type_index i)
-type_index_well_formed i h = well_formed_group (codes "type") (spell_index i) refl (index_well_formed i h)
+inline_well_formed f h =
+    groups_well_formed (or_empty (groups_of f))
+    (empty_printable (groups_of f) (groups_printable f h))
 
 pub use_well_formed : (u : UseTy FuncTy) → printable_use u ≡ true → WellFormed (spell_use u)
 use_well_formed u f =
     let a = and_parts (if_some printable_index u.index) (if_some printable_function u.inline) f in
     well_formed_both (spell_option spell_type_index u.index) (spell_option spell_inline u.inline)
-    (well_formed_option spell_type_index printable_index u.index type_index_well_formed a.0)
+    (well_formed_option spell_type_index printable_index u.index
+    (index_group_well_formed (codes "type") refl) a.0)
     (well_formed_option spell_inline printable_function u.inline inline_well_formed a.1)
 
 unnamed_parts : (o : Option FuncTy) → if_some printable_unnamed o ≡ true
     → if_some printable_function o ≡ true
-unnamed_parts (Some f) h = (and_parts (none_labelled param_label f.params) (printable_function f) h).1
+unnamed_parts (Some f) h =
+    (and_parts (none_labelled param_label f.params) (printable_function f) h).1
 unnamed_parts None h = refl
 
 unnamed_use_printable : (u : UseTy FuncTy) → printable_unnamed_use u ≡ true → printable_use u ≡ true
@@ -158,7 +162,8 @@ unnamed_use_printable u f =
     let a = and_parts (if_some printable_index u.index) (if_some printable_unnamed u.inline) f in
     rw (a.0) (unnamed_parts u.inline a.1)
 
-pub unnamed_use_well_formed : (u : UseTy FuncTy) → printable_unnamed_use u ≡ true → WellFormed (spell_use u)
+pub unnamed_use_well_formed : (u : UseTy FuncTy) → printable_unnamed_use u ≡ true
+    → WellFormed (spell_use u)
 unnamed_use_well_formed u f = use_well_formed u (unnamed_use_printable u f)
 
 -- ---- what a text spells can be written
@@ -177,7 +182,8 @@ use_only_of {printable = printable} fits same m =
 pub use_only : OnlyPrintable (type_use begins_func function_type) printable_use
 use_only = use_only_of printable_use (λ i o. refl) function_only
 
-pub unnamed_use_only : OnlyPrintable (type_use begins_func function_type_no_names) printable_unnamed_use
+pub unnamed_use_only
+    : OnlyPrintable (type_use begins_func function_type_no_names) printable_unnamed_use
 unnamed_use_only = use_only_of printable_unnamed_use (λ i o. refl) unnamed_only
 
 -- ---- a type with no parameter and no result

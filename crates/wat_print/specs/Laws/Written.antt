@@ -4,11 +4,10 @@ use Rattle.std.specs.Prelude.{[], ◌∷◌, ◌++◌, length, map, flat_map, ta
 use Rattle.std.specs.Prelude.{if◌then◌else◌}
 use Rattle.std.proofs.Common.{refl, ap, subst, sym, ◌∙◌, append_assoc, append-nil, get_or, arith}
 use Rattle.std.proofs.lemmas.List.{take_more}
-use Rattle.std.proofs.lemmas.Bool.{and_parts, cond_both}
-use Rattle.wat_lexer.specs.Token.{Tok}
+use Rattle.std.proofs.lemmas.Bool.{and_parts, and_right, cond_both}
+use Rattle.wat_lexer.specs.Token.{Tok, LParen, RParen, Keyword}
 use Rattle.wat_print.specs.Layout.{LayoutPart, one, line, blanks, broken, lay, tokens_in, Writes}
 use Rattle.wat_print.specs.Text.{Page, put_one, put}
-use Rattle.wat_lexer.specs.Token.{LParen, RParen, Keyword}
 use Rattle.wat_tokens.specs.Spelled.{in_parens}
 use Rattle.wat_types.specs.Group.{Group, param, FuncTy, ParamTy}
 use Rattle.wat_types.specs.Label.{Label}
@@ -90,7 +89,8 @@ module _ {X A : Type 0} (view : X → A) (spell : A → List Tok) (printable : A
       ap (λ (l : List Tok). spell (view y) ++ l) (spell_last xs x)
       ∙ sym (append_assoc (spell (view y)) (flat_map spell (map view xs)) (spell (view x)))
 
-  printable_last : (xs : List X) (x : X) → each printable (map view xs) ≡ true → printable (view x) ≡ true
+  printable_last : (xs : List X) (x : X) → each printable (map view xs) ≡ true
+      → printable (view x) ≡ true
       → each printable (map view (xs ++ x ∷ [])) ≡ true
   printable_last [] x e f = rw f refl
   printable_last (y ∷ xs) x e f =
@@ -111,9 +111,19 @@ module _ {X A : Type 0} (view : X → A) (spell : A → List Tok) (printable : A
         fits = printable_last (take i xs) x w.fits f;
       })
 
+  -- the same of the value that stands there
+  pub wrote_item : (xs : List X) (i : ℕ) (x : X) (a b c : Page) → i < length xs
+      → x ≡ get_or xs i x → Wrote view spell printable (take i xs) a b
+      → c ≡ put b (spell (view x)) → printable (view x) ≡ true
+      → Wrote view spell printable (take (i + 1) xs) a c
+  wrote_item xs i x a b c lt s w e f =
+      wrote_more xs i x a b c lt w (subst (λ (y : X). c ≡ put b (spell (view y))) s e)
+      (subst (λ (y : X). printable (view y) ≡ true) s f)
+
   -- one value more, on further lines
   pub lines_more : (xs : List X) (i : ℕ) (x : X) (a b c : Page) → i < length xs
-      → x ≡ get_or xs i x → WroteLines view spell printable (take i xs) a b → Writes (spell (view x)) b c
+      → x ≡ get_or xs i x → WroteLines view spell printable (take i xs) a b
+      → Writes (spell (view x)) b c
       → printable (view x) ≡ true → WroteLines view spell printable (take (i + 1) xs) a c
   lines_more xs i x a b c lt s w e f =
       let ys = take i xs in
@@ -226,18 +236,15 @@ module _ {X : Type 0} (view : X → ValTy) where
       ap (λ (l : List Tok). put q l)
       (sym (append-nil (grouped (codes "result") (flat_map spell_val (map view (x ∷ xs))))))
 
-after : (a b : Bool) → b ≡ false → a && b ≡ false
-after true b e = e
-after false b e = refl
-
 -- where one value can't be written, not all can
 module _ {X A : Type 0} (view : X → A) (printable : A → Bool) where
-  pub not_each : (xs : List X) (i : ℕ) (d : X) → i < length xs → printable (view (get_or xs i d)) ≡ false
+  pub not_each : (xs : List X) (i : ℕ) (d : X) → i < length xs
+      → printable (view (get_or xs i d)) ≡ false
       → each printable (map view xs) ≡ false
   not_each [] i d lt f = absurd (omega arith)
   not_each (x ∷ xs) zero d lt f = rw f refl
   not_each (x ∷ xs) (suc i) d lt f =
-      after (printable (view x)) (each printable (map view xs)) (not_each xs i d (omega arith) f)
+      and_right (printable (view x)) (each printable (map view xs)) (not_each xs i d (omega arith) f)
 
 -- two blanks for each turn of a loop
 blanks_step : (times i : ℕ) → i < times
@@ -291,8 +298,9 @@ pub puts_behind : (n : ℕ) (ts : List Tok) (a b c : Page) → b ≡ broken n a 
 puts_behind n ts a b c e f = puts_both [] ts a b c (puts_line n a b e) (puts_put ts b c f)
 
 -- where one value can't be, not all can
-pub not_each_item : {X A : Type 0} (view : X → A) (printable : A → Bool) (xs : List X) (i : ℕ) (x : X)
-    → i < length xs → x ≡ get_or xs i x → printable (view x) ≡ false → each printable (map view xs) ≡ false
+pub not_each_item : {X A : Type 0} (view : X → A) (printable : A → Bool) (xs : List X) (i : ℕ)
+    (x : X) → i < length xs → x ≡ get_or xs i x → printable (view x) ≡ false
+    → each printable (map view xs) ≡ false
 not_each_item {X = X} view printable xs i x lt s f =
     not_each view printable xs i x lt (subst (λ (y : X). printable (view y) ≡ false) s f)
 

@@ -5,4 +5,5 @@ use Rattle.wat_print.specs.Reference.{spell_val, printable_val}
 use Rattle.wat_print.proofs.function.write_vals.Given as goal
 
 abbrev pub invariant-loop-ty : goal.invariant-loop-ty
-invariant-loop-ty l = Wrote val_view spell_val printable_val (take l.ty-index l.types) l.fn.out l.out
+invariant-loop-ty l =
+    Wrote val_view spell_val printable_val (take l.ty-index l.types) l.fn.out l.out

@@ -24,5 +24,6 @@ returns-in_err-write-clause-refused g c =
     let p = g.T.Print.printing in
     let v = g.T.Print.view c.args.value.now in
     let h : c.in_err-write.field-0.0 ≢ Memory → NoneSpells g.T.Print.grammar v =
-    λ n. unspelled g.T.Print.grammar v (p.printable v) (c.in_err-write.ensures.refused n) (p.only v) in
+    λ n. unspelled g.T.Print.grammar v (p.printable v) (c.in_err-write.ensures.refused n)
+    (p.only v) in
     search (rules, h)

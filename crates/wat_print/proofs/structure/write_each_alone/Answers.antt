@@ -8,10 +8,10 @@ use Rattle.wat_print.proofs.structure.write_each_alone.Goals as goal
 
 pub loop-field-preserved : goal.loop-field-preserved
 loop-field-preserved c =
-    wrote_more member_view spell_member_alone printable_member c.args.fields.now c.loop-field.field-index
-    _
-    c.args.out.now c.loop-field.out c.write_alone.new.out c.loop-field-test.true
-    c.loop-field.invariant c.in_ok-write_alone.ensures.written c.in_ok-write_alone.ensures.printable
+    wrote_more member_view spell_member_alone printable_member c.args.fields.now
+    c.loop-field.field-index _ c.args.out.now c.loop-field.out c.write_alone.new.out
+    c.loop-field-test.true c.loop-field.invariant c.in_ok-write_alone.ensures.written
+    c.in_ok-write_alone.ensures.printable
 
 pub returns-in_err-write_alone-clause-refused : goal.returns-in_err-write_alone-clause-refused
 returns-in_err-write_alone-clause-refused c =

@@ -6,4 +6,5 @@ use Rattle.wat_print.proofs.structure.write_each_alone.Given as goal
 
 abbrev pub invariant-loop-field : goal.invariant-loop-field
 invariant-loop-field l =
-    Wrote member_view spell_member_alone printable_member (take l.field-index l.fields) l.fn.out l.out
+    Wrote member_view spell_member_alone printable_member (take l.field-index l.fields) l.fn.out
+    l.out

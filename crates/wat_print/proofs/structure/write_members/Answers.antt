@@ -8,9 +8,10 @@ use Rattle.wat_print.proofs.structure.write_members.Goals as goal
 
 pub loop-field-preserved : goal.loop-field-preserved
 loop-field-preserved c =
-    wrote_more member_view spell_member printable_member c.args.fields.now c.loop-field.field-index _
-    c.args.out.now c.loop-field.out c.write_member.new.out c.loop-field-test.true
-    c.loop-field.invariant c.in_ok-write_member.ensures.written c.in_ok-write_member.ensures.printable
+    wrote_more member_view spell_member printable_member c.args.fields.now
+    c.loop-field.field-index _ c.args.out.now c.loop-field.out c.write_member.new.out
+    c.loop-field-test.true c.loop-field.invariant c.in_ok-write_member.ensures.written
+    c.in_ok-write_member.ensures.printable
 
 pub returns-in_err-write_member-clause-refused : goal.returns-in_err-write_member-clause-refused
 returns-in_err-write_member-clause-refused c =
