@@ -12,13 +12,11 @@ ghost use Rattle.wat_print.specs.Text.{put};
 ghost use Rattle.wat_print.specs.declared.fault.Refused.TheVariants.{Memory};
 ghost use Rattle.wat_print_instr.specs.ExpressionForm.{spell_expression};
 ghost use Rattle.wat_print_module.specs.SegmentPrintings.{table_printing};
-ghost use Rattle.wat_print_module.specs.Table.{heap_number, same_flag, same_heap, same_ref};
-ghost use Rattle.wat_print_module.specs.Table.{spell_elements, printable_elements};
+ghost use Rattle.wat_print_module.specs.Table.{same_ref, spell_elements, printable_elements};
 ghost use Rattle.wat_print_module.specs.Table.{printable_initial, spell_table_kind};
 ghost use Rattle.wat_print_module.specs.Table.{printable_table_kind, spell_table, printable_table};
 ghost use Rattle.wat_tokens.specs.Index.{index_view};
 ghost use Rattle.wat_tokens.specs.Views.{option_view, no_items};
-ghost use Rattle.wat_types.specs.Heap.{heap_view};
 ghost use Rattle.wat_types.specs.Limits.{table_type_view};
 ghost use Rattle.wat_types.specs.Reference.{ref_view};
 
@@ -33,41 +31,13 @@ use wat_print::reference::write_ref;
 use wat_print::{Output, Refused};
 use wat_print_instr::expression::write_constant;
 use wat_tokens::Index;
-use wat_types::{AbstractHeapType, HeapType, RefType, TableType};
-
-/// The number of an abstract heap type.
-fn number_of(ty: AbstractHeapType) -> u8
-    ensures { result ≡ heap_number ty }
-{
-    ty as u8
-}
-
-/// Whether both hold, or neither.
-fn same_flag(a: bool, b: bool) -> bool
-    ensures { result ≡ same_flag a b }
-{
-    a == b
-}
-
-/// Whether two heap types are the same, places aside.
-fn same_heap(a: &HeapType, b: &HeapType) -> bool
-    ensures { result ≡ same_heap (heap_view a.now) (heap_view b.now) }
-{
-    match (a, b) {
-        (HeapType::Concrete(i), HeapType::Concrete(j)) => i == j,
-        (HeapType::Exact(i), HeapType::Exact(j)) => i == j,
-        (HeapType::Abstract { shared: s, ty: t }, HeapType::Abstract { shared: r, ty: u }) => {
-            same_flag(*s, *r) && number_of(*t) == number_of(*u)
-        }
-        _ => false,
-    }
-}
+use wat_types::{RefType, TableType};
 
 /// Whether two reference types are the same, places aside.
 fn same_type(a: &RefType, b: &RefType) -> bool
     ensures { result ≡ same_ref (ref_view a.now) (ref_view b.now) }
 {
-    same_flag(a.nullable, b.nullable) && same_heap(&a.heap, &b.heap)
+    a == b
 }
 
 /// Writes indices in a table whose elements have the type. They are refused where it isn't

@@ -20,7 +20,7 @@ use Rattle.wat_print.specs.Label.{spell_label, printable_label, none_labelled, b
 use Rattle.wat_print.specs.WellFormed.{WellFormed}
 use Rattle.wat_print.specs.Parts.{each}
 use Rattle.wat_print.specs.Reference.{spell_val, printable_val}
-use Rattle.wat_print.specs.Laws.Label.{label_here, label_well_formed, label_only}
+use Rattle.wat_print.specs.Laws.Label.{label_here, label_well_formed, label_only, labelled_front}
 use Rattle.wat_print.specs.Laws.Only.{OnlyPrintable, only_where, only_many, only_seq, only_made}
 use Rattle.wat_print.specs.Laws.Only.{only_weaker, only_paren, only_after}
 use Rattle.wat_print.specs.Laws.Parts.{Spells, paren_here, many_here, well_formed_word}
@@ -35,12 +35,6 @@ use Rattle.wat_print_module.specs.Local.{may_share_group, printable_local_parser
 
 -- ---- one local with a label
 
-label_in_front : (i n : Option (List ℕ)) (x : List Tok) → labelled (label_of i n) ≡ true
-    → begins_label (spell_label (label_of i n) ++ x) ≡ true
-label_in_front (Some i) n x h = refl
-label_in_front None (Some n) x h = refl
-label_in_front None None x h = absurd cc
-
 alone_here : (l : LocalTy) (r : List Tok) → labelled l.label ≡ true → printable_local l ≡ true
     → listed_locals.spells (l ∷ []) (spell_listed l) r
 unfolding listed_locals labelled_local
@@ -50,7 +44,7 @@ alone_here l r k f =
     inl (
       subst (λ (c : List Tok). begins_label c ≡ true)
           (sym (append_assoc (spell_label l.label) (spell_val l.ty) r))
-          (label_in_front l.label.id l.label.name x k),
+          (labelled_front l.label.id l.label.name x k),
       (
         (l.label, l.ty),
         (
