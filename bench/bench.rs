@@ -20,7 +20,7 @@ use wat_lexer::lexeme::Lexeme;
 use wat_mnemonics::Op;
 use wat_tokens::{Parse, Parser};
 
-/// How many tokens the text has, or `None` where it isn't cut.
+/// How many tokens the text has, or `None` if it isn't cut.
 fn tokens_of(alloc: Global, text: &str) -> Option<usize> {
     let arena = Bump::new(alloc);
     match cut(alloc, text, &arena) {

@@ -1,5 +1,6 @@
 -- A module reaches to the end of its group.
 use Rattle.std.proofs.Common.{◌≡◌, true, false, List, [], ◌∷◌, Some, refl, inl, inr}
+use Rattle.wat_tokens.specs.Laws.State.{annotated_is}
 use Rattle.wat_tokens.specs.ManySpells.{many_spells}
 use Rattle.wat_tokens.specs.Production.{Production}
 use Rattle.wat_tokens.specs.Strings.{string}
@@ -32,3 +33,6 @@ pub module_ends : (t : List Tok) (v : ModuleTy) (r : List Tok) → module_.reads
 module_ends t v r e =
     let y = module_.sound t (v, r) e in
     spelled_ends v y.0 r y.2
+
+-- what holds of a module that was read with the five names on
+pub ruleset module_steps = (annotated_is, module_ends)

@@ -55,6 +55,9 @@ one_left name ls i h le = rw (at_place ls i h, past ls (i + 1) le) (first_alone 
 pub two_left : (name : List ℕ) (ls : List Entry) (i : ℕ) → i + 1 < length ls → is_open (get_or ls i no_entry).token ≡ true → begins_annotation name (tokens_of (drop i (placed ls))) ≡ begins_annotation name (LParen ∷ ((get_or ls (i + 1) no_entry).token ∷ []))
 two_left name ls i h e = rw (at_place ls i (omega arith), at_place ls (i + 1) h, open_is (get_or ls i no_entry).token e) (same_rest name (get_or ls (i + 1) no_entry).token (tokens_of (drop (i + 1 + 1) (placed ls))))
 
+-- whether the group at a place begins so
+pub ruleset name_steps = (at_place, no_open, one_left, two_left)
+
 -- CLOSING
 
 pub closing_past : (ls : List Entry) (i depth : ℕ) → length ls ≤ i → closing depth (drop i (placed ls)) ≡ None

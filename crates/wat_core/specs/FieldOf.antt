@@ -1,5 +1,5 @@
 -- Types of which a value is a field of a module.
-use Rattle.std.specs.Prelude.{◌≡◌, List}
+use Rattle.std.specs.Prelude.{◌≡◌, List, refl}
 use Rattle.wat_tokens.specs.Parts.{made}
 use Rattle.wat_tokens.specs.Production.{Production}
 use Rattle.wat_tokens.specs.Token.{Tok}
@@ -17,3 +17,14 @@ pub record IsFieldOf {X V : Type 0} (form : Production ModuleFieldTy) (seen : X 
   pub reads : (t : List Tok) → form.reads t ≡ (made make g).reads t
   pub sees : (x : X) → seen x ≡ make (view.of x)
   pub bare : (v : V) → bare_field (make v) ≡ view.bare v
+
+-- so is one that is made by `make` of what is read, and of what is seen
+pub made_by : {X V : Type 0} (make : V → ModuleFieldTy) {view : ViewOf X V} {g : Production V}
+    → ((v : V) → bare_field (make v) ≡ view.bare v)
+    → IsFieldOf (made make g) (λ x. make (view.of x)) view g
+made_by make same = record {
+  make = make;
+  reads = λ t. refl;
+  sees = λ x. refl;
+  bare = same;
+}

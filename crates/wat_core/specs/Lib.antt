@@ -22,6 +22,7 @@ pub use Rattle.wat_tokens.specs.Many
 pub use Rattle.wat_tokens.specs.ManySpells
 pub use Rattle.wat_tokens.specs.NameAnnotation
 pub use Rattle.wat_tokens.specs.Once
+pub use Rattle.wat_tokens.specs.Outcome
 pub use Rattle.wat_tokens.specs.Parens
 pub use Rattle.wat_tokens.specs.Parses
 pub use Rattle.wat_tokens.specs.PartSpells
@@ -34,6 +35,7 @@ pub use Rattle.wat_tokens.specs.Strings
 pub use Rattle.wat_tokens.specs.Tests
 pub use Rattle.wat_tokens.specs.Token
 pub use Rattle.wat_tokens.specs.Views
+pub use Rattle.wat_tokens.specs.Whole
 pub use Rattle.wat_types.specs.Define
 pub use Rattle.wat_types.specs.Exponent
 pub use Rattle.wat_types.specs.FieldType

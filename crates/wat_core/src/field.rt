@@ -11,6 +11,7 @@ ghost use Rattle.wat_core.specs.Field.{func_or_later_field, module_field};
 use crate::field_of::read_as;
 use wat_fields::{Data, Elem, Func, Global, Memory, Table, Tag};
 use wat_links::{Custom, Export, Imports};
+use wat_tokens::enclosed::behind;
 use wat_tokens::{Index, Parse, Parser, Result};
 use wat_types::{Rec, Type};
 
@@ -82,9 +83,7 @@ fn read_start<'a>(parser: &mut Parser<'a>) -> Result<ModuleField<'a>>
     ensures reads { ReadsAt turns_too (owning field_view bare_field) (made a_start start) result
         parser.old parser.new }
 {
-    parser.keyword("start")?;
-    let index = Index::parse(parser)?;
-    Ok(ModuleField::Start(index))
+    Ok(ModuleField::Start(behind(parser, "start")?))
 }
 
 /// The function to start with, an element or data segment, or a custom section.

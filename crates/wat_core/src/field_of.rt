@@ -4,7 +4,7 @@ ghost use Rattle.std.specs.Prelude.{◌≡◌, refl};
 ghost use Rattle.wat_core.specs.Field.{ModuleFieldTy, field_view, bare_field};
 ghost use Rattle.wat_core.specs.Field.{a_type, a_rec, an_import, a_func, a_table, a_memory};
 ghost use Rattle.wat_core.specs.Field.{a_global, an_export, an_elem, a_data, a_tag, a_custom};
-ghost use Rattle.wat_core.specs.FieldOf.{IsFieldOf};
+ghost use Rattle.wat_core.specs.FieldOf.{IsFieldOf, made_by};
 ghost use Rattle.wat_fields.specs.Data.{data_view, data_segment};
 ghost use Rattle.wat_fields.specs.Elem.{elem_view, elem};
 ghost use Rattle.wat_fields.specs.Func.{func_view, func};
@@ -63,12 +63,7 @@ impl<'a> FieldOf<'a> for Type<'a> {
 
     ghost seen = { λ x. a_type (type_view x) };
 
-    ghost is_field = { record {
-      make = a_type;
-      reads = λ t. refl;
-      sees = λ x. refl;
-      bare = λ v. refl;
-    } };
+    ghost is_field = { made_by a_type (λ v. refl) };
 
     #[inline(always)]
     fn field(self) -> ModuleField<'a> {
@@ -81,12 +76,7 @@ impl<'a> FieldOf<'a> for Rec<'a> {
 
     ghost seen = { λ x. a_rec (rec_view x) };
 
-    ghost is_field = { record {
-      make = a_rec;
-      reads = λ t. refl;
-      sees = λ x. refl;
-      bare = λ v. refl;
-    } };
+    ghost is_field = { made_by a_rec (λ v. refl) };
 
     #[inline(always)]
     fn field(self) -> ModuleField<'a> {
@@ -99,12 +89,7 @@ impl<'a> FieldOf<'a> for Imports<'a> {
 
     ghost seen = { λ x. an_import (imports_view x) };
 
-    ghost is_field = { record {
-      make = an_import;
-      reads = λ t. refl;
-      sees = λ x. refl;
-      bare = λ v. refl;
-    } };
+    ghost is_field = { made_by an_import (λ v. refl) };
 
     #[inline(always)]
     fn field(self) -> ModuleField<'a> {
@@ -117,12 +102,7 @@ impl<'a> FieldOf<'a> for Func<'a> {
 
     ghost seen = { λ x. a_func (func_view x) };
 
-    ghost is_field = { record {
-      make = a_func;
-      reads = λ t. refl;
-      sees = λ x. refl;
-      bare = λ v. refl;
-    } };
+    ghost is_field = { made_by a_func (λ v. refl) };
 
     #[inline(always)]
     fn field(self) -> ModuleField<'a> {
@@ -135,12 +115,7 @@ impl<'a> FieldOf<'a> for Table<'a> {
 
     ghost seen = { λ x. a_table (table_view x) };
 
-    ghost is_field = { record {
-      make = a_table;
-      reads = λ t. refl;
-      sees = λ x. refl;
-      bare = λ v. refl;
-    } };
+    ghost is_field = { made_by a_table (λ v. refl) };
 
     #[inline(always)]
     fn field(self) -> ModuleField<'a> {
@@ -153,12 +128,7 @@ impl<'a> FieldOf<'a> for Memory<'a> {
 
     ghost seen = { λ x. a_memory (memory_view x) };
 
-    ghost is_field = { record {
-      make = a_memory;
-      reads = λ t. refl;
-      sees = λ x. refl;
-      bare = λ v. refl;
-    } };
+    ghost is_field = { made_by a_memory (λ v. refl) };
 
     #[inline(always)]
     fn field(self) -> ModuleField<'a> {
@@ -171,12 +141,7 @@ impl<'a> FieldOf<'a> for Global<'a> {
 
     ghost seen = { λ x. a_global (global_view x) };
 
-    ghost is_field = { record {
-      make = a_global;
-      reads = λ t. refl;
-      sees = λ x. refl;
-      bare = λ v. refl;
-    } };
+    ghost is_field = { made_by a_global (λ v. refl) };
 
     #[inline(always)]
     fn field(self) -> ModuleField<'a> {
@@ -189,12 +154,7 @@ impl<'a> FieldOf<'a> for Export<'a> {
 
     ghost seen = { λ x. an_export (export_view x) };
 
-    ghost is_field = { record {
-      make = an_export;
-      reads = λ t. refl;
-      sees = λ x. refl;
-      bare = λ v. refl;
-    } };
+    ghost is_field = { made_by an_export (λ v. refl) };
 
     #[inline(always)]
     fn field(self) -> ModuleField<'a> {
@@ -207,12 +167,7 @@ impl<'a> FieldOf<'a> for Elem<'a> {
 
     ghost seen = { λ x. an_elem (elem_view x) };
 
-    ghost is_field = { record {
-      make = an_elem;
-      reads = λ t. refl;
-      sees = λ x. refl;
-      bare = λ v. refl;
-    } };
+    ghost is_field = { made_by an_elem (λ v. refl) };
 
     #[inline(always)]
     fn field(self) -> ModuleField<'a> {
@@ -225,12 +180,7 @@ impl<'a> FieldOf<'a> for Data<'a> {
 
     ghost seen = { λ x. a_data (data_view x) };
 
-    ghost is_field = { record {
-      make = a_data;
-      reads = λ t. refl;
-      sees = λ x. refl;
-      bare = λ v. refl;
-    } };
+    ghost is_field = { made_by a_data (λ v. refl) };
 
     #[inline(always)]
     fn field(self) -> ModuleField<'a> {
@@ -243,12 +193,7 @@ impl<'a> FieldOf<'a> for Tag<'a> {
 
     ghost seen = { λ x. a_tag (tag_view x) };
 
-    ghost is_field = { record {
-      make = a_tag;
-      reads = λ t. refl;
-      sees = λ x. refl;
-      bare = λ v. refl;
-    } };
+    ghost is_field = { made_by a_tag (λ v. refl) };
 
     #[inline(always)]
     fn field(self) -> ModuleField<'a> {
@@ -261,12 +206,7 @@ impl<'a> FieldOf<'a> for Custom<'a> {
 
     ghost seen = { λ x. a_custom (custom_view x) };
 
-    ghost is_field = { record {
-      make = a_custom;
-      reads = λ t. refl;
-      sees = λ x. refl;
-      bare = λ v. refl;
-    } };
+    ghost is_field = { made_by a_custom (λ v. refl) };
 
     #[inline(always)]
     fn field(self) -> ModuleField<'a> {

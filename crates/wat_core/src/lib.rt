@@ -2,8 +2,10 @@
 //! and everything that is in them.
 //!
 //! [`read_module`] reads a text that is one module, and [`Module::parse`] takes a module from the
-//! tokens of a [`Parser`]. [`module_faults`] tells what is wrong with each field of a text that isn't
-//! one. Indices stay as they are written: nothing is resolved, and nothing is checked for validity.
+//! tokens of a [`Parser`]. [`module_faults`] tells what is wrong with each field of a text that
+//! isn't one. Indices stay as they are written: nothing is resolved, and nothing is checked for
+//! validity.
+//!
 //! This crate has the names of the parser, of the types of what is read, and of what reads them, so
 //! that a user needs it alone; what else is public in the crates that it uses is reached by the
 //! crate's own name, as `wat_core::wat_mnemonics::find`.
@@ -16,7 +18,7 @@ pub mod module;
 pub mod module_group;
 mod module_head;
 pub mod module_text;
-mod visible;
+mod place;
 pub mod wrong_fields;
 
 // Modules and their fields.

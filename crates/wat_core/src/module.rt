@@ -1,18 +1,13 @@
 //! Modules.
 
-ghost use Rattle.std.specs.Prelude.{◌≡◌, ◌≢◌, ◌≤◌, ◌+◌, ◌++◌, List, length, max, true, IfOk};
-ghost use Rattle.std.specs.Prelude.{IfErr};
+ghost use Rattle.std.specs.Prelude.{◌≡◌, true, IfOk};
 ghost use Rattle.wat_tokens.specs.Cost.{turns_too};
-ghost use Rattle.wat_tokens.specs.Counts.{Counted, Turned, Grows, SameSettings};
-ghost use Rattle.wat_tokens.specs.Error.{Memory};
-ghost use Rattle.wat_tokens.specs.Parens.{nest};
-ghost use Rattle.wat_tokens.specs.Parses.{Accepts};
-ghost use Rattle.wat_tokens.specs.Production.{Front};
+ghost use Rattle.wat_tokens.specs.Counts.{Turned, SameSettings};
+ghost use Rattle.wat_tokens.specs.Outcome.{ReadsPrefix, TakesPrefix};
 ghost use Rattle.wat_tokens.specs.Reads.{ReadsAt};
 ghost use Rattle.wat_tokens.specs.Sight.{visible_tokens};
-ghost use Rattle.wat_tokens.specs.State.{behind, annotated};
+ghost use Rattle.wat_tokens.specs.State.{annotated};
 ghost use Rattle.wat_tokens.specs.Tests.{ends, more};
-ghost use Rattle.wat_tokens.specs.Token.{Tok};
 ghost use Rattle.wat_tokens.specs.Views.{owning};
 ghost use Rattle.wat_core.specs.Field.{ModuleFieldTy, field_view, bare_field};
 ghost use Rattle.wat_core.specs.Module.{ModuleTy, module_kind_view, bare_module_kind, module_kind};
@@ -23,6 +18,7 @@ use crate::field::ModuleField;
 use wat_tokens::enclosed::in_parens;
 use wat_tokens::repeat::{Part, all_parts, all_to_end};
 use wat_tokens::{Id, NameAnnotation, Parse, Parser, Result, Span};
+use wat_types::take_label;
 
 /// A module (WebAssembly Core Specification, Text Format, "Modules").
 #[derive(Debug)]
@@ -37,8 +33,8 @@ pub struct Module<'a> {
     pub kind: ModuleKind<'a>,
 }
 
-/// It is written out, and proved once, here. Were it derived, each crate that drops a module would prove
-/// the drop of each of its parts once more, which takes the prover minutes.
+/// It is written out, and proved once, here. Were it derived, each crate that drops a module would
+/// prove the drop of each of its parts once more, which takes the prover minutes.
 impl Drop for Module<'_> {
     fn drop(self) {
         let Module {
@@ -98,8 +94,9 @@ fn read_module_kind<'a>(parser: &mut Parser<'a>) -> Result<ModuleKind<'a>>
 }
 
 /// A module, as a value that is read over the tokens that are visible now: a part of a text that is
-/// no module itself, as a script, can hold it. [`Module::parse`] turns the five standard annotations
-/// on for a module; here its hints, names and custom sections are read if they are known.
+/// no module itself, as a script, can hold it. [`Module::parse`] turns the five standard
+/// annotations on for a module; here its hints, names and custom sections are read if they are
+/// known.
 ///
 /// It is from the word `module` to the end of its group, whose parentheses are the caller's.
 #[derive(Drop)]
@@ -114,11 +111,10 @@ impl<'a> Parse<'a> for VisibleModule<'a> {
 
     ghost grammar = { module_ };
 
-    #[tactic(auto, unfolding(crate::specs::Module::module_, wat_types::specs::Label::label))]
+    #[tactic(auto, unfolding(crate::specs::Module::module_))]
     fn parse(parser: &mut Parser<'a>) -> Result<Self> {
         let span = parser.keyword("module")?;
-        let id = Option::<Id>::parse(parser)?;
-        let name = Option::<NameAnnotation>::parse(parser)?;
+        let (id, name) = take_label(parser)?;
         let kind = read_module_kind(parser)?;
         Ok(VisibleModule(Module {
             span,
@@ -138,40 +134,22 @@ impl<'a> Module<'a> {
     /// in front than the word `module` is refused with Unexpected, at the token, and so is one
     /// behind it that begins no field's group. Memory may be answered where the module has a field
     /// or a piece.
-    #[tactic(auto, using(wat_tokens::specs::Laws::State::annotated_is, crate::proofs::Ends::module_ends))]
+    #[tactic(auto, using(crate::proofs::Ends::module_steps))]
     pub fn parse(parser: &mut Parser<'a>) -> Result<Module<'a>>
-        // The tokens that were taken, visible with the five names, spell the module.
-        ensures sound { IfOk result (λ m. Front module_.spells (annotated parser.old).left
-            (module_view m, (annotated parser.new).left)) }
-        // Where tokens in front spell a module, it is that one, or memory ran out.
-        ensures accepts { (v : ModuleTy) (c r : List Tok) → (annotated parser.old).left ≡ c ++ r
-            → module_.spells v c r → Accepts (owning module_view bare_module) result v
-            (annotated parser.new).left r }
-        // A fault other than Memory means that no tokens in front spell a module.
-        ensures refused { IfErr result (λ e. e.fault ≢ Memory → (v : ModuleTy) (c r : List Tok)
-            → (annotated parser.old).left ≡ c ++ r → module_.spells v c r → ⊥) }
+        // Of the tokens that are visible with the five names: those that were taken spell the
+        // module (`sound`); where some in front spell one, it is that one, or memory ran out
+        // (`accepts`); a fault other than Memory means that none in front do (`refused`).
+        ensures reads { ReadsPrefix (owning module_view bare_module) module_ result
+            (annotated parser.old) (annotated parser.new) }
         // What is left is nothing, or begins with `)`.
         ensures ends { IfOk result (λ _. ends (annotated parser.new).left ≡ true) }
+        // What was taken is a prefix of what was in front, and the parser is directly behind it,
+        // also on a refusal (`end`, `position`). Its tokens are counted, and how they nest, and no
+        // count fell (`taken`, `within`, `peak`, `grows`).
+        ensures takes { TakesPrefix (annotated parser.old) (annotated parser.new) }
         // No loop over an expression turned more than once beyond the tokens that were taken.
         ensures turned { Turned result parser.old parser.new }
-        // `taken` rises by the number of tokens that were taken, and never by more than were in
-        // front.
-        ensures taken { (c : List Tok) → (annotated parser.old).left ≡ c
-            ++ (annotated parser.new).left → parser.new.taken ≡ parser.old.taken + length c }
-        ensures within { parser.new.taken + length
-            (annotated parser.new).left ≡ parser.old.taken + length (annotated parser.old).left }
-        // `peak` is at most the greater of what it was and how the tokens that were taken nest.
-        ensures peak { (c : List Tok) → (annotated parser.old).left ≡ c
-            ++ (annotated parser.new).left → parser.new.peak ≤ max parser.old.peak (nest c) }
-        // What is left is an end of the tokens in front, also on a refusal.
-        ensures end { (c : List Tok) × ((annotated parser.old).left ≡ c
-            ++ (annotated parser.new).left) }
-        // No count fell.
-        ensures grows { Grows parser.old parser.new }
-        // The parser is directly behind them, and what is left is visible as before.
-        ensures position { (c : List Tok) → (annotated parser.old).left ≡ c
-            ++ (annotated parser.new).left → parser.new.rest ≡ behind true
-            (length c) parser.old.rest }
+        // What is left is visible as before.
         ensures visible { parser.new.left ≡ visible_tokens parser.new.known parser.new.rest }
         ensures settings { SameSettings parser.old parser.new }
     {
@@ -185,8 +163,8 @@ impl<'a> Module<'a> {
         }
     }
 
-    /// Where the word `module` begins, its identifier, the name that an annotation gives, and what is
-    /// in it, each as the field was. A field can't be moved out of a module otherwise.
+    /// Where the word `module` begins, its identifier, the name that an annotation gives, and what
+    /// is in it, each as the field was. A field can't be moved out of a module otherwise.
     pub fn into_parts(
         self,
     ) -> (

@@ -1,7 +1,7 @@
 //! The groups of a text, each from its `(` to behind its `)`.
 
-ghost use Rattle.std.specs.Prelude.{◌≡◌, ◌≤◌, ◌<◌, ◌+◌, MatchOption, IfSome, None, Some, true, false};
-ghost use Rattle.std.specs.Prelude.{length, drop};
+ghost use Rattle.std.specs.Prelude.{◌≡◌, ◌≤◌, ◌<◌, ◌+◌, MatchOption, IfSome, None, Some, true};
+ghost use Rattle.std.specs.Prelude.{false, length, drop};
 ghost use Rattle.std.proofs.Math.ListN.{get_or};
 ghost use Rattle.wat_lexer.specs.Cut.{IsCut};
 ghost use Rattle.wat_lexer.specs.View.{placed, AreSkips, no_entry};
@@ -9,7 +9,7 @@ ghost use Rattle.wat_tokens.specs.Tests.{begins_lparen};
 ghost use Rattle.wat_core.specs.Visible.{seen, closing};
 ghost use Rattle.wat_core.specs.ModuleGroups.{IsNext, IsPart};
 
-use crate::visible::{first_shown, opens_at};
+use crate::place::{first_shown, opens_at};
 use wat_lexer::tokens::Tokens;
 
 /// Where a group begins and ends, in bytes from the start of the text.
@@ -27,7 +27,7 @@ pub(crate) fn closing(tokens: &Tokens, from: usize) -> Option<usize>
         (λ i. closing 0 (drop from (placed tokens.now))
         ≡ Some ((get_or tokens.now i no_entry).offset, drop (i + 1) (placed tokens.now))) }
     ensures within { IfSome result (λ i. (from ≤ i) × (i < length tokens.now)
-        × (i < 9223372036854775807)) }
+        × (i < usize.MAX)) }
 {
     let mut depth: usize = 0;
     for i in from..tokens.len() {

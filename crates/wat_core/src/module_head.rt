@@ -10,7 +10,7 @@ ghost use Rattle.wat_core.specs.ModuleHead.{place_of, wrong_end, IsUnexpected};
 ghost use Rattle.wat_core.specs.ModuleHead.{behind_id, behind_name, behind_head, has_head};
 
 use crate::module_group::closing;
-use crate::visible::{closes_at, first_shown, id_at, name_at, opens_at, word_at};
+use crate::place::{closes_at, first_shown, id_at, name_at, opens_at, word_at};
 use wat_lexer::fault::{Error, Fault, fault_at};
 use wat_lexer::tokens::Tokens;
 
@@ -46,7 +46,7 @@ fn behind_name(tokens: &Tokens, at: usize) -> usize
 }
 
 /// The place behind the module's head; None where none is there, or that of a module in binary.
-pub fn behind_head(tokens: &Tokens) -> Option<usize>
+pub(crate) fn behind_head(tokens: &Tokens) -> Option<usize>
     requires { AreSkips tokens.now }
     ensures head { MatchOption result (has_head (placed tokens.now) ≡ false)
         (λ at. (has_head (placed tokens.now) ≡ true)
@@ -82,7 +82,7 @@ fn unexpected(tokens: &Tokens, at: usize, end: usize) -> Error
 }
 
 /// What is wrong behind the groups, from a place on in a text of `end` bytes.
-pub fn wrong_end(tokens: &Tokens, at: usize, end: usize) -> Option<Error>
+pub(crate) fn wrong_end(tokens: &Tokens, at: usize, end: usize) -> Option<Error>
     requires within { at ≤ length tokens.now }
     requires skips { AreSkips tokens.now }
     ensures { IsUnexpected result (wrong_end end (drop at (placed tokens.now))) }

@@ -287,6 +287,3 @@ folded_found a b e x =
 -- a refusal counts at most one turn more
 pub refused_first : (a o b : State) → Carries a o → o.turns ≡ a.turns → Carries o b → b.turns ≡ o.turns → b.turns + a.taken ≤ a.turns + b.taken + 1
 refused_first a o b c e d f = omega (arith, taken_more a o c, taken_more o b d, e, f)
-
-pub refused_later : (a b t u : State) → b.turns + a.taken ≤ a.turns + b.taken → t ≡ record b { turns = b.turns + 1 } → Carries t u → u.turns ≡ t.turns → u.turns + a.taken ≤ a.turns + u.taken + 1
-refused_later a b t u l e c f = omega (arith, l, ap (λ (y : State). y.turns) e, ap (λ (y : State). y.taken) e, taken_more t u c, f)

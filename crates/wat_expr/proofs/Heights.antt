@@ -38,3 +38,7 @@ taken_more a b f = let p = carried a b f in omega (arith, p.taken)
 -- where less is left, more was taken
 pub taken_one : (a b : State) → Carries a b → length b.left < length a.left → a.taken + 1 ≤ b.taken
 taken_one a b f l = let p = counts_within a b f in omega (arith, p, l)
+
+-- a turn that is refused is one turn more at most than there are tokens that were taken
+pub refused_turns : (a b t u : State) → b.turns + a.taken ≤ a.turns + b.taken → t ≡ record b { turns = b.turns + 1 } → Carries t u → u.turns ≡ t.turns → u.turns + a.taken ≤ a.turns + u.taken + 1
+refused_turns a b t u l e c f = omega (arith, l, ap (λ (y : State). y.turns) e, ap (λ (y : State). y.taken) e, taken_more t u c, f)

@@ -23,14 +23,14 @@ use Rattle.wat_expr.specs.OpenGroups.{OpenGroup, open_groups}
 use Rattle.wat_expr.specs.declared.open_groups.Kind.TheVariants as kind
 use Rattle.wat_expr.specs.declared.open_groups.Mark.{Mark}
 use Rattle.wat_expr.specs.Progress.{suits}
-use Rattle.wat_expr.specs.Taken.{TakesHead, ReadsBehind, suits_word}
+use Rattle.wat_expr.specs.Taken.{TakesOp, ReadsBehind, suits_word}
 
 -- ---- what is taken
 
-pub takes_head : (res : Result Op Error) (ts left : List Tok) → Gives (plain (λ h. h)) res (mnemonic.reads ts) left → TakesHead res ts left
+pub takes_op : (res : Result Op Error) (ts left : List Tok) → Gives (plain (λ h. h)) res (mnemonic.reads ts) left → TakesOp res ts left
 unfolding instruction
-takes_head (Ok h) ts left g = rw g refl
-takes_head (Err e) ts left g = rw (g.0) refl
+takes_op (Ok h) ts left g = rw g refl
+takes_op (Err e) ts left g = rw (g.0) refl
 
 put_is : (read : Read Instr) (before after : List Instr) (left : List Tok) → put_behind before read ≡ Some (after, left) → (i : Instr) × (read ≡ Some (i, left)) × (after ≡ before ++ i ∷ [])
 put_is (Some x) before after left e =
@@ -80,8 +80,8 @@ module _ (h : Op) (ts u : List Tok) (taken : instruction.reads ts ≡ (behind_wo
       let e = suits_row p h i (row_is h i u m (sym taken ∙ read_of i ts m r)) in cc
 
 -- no word of an instruction is in front
-pub no_head : (ts : List Tok) → instruction.reads ts ≡ None → (i : Instr) (m : List Tok) → reads i ts m → ⊥
-no_head ts none i m r = none_is_not (i, m) (sym none ∙ read_of i ts m r)
+pub no_instruction : (ts : List Tok) → instruction.reads ts ≡ None → (i : Instr) (m : List Tok) → reads i ts m → ⊥
+no_instruction ts none i m r = none_is_not (i, m) (sym none ∙ read_of i ts m r)
 
 -- behind `(` is no instruction: no group can open, and none can close
 pub no_group_turn : (s : List OpenGroup) (ts u : List Tok) (f : Flat) → ts ≡ LParen ∷ u → ((i : Instr) (m : List Tok) → reads i u m → ⊥) → IsHalted (group_state s ts f)

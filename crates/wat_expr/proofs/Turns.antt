@@ -297,8 +297,3 @@ module _ (s : List OpenGroup) (p : Option ℕ) (u : List Tok) (f : Flat) (g : Is
 
   pub hint_close : (w : List ℕ) (ts : List Tok) → u ≡ String w ∷ ts → ((d : List Tok) → ts ≡ RParen ∷ d → ⊥) → Stuck (at s p (LParen ∷ hint_name ∷ u) f)
   hint_close w ts e never = unless (λ n v d lt q. never d (cc))
-
--- what is refused as another is
-pub refused_as : {A : Type 0} (r : Result A Error) (e : Error) (s t : LoopState) → r ≡ Err e
-    → TurnAnswers {A = A} (Err e) s t → TurnAnswers r s t
-refused_as r e s t p x = subst (λ o. TurnAnswers o s t) (sym p) x

@@ -25,7 +25,7 @@ use Rattle.wat_expr.specs.Progress.{TalliedFlat, emit, Fits, TalliedState, Finis
 use Rattle.wat_expr.specs.Turned.{stand}
 use Rattle.wat_expr.proofs.FoldedLoop.{not_bare_of}
 use Rattle.wat_expr.proofs.Flatten.{flat_out, Spanned}
-use Rattle.wat_expr.proofs.Heights.{carries_height, taken_more, taken_one}
+use Rattle.wat_expr.proofs.Heights.{carries_height, taken_one, refused_turns}
 use Rattle.wat_expr.proofs.Turns.{any_items, unpending, at}
 use Rattle.wat_expr.specs.Laws.Facts.{lists_between}
 use Rattle.wat_expr.specs.Laws.Reading.{stops_end}
@@ -67,7 +67,7 @@ begins a r es ef ep = record {
 
 -- where a turn was refused
 pub refused_counts : (a b t u : State) (r : Reader) → t ≡ record b { turns = b.turns + 1 } → Reading a b r → Carries t u → Stays t u → Carries b t → Carries a u × (u.turns + a.taken ≤ a.turns + u.taken + 1)
-refused_counts a b t u r tick = rw tick (λ w counts stays c. ((λ s k. counts s (c s (w.counts s k))), (let m : b.taken ≤ u.taken = taken_more _ u counts in omega (arith, m, stays.0, w.turned))))
+refused_counts a b t u r tick w counts stays c = ((λ s k. counts s (c s (w.counts s k))), refused_turns a b t u w.turned tick counts stays.0)
 
 -- where it was made, and the heights were noted
 pub goes_on : (a b t u v x : State) (r r2 : Reader) (k h : ℕ) → t ≡ record b { turns = b.turns + 1 } → k ≡ length r2.open_groups → h ≡ heads_in r2.open_groups → v ≡ record u { peak = max u.peak k } → x ≡ record v { held = max v.held h }

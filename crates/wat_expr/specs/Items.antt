@@ -96,7 +96,8 @@ lists (IfElse i ops th el xs) ts r =
     × lists ops b (LParen ∷ keyword (codes "then") ∷ d)
     × lists th d (RParen ∷ LParen ∷ keyword (codes "else") ∷ e)
     × lists el e (RParen ∷ RParen ∷ f) × lists xs f r
--- ( @metadata.code.branch_hint "v" ), v the byte 0 or 1, and an item whose head is `br_if` or `if`
+-- ( @metadata.code.branch_hint "v" ), v the byte 0 or 1, and an item whose instruction is `br_if`
+-- or `if`
 lists (Hinted v xs) ts r =
     (d : List Tok) × (ts ≡ LParen ∷ hint_name ∷ String (v ∷ []) ∷ RParen ∷ d) × (v < 2)
     × BeginsWithBranch xs × lists xs d r

@@ -63,7 +63,8 @@ get_text = group_text (codes "local.get") (Integer (codes "0") ∷ [])
 
 -- `(@metadata.code.branch_hint "v")`
 abbrev pub branch_hint_text : ℕ → List Tok
-branch_hint_text v = in_parens (Annotation (codes "metadata.code.branch_hint") ∷ String (v ∷ []) ∷ [])
+branch_hint_text v =
+    in_parens (Annotation (codes "metadata.code.branch_hint") ∷ String (v ∷ []) ∷ [])
 
 -- ---- the facts
 
@@ -75,8 +76,8 @@ add_text = group_text (codes "i32.add") (const_text (codes "1") ++ const_text (c
 abbrev pub sum : List Instr
 sum = const_of 1 ∷ const_of 2 ∷ plain_of scalar.i32_add ∷ []
 
--- `(i32.add (i32.const 1) (i32.const 2))` is `i32.const 1 i32.const 2 i32.add`, as an expression and
--- as a folded instruction
+-- `(i32.add (i32.const 1) (i32.const 2))` is `i32.const 1 i32.const 2 i32.add`, as an expression
+-- and as a folded instruction
 abbrev pub OperandsFirst : Type 0
 OperandsFirst =
     Spelled expression add_text (unhinted sum) × Spelled folded_instruction add_text (unhinted sum)

@@ -15,9 +15,9 @@ TakesIf t b ts r = MatchBool b (ts ≡ t ∷ r) ((r ≡ ts) × ((u : List Tok) �
 
 -- The word of an instruction was taken: what is in front is what is behind its word. Or none is in
 -- front.
-abbrev pub TakesHead : Result Op Error → List Tok → List Tok → Type 0
-TakesHead (Ok h) ts r = instruction.reads ts ≡ (behind_word h).reads r
-TakesHead (Err e) ts r = instruction.reads ts ≡ None
+abbrev pub TakesOp : Result Op Error → List Tok → List Tok → Type 0
+TakesOp (Ok h) ts r = instruction.reads ts ≡ (behind_word h).reads r
+TakesOp (Err e) ts r = instruction.reads ts ≡ None
 
 -- Behind the word the instruction was read, and `Then` holds of it. Or, unless memory ran out, no
 -- operand is in front.
@@ -35,7 +35,7 @@ suits_word (Some v) h = is_br_if (op_row h) || is_if (op_row h)
 -- The word of an instruction that suits the pending hint was taken, as above. Or none that does is
 -- in front.
 abbrev pub TakesSuited : Option ℕ → Result Op Error → List Tok → List Tok → Type 0
-TakesSuited p (Ok h) ts r = TakesHead (Ok h) ts r × (suits_word p h ≡ true)
+TakesSuited p (Ok h) ts r = TakesOp (Ok h) ts r × (suits_word p h ≡ true)
 TakesSuited p (Err e) ts r = (i : Instr) (m : List Tok) → reads i ts m → suits p i ≡ true → ⊥
 
 -- a string was taken, seen by its content, or none is in front

@@ -52,8 +52,8 @@ pub struct Expression<'a> {
     pub instr_spans: Option<Vec<Span>>,
 }
 
-/// It is written out, and proved once, here. Were it derived, each crate that drops an expression would
-/// prove the drop of each of its parts once more.
+/// It is written out, and proved once, here. Were it derived, each crate that drops an expression
+/// would prove the drop of each of its parts once more.
 impl Drop for Expression<'_> {
     fn drop(self) {
         let Expression {
@@ -200,8 +200,8 @@ impl<'a> Expression<'a> {
         self.push_reserved(None, instr, span)
     }
 
-    /// Takes the operand of the instruction whose word was taken, and puts the instruction behind the
-    /// others, with the hint that is directly before its item. Memory may be answered.
+    /// Takes the operand of the instruction whose word was taken, and puts the instruction behind
+    /// the others, with the hint that is directly before its item. Memory may be answered.
     #[inline(always)]
     pub(crate) fn read(
         &mut self,

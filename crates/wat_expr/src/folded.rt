@@ -18,7 +18,7 @@ ghost use Rattle.wat_tokens.specs.Views.{owning};
 
 use crate::expression::Expression;
 use crate::open_groups::{Kind, Mark, OpenGroups};
-use crate::take::{take_close, take_head, take_open};
+use crate::take::{take_close, take_op, take_open};
 use wat_tokens::{Parse, Parser, Result};
 
 /// A group opens, whose `(` was taken: the instruction in front waits in it.
@@ -28,7 +28,7 @@ fn open_group<'a>(open_groups: &mut OpenGroups<'a>, parser: &mut Parser<'a>) -> 
         parser.new.left }
     ensures steady { Steady parser.old parser.new }
 {
-    match take_head(parser) {
+    match take_op(parser) {
         Ok(op) => {
             let span = parser.prev_span();
             let mark = Mark { span, hint: None };
@@ -38,8 +38,8 @@ fn open_group<'a>(open_groups: &mut OpenGroups<'a>, parser: &mut Parser<'a>) -> 
     }
 }
 
-/// One turn in a folded group: a group opens, or the innermost one closes and its instruction is put
-/// behind the others.
+/// One turn in a folded group: a group opens, or the innermost one closes and its instruction is
+/// put behind the others.
 fn turn<'a>(
     open_groups: &mut OpenGroups<'a>,
     out: &mut Expression<'a>,

@@ -105,7 +105,7 @@ fn release<'a>(
 
 impl<'a> OpenGroups<'a> {
     /// Nothing is open.
-    pub fn new(alloc: Global) -> OpenGroups<'a>
+    pub(crate) fn new(alloc: Global) -> OpenGroups<'a>
         ensures { result ≡ [] }
     {
         OpenGroups {
@@ -115,8 +115,9 @@ impl<'a> OpenGroups<'a> {
         }
     }
 
+    /// Whether no group is open.
     #[tactic(auto, using(crate::proofs::OpenGroups::top_some))]
-    pub fn is_empty(&self) -> bool
+    pub(crate) fn is_empty(&self) -> bool
         ensures { MatchBool result (self.now ≡ []) (self.now ≡ [] → ⊥) }
     {
         match self.top() {
@@ -127,7 +128,7 @@ impl<'a> OpenGroups<'a> {
 
     /// How many groups are open.
     #[tactic(auto, using(crate::proofs::OpenGroups::height_is))]
-    pub fn height(&self) -> usize
+    pub(crate) fn height(&self) -> usize
         ensures { result ≡ length self.now }
     {
         self.kinds.len()
@@ -135,21 +136,21 @@ impl<'a> OpenGroups<'a> {
 
     /// How many instructions wait.
     #[tactic(auto, using(crate::proofs::OpenGroups::held_is))]
-    pub fn held(&self) -> usize
+    pub(crate) fn held(&self) -> usize
         ensures { result ≡ heads_in self.now }
     {
         self.heads.len()
     }
 
     /// The kind of the innermost group.
-    pub fn top(&self) -> Option<Kind>
+    pub(crate) fn top(&self) -> Option<Kind>
         ensures { TopIs result self.now }
     {
         self.kinds.last().copied()
     }
 
     /// Whether an instruction can stand alone in the innermost group.
-    pub fn takes_plain(&self) -> bool
+    pub(crate) fn takes_plain(&self) -> bool
         ensures { MatchBool result (TakesPlain self.now) (TakesPlain self.now → ⊥) }
     {
         match self.top() {
@@ -160,11 +161,11 @@ impl<'a> OpenGroups<'a> {
         }
     }
 
-    /// Takes the innermost group off, and answers its kind. The instruction that waited in it is put
-    /// behind the others of `out`; Memory may refuse that.
+    /// Takes the innermost group off, and answers its kind. The instruction that waited in it is
+    /// put behind the others of `out`; Memory may refuse that.
     #[inline(always)]
     #[tactic(auto, using(crate::proofs::OpenGroups::some_kind))]
-    pub fn pop(&mut self, out: &mut Expression<'a>) -> Result<Kind>
+    pub(crate) fn pop(&mut self, out: &mut Expression<'a>) -> Result<Kind>
         requires { self.old ≡ [] → ⊥ }
         ensures { Pops result self.old self.new (flat out.old) (flat out.new) }
     {
@@ -181,7 +182,7 @@ impl<'a> OpenGroups<'a> {
 
     /// Opens a group of a kind that holds no instruction, or refuses with Memory.
     #[inline(always)]
-    pub fn enter(&mut self, kind: Kind) -> Result<()>
+    pub(crate) fn enter(&mut self, kind: Kind) -> Result<()>
         requires { waiting (kind ∷ []) ≡ 0 }
         ensures { MatchResult result (λ _. self.new ≡ open_groups (kind ∷ []) [] [] ++ self.old)
             (λ e. e.fault ≡ Fault.Memory) }
@@ -193,7 +194,13 @@ impl<'a> OpenGroups<'a> {
     /// Opens a group of a kind that holds an instruction. Its word was taken; its operand is read,
     /// and it waits. Memory may be answered.
     #[inline(always)]
-    pub fn hold(&mut self, kind: Kind, op: Op, parser: &mut Parser<'a>, mark: Mark) -> Result<()>
+    pub(crate) fn hold(
+        &mut self,
+        kind: Kind,
+        op: Op,
+        parser: &mut Parser<'a>,
+        mark: Mark,
+    ) -> Result<()>
         requires { waiting (kind ∷ []) ≡ 1 }
         ensures exact { ReadsBehind op (λ i. self.new ≡ open_groups (kind ∷ []) (i ∷ [])
             (mark ∷ []) ++ self.old) result parser.old.left parser.new.left }

@@ -16,9 +16,7 @@ ghost use Rattle.wat_tokens.specs.Token.{Tok, LParen, RParen};
 
 use crate::expression::Expression;
 use crate::open_groups::{Kind, Mark, OpenGroups};
-use crate::take::{
-    refuse, take_close, take_head, take_hint_name, take_open, take_string, take_word,
-};
+use crate::take::{refuse, take_close, take_hint_name, take_op, take_open, take_string, take_word};
 use std::alloc::Global;
 use wat_instr::{Instruction, LabelOp, Op, branches_if, opens_block, opens_if};
 use wat_tokens::ownership::discard;
@@ -78,7 +76,7 @@ fn take_suited<'a>(parser: &mut Parser<'a>, hint: Option<u32>) -> Result<Op>
     ensures exact { TakesSuited hint result parser.old.left parser.new.left }
     ensures steady { Steady parser.old parser.new }
 {
-    match take_head(parser) {
+    match take_op(parser) {
         Ok(op) => {
             if suits(hint, op) {
                 return Ok(op);
@@ -99,7 +97,7 @@ fn holder(op: Op) -> Kind
 
 impl<'a> Reader<'a> {
     /// In front of the first token; spans are kept where `tracks` says so.
-    pub fn new(alloc: Global, tracks: bool) -> Reader<'a>
+    pub(crate) fn new(alloc: Global, tracks: bool) -> Reader<'a>
         ensures open_groups { result.open_groups ≡ [] }
         ensures out { flat result.out ≡ no_output tracks }
         ensures pending { result.pending ≡ None }
@@ -112,7 +110,7 @@ impl<'a> Reader<'a> {
     }
 
     /// Whether no group is open and nothing follows, or what closes a group does.
-    pub fn is_done(&self, parser: &Parser<'a>) -> bool
+    pub(crate) fn is_done(&self, parser: &Parser<'a>) -> bool
         ensures { MatchBool result ((self.now.open_groups ≡ [])
             × (ends parser.now.left ≡ true))
             (self.now.open_groups ≡ [] → ends parser.now.left ≡ true → ⊥) }
@@ -121,7 +119,7 @@ impl<'a> Reader<'a> {
     }
 
     /// One turn: it decides by the token in front.
-    pub fn turn(&mut self, parser: &mut Parser<'a>) -> Result<()>
+    pub(crate) fn turn(&mut self, parser: &mut Parser<'a>) -> Result<()>
         requires { self.old.open_groups ≡ [] → ends parser.old.left ≡ true → ⊥ }
         ensures turned { TurnAnswers result (stand self.old parser.old.left)
             (stand self.new parser.new.left) }

@@ -3,7 +3,7 @@
 ghost use Rattle.std.specs.Prelude.{◌≡◌, ◌<◌, ◌++◌, ◌∷◌, [], map, codes, IfOk, IfErr, Err};
 ghost use Rattle.std.specs.Vec.{vec_len, vec_capacity};
 ghost use Rattle.wat_expr.specs.Items.{hint_name, keyword};
-ghost use Rattle.wat_expr.specs.Taken.{TakesIf, TakesString, TakesHead, ReadsBehind};
+ghost use Rattle.wat_expr.specs.Taken.{TakesIf, TakesString, TakesOp, ReadsBehind};
 ghost use Rattle.wat_instr.specs.Instruction.{instruction_view};
 ghost use Rattle.wat_tokens.specs.Steady.{Steady};
 ghost use Rattle.wat_tokens.specs.Token.{LParen, RParen};
@@ -13,7 +13,7 @@ use wat_tokens::{Error, Fault, Parser, Result};
 
 /// Takes a `(` where it is in front, and answers whether it did.
 #[inline(always)]
-pub fn take_open(parser: &mut Parser<'_>) -> bool
+pub(crate) fn take_open(parser: &mut Parser<'_>) -> bool
     ensures exact { TakesIf LParen result parser.old.left parser.new.left }
     ensures steady { Steady parser.old parser.new }
 {
@@ -22,7 +22,7 @@ pub fn take_open(parser: &mut Parser<'_>) -> bool
 
 /// Takes a `)` where it is in front, and answers whether it did.
 #[inline(always)]
-pub fn take_close(parser: &mut Parser<'_>) -> bool
+pub(crate) fn take_close(parser: &mut Parser<'_>) -> bool
     ensures exact { TakesIf RParen result parser.old.left parser.new.left }
     ensures steady { Steady parser.old parser.new }
 {
@@ -30,7 +30,7 @@ pub fn take_close(parser: &mut Parser<'_>) -> bool
 }
 
 /// Takes the keyword where it is in front, and answers whether it did.
-pub fn take_word(parser: &mut Parser<'_>, text: &str) -> bool
+pub(crate) fn take_word(parser: &mut Parser<'_>, text: &str) -> bool
     ensures exact { TakesIf (keyword text.now) result parser.old.left parser.new.left }
     ensures steady { Steady parser.old parser.new }
 {
@@ -38,7 +38,7 @@ pub fn take_word(parser: &mut Parser<'_>, text: &str) -> bool
 }
 
 /// Takes the annotation of a branch hint where it is in front, and answers whether it did.
-pub fn take_hint_name(parser: &mut Parser<'_>) -> bool
+pub(crate) fn take_hint_name(parser: &mut Parser<'_>) -> bool
     ensures exact { TakesIf hint_name result parser.old.left parser.new.left }
     ensures steady { Steady parser.old parser.new }
 {
@@ -50,8 +50,8 @@ pub fn take_hint_name(parser: &mut Parser<'_>) -> bool
 
 /// Takes the word of an instruction that is in front, or refuses with Operator at it.
 #[inline(always)]
-pub fn take_head(parser: &mut Parser<'_>) -> Result<Op>
-    ensures exact { TakesHead result parser.old.left parser.new.left }
+pub(crate) fn take_op(parser: &mut Parser<'_>) -> Result<Op>
+    ensures exact { TakesOp result parser.old.left parser.new.left }
     ensures steady { Steady parser.old parser.new }
 {
     Op::take(parser)
@@ -60,10 +60,10 @@ pub fn take_head(parser: &mut Parser<'_>) -> Result<Op>
 /// For how many instructions an empty list gets room: more than most expressions have.
 const USUAL: usize = 32;
 
-/// Makes room for one instruction more, or refuses with Memory. A list that is empty gets room for as
-/// many as most expressions have, so that it isn't moved as it grows.
+/// Makes room for one instruction more, or refuses with Memory. A list that is empty gets room for
+/// as many as most expressions have, so that it isn't moved as it grows.
 #[inline(always)]
-pub fn make_room<'a>(out: &mut Vec<Instruction<'a>>) -> Result<()>
+pub(crate) fn make_room<'a>(out: &mut Vec<Instruction<'a>>) -> Result<()>
     ensures room { IfOk result (λ _. vec_len out.new < vec_capacity out.new) }
     ensures items { out.new.items ≡ out.old.items }
     ensures memory { IfErr result (λ e. e.fault ≡ Fault.Memory) }
@@ -79,7 +79,7 @@ pub fn make_room<'a>(out: &mut Vec<Instruction<'a>>) -> Result<()>
 /// Takes the operand of the instruction whose word was taken, and puts the instruction behind the
 /// others of the list. Where it is refused, they are all that is there. Memory may be answered.
 #[inline(always)]
-pub fn read_behind<'a>(
+pub(crate) fn read_behind<'a>(
     op: Op,
     parser: &mut Parser<'a>,
     out: &mut Vec<Instruction<'a>>,
@@ -95,7 +95,7 @@ pub fn read_behind<'a>(
 }
 
 /// Takes the string that is in front and answers its bytes, or refuses with Unexpected.
-pub fn take_string<'a>(parser: &mut Parser<'a>) -> Result<&'a [u8]>
+pub(crate) fn take_string<'a>(parser: &mut Parser<'a>) -> Result<&'a [u8]>
     ensures exact { TakesString (λ s. s.now) result parser.old.left parser.new.left }
     ensures steady { Steady parser.old parser.new }
 {
@@ -106,7 +106,7 @@ pub fn take_string<'a>(parser: &mut Parser<'a>) -> Result<&'a [u8]>
 // Written where a refusal is handed on, its moves would stand in the way of what isn't refused too.
 #[cold]
 #[inline(never)]
-pub fn refuse(refused: Error) -> Result<()>
+pub(crate) fn refuse(refused: Error) -> Result<()>
     ensures { result ≡ Err refused }
 {
     Err(refused)

@@ -3,15 +3,14 @@ use Rattle.std.proofs.Common.{◌≡◌, ℕ, Bool, true, false, ◌&&◌, List,
 use Rattle.std.specs.Prelude.{Vec, codes, eqb}
 use Rattle.std.proofs.lemmas.Bool.{eqb-true, eq-eqb}
 use Rattle.std.specs.declared.alloc.Global.{Global}
-use Rattle.wat_tokens.specs.Index.{Idx, identifier}
-use Rattle.wat_tokens.specs.NameAnnotation.{name_annotation, begins_name}
-use Rattle.wat_tokens.specs.Parts.{opt, flag}
+use Rattle.wat_tokens.specs.Index.{Idx}
+use Rattle.wat_tokens.specs.Parts.{flag}
 use Rattle.wat_tokens.specs.PartSpells.{one_reads}
 use Rattle.wat_tokens.specs.Production.{some_of, none_of}
 use Rattle.wat_tokens.specs.Laws.Production.{by_read, by_option, some_is, none_is_not}
-use Rattle.wat_tokens.specs.Tests.{as_lparen, word_only, begins_word, begins_id, begins_lparen, second}
+use Rattle.wat_tokens.specs.Tests.{as_lparen, word_only, begins_word, begins_lparen, second}
 use Rattle.wat_tokens.specs.Token.{Tok}
-use Rattle.wat_types.specs.Label.{label}
+use Rattle.wat_types.specs.Label.{Label, label}
 use Rattle.wat_types.specs.Limits.{is_64}
 use Rattle.wat_types.specs.Reference.{RefTy, ref_type}
 use Rattle.wat_links.specs.FieldHead.{FieldHeadTy, head}
@@ -101,10 +100,9 @@ pub offset_behind_memory : (t a b : List Tok) (m : Idx) (u : Unit {0}) → data_
 offset_behind_memory t a b m u e f = rw e (sym (second_behind as_lparen (begins_word (codes "offset")) a b u f))
 
 -- the same behind `data id? name?`
-pub offset_behind_front : (t a b r : List Tok) (i n : Option (List ℕ)) → one_reads (word_only (codes "data")) t ≡ Some (tt, a) → (opt begins_id identifier).reads a ≡ Some (i, b) → (opt begins_name name_annotation).reads b ≡ Some (n, r)
-    → offset_behind (data_memory.reads r) ≡ offset_behind (data_front.reads t)
-unfolding data_front label
-offset_behind_front t a b r i n e f g = rw (e, f, g) (by_read (data_memory.reads r) (λ x k. rw k refl) (λ k. rw k refl))
+pub offset_behind_front : (t a b : List Tok) (l : Label) → one_reads (word_only (codes "data")) t ≡ Some (tt, a) → label.reads a ≡ Some (l, b) → offset_behind (data_memory.reads b) ≡ offset_behind (data_front.reads t)
+unfolding data_front
+offset_behind_front t a b l e f = rw (e, f) (by_read (data_memory.reads b) (λ x k. rw k refl) (λ k. rw k refl))
 
 -- ---- tables
 

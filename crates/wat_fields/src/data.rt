@@ -14,7 +14,9 @@ use crate::data_val::{DataVal, read_vals};
 use crate::numbers::numbers_next;
 use crate::offset::read_offset;
 use wat_expr::Expression;
+use wat_tokens::enclosed::in_word_group;
 use wat_tokens::{Fault, Id, Index, NameAnnotation, Parse, Parser, Result, Span};
+use wat_types::take_label;
 
 /// A data segment of a module (WebAssembly Core Specification, Text Format, Modules, "Data
 /// Segments").
@@ -60,11 +62,7 @@ fn read_memory<'a>(parser: &mut Parser<'a>, span: Span) -> Result<Index<'a>>
     if !parser.second_is("memory") {
         return Ok(Index::Num(0, span));
     }
-    parser.open()?;
-    parser.keyword("memory")?;
-    let index = Index::parse(parser)?;
-    parser.close()?;
-    Ok(index)
+    in_word_group(parser, "memory")
 }
 
 /// Whether what makes a segment passive is in front: `)`, a string, or a group of numbers.
@@ -122,7 +120,7 @@ impl<'a> Parse<'a> for Data<'a> {
 
     ghost grammar = { data_segment };
 
-    #[tactic(auto, unfolding(crate::specs::Data::data_segment, wat_types::specs::Label::label))]
+    #[tactic(auto, unfolding(crate::specs::Data::data_segment))]
     fn parse(parser: &mut Parser<'a>) -> Result<Self>
         ensures reads { ReadsAt turns_too (owning data_view bare_data) data_segment result
             parser.old parser.new }
@@ -130,8 +128,7 @@ impl<'a> Parse<'a> for Data<'a> {
             parser.old.tracks d.kind) }
     {
         let span = parser.keyword("data")?;
-        let id = Option::<Id>::parse(parser)?;
-        let name = Option::<NameAnnotation>::parse(parser)?;
+        let (id, name) = take_label(parser)?;
         let kind = read_data_kind(parser, span)?;
         let data = read_vals(parser)?;
         Ok(Data {

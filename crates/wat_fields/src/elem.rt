@@ -14,8 +14,9 @@ ghost use Rattle.wat_fields.specs.Spans.{ElemSpansAre};
 
 use crate::payload::{ElemPayload, read_payload, read_payload_or_indices, read_written_or_folded};
 use wat_expr::Expression;
+use wat_tokens::enclosed::in_word_group;
 use wat_tokens::{Fault, Id, Index, NameAnnotation, Parse, Parser, Result, Span};
-use wat_types::RefType;
+use wat_types::{RefType, take_label};
 
 /// An element segment of a module (WebAssembly Core Specification, Text Format, Modules, "Element
 /// Segments").
@@ -71,13 +72,9 @@ fn read_in_table<'a>(parser: &mut Parser<'a>) -> Result<Segment<'a>>
         parser.new }
     ensures spans { IfOk result (λ s. ElemSpansAre parser.old.tracks s) }
 {
-    parser.open()?;
-    parser.keyword("table")?;
-    let index = Index::parse(parser)?;
-    parser.close()?;
+    let table = Some(in_word_group(parser, "table")?);
     let offset = read_offset(parser)?;
     let payload = read_payload(parser)?;
-    let table = Some(index);
     Ok((ElemKind::Active { table, offset }, payload))
 }
 
@@ -189,15 +186,14 @@ impl<'a> Parse<'a> for Elem<'a> {
 
     ghost grammar = { elem };
 
-    #[tactic(auto, unfolding(crate::specs::Elem::elem, wat_types::specs::Label::label))]
+    #[tactic(auto, unfolding(crate::specs::Elem::elem))]
     fn parse(parser: &mut Parser<'a>) -> Result<Self>
         ensures reads { ReadsAt turns_too (owning elem_view bare_elem) elem result parser.old
             parser.new }
         ensures spans { IfOk result (λ e. ElemSpansAre parser.old.tracks (e.kind, e.payload)) }
     {
         let span = parser.keyword("elem")?;
-        let id = Option::<Id>::parse(parser)?;
-        let name = Option::<NameAnnotation>::parse(parser)?;
+        let (id, name) = take_label(parser)?;
         let (kind, payload) = read_segment(parser, span)?;
         Ok(Elem {
             span,

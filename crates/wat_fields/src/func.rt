@@ -12,6 +12,7 @@ ghost use Rattle.wat_fields.specs.Spans.{FuncSpansAre};
 use crate::local::Local;
 use wat_expr::Expression;
 use wat_links::{FieldHead, InlineExport, InlineImport};
+use wat_tokens::enclosed::in_word_group;
 use wat_tokens::{Fault, Id, NameAnnotation, Parse, Parser, Result, Span};
 use wat_types::{FunctionType, TypeUse};
 
@@ -59,11 +60,7 @@ fn read_exact_use<'a>(parser: &mut Parser<'a>) -> Result<(TypeUse<'a, FunctionTy
     if !parser.second_is("exact") {
         return Ok((TypeUse::parse(parser)?, false));
     }
-    parser.open()?;
-    parser.keyword("exact")?;
-    let ty = TypeUse::parse(parser)?;
-    parser.close()?;
-    Ok((ty, true))
+    Ok((in_word_group(parser, "exact")?, true))
 }
 
 /// An import in line, and a type use, exact or not.

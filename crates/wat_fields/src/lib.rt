@@ -28,6 +28,6 @@ pub use func::{Func, FuncKind};
 pub use global::{Global, GlobalKind};
 pub use local::{Local, LocalParser};
 pub use memory::{Memory, MemoryKind};
-pub use payload::ElemPayload;
+pub use payload::{ElemPayload, is_funcref};
 pub use table::{Table, TableKind};
 pub use tag::{Tag, TagKind};

@@ -13,7 +13,7 @@ ghost use Rattle.wat_fields.specs.Locals.{locals};
 
 use wat_tokens::repeat::{Group, Part, all_groups, parts};
 use wat_tokens::{Fault, Id, NameAnnotation, Parse, Parser, Result};
-use wat_types::ValType;
+use wat_types::{ValType, take_label};
 
 /// A local of a function (WebAssembly Core Specification, Text Format, Modules, "Functions").
 #[derive(Clone, Debug, Drop)]
@@ -61,15 +61,14 @@ impl<'a> Part<'a, Local<'a>> for PlainLocal {
 }
 
 /// A local with an identifier or a name, put behind those that are there.
-#[tactic(auto, unfolding(crate::specs::Local::labelled_local, wat_types::specs::Label::label))]
+#[tactic(auto, unfolding(crate::specs::Local::labelled_local))]
 fn read_labelled<'a>(parser: &mut Parser<'a>, out: &mut Vec<Local<'a>>) -> Result<()>
     ensures reads { Call tokens_alone (owning (λ _. locals_view out.new.items) no_items)
         (after_front (locals_view out.old.items) (labelled_local.reads parser.old.left)) result
         parser.old parser.new }
     ensures kept { Extends out.old.items out.new.items }
 {
-    let id = Option::<Id>::parse(parser)?;
-    let name = Option::<NameAnnotation>::parse(parser)?;
+    let (id, name) = take_label(parser)?;
     let ty = ValType::parse(parser)?;
     out.push(Local { id, name, ty })?;
     Ok(())

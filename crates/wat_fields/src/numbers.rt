@@ -41,7 +41,7 @@ impl<'a> Group<'a, u8> for I8Bytes {
         !parser.is_empty()
     }
 
-    #[tactic(auto, using(crate::proofs::Bytes::bytes_again, wat_tokens::specs::Laws::Filled::filled_behind))]
+    #[tactic(auto, using(crate::proofs::Bytes::bytes_put))]
     fn take(parser: &mut Parser<'a>, out: &mut Vec<u8>) -> Result<()> {
         let number = i8::parse(parser)?;
         append(out, &number.cast_unsigned().to_le_bytes())
@@ -64,7 +64,7 @@ impl<'a> Group<'a, u8> for I16Bytes {
         !parser.is_empty()
     }
 
-    #[tactic(auto, using(crate::proofs::Bytes::bytes_again, wat_tokens::specs::Laws::Filled::filled_behind))]
+    #[tactic(auto, using(crate::proofs::Bytes::bytes_put))]
     fn take(parser: &mut Parser<'a>, out: &mut Vec<u8>) -> Result<()> {
         let number = i16::parse(parser)?;
         append(out, &number.cast_unsigned().to_le_bytes())
@@ -87,7 +87,7 @@ impl<'a> Group<'a, u8> for I32Bytes {
         !parser.is_empty()
     }
 
-    #[tactic(auto, using(crate::proofs::Bytes::bytes_again, wat_tokens::specs::Laws::Filled::filled_behind))]
+    #[tactic(auto, using(crate::proofs::Bytes::bytes_put))]
     fn take(parser: &mut Parser<'a>, out: &mut Vec<u8>) -> Result<()> {
         let number = i32::parse(parser)?;
         append(out, &number.cast_unsigned().to_le_bytes())
@@ -110,7 +110,7 @@ impl<'a> Group<'a, u8> for I64Bytes {
         !parser.is_empty()
     }
 
-    #[tactic(auto, using(crate::proofs::Bytes::bytes_again, wat_tokens::specs::Laws::Filled::filled_behind))]
+    #[tactic(auto, using(crate::proofs::Bytes::bytes_put))]
     fn take(parser: &mut Parser<'a>, out: &mut Vec<u8>) -> Result<()> {
         let number = i64::parse(parser)?;
         append(out, &number.cast_unsigned().to_le_bytes())
@@ -133,7 +133,7 @@ impl<'a> Group<'a, u8> for F32Bytes {
         !parser.is_empty()
     }
 
-    #[tactic(auto, using(crate::proofs::Bytes::bytes_again, wat_tokens::specs::Laws::Filled::filled_behind))]
+    #[tactic(auto, using(crate::proofs::Bytes::bytes_put))]
     fn take(parser: &mut Parser<'a>, out: &mut Vec<u8>) -> Result<()> {
         let number = F32::parse(parser)?;
         append(out, &number.bits.to_le_bytes())
@@ -156,7 +156,7 @@ impl<'a> Group<'a, u8> for F64Bytes {
         !parser.is_empty()
     }
 
-    #[tactic(auto, using(crate::proofs::Bytes::bytes_again, wat_tokens::specs::Laws::Filled::filled_behind))]
+    #[tactic(auto, using(crate::proofs::Bytes::bytes_put))]
     fn take(parser: &mut Parser<'a>, out: &mut Vec<u8>) -> Result<()> {
         let number = F64::parse(parser)?;
         append(out, &number.bits.to_le_bytes())
@@ -179,7 +179,7 @@ impl<'a> Group<'a, u8> for V128Bytes {
         !parser.is_empty()
     }
 
-    #[tactic(auto, using(crate::proofs::Bytes::bytes_again, wat_tokens::specs::Laws::Filled::filled_behind))]
+    #[tactic(auto, using(crate::proofs::Bytes::bytes_put))]
     fn take(parser: &mut Parser<'a>, out: &mut Vec<u8>) -> Result<()> {
         let constant = V128Const::parse(parser)?;
         append(out, &constant.to_le_bytes())
@@ -187,7 +187,7 @@ impl<'a> Group<'a, u8> for V128Bytes {
 }
 
 /// `f32` and `f64`, behind which no number can be read, or `v128` and constants.
-#[tactic(auto, using(wat_tokens::specs::Laws::Joined::joined_reads, crate::specs::Laws::Numbers::vector_consumes, crate::proofs::Bytes::bytes_again), unfolding(crate::specs::Numbers::other_numbers))]
+#[tactic(auto, using(crate::proofs::Bytes::joins), unfolding(crate::specs::Numbers::other_numbers))]
 fn read_other<'a>(parser: &mut Parser<'a>) -> Result<Vec<u8>>
     ensures reads { Reads (owning (λ v. v.items) no_items) other_numbers result parser.old
         parser.new }
@@ -203,9 +203,10 @@ fn read_other<'a>(parser: &mut Parser<'a>) -> Result<Vec<u8>>
 }
 
 /// `i32` or `i64` and integers of so many bits, or other numbers.
-#[tactic(auto, using(wat_tokens::specs::Laws::Joined::joined_reads, crate::proofs::Bytes::bytes_again), unfolding(crate::specs::Numbers::wide_numbers))]
+#[tactic(auto, using(crate::proofs::Bytes::joins), unfolding(crate::specs::Numbers::wide_numbers))]
 fn read_wide<'a>(parser: &mut Parser<'a>) -> Result<Vec<u8>>
-    ensures reads { Reads (owning (λ v. v.items) no_items) wide_numbers result parser.old parser.new }
+    ensures reads { Reads (owning (λ v. v.items) no_items) wide_numbers result parser.old
+        parser.new }
 {
     if parser.flag("i32") {
         return all_groups::<u8, I32Bytes>(parser);
@@ -221,9 +222,10 @@ fn read_wide<'a>(parser: &mut Parser<'a>) -> Result<Vec<u8>>
 /// An integer is read with a sign: it is refused with Range, at the integer, where it is out of
 /// range. A number behind `f32` or `f64` is refused with FloatLiteral, and another word in front
 /// with Unexpected, at the word.
-#[tactic(auto, using(wat_tokens::specs::Laws::Joined::joined_reads, crate::proofs::Bytes::bytes_again), unfolding(crate::specs::Numbers::number_list))]
+#[tactic(auto, using(crate::proofs::Bytes::joins), unfolding(crate::specs::Numbers::number_list))]
 pub(crate) fn read_numbers<'a>(parser: &mut Parser<'a>) -> Result<Vec<u8>>
-    ensures reads { Reads (owning (λ v. v.items) no_items) number_list result parser.old parser.new }
+    ensures reads { Reads (owning (λ v. v.items) no_items) number_list result parser.old
+        parser.new }
 {
     if parser.flag("i8") {
         return all_groups::<u8, I8Bytes>(parser);

@@ -151,7 +151,7 @@ fn read_plain_indices<'a>(parser: &mut Parser<'a>) -> Result<ElemPayload<'a>>
 }
 
 /// Whether it is the type that `funcref` is.
-fn is_funcref(ty: RefType<'_>) -> bool
+pub fn is_funcref(ty: RefType<'_>) -> bool
     ensures { result ≡ is_funcref (ref_view ty.entry) }
 {
     match ty.heap {

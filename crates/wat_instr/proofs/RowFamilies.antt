@@ -35,19 +35,19 @@ opens_if_no_more : (h : Op) → (op_row h == op_row (ops.Block block.if_)) ≡ f
 opens_if_no_more (ops.Block block.if_) a = absurd cc
 opens_if_no_more _ a = refl
 
--- a test that the head t alone passes
-one_head : (t : Op) (test : Op → Bool) → test t ≡ true → ((h : Op) → (op_row h == op_row t) ≡ false → test h ≡ false) → (h : Op) → (op_row h == op_row t) ≡ test h
-one_head t test passes others h =
+-- a test that the instruction t alone passes
+one_op : (t : Op) (test : Op → Bool) → test t ≡ true → ((h : Op) → (op_row h == op_row t) ≡ false → test h ≡ false) → (h : Op) → (op_row h == op_row t) ≡ test h
+one_op t test passes others h =
     by_test (op_row h == op_row t)
     (λ a. a ∙ sym (ap test (same_row h t a) ∙ passes))
     (λ a. a ∙ sym (others h a))
 
 pub if_rows : (h : Op) → is_if (op_row h) ≡ opens_if h
-if_rows h = one_head (ops.Block block.if_) opens_if refl opens_if_no_more h
+if_rows h = one_op (ops.Block block.if_) opens_if refl opens_if_no_more h
 
 branches_no_more : (h : Op) → (op_row h == op_row (ops.Indexed indexed.br_if)) ≡ false → branches_if h ≡ false
 branches_no_more (ops.Indexed indexed.br_if) a = absurd cc
 branches_no_more _ a = refl
 
 pub br_if_rows : (h : Op) → is_br_if (op_row h) ≡ branches_if h
-br_if_rows h = one_head (ops.Indexed indexed.br_if) branches_if refl branches_no_more h
+br_if_rows h = one_op (ops.Indexed indexed.br_if) branches_if refl branches_no_more h

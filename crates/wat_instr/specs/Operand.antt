@@ -93,8 +93,8 @@ pub data Operand : Type 0 where
 abbrev pub says_something : BlockTy → Bool
 says_something b = labelled b.label || (is_some b.ty.index || is_some b.ty.inline)
 
--- it holds no memory: no box, and no vector that has an item; a block of which nothing is said needs
--- no box
+-- it holds no memory: no box, and no vector that has an item; a block of which nothing is said
+-- needs no box
 abbrev pub bare_operand : Operand → Bool
 bare_operand nothing = true
 bare_operand (block x) = not (says_something x)

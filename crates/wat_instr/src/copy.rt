@@ -16,8 +16,8 @@ use wat_operands::{
 use wat_tokens::{Error, Id, Index, Result};
 
 impl<'a> Instruction<'a> {
-    /// The same instruction once more; a block of which nothing is said has no box in it. Memory may
-    /// be answered where the operand is in a box or has a list that isn't empty.
+    /// The same instruction once more; a block of which nothing is said has no box in it. Memory
+    /// may be answered where the operand is in a box or has a list that isn't empty.
     pub fn clone(&self) -> Result<Instruction<'a>>
         ensures copies { Copies SameInstruction (owning instruction_view bare_instruction) result
             self.now }

@@ -60,7 +60,8 @@ pub(crate) fn read_block<'a, P: Sink<'a>>(
     out: &mut P,
 ) -> Result<()>
     requires { P.has_room out.old }
-    ensures { ReadsOperand (ops.Block op) (P.seen out.old) (P.seen out.new) result parser.old parser.new }
+    ensures { ReadsOperand (ops.Block op) (P.seen out.old) (P.seen out.new) result parser.old
+        parser.new }
 {
     match BlockType::parse(parser) {
         Ok(block) => match boxed(parser.alloc(), block) {
@@ -82,7 +83,8 @@ pub(crate) fn read_label<'a, P: Sink<'a>>(
     out: &mut P,
 ) -> Result<()>
     requires { P.has_room out.old }
-    ensures { ReadsOperand (ops.Label op) (P.seen out.old) (P.seen out.new) result parser.old parser.new }
+    ensures { ReadsOperand (ops.Label op) (P.seen out.old) (P.seen out.new) result parser.old
+        parser.new }
 {
     match Option::<Id>::parse(parser) {
         Ok(operand) => {
@@ -95,7 +97,7 @@ pub(crate) fn read_label<'a, P: Sink<'a>>(
 
 /// An instruction with an index.
 impl<'a> OperandOf<'a, IndexedOp> for Index<'a> {
-    ghost word = { λ op. ops.Indexed op };
+    ghost op_of = { λ op. ops.Indexed op };
 
     ghost seen = { λ x. operands.one_index (index_view x) };
 
@@ -120,7 +122,8 @@ pub(crate) fn read_call_indirect<'a, P: Sink<'a>>(
     out: &mut P,
 ) -> Result<()>
     requires { P.has_room out.old }
-    ensures { ReadsOperand (ops.CallIndirect op) (P.seen out.old) (P.seen out.new) result parser.old parser.new }
+    ensures { ReadsOperand (ops.CallIndirect op) (P.seen out.old) (P.seen out.new) result parser.old
+        parser.new }
 {
     match Box::<CallIndirect>::parse(parser) {
         Ok(operand) => {
@@ -133,7 +136,7 @@ pub(crate) fn read_call_indirect<'a, P: Sink<'a>>(
 
 /// An instruction with a table.
 impl<'a> OperandOf<'a, TableOp> for TableArg<'a> {
-    ghost word = { λ op. ops.Table op };
+    ghost op_of = { λ op. ops.Table op };
 
     ghost seen = { λ x. operands.one_index (table_arg_view x) };
 
@@ -159,7 +162,8 @@ pub(crate) fn read_access<'a, P: Sink<'a>>(
     out: &mut P,
 ) -> Result<()>
     requires { P.has_room out.old }
-    ensures { ReadsOperand (ops.Access op) (P.seen out.old) (P.seen out.new) result parser.old parser.new }
+    ensures { ReadsOperand (ops.Access op) (P.seen out.old) (P.seen out.new) result parser.old
+        parser.new }
 {
     match MemArg::read(parser, op.align()) {
         Ok(operand) => {
@@ -172,7 +176,7 @@ pub(crate) fn read_access<'a, P: Sink<'a>>(
 
 /// An instruction with a memory.
 impl<'a> OperandOf<'a, MemoryOp> for MemoryArg<'a> {
-    ghost word = { λ op. ops.Memory op };
+    ghost op_of = { λ op. ops.Memory op };
 
     ghost seen = { λ x. operands.one_index (memory_arg_view x) };
 
@@ -192,7 +196,7 @@ impl<'a> OperandOf<'a, MemoryOp> for MemoryArg<'a> {
 
 /// A field of a structure.
 impl<'a> OperandOf<'a, StructOp> for StructAccess<'a> {
-    ghost word = { λ op. ops.Struct op };
+    ghost op_of = { λ op. ops.Struct op };
 
     ghost seen = { λ x. operands.two_indices (struct_access_view x) };
 
@@ -212,7 +216,7 @@ impl<'a> OperandOf<'a, StructOp> for StructAccess<'a> {
 
 /// An array, and the segment that it is filled from.
 impl<'a> OperandOf<'a, ArrayInitOp> for ArrayInit<'a> {
-    ghost word = { λ op. ops.ArrayInit op };
+    ghost op_of = { λ op. ops.ArrayInit op };
 
     ghost seen = { λ x. operands.two_indices (array_init_view x) };
 
@@ -237,7 +241,8 @@ pub(crate) fn read_atomic_access<'a, P: Sink<'a>>(
     out: &mut P,
 ) -> Result<()>
     requires { P.has_room out.old }
-    ensures { ReadsOperand (ops.AtomicAccess op) (P.seen out.old) (P.seen out.new) result parser.old parser.new }
+    ensures { ReadsOperand (ops.AtomicAccess op) (P.seen out.old) (P.seen out.new) result parser.old
+        parser.new }
 {
     match MemArg::read_atomic(parser, op.align(), false) {
         Ok(operand) => {
@@ -255,7 +260,8 @@ pub(crate) fn read_rmw_access<'a, P: Sink<'a>>(
     out: &mut P,
 ) -> Result<()>
     requires { P.has_room out.old }
-    ensures { ReadsOperand (ops.RmwAccess op) (P.seen out.old) (P.seen out.new) result parser.old parser.new }
+    ensures { ReadsOperand (ops.RmwAccess op) (P.seen out.old) (P.seen out.new) result parser.old
+        parser.new }
 {
     match MemArg::read_atomic(parser, op.align(), true) {
         Ok(operand) => {
@@ -268,7 +274,7 @@ pub(crate) fn read_rmw_access<'a, P: Sink<'a>>(
 
 /// An atomic access to what an index names.
 impl<'a> OperandOf<'a, OrderedIndexOp> for Ordered<Index<'a>> {
-    ghost word = { λ op. ops.OrderedIndex op };
+    ghost op_of = { λ op. ops.OrderedIndex op };
 
     ghost seen = { λ x. operands.ordered_index (ordered_view index_view x) };
 
@@ -288,7 +294,7 @@ impl<'a> OperandOf<'a, OrderedIndexOp> for Ordered<Index<'a>> {
 
 /// An atomic access to a table.
 impl<'a> OperandOf<'a, OrderedTableOp> for Ordered<TableArg<'a>> {
-    ghost word = { λ op. ops.OrderedTable op };
+    ghost op_of = { λ op. ops.OrderedTable op };
 
     ghost seen = { λ x. operands.ordered_index (ordered_view table_arg_view x) };
 
@@ -308,7 +314,7 @@ impl<'a> OperandOf<'a, OrderedTableOp> for Ordered<TableArg<'a>> {
 
 /// An atomic access to a field of a structure.
 impl<'a> OperandOf<'a, OrderedStructOp> for Ordered<StructAccess<'a>> {
-    ghost word = { λ op. ops.OrderedStruct op };
+    ghost op_of = { λ op. ops.OrderedStruct op };
 
     ghost seen = { λ x. operands.ordered_indices (ordered_view struct_access_view x) };
 
@@ -333,7 +339,8 @@ pub(crate) fn read_lane_access<'a, P: Sink<'a>>(
     out: &mut P,
 ) -> Result<()>
     requires { P.has_room out.old }
-    ensures { ReadsOperand (ops.LaneAccess op) (P.seen out.old) (P.seen out.new) result parser.old parser.new }
+    ensures { ReadsOperand (ops.LaneAccess op) (P.seen out.old) (P.seen out.new) result parser.old
+        parser.new }
 {
     match LoadOrStoreLane::read(parser, op.align()) {
         Ok(operand) => {
@@ -346,7 +353,7 @@ pub(crate) fn read_lane_access<'a, P: Sink<'a>>(
 
 /// A lane that is taken out or replaced.
 impl<'a> OperandOf<'a, LaneOp> for LaneArg {
-    ghost word = { λ op. ops.Lane op };
+    ghost op_of = { λ op. ops.Lane op };
 
     ghost seen = { operands.lane };
 
@@ -372,7 +379,8 @@ pub(crate) fn bare_scalar<'a, P: Sink<'a>>(
     out: &mut P,
 ) -> Result<()>
     requires { P.has_room out.old }
-    ensures { ReadsOperand (ops.Scalar op) (P.seen out.old) (P.seen out.new) result parser.old parser.new }
+    ensures { ReadsOperand (ops.Scalar op) (P.seen out.old) (P.seen out.new) result parser.old
+        parser.new }
 {
     out.put(Instruction::Scalar(op));
     Ok(())
@@ -386,7 +394,8 @@ pub(crate) fn bare_vector<'a, P: Sink<'a>>(
     out: &mut P,
 ) -> Result<()>
     requires { P.has_room out.old }
-    ensures { ReadsOperand (ops.Vector op) (P.seen out.old) (P.seen out.new) result parser.old parser.new }
+    ensures { ReadsOperand (ops.Vector op) (P.seen out.old) (P.seen out.new) result parser.old
+        parser.new }
 {
     out.put(Instruction::Vector(op));
     Ok(())

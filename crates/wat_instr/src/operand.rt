@@ -14,18 +14,19 @@ use wat_tokens::{Parse, Parser, Result};
 
 /// A type that is the operand of the instructions of a `Family`; of one alone where that is `()`.
 pub(crate) trait OperandOf<'a, Family>: Parse<'a> {
-    /// The words of the instructions.
-    ghost word: { Family → Op };
+    /// The instructions, without their operands.
+    ghost op_of: { Family → Op };
 
     /// What contracts see of an operand.
     ghost seen: { Self → Operand };
 
     /// The instruction that has this operand.
     fn instruction(self, op: Family) -> Instruction<'a>
-        ensures { instruction_view result ≡ instr_of (word op) (seen self) };
+        ensures { instruction_view result ≡ instr_of (op_of op) (seen self) };
 
     /// What follows the word is read as the type is.
-    ghost is_operand: { (op : Family) → IsOperandOf (word op) seen Self.cost Self.view Self.grammar };
+    ghost is_operand: { (op : Family) → IsOperandOf (op_of op) seen Self.cost Self.view
+        Self.grammar };
 }
 
 /// Takes an operand, and puts the instruction.
@@ -36,7 +37,8 @@ pub(crate) fn read_as<'a, Family: Copy, T: OperandOf<'a, Family>, P: Sink<'a>>(
     out: &mut P,
 ) -> Result<()>
     requires { P.has_room out.old }
-    ensures { ReadsOperand (T.word op) (P.seen out.old) (P.seen out.new) result parser.old parser.new }
+    ensures { ReadsOperand (T.op_of op) (P.seen out.old) (P.seen out.new) result parser.old
+        parser.new }
 {
     match T::parse(parser) {
         Ok(operand) => {
@@ -54,7 +56,8 @@ pub(crate) fn read_apart<'a, Family: Copy, T: OperandOf<'a, Family>, P: Sink<'a>
     out: &mut P,
 ) -> Result<()>
     requires { P.has_room out.old }
-    ensures { ReadsOperand (T.word op) (P.seen out.old) (P.seen out.new) result parser.old parser.new }
+    ensures { ReadsOperand (T.op_of op) (P.seen out.old) (P.seen out.new) result parser.old
+        parser.new }
 {
     read_as::<Family, T, P>(op, parser, out)
 }

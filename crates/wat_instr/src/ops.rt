@@ -1,4 +1,4 @@
-//! The word of an instruction, its opcode, and what it opens.
+//! An instruction without its operand, its word, its opcode, and what it opens.
 
 ghost use Rattle.std.specs.Prelude.{◌≡◌};
 ghost use Rattle.wat_mnemonics.specs.Ops.{op_row, op_word, op_opcode};
@@ -137,8 +137,7 @@ impl Instruction<'_> {
     }
 }
 
-/// Whether it is the word of `block`, `loop` or `try_table`, which stand before the items of a
-/// block.
+/// Whether it is `block`, `loop` or `try_table`, which stand before the items of a block.
 #[inline(always)]
 #[tactic(auto, using(crate::proofs::RowFamilies::block_rows))]
 pub fn opens_block(op: Op) -> bool
@@ -156,7 +155,7 @@ pub fn opens_block(op: Op) -> bool
     }
 }
 
-/// Whether it is the word `if`.
+/// Whether it is `if`.
 #[inline(always)]
 #[tactic(auto, using(crate::proofs::RowFamilies::if_rows))]
 pub fn opens_if(op: Op) -> bool
@@ -173,7 +172,7 @@ pub fn opens_if(op: Op) -> bool
     }
 }
 
-/// Whether it is the word `br_if`.
+/// Whether it is `br_if`.
 #[inline(always)]
 #[tactic(auto, using(crate::proofs::RowFamilies::br_if_rows))]
 pub fn branches_if(op: Op) -> bool

@@ -20,7 +20,7 @@ use wat_types::HeapType;
 
 /// `br_table`.
 impl<'a> OperandOf<'a, ()> for BrTableIndices<'a> {
-    ghost word = { λ _. ops.br_table };
+    ghost op_of = { λ _. ops.br_table };
 
     ghost seen = { λ x. operand_in (code.br_table x) };
 
@@ -40,7 +40,7 @@ impl<'a> OperandOf<'a, ()> for BrTableIndices<'a> {
 
 /// `select`.
 impl<'a> OperandOf<'a, ()> for SelectTypes<'a> {
-    ghost word = { λ _. ops.select };
+    ghost op_of = { λ _. ops.select };
 
     ghost seen = { λ x. operand_in (code.select x) };
 
@@ -60,7 +60,7 @@ impl<'a> OperandOf<'a, ()> for SelectTypes<'a> {
 
 /// `memory.init`.
 impl<'a> OperandOf<'a, ()> for MemoryInit<'a> {
-    ghost word = { λ _. ops.memory_init };
+    ghost op_of = { λ _. ops.memory_init };
 
     ghost seen = { λ x. operand_in (code.memory_init x) };
 
@@ -80,7 +80,7 @@ impl<'a> OperandOf<'a, ()> for MemoryInit<'a> {
 
 /// `memory.copy`.
 impl<'a> OperandOf<'a, ()> for MemoryCopy<'a> {
-    ghost word = { λ _. ops.memory_copy };
+    ghost op_of = { λ _. ops.memory_copy };
 
     ghost seen = { λ x. operand_in (code.memory_copy x) };
 
@@ -100,7 +100,7 @@ impl<'a> OperandOf<'a, ()> for MemoryCopy<'a> {
 
 /// `table.init`.
 impl<'a> OperandOf<'a, ()> for TableInit<'a> {
-    ghost word = { λ _. ops.table_init };
+    ghost op_of = { λ _. ops.table_init };
 
     ghost seen = { λ x. operand_in (code.table_init x) };
 
@@ -120,7 +120,7 @@ impl<'a> OperandOf<'a, ()> for TableInit<'a> {
 
 /// `table.copy`.
 impl<'a> OperandOf<'a, ()> for TableCopy<'a> {
-    ghost word = { λ _. ops.table_copy };
+    ghost op_of = { λ _. ops.table_copy };
 
     ghost seen = { λ x. operand_in (code.table_copy x) };
 
@@ -140,7 +140,7 @@ impl<'a> OperandOf<'a, ()> for TableCopy<'a> {
 
 /// `ref.null`.
 impl<'a> OperandOf<'a, ()> for HeapType<'a> {
-    ghost word = { λ _. ops.ref_null };
+    ghost op_of = { λ _. ops.ref_null };
 
     ghost seen = { λ x. operand_in (code.ref_null x) };
 
@@ -160,7 +160,7 @@ impl<'a> OperandOf<'a, ()> for HeapType<'a> {
 
 /// `array.new_fixed`.
 impl<'a> OperandOf<'a, ()> for ArrayNewFixed<'a> {
-    ghost word = { λ _. ops.array_new_fixed };
+    ghost op_of = { λ _. ops.array_new_fixed };
 
     ghost seen = { λ x. operand_in (code.array_new_fixed x) };
 
@@ -180,7 +180,7 @@ impl<'a> OperandOf<'a, ()> for ArrayNewFixed<'a> {
 
 /// `array.new_data`.
 impl<'a> OperandOf<'a, ()> for ArrayNewData<'a> {
-    ghost word = { λ _. ops.array_new_data };
+    ghost op_of = { λ _. ops.array_new_data };
 
     ghost seen = { λ x. operand_in (code.array_new_data x) };
 
@@ -200,7 +200,7 @@ impl<'a> OperandOf<'a, ()> for ArrayNewData<'a> {
 
 /// `array.new_elem`.
 impl<'a> OperandOf<'a, ()> for ArrayNewElem<'a> {
-    ghost word = { λ _. ops.array_new_elem };
+    ghost op_of = { λ _. ops.array_new_elem };
 
     ghost seen = { λ x. operand_in (code.array_new_elem x) };
 
@@ -220,7 +220,7 @@ impl<'a> OperandOf<'a, ()> for ArrayNewElem<'a> {
 
 /// `array.fill`.
 impl<'a> OperandOf<'a, ()> for ArrayFill<'a> {
-    ghost word = { λ _. ops.array_fill };
+    ghost op_of = { λ _. ops.array_fill };
 
     ghost seen = { λ x. operand_in (code.array_fill x) };
 
@@ -240,7 +240,7 @@ impl<'a> OperandOf<'a, ()> for ArrayFill<'a> {
 
 /// `array.copy`.
 impl<'a> OperandOf<'a, ()> for ArrayCopy<'a> {
-    ghost word = { λ _. ops.array_copy };
+    ghost op_of = { λ _. ops.array_copy };
 
     ghost seen = { λ x. operand_in (code.array_copy x) };
 
@@ -260,7 +260,7 @@ impl<'a> OperandOf<'a, ()> for ArrayCopy<'a> {
 
 /// `ref.test`.
 impl<'a> OperandOf<'a, ()> for RefTest<'a> {
-    ghost word = { λ _. ops.ref_test };
+    ghost op_of = { λ _. ops.ref_test };
 
     ghost seen = { λ x. operand_in (code.ref_test x) };
 
@@ -280,7 +280,7 @@ impl<'a> OperandOf<'a, ()> for RefTest<'a> {
 
 /// `ref.cast`.
 impl<'a> OperandOf<'a, ()> for RefCast<'a> {
-    ghost word = { λ _. ops.ref_cast };
+    ghost op_of = { λ _. ops.ref_cast };
 
     ghost seen = { λ x. operand_in (code.ref_cast x) };
 
@@ -300,7 +300,7 @@ impl<'a> OperandOf<'a, ()> for RefCast<'a> {
 
 /// `br_on_cast`.
 impl<'a> OperandOf<'a, ()> for Box<BrOnCast<'a>> {
-    ghost word = { λ _. ops.br_on_cast };
+    ghost op_of = { λ _. ops.br_on_cast };
 
     ghost seen = { λ x. operand_in (code.br_on_cast x) };
 
@@ -320,7 +320,7 @@ impl<'a> OperandOf<'a, ()> for Box<BrOnCast<'a>> {
 
 /// `br_on_cast_fail`.
 impl<'a> OperandOf<'a, ()> for Box<BrOnCastFail<'a>> {
-    ghost word = { λ _. ops.br_on_cast_fail };
+    ghost op_of = { λ _. ops.br_on_cast_fail };
 
     ghost seen = { λ x. operand_in (code.br_on_cast_fail x) };
 
@@ -340,7 +340,7 @@ impl<'a> OperandOf<'a, ()> for Box<BrOnCastFail<'a>> {
 
 /// `i32.const`.
 impl<'a> OperandOf<'a, ()> for i32 {
-    ghost word = { λ _. ops.i32_const };
+    ghost op_of = { λ _. ops.i32_const };
 
     ghost seen = { λ x. operand_in (code.i32_const x) };
 
@@ -360,7 +360,7 @@ impl<'a> OperandOf<'a, ()> for i32 {
 
 /// `i64.const`.
 impl<'a> OperandOf<'a, ()> for i64 {
-    ghost word = { λ _. ops.i64_const };
+    ghost op_of = { λ _. ops.i64_const };
 
     ghost seen = { λ x. operand_in (code.i64_const x) };
 
@@ -380,7 +380,7 @@ impl<'a> OperandOf<'a, ()> for i64 {
 
 /// `f32.const`; no literal is read.
 impl<'a> OperandOf<'a, ()> for F32 {
-    ghost word = { λ _. ops.f32_const };
+    ghost op_of = { λ _. ops.f32_const };
 
     ghost seen = { λ x. operand_in (code.f32_const x) };
 
@@ -400,7 +400,7 @@ impl<'a> OperandOf<'a, ()> for F32 {
 
 /// `f64.const`; no literal is read.
 impl<'a> OperandOf<'a, ()> for F64 {
-    ghost word = { λ _. ops.f64_const };
+    ghost op_of = { λ _. ops.f64_const };
 
     ghost seen = { λ x. operand_in (code.f64_const x) };
 
@@ -420,7 +420,7 @@ impl<'a> OperandOf<'a, ()> for F64 {
 
 /// `atomic.fence`.
 impl<'a> OperandOf<'a, ()> for Option<Ordering> {
-    ghost word = { λ _. ops.atomic_fence };
+    ghost op_of = { λ _. ops.atomic_fence };
 
     ghost seen = { λ x. operand_in (code.atomic_fence x) };
 
@@ -440,7 +440,7 @@ impl<'a> OperandOf<'a, ()> for Option<Ordering> {
 
 /// `v128.const`.
 impl<'a> OperandOf<'a, ()> for V128Const {
-    ghost word = { λ _. ops.v128_const };
+    ghost op_of = { λ _. ops.v128_const };
 
     ghost seen = { λ x. operand_in (code.v128_const x) };
 
@@ -460,7 +460,7 @@ impl<'a> OperandOf<'a, ()> for V128Const {
 
 /// `i8x16.shuffle`.
 impl<'a> OperandOf<'a, ()> for I8x16Shuffle {
-    ghost word = { λ _. ops.i8x16_shuffle };
+    ghost op_of = { λ _. ops.i8x16_shuffle };
 
     ghost seen = { λ x. operand_in (code.i8x16_shuffle x) };
 
@@ -480,7 +480,7 @@ impl<'a> OperandOf<'a, ()> for I8x16Shuffle {
 
 /// `try_table`.
 impl<'a> OperandOf<'a, ()> for TryTable<'a> {
-    ghost word = { λ _. ops.try_table };
+    ghost op_of = { λ _. ops.try_table };
 
     ghost seen = { λ x. operand_in (code.try_table x) };
 
@@ -500,7 +500,7 @@ impl<'a> OperandOf<'a, ()> for TryTable<'a> {
 
 /// `cont.bind`.
 impl<'a> OperandOf<'a, ()> for ContBind<'a> {
-    ghost word = { λ _. ops.cont_bind };
+    ghost op_of = { λ _. ops.cont_bind };
 
     ghost seen = { λ x. operand_in (code.cont_bind x) };
 
@@ -520,7 +520,7 @@ impl<'a> OperandOf<'a, ()> for ContBind<'a> {
 
 /// `resume`.
 impl<'a> OperandOf<'a, ()> for Resume<'a> {
-    ghost word = { λ _. ops.resume };
+    ghost op_of = { λ _. ops.resume };
 
     ghost seen = { λ x. operand_in (code.resume x) };
 
@@ -540,7 +540,7 @@ impl<'a> OperandOf<'a, ()> for Resume<'a> {
 
 /// `resume_throw`.
 impl<'a> OperandOf<'a, ()> for Box<ResumeThrow<'a>> {
-    ghost word = { λ _. ops.resume_throw };
+    ghost op_of = { λ _. ops.resume_throw };
 
     ghost seen = { λ x. operand_in (code.resume_throw x) };
 
@@ -560,7 +560,7 @@ impl<'a> OperandOf<'a, ()> for Box<ResumeThrow<'a>> {
 
 /// `resume_throw_ref`.
 impl<'a> OperandOf<'a, ()> for ResumeThrowRef<'a> {
-    ghost word = { λ _. ops.resume_throw_ref };
+    ghost op_of = { λ _. ops.resume_throw_ref };
 
     ghost seen = { λ x. operand_in (code.resume_throw_ref x) };
 
@@ -580,7 +580,7 @@ impl<'a> OperandOf<'a, ()> for ResumeThrowRef<'a> {
 
 /// `switch`.
 impl<'a> OperandOf<'a, ()> for Switch<'a> {
-    ghost word = { λ _. ops.switch };
+    ghost op_of = { λ _. ops.switch };
 
     ghost seen = { λ x. operand_in (code.switch x) };
 
@@ -600,7 +600,7 @@ impl<'a> OperandOf<'a, ()> for Switch<'a> {
 
 /// `ref.cast_desc_eq`.
 impl<'a> OperandOf<'a, ()> for RefCastDescEq<'a> {
-    ghost word = { λ _. ops.ref_cast_desc_eq };
+    ghost op_of = { λ _. ops.ref_cast_desc_eq };
 
     ghost seen = { λ x. operand_in (code.ref_cast_desc_eq x) };
 
@@ -620,7 +620,7 @@ impl<'a> OperandOf<'a, ()> for RefCastDescEq<'a> {
 
 /// `br_on_cast_desc_eq`.
 impl<'a> OperandOf<'a, ()> for Box<BrOnCastDescEq<'a>> {
-    ghost word = { λ _. ops.br_on_cast_desc_eq };
+    ghost op_of = { λ _. ops.br_on_cast_desc_eq };
 
     ghost seen = { λ x. operand_in (code.br_on_cast_desc_eq x) };
 
@@ -640,7 +640,7 @@ impl<'a> OperandOf<'a, ()> for Box<BrOnCastDescEq<'a>> {
 
 /// `br_on_cast_desc_eq_fail`.
 impl<'a> OperandOf<'a, ()> for Box<BrOnCastDescEqFail<'a>> {
-    ghost word = { λ _. ops.br_on_cast_desc_eq_fail };
+    ghost op_of = { λ _. ops.br_on_cast_desc_eq_fail };
 
     ghost seen = { λ x. operand_in (code.br_on_cast_desc_eq_fail x) };
 

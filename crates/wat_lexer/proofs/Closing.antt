@@ -11,6 +11,7 @@ use Rattle.wat_lexer.specs.declared.lexeme.Skips.{Skips}
 use Rattle.wat_lexer.specs.Sight.{begins_hidden_group, begins_annotation_group, is_standard, annotation_name, shuts, deeper, behind_group, hidden_count_at, hidden_count}
 use Rattle.wat_lexer.specs.Cut.{Unclosed, Closed, FirstUnclosed}
 use Rattle.wat_lexer.specs.View.{entry_tok, toks, placed_of, placed, skip_in_front, skip, skipping, no_entry, AreSkips}
+use Rattle.wat_lexer.specs.Laws.Hidden.{begins_hidden_not_open}
 use Rattle.wat_lexer.specs.Laws.Kinds.{open_is, close_is, tokens_of-placed}
 use Rattle.wat_lexer.proofs.Skips.{skips_later}
 
@@ -170,10 +171,6 @@ group_other k (Integer n) ts h e = refl
 group_other k (String n) ts h e = refl
 group_other k (Reserved n) ts h e = refl
 
-not_hidden : (t : Tok) (r : List Tok) → is_open t ≡ false → begins_hidden_group false (t ∷ r) ≡ false
-not_hidden LParen r h = cc
-not_hidden _ r h = refl
-
 -- a group that isn't closed is hidden
 not_unclosed : (ts : List Tok) (i : ℕ) → begins_hidden_group false (drop i ts) ≡ false → Unclosed ts i → ⊥
 not_unclosed ts i none (n, r, e, k) = absurd (let f : true ≡ false = ap (begins_hidden_group false) (sym e) ∙ none in cc)
@@ -225,7 +222,7 @@ module _ {before ls : List Entry} {j : ℕ} {stack : List ℕ} {first : Option �
 
   passing : {rest : List ℕ} → ((k : ℕ) → ClosesAt before i k (at_top rest k)) → is_open tok ≡ false → SkipsSoFar before i ls rest first
   passing tops h =
-      let kept = stays (rw front (not_hidden tok (drop (i + 1) ts) h)) in
+      let kept = stays (rw front (begins_hidden_not_open false tok (drop (i + 1) ts) h)) in
       record { same = so.same; within = omega (arith, within); tops = tops; skips = kept.0; unclosed = kept.1 }
 
   pub pushed : is_close tok ≡ true → SkipsSoFar before i ls (stack ++ (i + 1) ∷ []) first

@@ -6,12 +6,10 @@ use Rattle.std.proofs.Math.Bool.{or_assoc, or-false}
 use Rattle.std.proofs.Math.ListN.{get_or, set, drop_of_length-le}
 use Rattle.std.proofs.Math.Seq.{get_or-append_seam}
 use Rattle.std.proofs.lemmas.List.{get_or-map, map-append, length-append, get_or_append_left, get_or-set_same, get_or-set_other}
-use Rattle.wat_lexer.specs.Token.{Entry, Tok, LParen, Annotation}
-use Rattle.wat_lexer.specs.Token.{is_open, is_annotation, has_annotation}
-use Rattle.wat_lexer.specs.Sight.{begins_hidden_group}
-use Rattle.std.proofs.lemmas.List.{drop_more, length-drop}
+use Rattle.wat_lexer.specs.Token.{Entry, Tok, Annotation, is_annotation, has_annotation}
+use Rattle.std.proofs.lemmas.List.{drop_more}
 use Rattle.std.proofs.lemmas.List.Elements.{All-get_or, All-from_recursion}
-use Rattle.wat_lexer.specs.View.{view, is_paren, lying, is_annotation_kind, is_word, no_side_entry, lies_from, stands_at, skips_of, no_skips, lying_skips, number_of, wide, own_number, Apart, AllApart, tok_at, Readable, lies, last_in_side_table, CanBeRead, AllCanBeRead, WasKept, PutInSideTable, FoundFits, found_tok, entry_of, entries_of, toks, entry_tok, skip_in_front, skipping, no_entry}
+use Rattle.wat_lexer.specs.View.{view, is_paren, lying, is_annotation_kind, is_word, no_side_entry, lies_from, stands_at, skips_of, no_skips, lying_skips, number_of, wide, own_number, Apart, AllApart, tok_at, Readable, lies, last_in_side_table, CanBeRead, AllCanBeRead, WasKept, PutInSideTable, FoundFits, found_tok, entry_of, entries_of, entry_tok, skip_in_front, skipping, no_entry}
 use Rattle.wat_lexer.specs.declared.lexeme.Kind.{Kind}
 use Rattle.wat_lexer.specs.declared.lexeme.Kind.TheVariants as kinds
 use Rattle.wat_lexer.specs.declared.lexeme.Skips.{Skips}
@@ -117,38 +115,6 @@ pub skip_few : (known : Bool) (ls : List Entry) → length ls ≤ 1 → skip_in_
 skip_few known [] h = refl
 skip_few known (x ∷ []) h = refl
 skip_few known (x ∷ y ∷ ls) h = absurd (omega arith)
-
-alone : (known : Bool) (t : Tok) → begins_hidden_group known (t ∷ []) ≡ false
-alone known LParen = refl
-alone known _ = refl
-
--- where fewer than two tokens are left, no group is hidden
-few : (known : Bool) (ls : List Entry) → length ls ≤ 1 → begins_hidden_group known (toks ls) ≡ false
-few known [] h = refl
-few known (x ∷ []) h = alone known x.token
-few known (x ∷ y ∷ ls) h = absurd (omega arith)
-
-pub begins_hidden_few : (known : Bool) (ls : List Entry) (i : ℕ) → length ls ≤ i + 1 → begins_hidden_group known (toks (drop i ls)) ≡ false
-begins_hidden_few known ls i h = few known (drop i ls) (omega (arith, length-drop i ls))
-
-not_hidden : (known : Bool) (t : Tok) (r : List Tok) → is_open t ≡ false → begins_hidden_group known (t ∷ r) ≡ false
-not_hidden known LParen r h = cc
-not_hidden known _ r h = refl
-
--- nor where no `(` stands
-pub begins_hidden_none : (known : Bool) (ls : List Entry) (i : ℕ) → i < length ls → is_open ((get_or ls i no_entry).token) ≡ false → begins_hidden_group known (toks (drop i ls)) ≡ false
-begins_hidden_none known ls i lt h = rw (drop_more ls i no_entry lt) (not_hidden known (entry_tok (get_or ls i no_entry)) (toks (drop (i + 1) ls)) h)
-
-no_annotation : (known : Bool) (s t : Tok) (r : List Tok) → is_annotation t ≡ false → begins_hidden_group known (s ∷ t ∷ r) ≡ false
-no_annotation known LParen (Annotation n) r h = cc
-no_annotation known LParen _ r h = refl
-no_annotation known _ t r h = refl
-
--- nor where no annotation is the second
-pub begins_hidden_other : (known : Bool) (ls : List Entry) (i : ℕ) → i + 1 < length ls → is_annotation ((get_or ls (i + 1) no_entry).token) ≡ false → begins_hidden_group known (toks (drop i ls)) ≡ false
-begins_hidden_other known ls i lt h = rw (drop_more ls i no_entry (omega arith), drop_more ls (i + 1) no_entry lt) (no_annotation known (entry_tok (get_or ls i no_entry)) (entry_tok (get_or ls (i + 1) no_entry)) (toks (drop (i + 1 + 1) ls)) h)
-
-pub ruleset begins_hidden_steps = (begins_hidden_few, begins_hidden_none, begins_hidden_other)
 
 -- WHAT WAS KEPT STAYS
 

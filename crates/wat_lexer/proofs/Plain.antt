@@ -60,6 +60,8 @@ plain_ascii from end i s within all h k =
     let at = all_at (slice_range s from end) (i - from) all (omega (arith, length-take (end - from) (drop from s), length-drop from s)) in
     idchar_ascii (get_or s i 0) (rw (get_or-take (end - from) (drop from s) (i - from) 0 (omega arith), get_or-drop, place) at at)
 
+pub ruleset plain_kinds = (plain_here, plain_name, plain_bare, plain_ascii)
+
 -- NUMBERS
 
 -- whether it is a number doesn't depend on the value so far

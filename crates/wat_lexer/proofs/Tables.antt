@@ -80,15 +80,21 @@ idchars_to (suc d) from end s e h below =
     let (all, run) = idchars_to d from last s refl (omega arith) (below_fewer (λ k. is_idchar (get_or s k 0) ≡ true) from last end (omega arith) below) in
     rw next (plain_more from last s (omega arith) (omega arith) all here, run ∙ run_idchar last s (omega arith) here)
 
-pub spaces_to : (d from end : ℕ) (s : List ℕ) → from + d ≡ end → end ≤ length s → Below (λ k. is_space (get_or s k 0) ≡ true) from end
-    → behind_spaces (drop from s) ≡ behind_spaces (drop end s)
-spaces_to zero from end s e h below = let same : end ≡ from = omega arith in rw same
-spaces_to (suc d) from end s e h below =
+-- what reads over each byte that a test marks reads over all of them
+reads_over : {A : Type 0} (test : ℕ → Bool) (f : List ℕ → A) (s : List ℕ) → ((i : ℕ) → i < length s → test (get_or s i 0) ≡ true → f (drop i s) ≡ f (drop (i + 1) s))
+    → (d from end : ℕ) → from + d ≡ end → end ≤ length s → Below (λ k. test (get_or s k 0) ≡ true) from end → f (drop from s) ≡ f (drop end s)
+reads_over test f s step zero from end e h below = let same : end ≡ from = omega arith in rw same
+reads_over test f s step (suc d) from end e h below =
     let last = from + d in
     let next : end ≡ last + 1 = omega arith in
-    let here : is_space (get_or s last 0) ≡ true = below last (omega arith) (omega arith) in
-    let step : behind_spaces (drop last s) ≡ behind_spaces (drop (last + 1) s) = space_step last s (omega arith) ∙ rw here in
-    rw next (spaces_to d from last s refl (omega arith) (below_fewer (λ k. is_space (get_or s k 0) ≡ true) from last end (omega arith) below) ∙ step)
+    rw next (reads_over test f s step d from last refl (omega arith) (below_fewer (λ k. test (get_or s k 0) ≡ true) from last end (omega arith) below) ∙ step last (omega arith) (below last (omega arith) (omega arith)))
+
+space_byte : (i : ℕ) (s : List ℕ) → i < length s → is_space (get_or s i 0) ≡ true → behind_spaces (drop i s) ≡ behind_spaces (drop (i + 1) s)
+space_byte i s lt here = space_step i s lt ∙ rw here
+
+pub spaces_to : (d from end : ℕ) (s : List ℕ) → from + d ≡ end → end ≤ length s → Below (λ k. is_space (get_or s k 0) ≡ true) from end
+    → behind_spaces (drop from s) ≡ behind_spaces (drop end s)
+spaces_to d from end s = reads_over is_space behind_spaces s (λ i lt here. space_byte i s lt here) d from end
 
 -- where no space is in front none is behind spaces
 pub no_spaces : (i : ℕ) (s : List ℕ) → (i < length s → is_space (get_or s i 0) ≡ false) → behind_spaces (drop i s) ≡ drop i s
@@ -112,15 +118,14 @@ not_so false false h = refl
 not_so true false h = cc
 not_so false true h = cc
 
+line_byte : (i : ℕ) (s : List ℕ) → i < length s → in_line (get_or s i 0) ≡ true → behind_line (drop i s) ≡ behind_line (drop (i + 1) s)
+line_byte i s lt h =
+    let here : is_line_end (get_or s i 0) ≡ false = not_so (is_line_end (get_or s i 0)) false h in
+    line_step i s lt ∙ rw here
+
 pub lines_to : (d from end : ℕ) (s : List ℕ) → from + d ≡ end → end ≤ length s → Below (λ k. in_line (get_or s k 0) ≡ true) from end
     → behind_line (drop from s) ≡ behind_line (drop end s)
-lines_to zero from end s e h below = let same : end ≡ from = omega arith in rw same
-lines_to (suc d) from end s e h below =
-    let last = from + d in
-    let next : end ≡ last + 1 = omega arith in
-    let here : is_line_end (get_or s last 0) ≡ false = not_so (is_line_end (get_or s last 0)) false (below last (omega arith) (omega arith)) in
-    let step : behind_line (drop last s) ≡ behind_line (drop (last + 1) s) = line_step last s (omega arith) ∙ rw here in
-    rw next (lines_to d from last s refl (omega arith) (below_fewer (λ k. in_line (get_or s k 0) ≡ true) from last end (omega arith) below) ∙ step)
+lines_to d from end s = reads_over in_line behind_line s (λ i lt here. line_byte i s lt here) d from end
 
 -- where a line ends nothing of it is behind
 pub no_line : (i : ℕ) (s : List ℕ) → (i < length s → in_line (get_or s i 0) ≡ false) → behind_line (drop i s) ≡ drop i s
@@ -139,8 +144,4 @@ comment_byte depth i s h = elim (cases_lt (i + 1) (length s)) [
 
 pub comment_to : (depth d from end : ℕ) (s : List ℕ) → from + d ≡ end → end ≤ length s → Below (λ k. in_comment (get_or s k 0) ≡ true) from end
     → behind_comment depth (drop from s) ≡ behind_comment depth (drop end s)
-comment_to depth zero from end s e h below = let same : end ≡ from = omega arith in rw same
-comment_to depth (suc d) from end s e h below =
-    let last = from + d in
-    let next : end ≡ last + 1 = omega arith in
-    rw next (comment_to depth d from last s refl (omega arith) (below_fewer (λ k. in_comment (get_or s k 0) ≡ true) from last end (omega arith) below) ∙ comment_byte depth last s (below last (omega arith) (omega arith)))
+comment_to depth d from end s = reads_over in_comment (behind_comment depth) s (λ i lt here. comment_byte depth i s here) d from end

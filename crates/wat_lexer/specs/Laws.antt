@@ -1,6 +1,7 @@
 -- Laws of the definitions: lemmas that other crates rest on.
 pub mod Classes
 pub mod Fronts
+pub mod Hidden
 pub mod Kinds
 pub mod Pieces
 pub mod Strings

@@ -1,5 +1,5 @@
 -- Where a piece at the front of a text ends.
-use Rattle.std.specs.Prelude.{◌≡◌, ◌≤◌, drop, Result, Ok, Err, ℕ, ◌+◌, ◌-◌, ◌*◌, Bool, true, false}
+use Rattle.std.specs.Prelude.{◌≡◌, ◌≤◌, ◌<◌, drop, slice_range, Result, Ok, Err, ℕ, ◌+◌, ◌-◌, ◌*◌, Bool, true, false}
 use Rattle.std.specs.Prelude.{List, [], ◌∷◌, ◌++◌, take, length, Option, Some, None, option_map}
 use Rattle.std.specs.Prelude.{◌==◌, ◌&&◌, nat_lt, if◌then◌else◌, encode_utf8}
 use Rattle.std.specs.Char.{digit_value}
@@ -122,6 +122,12 @@ behind_spaces (b ∷ t) = if is_space b then behind_spaces t else b ∷ t
 unfoldable pub all_idchars : List ℕ → Bool
 all_idchars [] = true
 all_idchars (b ∷ t) = is_idchar b && all_idchars t
+
+-- between the places of the text is a whole run, of idchars alone
+pub record IsWholeWord (text : List ℕ) (at end : ℕ) : Type 0 where
+  pub within : (at < end) × (end ≤ length text)
+  pub all : all_idchars (slice_range text at end) ≡ true
+  pub run : behind_run Between (drop at text) ≡ Ends (drop end text)
 
 -- the content where the string that begins at the front is the whole
 abbrev pub whole : Option (List ℕ × List ℕ) → Option (List ℕ)

@@ -126,14 +126,30 @@ is_word kinds.Annotation = false
 is_word kinds.InSideTable = false
 is_word _ = true
 
+-- a word of so many bytes or more lies in the side table: 2^16
+abbrev pub word_limit : ℕ
+word_limit = 65536
+
+-- a number below this fits in 32 bits: 2^32
+abbrev pub near_limit : ℕ
+near_limit = 4294967296
+
+-- a text of so many bytes or more is refused: 2^48
+abbrev pub text_limit : ℕ
+text_limit = 281474976710656
+
+-- a list has at most so many items: 2^63 - 1
+abbrev pub most_items : ℕ
+most_items = 9223372036854775807
+
 -- what is kept of a token has room for a word between two places: 32 bits for the first and 16 for
 -- how many bytes it has
 abbrev pub HasRoom : ℕ → ℕ → Type 0
-HasRoom at end = (at < 4294967296) × (end < at + 65536)
+HasRoom at end = (at < near_limit) × (end < at + word_limit)
 
 -- a number by its lower 32 bits and those above
 abbrev pub wide : ℕ → ℕ → ℕ
-wide low above = low + 4294967296 * above
+wide low above = low + near_limit * above
 
 -- a token's number by its kind and two fields: a word's is in the first alone, since the second
 -- says how many bytes it has; any other's is in both

@@ -9,7 +9,7 @@ const F: bool = false;
 
 /// Which bytes are spaces, 16 in each row.
 #[rattlefmt::skip]
-pub static SPACES: [bool; 256] = [
+pub(crate) static SPACES: [bool; 256] = [
     F, F, F, F, F, F, F, F, F, T, T, F, F, T, F, F,
     F, F, F, F, F, F, F, F, F, F, F, F, F, F, F, F,
     T, F, F, F, F, F, F, F, F, F, F, F, F, F, F, F,
@@ -30,7 +30,7 @@ pub static SPACES: [bool; 256] = [
 
 /// Which bytes are idchars.
 #[rattlefmt::skip]
-pub static IDCHARS: [bool; 256] = [
+pub(crate) static IDCHARS: [bool; 256] = [
     F, F, F, F, F, F, F, F, F, F, F, F, F, F, F, F,
     F, F, F, F, F, F, F, F, F, F, F, F, F, F, F, F,
     F, T, F, T, T, T, T, T, F, F, T, T, F, T, T, T,
@@ -51,7 +51,7 @@ pub static IDCHARS: [bool; 256] = [
 
 /// Which bytes are decimal digits.
 #[rattlefmt::skip]
-pub static DIGITS: [bool; 256] = [
+pub(crate) static DIGITS: [bool; 256] = [
     F, F, F, F, F, F, F, F, F, F, F, F, F, F, F, F,
     F, F, F, F, F, F, F, F, F, F, F, F, F, F, F, F,
     F, F, F, F, F, F, F, F, F, F, F, F, F, F, F, F,
@@ -72,7 +72,7 @@ pub static DIGITS: [bool; 256] = [
 
 /// Which bytes are hexadecimal digits.
 #[rattlefmt::skip]
-pub static HEX_DIGITS: [bool; 256] = [
+pub(crate) static HEX_DIGITS: [bool; 256] = [
     F, F, F, F, F, F, F, F, F, F, F, F, F, F, F, F,
     F, F, F, F, F, F, F, F, F, F, F, F, F, F, F, F,
     F, F, F, F, F, F, F, F, F, F, F, F, F, F, F, F,
@@ -93,7 +93,7 @@ pub static HEX_DIGITS: [bool; 256] = [
 
 /// Which bytes stand for themselves in a string.
 #[rattlefmt::skip]
-pub static RAW: [bool; 256] = [
+pub(crate) static RAW: [bool; 256] = [
     F, F, F, F, F, F, F, F, F, F, F, F, F, F, F, F,
     F, F, F, F, F, F, F, F, F, F, F, F, F, F, F, F,
     T, T, F, T, T, T, T, T, T, T, T, T, T, T, T, T,
@@ -114,7 +114,7 @@ pub static RAW: [bool; 256] = [
 
 /// Which bytes end no line.
 #[rattlefmt::skip]
-pub static IN_LINE: [bool; 256] = [
+pub(crate) static IN_LINE: [bool; 256] = [
     T, T, T, T, T, T, T, T, T, T, F, T, T, F, T, T,
     T, T, T, T, T, T, T, T, T, T, T, T, T, T, T, T,
     T, T, T, T, T, T, T, T, T, T, T, T, T, T, T, T,
@@ -135,7 +135,7 @@ pub static IN_LINE: [bool; 256] = [
 
 /// Which bytes neither begin the `(;` nor the `;)` of a block comment.
 #[rattlefmt::skip]
-pub static IN_COMMENT: [bool; 256] = [
+pub(crate) static IN_COMMENT: [bool; 256] = [
     T, T, T, T, T, T, T, T, T, T, T, T, T, T, T, T,
     T, T, T, T, T, T, T, T, T, T, T, T, T, T, T, T,
     T, T, T, T, T, T, T, T, F, T, T, T, T, T, T, T,
@@ -156,7 +156,7 @@ pub static IN_COMMENT: [bool; 256] = [
 
 /// Whether a table marks a byte.
 #[inline(always)]
-pub fn is_marked(table: &[bool; 256], b: u8) -> bool
+pub(crate) fn is_marked(table: &[bool; 256], b: u8) -> bool
     ensures { result ≡ get_or table.now b false }
 {
     table[usize::from(b)]
@@ -190,7 +190,7 @@ fn marked_of_four(table: &[bool; 256], text: &[u8], from: usize) -> usize
 /// Where the bytes that a table marks end.
 // (inlined, the table is known; eight bytes are looked at in a turn, and the length once)
 #[inline(always)]
-pub fn marked_end(table: &[bool; 256], text: &[u8], from: usize) -> usize
+pub(crate) fn marked_end(table: &[bool; 256], text: &[u8], from: usize) -> usize
     requires { from ≤ length text.now }
     ensures within { (from ≤ result) × (result ≤ length text.now) }
     ensures marked { (k : ℕ) → k < result → from ≤ k

@@ -18,7 +18,7 @@ use std::alloc::AllocError;
 
 /// Part of a text, which begins and ends with ASCII.
 #[inline(always)]
-pub fn part(text: &str, from: usize, end: usize) -> &str
+pub(crate) fn part(text: &str, from: usize, end: usize) -> &str
     requires order { from < end }
     requires within { end ≤ length text.now }
     requires first { slice_index text.now from < 128 }
@@ -29,8 +29,8 @@ pub fn part(text: &str, from: usize, end: usize) -> &str
 }
 
 /// The kind of a run of idchars; an annotation is to be put into the side table.
-#[tactic(auto, using(crate::proofs::Plain::plain_here, crate::proofs::Plain::plain_name, crate::proofs::Plain::plain_bare, crate::proofs::Plain::plain_ascii))]
-pub fn plain_kind(text: &str, from: usize, end: usize, behind: bool) -> Kind
+#[tactic(auto, using(crate::proofs::Plain::plain_kinds))]
+pub(crate) fn plain_kind(text: &str, from: usize, end: usize, behind: bool) -> Kind
     requires order { from < end }
     requires within { end ≤ length text.now }
     requires all { all_idchars (slice_range text.now from end) ≡ true }
@@ -97,7 +97,7 @@ fn decode<'a>(text: &[u8], from: usize, end: usize, arena: &'a Bump) -> Result<&
 }
 
 /// The content of a string, from behind its opening quote to behind its closing one.
-pub fn content<'a>(
+pub(crate) fn content<'a>(
     text: &'a [u8],
     from: usize,
     end: usize,
@@ -135,7 +135,12 @@ fn text_name(content: &[u8]) -> Option<&str>
 
 /// The token of a run that ends with the one string in it, whose quote is at a place of the run.
 #[tactic(auto, using(crate::proofs::Whole::token_steps))]
-pub fn string_token<'a>(run: &'a str, quote: usize, behind: bool, content: &'a [u8]) -> Token<'a>
+pub(crate) fn string_token<'a>(
+    run: &'a str,
+    quote: usize,
+    behind: bool,
+    content: &'a [u8],
+) -> Token<'a>
     requires within { quote < length run.now }
     requires prefix { all_idchars (take quote run.now) ≡ true }
     requires a_string { string_of (drop quote run.now) ≡ Some content.now }

@@ -5,13 +5,14 @@ ghost use Rattle.std.specs.Prelude.{true, false, length, drop, slice_range, slic
 ghost use Rattle.wat_lexer.specs.Bytes.{is_idchar, between};
 ghost use Rattle.wat_lexer.specs.Cut.{begins, in_no_run};
 ghost use Rattle.wat_lexer.specs.Number.{is_integer};
-ghost use Rattle.wat_lexer.specs.Scan.{front, all_idchars, behind_run, string_at, Between, Ends, Raw};
-ghost use Rattle.wat_lexer.specs.View.{PieceIs, HasRoom, is_word};
+ghost use Rattle.wat_lexer.specs.Scan.{front, behind_run, string_at, IsWholeWord};
+ghost use Rattle.wat_lexer.specs.Scan.{Between, Ends, Raw};
+ghost use Rattle.wat_lexer.specs.View.{PieceIs, HasRoom, is_word, near_limit, word_limit};
 ghost use Rattle.wat_lexer.specs.declared.lexeme.SideEntry.{SideEntry};
 
-use crate::byte_table::{DIGITS, HEX_DIGITS, IDCHARS, is_marked, marked_end};
-use crate::lexeme::Kind;
-use crate::scan::plain_end;
+use crate::byte_table::{DIGITS, HEX_DIGITS, marked_end};
+use crate::lexeme::{Kind, NEAR_LIMIT, WORD_LIMIT};
+use crate::scan::{is_idchar, plain_end};
 use crate::string::raw_end;
 
 /// Whether a byte is at a place.
@@ -25,7 +26,6 @@ fn is_at(text: &[u8], at: usize, b: u8) -> bool
 
 /// Whether no run goes on at a place.
 #[inline(always)]
-#[tactic(auto, using(crate::proofs::Tables::idchar_at))]
 fn ends_run(text: &[u8], at: usize) -> bool
     ensures ends { IsTrue result → at < length text.now
         → in_no_run (slice_index text.now at) ≡ true }
@@ -36,7 +36,7 @@ fn ends_run(text: &[u8], at: usize) -> bool
         return true;
     }
     let b = text[at];
-    b != b'"' && !is_marked(&IDCHARS, b)
+    b != b'"' && !is_idchar(b)
 }
 
 /// Where a run of idchars ends that begins at a place; `None` where a string is in the run.
@@ -44,10 +44,7 @@ fn ends_run(text: &[u8], at: usize) -> bool
 fn word_end(text: &[u8], at: usize) -> Option<usize>
     requires place { at < length text.now }
     requires first { is_idchar (slice_index text.now at) ≡ true }
-    ensures within { IfSome result (λ end. (at < end) × (end ≤ length text.now)) }
-    ensures all { IfSome result (λ end. all_idchars (slice_range text.now at end) ≡ true) }
-    ensures run { IfSome result (λ end. behind_run Between (drop at text.now) ≡ Ends
-        (drop end text.now)) }
+    ensures { IfSome result (λ end. IsWholeWord text.now at end) }
 {
     let end = plain_end(text, at + 1);
     if is_at(text, end, b'"') {
@@ -62,11 +59,8 @@ fn word_end(text: &[u8], at: usize) -> Option<usize>
 fn decimal_end(text: &[u8], at: usize) -> Option<usize>
     requires place { at < length text.now }
     requires first { between 48 57 (slice_index text.now at) ≡ true }
-    ensures within { IfSome result (λ end. (at < end) × (end ≤ length text.now)) }
-    ensures all { IfSome result (λ end. all_idchars (slice_range text.now at end) ≡ true) }
+    ensures word { IfSome result (λ end. IsWholeWord text.now at end) }
     ensures integer { IfSome result (λ end. is_integer (slice_range text.now at end) ≡ true) }
-    ensures run { IfSome result (λ end. behind_run Between (drop at text.now) ≡ Ends
-        (drop end text.now)) }
 {
     let end = marked_end(&DIGITS, text, at + 1);
     if !ends_run(text, end) {
@@ -82,11 +76,8 @@ fn hex_end(text: &[u8], at: usize) -> Option<usize>
     requires place { at + 1 < length text.now }
     requires zero { slice_index text.now at ≡ 48 }
     requires mark { slice_index text.now (at + 1) ≡ 120 }
-    ensures within { IfSome result (λ end. (at < end) × (end ≤ length text.now)) }
-    ensures all { IfSome result (λ end. all_idchars (slice_range text.now at end) ≡ true) }
+    ensures word { IfSome result (λ end. IsWholeWord text.now at end) }
     ensures integer { IfSome result (λ end. is_integer (slice_range text.now at end) ≡ true) }
-    ensures run { IfSome result (λ end. behind_run Between (drop at text.now) ≡ Ends
-        (drop end text.now)) }
 {
     let end = marked_end(&HEX_DIGITS, text, at + 2);
     if end == at + 2 {
@@ -104,11 +95,8 @@ fn hex_end(text: &[u8], at: usize) -> Option<usize>
 fn integer_end(text: &[u8], at: usize) -> Option<usize>
     requires place { at < length text.now }
     requires first { between 48 57 (slice_index text.now at) ≡ true }
-    ensures within { IfSome result (λ end. (at < end) × (end ≤ length text.now)) }
-    ensures all { IfSome result (λ end. all_idchars (slice_range text.now at end) ≡ true) }
+    ensures word { IfSome result (λ end. IsWholeWord text.now at end) }
     ensures integer { IfSome result (λ end. is_integer (slice_range text.now at end) ≡ true) }
-    ensures run { IfSome result (λ end. behind_run Between (drop at text.now) ≡ Ends
-        (drop end text.now)) }
 {
     if text[at] == b'0' && at + 1 < text.len() && text[at + 1] == b'x' {
         return hex_end(text, at);
@@ -143,9 +131,9 @@ fn plain_string_end(text: &[u8], at: usize) -> Option<usize>
 #[inline(always)]
 fn short(at: usize, end: usize) -> Option<usize>
     requires { at < end }
-    ensures { IfSome result (λ same. (same ≡ end) × (end < at + 65536)) }
+    ensures { IfSome result (λ same. (same ≡ end) × (end < at + word_limit)) }
 {
-    if end - at >= 0x1_0000 {
+    if end - at >= WORD_LIMIT {
         return None;
     }
     Some(end)
@@ -155,16 +143,16 @@ fn short(at: usize, end: usize) -> Option<usize>
 /// integer without a sign and without `_` or a string without escapes. `None` tells nothing, and is
 /// what any word gets that has 65,536 bytes or more, and any text that has 4 GiB or more.
 #[inline(always)]
-pub fn common_token(text: &[u8], at: usize) -> Option<(Kind, usize)>
+pub(crate) fn common_token(text: &[u8], at: usize) -> Option<(Kind, usize)>
     requires { at < length text.now }
     ensures within { IfSome result (λ f. (at < f.1) × (f.1 ≤ length text.now)) }
-    ensures near { IfSome result (λ f. f.1 < 4294967296) }
+    ensures near { IfSome result (λ f. f.1 < near_limit) }
     ensures room { IfSome result (λ f. is_word f.0 ≡ true → HasRoom at f.1) }
     ensures value { IfSome result (λ f. (behind : Bool) (lie : List SideEntry)
         → PieceIs text.now lie lie at (record { kind = Some f.0; end = f.1 })
         (front behind (drop at text.now))) }
 {
-    if text.len() >= 0x1_0000_0000 {
+    if text.len() >= NEAR_LIMIT {
         return None;
     }
     let b = text[at];

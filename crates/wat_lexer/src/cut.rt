@@ -10,7 +10,7 @@ ghost use Rattle.wat_lexer.specs.Scan.{front, run_front, behind_run, all_idchars
 ghost use Rattle.wat_lexer.specs.Token.{Placed, has_annotation, is_annotation, is_open};
 ghost use Rattle.wat_lexer.specs.View.{view, toks, placed, is_paren, lying, AreSkips, IsPut};
 ghost use Rattle.wat_lexer.specs.View.{FrontGives, IfFault, FailsAt, HasRoom, is_word};
-ghost use Rattle.wat_lexer.specs.View.{FoundFits, found_tok};
+ghost use Rattle.wat_lexer.specs.View.{FoundFits, found_tok, text_limit};
 ghost use Rattle.wat_lexer.specs.declared.fault.Fault.{Fault};
 ghost use Rattle.wat_lexer.specs.declared.lexeme.SideEntry.{SideEntry};
 
@@ -19,7 +19,8 @@ use crate::common::common_token;
 use crate::fault::{Error, Fault, fault_at};
 use crate::groups::tell_skips;
 use crate::lexeme::{
-    Kind, SideEntry, Skips, has_room, is_annotation_kind, is_open, is_word, kept, kept_near,
+    Kind, SideEntry, Skips, TEXT_LIMIT, has_room, is_annotation_kind, is_open, is_word, kept,
+    kept_near,
 };
 use crate::scan::{comment_end, is_space, line_end, plain_end, run_end, spaces_end};
 use crate::string::string_end;
@@ -307,7 +308,7 @@ fn cut_pieces<'a>(
     text: &'a str,
     arena: &'a Bump,
 ) -> Result<(Tokens<'a>, bool), Error>
-    requires { length text.now < 281474976710656 }
+    requires { length text.now < text_limit }
     ensures found { IfOk result (λ v. Cuts (length text.now) false text.now (placed v.0)) }
     ensures noted { IfOk result (λ v. v.1 ≡ has_annotation (toks v.0)) }
     ensures fails { IfErr result (λ e. IfFault e (FailsAt text.now e)) }
@@ -358,7 +359,7 @@ pub fn cut<'a>(alloc: Global, text: &'a str, arena: &'a Bump) -> Result<Tokens<'
     ensures fault { IfErr result (λ e. IfFault e (FirstFault text.now e.fault (offset_of e.span))) }
     ensures none { IfErr result (λ e. IfFault e ((ts : List Placed) → IsCut text.now ts → ⊥)) }
 {
-    if text.len() >= 0x1_0000_0000_0000 {
+    if text.len() >= TEXT_LIMIT {
         return Err(fault_at(Fault::Memory, 0));
     }
     let (mut tokens, noted) = match cut_pieces(alloc, text, arena) {

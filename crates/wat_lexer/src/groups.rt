@@ -1,6 +1,6 @@
 //! Where the groups of annotations end.
 
-ghost use Rattle.std.specs.Prelude.{◌≡◌, ◌≢◌, ◌+◌, ◌-◌, ◌≤◌, ◌<◌, Bool, true, false, IfOk, IfErr};
+ghost use Rattle.std.specs.Prelude.{◌≡◌, ◌+◌, ◌-◌, ◌≤◌, ◌<◌, Bool, true, false, IfOk};
 ghost use Rattle.std.specs.Prelude.{MatchOption, length, drop};
 ghost use Rattle.wat_lexer.specs.Cut.{Closed, FirstUnclosed};
 ghost use Rattle.wat_lexer.specs.Sight.{begins_hidden_group, hidden_count};
@@ -32,7 +32,7 @@ fn tell_skip(tokens: &mut Tokens, at: usize, end: usize)
 
 /// Tells each group of an annotation how many tokens are left out where it stands. Answers the
 /// offset of the first one that isn't closed.
-pub fn tell_skips(alloc: Global, tokens: &mut Tokens) -> Result<Option<usize>, AllocError>
+pub(crate) fn tell_skips(alloc: Global, tokens: &mut Tokens) -> Result<Option<usize>, AllocError>
     ensures same { placed tokens.new ≡ placed tokens.old }
     ensures skips { IfOk result (λ o. AreSkips tokens.new) }
     ensures first { IfOk result (λ o. MatchOption o (Closed (tokens_of (placed tokens.old)))

@@ -3,7 +3,8 @@
 ghost use Rattle.std.specs.Prelude.{◌≡◌, ◌≤◌, ◌+◌, ◌∷◌, [], length, drop};
 ghost use Rattle.wat_lexer.specs.Sight.{is_standard, begins_hidden_group, hidden_count};
 ghost use Rattle.wat_lexer.specs.Sight.{visible_tokens};
-ghost use Rattle.wat_lexer.specs.View.{view, toks, skip_in_front, AreSkips, VisibleFrom, IsNextVisible};
+ghost use Rattle.wat_lexer.specs.View.{view, toks, skip_in_front, AreSkips, VisibleFrom};
+ghost use Rattle.wat_lexer.specs.View.{IsNextVisible, most_items};
 
 use crate::token::Token;
 use crate::tokens::Tokens;
@@ -36,12 +37,12 @@ fn begins_hidden(first: Token, second: Token, known: bool) -> bool
 }
 
 /// Whether a group whose annotation isn't known is at the place.
-#[tactic(auto, using(crate::proofs::Entries::begins_hidden_steps))]
+#[tactic(auto, using(crate::specs::Laws::Hidden::begins_hidden_steps))]
 #[inline(always)]
-pub fn begins_hidden_group(tokens: &Tokens, at: usize, known: bool) -> bool
+pub(crate) fn begins_hidden_group(tokens: &Tokens, at: usize, known: bool) -> bool
     requires { at ≤ length tokens.now }
     ensures value { result ≡ begins_hidden_group known (toks (drop at tokens.now)) }
-    ensures small { length tokens.now ≤ 9223372036854775807 }
+    ensures small { length tokens.now ≤ most_items }
 {
     let count = tokens.len();
     if at + 1 < count && tokens.opens(at) && tokens.annotates(at + 1) {
@@ -68,12 +69,12 @@ fn skip_in_front(tokens: &Tokens, at: usize, known: bool) -> usize
 /// however many are hidden.
 #[tactic(auto, using(crate::proofs::Skips::hidden_count_none))]
 #[inline(always)]
-pub fn hidden_count(tokens: &Tokens, at: usize, known: bool) -> usize
+pub(crate) fn hidden_count(tokens: &Tokens, at: usize, known: bool) -> usize
     requires within { at ≤ length tokens.now }
     requires skips { AreSkips (drop at tokens.now) }
     ensures value { result ≡ hidden_count known (toks (drop at tokens.now)) }
     ensures within { at + result ≤ length tokens.now }
-    ensures small { length tokens.now ≤ 9223372036854775807 }
+    ensures small { length tokens.now ≤ most_items }
     ensures first { VisibleFrom known (drop result (drop at tokens.now)) (visible_tokens known (toks
         (drop at tokens.now))) }
     ensures same { visible_tokens known (toks (drop result (drop at tokens.now))) ≡ visible_tokens

@@ -3,7 +3,7 @@
 ghost use Rattle.std.specs.Prelude.{◌≡◌, ◌<◌, ◌≤◌, ◌+◌, List, ℕ, length, true, false, IsTrue, ◌↔◌};
 ghost use Rattle.wat_lexer.specs.Token.{is_open};
 ghost use Rattle.wat_lexer.specs.View.{found_tok, is_annotation_kind, is_word, wide, own_number};
-ghost use Rattle.wat_lexer.specs.View.{FoundFits, HasRoom, WasKept};
+ghost use Rattle.wat_lexer.specs.View.{FoundFits, HasRoom, WasKept, near_limit, text_limit};
 ghost use Rattle.wat_lexer.specs.declared.lexeme.SideEntry.{SideEntry};
 
 use crate::token::Token;
@@ -62,34 +62,40 @@ pub struct Lexeme {
 
 const _: () = prove!(size_of::<Lexeme>() == 8);
 
-/// The upper part of a number is counted in units of so many bytes.
-const UNIT: usize = 0x1_0000_0000;
+/// A word of so many bytes or more lies in the side table.
+pub(crate) const WORD_LIMIT: usize = 0x1_0000;
+
+/// A number below this fits in 32 bits; the upper part of a number is counted in units of it.
+pub(crate) const NEAR_LIMIT: usize = 0x1_0000_0000;
+
+/// A text of so many bytes or more is refused.
+pub(crate) const TEXT_LIMIT: usize = 0x1_0000_0000_0000;
 
 impl Lexeme {
     /// How many bytes of the text stand before it, where it is a word.
-    pub fn word_at(self) -> usize
+    pub(crate) fn word_at(self) -> usize
         ensures { result ≡ self.low }
     {
         self.low as usize
     }
 
     /// How many bytes it has, where it is a word.
-    pub fn size(self) -> usize
+    pub(crate) fn size(self) -> usize
         ensures { result ≡ self.size }
     {
         self.size as usize
     }
 
     /// Its number, where it is none.
-    pub fn number(self) -> usize
+    pub(crate) fn number(self) -> usize
         ensures { result ≡ wide self.low self.size }
     {
-        self.low as usize + UNIT * self.size as usize
+        self.low as usize + NEAR_LIMIT * self.size as usize
     }
 }
 
 /// Whether a token of the kind is `(`.
-pub fn is_open(kind: Kind) -> bool
+pub(crate) fn is_open(kind: Kind) -> bool
     ensures { (text : List ℕ) (side_table : List SideEntry) (at end : ℕ)
         → FoundFits text side_table at end kind
         → result ≡ is_open (found_tok text side_table at end kind) }
@@ -98,14 +104,14 @@ pub fn is_open(kind: Kind) -> bool
 }
 
 /// Whether a token of the kind is an annotation.
-pub fn is_annotation_kind(kind: Kind) -> bool
+pub(crate) fn is_annotation_kind(kind: Kind) -> bool
     ensures { result ≡ is_annotation_kind kind }
 {
     matches!(kind, Kind::Annotation)
 }
 
 /// Whether a token of the kind is read out of the text, and no paren.
-pub fn is_word(kind: Kind) -> bool
+pub(crate) fn is_word(kind: Kind) -> bool
     ensures { result ≡ is_word kind }
 {
     !matches!(
@@ -115,23 +121,23 @@ pub fn is_word(kind: Kind) -> bool
 }
 
 /// Whether what is kept of a token has room for a word between two places.
-pub fn has_room(at: usize, end: usize) -> bool
+pub(crate) fn has_room(at: usize, end: usize) -> bool
     requires { at < end }
     ensures { IsTrue result ↔ HasRoom at end }
 {
-    at < UNIT && end - at < 0x1_0000
+    at < NEAR_LIMIT && end - at < WORD_LIMIT
 }
 
 /// What is kept of a token that is no word, by its number.
 fn numbered(kind: Kind, number: usize) -> Lexeme
     requires no_word { is_word kind ≡ false }
-    requires fits { number < 281474976710656 }
+    requires fits { number < text_limit }
     ensures number { own_number result ≡ number }
     ensures kind { result.kind ≡ kind }
 {
     Lexeme {
-        low: (number % UNIT) as u32,
-        size: (number / UNIT) as u16,
+        low: (number % NEAR_LIMIT) as u32,
+        size: (number / NEAR_LIMIT) as u16,
         kind,
     }
 }
@@ -157,8 +163,8 @@ fn word(kind: Kind, at: usize, end: usize) -> Lexeme
 pub(crate) fn kept(kind: Kind, at: usize, end: usize, side_table: usize) -> Lexeme
     requires order { at < end }
     requires room { is_word kind ≡ true → HasRoom at end }
-    requires fits { at < 281474976710656 }
-    requires few { side_table ≤ 281474976710656 }
+    requires fits { at < text_limit }
+    requires few { side_table ≤ text_limit }
     ensures { (text : List ℕ) (lie : List SideEntry) → length lie ≡ side_table
         → FoundFits text lie at end kind → WasKept text lie at end kind result }
 {
@@ -171,7 +177,7 @@ pub(crate) fn kept(kind: Kind, at: usize, end: usize, side_table: usize) -> Lexe
 
 /// What is kept of a paren in a text's first 4 GiB.
 fn near_paren(kind: Kind, at: usize) -> Lexeme
-    requires near { at < 4294967296 }
+    requires near { at < near_limit }
     requires no_word { is_word kind ≡ false }
     ensures number { own_number result ≡ at }
     ensures kind { result.kind ≡ kind }
@@ -185,9 +191,9 @@ fn near_paren(kind: Kind, at: usize) -> Lexeme
 #[inline(always)]
 pub(crate) fn kept_near(kind: Kind, at: usize, end: usize, side_table: usize) -> Lexeme
     requires order { at < end }
-    requires near { end < 4294967296 }
+    requires near { end < near_limit }
     requires room { is_word kind ≡ true → HasRoom at end }
-    requires few { side_table ≤ 281474976710656 }
+    requires few { side_table ≤ text_limit }
     ensures { (text : List ℕ) (lie : List SideEntry) → length lie ≡ side_table
         → FoundFits text lie at end kind → WasKept text lie at end kind result }
 {

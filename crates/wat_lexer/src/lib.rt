@@ -1,12 +1,12 @@
 //! The cut of a text in the WebAssembly text format into tokens.
 #![tactic(auto)]
 
-pub mod byte_table;
-pub mod class;
-pub mod common;
+mod byte_table;
+mod class;
+mod common;
 pub mod cut;
 pub mod fault;
-pub mod groups;
+mod groups;
 pub mod hidden;
 pub mod laws;
 pub mod lexeme;

@@ -1,26 +1,30 @@
 //! Where a piece of the text ends.
 
-ghost use Rattle.std.specs.Prelude.{◌≡◌, ◌+◌, ◌-◌, ◌≤◌, ◌<◌, ◌⊎◌, Bool, true, false, option_map};
+ghost use Rattle.std.specs.Prelude.{◌≡◌, ◌+◌, ◌-◌, ◌≤◌, ◌<◌, true, false, option_map};
 ghost use Rattle.std.specs.Prelude.{IfOk, IfSome, length, drop, slice_range, slice_index};
-ghost use Rattle.wat_lexer.specs.Bytes.{is_idchar, is_space, is_line_end};
+ghost use Rattle.wat_lexer.specs.Bytes.{is_idchar, is_space};
 ghost use Rattle.wat_lexer.specs.Scan.{behind_comment, behind_line, behind_run, behind_spaces};
 ghost use Rattle.wat_lexer.specs.Scan.{all_idchars, Between, RunEndIs};
 
-use crate::byte_table::{IDCHARS, IN_COMMENT, IN_LINE, SPACES, marked_end};
+use crate::byte_table::{IDCHARS, IN_COMMENT, IN_LINE, SPACES, is_marked, marked_end};
 use crate::string::string_end;
 
+/// Whether the byte is a space.
+#[inline(always)]
 #[tactic(auto, using(crate::proofs::Tables::space_at))]
 pub fn is_space(b: u8) -> bool
     ensures { result ≡ is_space b }
 {
-    SPACES[usize::from(b)]
+    is_marked(&SPACES, b)
 }
 
+/// Whether the byte is an idchar.
+#[inline(always)]
 #[tactic(auto, using(crate::proofs::Tables::idchar_at))]
-fn is_idchar(b: u8) -> bool
+pub fn is_idchar(b: u8) -> bool
     ensures { result ≡ is_idchar b }
 {
-    IDCHARS[usize::from(b)]
+    is_marked(&IDCHARS, b)
 }
 
 /// The end of the block comment whose `(;` ends at from.

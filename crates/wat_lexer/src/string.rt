@@ -3,7 +3,7 @@
 ghost use Rattle.std.specs.Prelude.{◌≡◌, ◌+◌, ◌-◌, ◌≤◌, ◌<◌, option_map, IfSome, IsTrue};
 ghost use Rattle.std.specs.Prelude.{MatchOption, None, Some, false, length, drop, encode_utf8};
 ghost use Rattle.std.specs.Prelude.{slice_range, slice_index};
-ghost use Rattle.std.specs.Char.{digit_value};
+ghost use Rattle.std.specs.Char.{digit_char, digit_value};
 ghost use Rattle.wat_lexer.specs.Cut.{is_raw, short_escape};
 ghost use Rattle.wat_lexer.specs.Scan.{string_at, rest_at, with_front, spelled, closing, Raw};
 ghost use Rattle.wat_lexer.specs.Scan.{Escape, Digits};
@@ -18,6 +18,7 @@ pub enum Escaped {
     Char(char),
 }
 
+/// What a digit or a letter stands for as a digit, below 36; 36 for any other byte.
 pub fn digit_value(b: u8) -> u8
     ensures value { result ≡ digit_value b }
     ensures small { result ≤ 36 }
@@ -27,6 +28,19 @@ pub fn digit_value(b: u8) -> u8
         b'A'..=b'Z' => b - b'A' + 10,
         b'a'..=b'z' => b - b'a' + 10,
         _ => 36,
+    }
+}
+
+/// The hexadecimal digit of a number below 16, with a small letter.
+pub fn hex_digit(value: u8) -> u8
+    requires { value < 16 }
+    ensures value { result ≡ digit_char value }
+    ensures ascii { result < 128 }
+{
+    if value < 10 {
+        b'0' + value
+    } else {
+        b'a' + (value - 10)
     }
 }
 
@@ -44,7 +58,7 @@ fn short_escape(b: u8) -> Option<u8>
 }
 
 /// Where the bytes of a string that stand for themselves end.
-pub fn raw_end(text: &[u8], from: usize) -> usize
+pub(crate) fn raw_end(text: &[u8], from: usize) -> usize
     requires { from ≤ length text.now }
     ensures within { (from ≤ result) × (result ≤ length text.now) }
     ensures same { string_at Raw (drop from text.now) ≡ with_front
@@ -133,7 +147,7 @@ fn behind_backslash(text: &[u8], at: usize) -> Option<(Escaped, usize)>
 
 /// What the escape that begins at a place stands for, and the place behind it.
 #[tactic(auto, using(crate::proofs::Steps::closing_steps))]
-pub fn escape(text: &[u8], at: usize) -> Option<(Escaped, usize)>
+pub(crate) fn escape(text: &[u8], at: usize) -> Option<(Escaped, usize)>
     requires within { at ≤ length text.now }
     requires no_raw { at < length text.now → is_raw (slice_index text.now at) ≡ false }
     ensures within { IfSome result (λ e. (at < e.1) × (e.1 ≤ length text.now)) }
@@ -151,7 +165,7 @@ pub fn escape(text: &[u8], at: usize) -> Option<(Escaped, usize)>
 /// Where a string ends, from behind its opening quote on, and whether its content is the bytes
 /// between the quotes.
 #[tactic(auto, using(crate::proofs::Steps::string_steps))]
-pub fn string_end(text: &[u8], from: usize) -> Option<(usize, bool)>
+pub(crate) fn string_end(text: &[u8], from: usize) -> Option<(usize, bool)>
     requires { from ≤ length text.now }
     ensures within { IfSome result (λ end. (from < end.0) × (end.0 ≤ length text.now)) }
     ensures quote { IfSome result (λ end. slice_index text.now (end.0 - 1) ≡ 34) }

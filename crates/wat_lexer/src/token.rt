@@ -29,7 +29,7 @@ pub enum Token<'a> {
 }
 
 /// Whether it is an annotation.
-pub fn is_annotation(token: Token) -> bool
+pub(crate) fn is_annotation(token: Token) -> bool
     ensures { result ≡ is_annotation (view token.entry) }
 {
     matches!(token, Token::Annotation(_))

@@ -5,6 +5,7 @@ ghost use Rattle.std.proofs.Math.ListN.{get_or, set};
 ghost use Rattle.wat_lexer.specs.Token.{is_open, is_close, is_annotation};
 ghost use Rattle.wat_lexer.specs.View.{view, tok_at, lies, entries_of, Readable, Word};
 ghost use Rattle.wat_lexer.specs.View.{AllCanBeRead, AllApart, skipping, no_entry, skip};
+ghost use Rattle.wat_lexer.specs.View.{most_items};
 
 use crate::class::part;
 use crate::lexeme::{Kind, Lexeme, SideEntry, Skips};
@@ -25,21 +26,26 @@ pub struct Tokens<'a> {
 impl<'a> Model for Tokens<'a> {
     ghost use Rattle.std.specs.Prelude.{List, length, ◌≤◌};
     ghost use Rattle.wat_lexer.specs.Token.{Entry};
-    ghost use Rattle.wat_lexer.specs.View.{entries_of, AllCanBeRead, AllApart};
+    ghost use Rattle.wat_lexer.specs.View.{entries_of, most_items, AllCanBeRead, AllApart};
 
     ghost Value = { List Entry };
 
     ghost view = { λ t. entries_of t.text.now t.side_table.items t.lexemes.items };
 
-    ghost invariant = { λ t. AllCanBeRead t.text.now t.side_table.items t.lexemes.items × AllApart t.lexemes.items × (length t.lexemes.items ≤ 9223372036854775807) };
+    ghost invariant = { λ t. AllCanBeRead t.text.now t.side_table.items t.lexemes.items
+        × AllApart t.lexemes.items × (length t.lexemes.items ≤ most_items) };
 }
 
 impl<'a> Tokens<'a> {
     /// The tokens that were kept of a text.
-    pub fn of(text: &'a str, lexemes: Vec<Lexeme>, side_table: Vec<SideEntry<'a>>) -> Tokens<'a>
+    pub(crate) fn of(
+        text: &'a str,
+        lexemes: Vec<Lexeme>,
+        side_table: Vec<SideEntry<'a>>,
+    ) -> Tokens<'a>
         requires fit { AllCanBeRead text.now side_table.items lexemes.items }
         requires apart { AllApart lexemes.items }
-        requires small { length lexemes.items ≤ 9223372036854775807 }
+        requires small { length lexemes.items ≤ most_items }
         ensures { result ≡ entries_of text.entry.now side_table.entry.items lexemes.items }
     {
         Tokens {
@@ -52,7 +58,7 @@ impl<'a> Tokens<'a> {
     /// How many there are.
     pub fn len(&self) -> usize
         ensures value { result ≡ length self.now }
-        ensures small { result ≤ 9223372036854775807 }
+        ensures small { result ≤ most_items }
     {
         self.lexemes.len()
     }
@@ -114,7 +120,7 @@ impl<'a> Tokens<'a> {
 
     /// How far lookups go from the `(` in front of it, where the standard names are known or none
     /// is.
-    pub fn skip(&self, at: usize, known: bool) -> usize
+    pub(crate) fn skip(&self, at: usize, known: bool) -> usize
         requires { at < length self.now }
         ensures { result ≡ skip known (get_or self.now at no_entry).skips }
     {
@@ -152,7 +158,7 @@ fn word<'a>(text: &'a str, from: usize, front: usize, end: usize) -> &'a str
 /// The token of a kind: a word is read out of the text, from a place on and of so many bytes; what
 /// lies in the side table is at another place there.
 #[inline(always)]
-pub fn read<'a>(
+pub(crate) fn read<'a>(
     text: &'a str,
     kind: Kind,
     from: usize,

@@ -7,6 +7,7 @@ use Rattle.wat_tokens.specs.Parses.{NotBare}
 use Rattle.wat_tokens.specs.Views.{no_items}
 use Rattle.wat_links.specs.Producers.{field_with_entries, fields_of}
 use Rattle.wat_links.specs.ProducerEntry.{Versioned, ProducerTy}
+use Rattle.wat_links.specs.Laws.Producers.{producer_entry_consumes}
 use Rattle.wat_links.specs.declared.producers.Field.{Field}
 use Rattle.wat_links.specs.declared.producers.Field.TheVariants.{Language, Sdk, ProcessedBy}
 
@@ -22,3 +23,5 @@ fields_not_bare (e ∷ es) k = first_entry e.0 e.1 es
 pub entries_not_bare : (x : Read (List ProducerTy)) → NotBare no_items (after_front [] x) → NotBare no_items (bind x (λ es r. Some (fields_of es, r)))
 entries_not_bare (Some x) k = fields_not_bare x.0 k
 entries_not_bare None k = tt
+
+pub ruleset entry_steps = (producer_entry_consumes, fields_not_bare, entries_not_bare)

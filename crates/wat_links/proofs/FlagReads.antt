@@ -22,3 +22,5 @@ reads_no_word [] b e = refl
 reads_no_word (Integer text ∷ t) b e = absurd cc
 reads_no_word (Keyword k ∷ t) b e = absurd cc
 reads_no_word (_ ∷ t) b e = refl
+
+pub ruleset flag_reads = (reads_number, reads_word, reads_no_word)

@@ -7,8 +7,11 @@ use Rattle.wat_tokens.specs.ManySpells.{many_reads}
 use Rattle.wat_tokens.specs.Parses.{NotBare}
 use Rattle.wat_tokens.specs.Views.{no_items}
 use Rattle.wat_links.specs.Dylink.{run}
+use Rattle.wat_links.specs.Laws.DylinkEntries.{export_entry_consumes, import_entry_consumes}
 
 pub run_not_bare : {A : Type 0} (begins : List Tok → Bool) (g : Production A) (consumes : 1 ≤ g.least) (t : List Tok) → NotBare no_items ((run begins g consumes).reads t)
 run_not_bare begins g consumes t = by_read (g.reads t)
     (λ x e. rw e (by_read (many_reads begins g x.1) (λ y h. rw h refl) (λ h. rw h tt)))
     (λ e. rw e tt)
+
+pub ruleset run_steps = (export_entry_consumes, import_entry_consumes, run_not_bare)

@@ -29,3 +29,5 @@ view_next xs ys i x y e lt p q = rw (taken xs i x e lt, map_push typed_view ys y
 pub some_items : (xs : List Typed) (i : ℕ) → i < length xs → no_items (map typed_view xs) ≡ false
 some_items [] i lt = absurd (omega arith)
 some_items (x ∷ xs) i lt = refl
+
+pub ruleset clone_steps = (same_next, view_next, some_items)

@@ -14,6 +14,7 @@ ghost use Rattle.wat_links.specs.Laws.DylinkEntries.{export_entry_consumes, impo
 ghost use Rattle.wat_links.specs.Cutting.{dylink};
 
 use crate::flags::read_flags;
+use wat_tokens::enclosed::in_word_group;
 use wat_tokens::repeat::{Part, parts, rest_of_group};
 use wat_tokens::{Parse, Parser, Result};
 
@@ -132,11 +133,7 @@ fn read_lone<'a>(parser: &mut Parser<'a>) -> Result<Dylink0Subsection<'a>>
     if parser.group_is("runtime-path") {
         return Ok(Dylink0Subsection::RuntimePath(read_names(parser, "runtime-path")?));
     }
-    parser.open()?;
-    parser.keyword("target-arch")?;
-    let name = <&str as Parse>::parse(parser)?;
-    parser.close()?;
-    Ok(Dylink0Subsection::TargetArch(name))
+    in_word_group(parser, "target-arch").map(Dylink0Subsection::TargetArch)
 }
 
 /// `( export-info name flags )`
@@ -195,7 +192,7 @@ impl<'a> Part<'a, (&'a str, &'a str, u32)> for ImportEntry {
 }
 
 /// An export entry, and all that are behind it.
-#[tactic(auto, using(crate::specs::Laws::DylinkEntries::export_entry_consumes, crate::proofs::Runs::run_not_bare))]
+#[tactic(auto, using(crate::proofs::Runs::run_steps))]
 fn read_exports<'a>(parser: &mut Parser<'a>) -> Result<Vec<(&'a str, u32)>>
     ensures reads { Reads (owning (λ v. map dylink_export_view v.items) no_items)
         (run begins_export export_entry export_entry_consumes) result parser.old parser.new }
@@ -207,7 +204,7 @@ fn read_exports<'a>(parser: &mut Parser<'a>) -> Result<Vec<(&'a str, u32)>>
 }
 
 /// An import entry, and all that are behind it.
-#[tactic(auto, using(crate::specs::Laws::DylinkEntries::import_entry_consumes, crate::proofs::Runs::run_not_bare))]
+#[tactic(auto, using(crate::proofs::Runs::run_steps))]
 fn read_imports<'a>(parser: &mut Parser<'a>) -> Result<Vec<(&'a str, &'a str, u32)>>
     ensures reads { Reads (owning (λ v. map dylink_import_view v.items) no_items)
         (run begins_import import_entry import_entry_consumes) result parser.old parser.new }

@@ -13,6 +13,7 @@ ghost use Rattle.wat_links.specs.InlineName.{inline_name};
 
 use crate::item::ItemSig;
 use std::alloc::Global;
+use wat_tokens::enclosed::{in_parens, in_word_group};
 use wat_tokens::repeat::{Part, parts};
 use wat_tokens::words::{NamedByKeyword, begins_named, take_named};
 use wat_tokens::{Cursor, Index, Parse, Parser, Peek, Result, Span, kw};
@@ -214,9 +215,7 @@ impl<'a> Parse<'a> for ExportType<'a> {
     fn parse(parser: &mut Parser<'a>) -> Result<Self> {
         let span = parser.keyword("export")?;
         let name = <&str as Parse>::parse(parser)?;
-        parser.open()?;
-        let item = ItemSig::parse(parser)?;
-        parser.close()?;
+        let item = in_parens::<ItemSig>(parser)?;
         Ok(ExportType { span, name, item })
     }
 }
@@ -250,11 +249,7 @@ impl<'a> Part<'a, &'a str> for InlineName {
 
     #[tactic(auto, unfolding(crate::specs::InlineName::inline_name))]
     fn take(parser: &mut Parser<'a>) -> Result<&'a str> {
-        parser.open()?;
-        parser.keyword("export")?;
-        let name = <&str as Parse>::parse(parser)?;
-        parser.close()?;
-        Ok(name)
+        in_word_group(parser, "export")
     }
 }
 

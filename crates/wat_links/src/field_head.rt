@@ -5,6 +5,7 @@ ghost use Rattle.wat_tokens.specs.Views.{owning};
 
 use crate::export::InlineExport;
 use wat_tokens::{Fault, Id, NameAnnotation, Parse, Parser, Result};
+use wat_types::take_label;
 
 /// What is behind the word of a function, table, memory, global or tag: what names it, and its
 /// exports in line (WebAssembly Core Specification, Text Format, Modules, "Exports",
@@ -27,10 +28,9 @@ impl<'a> Parse<'a> for FieldHead<'a> {
 
     ghost grammar = { head };
 
-    #[tactic(auto, unfolding(crate::specs::FieldHead::head, wat_types::specs::Label::label))]
+    #[tactic(auto, unfolding(crate::specs::FieldHead::head))]
     fn parse(parser: &mut Parser<'a>) -> Result<Self> {
-        let id = Option::<Id>::parse(parser)?;
-        let name = Option::<NameAnnotation>::parse(parser)?;
+        let (id, name) = take_label(parser)?;
         let exports = InlineExport::parse(parser)?;
         Ok(FieldHead { id, name, exports })
     }

@@ -29,7 +29,7 @@ fn bit_of(word: &str) -> Option<u32>
 
 /// A number of 32 bits without a sign, or the bit that a word names. Another word is refused with
 /// Unexpected, at the word, and a number that is too large or has a `-` with Range.
-#[tactic(auto, using(crate::proofs::FlagReads::reads_number, crate::proofs::FlagReads::reads_word, crate::proofs::FlagReads::reads_no_word), unfolding(crate::specs::FlagBits::flag_bits))]
+#[tactic(auto, using(crate::proofs::FlagReads::flag_reads), unfolding(crate::specs::FlagBits::flag_bits))]
 fn read_flag<'a>(parser: &mut Parser<'a>) -> Result<u32>
     ensures reads { Reads (plain (λ n. n)) flag_bits result parser.old parser.new }
 {

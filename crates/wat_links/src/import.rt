@@ -16,11 +16,12 @@ ghost use Rattle.wat_links.specs.Import.{item_follows, shared_sig, single_item, 
 ghost use Rattle.wat_links.specs.Import.{named_items, opens_typed, typed, item_sigs, item_count};
 ghost use Rattle.wat_links.specs.Import.{own_sigs, SameTyped, SameAll, SameItems};
 ghost use Rattle.wat_links.specs.Import.{inline_import_view, inline_import, begins_inline_import};
-ghost use Rattle.wat_links.specs.ImportItem.{sig_group, typed_item, named_item};
+ghost use Rattle.wat_links.specs.ImportItem.{typed_item, named_item};
 ghost use Rattle.wat_links.specs.Lend.{typed_sig_at, sig_at, LendsTyped, LendsItems, LendsImports};
 
 use crate::item::ItemSig;
 use std::alloc::Global;
+use wat_tokens::enclosed::in_parens;
 use wat_tokens::repeat::{Part, parts};
 use wat_tokens::{Cursor, Error, Fault, Parse, Parser, Peek, Result, Span};
 
@@ -236,7 +237,7 @@ impl<'a> ImportGroup1Item<'a> {
 }
 
 /// The same items once more. Memory may be answered where there is an item.
-#[tactic(auto, using(crate::proofs::Same::same_next, crate::proofs::Same::view_next, crate::proofs::Same::some_items))]
+#[tactic(auto, using(crate::proofs::Same::clone_steps))]
 fn clone_items<'a>(items: &Vec<ImportGroup1Item<'a>>) -> Result<Vec<ImportGroup1Item<'a>>>
     ensures copies { Copies (λ x y. SameAll x.items y.items) (owning (λ v. map typed_view v.items)
         no_items) result items.now }
@@ -299,16 +300,6 @@ impl<'a> Imports<'a> {
     }
 }
 
-/// `( ItemSig )`
-fn read_sig<'a>(parser: &mut Parser<'a>) -> Result<ItemSig<'a>>
-    ensures reads { Reads (owning sig_view bare_sig) sig_group result parser.old parser.new }
-{
-    parser.open()?;
-    let sig = ItemSig::parse(parser)?;
-    parser.close()?;
-    Ok(sig)
-}
-
 /// `( item name ( ItemSig ) )`, where the second token is `item`.
 struct TypedItem;
 
@@ -334,7 +325,7 @@ impl<'a> Part<'a, ImportGroup1Item<'a>> for TypedItem {
             parser.close()?;
             return Err(mixed(span));
         }
-        let sig = read_sig(parser)?;
+        let sig = in_parens::<ItemSig>(parser)?;
         parser.close()?;
         Ok(ImportGroup1ItemOf { span, name, sig })
     }
@@ -369,7 +360,7 @@ impl<'a> Part<'a, ImportGroup2Item<'a>> for NamedItem {
         let span = parser.keyword("item")?;
         let name = <&str as Parse>::parse(parser)?;
         if !parser.is_empty() {
-            read_sig(parser)?;
+            in_parens::<ItemSig>(parser)?;
             parser.close()?;
             return Err(mixed(span));
         }
@@ -426,7 +417,7 @@ fn read_single<'a>(parser: &mut Parser<'a>, module: &'a str) -> Result<ImportIte
     ensures module { IfOk result (λ i. (module_of i).now ≡ «module».now) }
 {
     let name = <&str as Parse>::parse(parser)?;
-    let sig = read_sig(parser)?;
+    let sig = in_parens(parser)?;
     Ok(ImportItemsOf::Single { module, name, sig })
 }
 

@@ -8,6 +8,7 @@ ghost use Rattle.wat_links.specs.Item.{item_kind_view, bare_item_kind, SigTy, si
 ghost use Rattle.wat_links.specs.Item.{func_kind};
 ghost use Rattle.wat_links.specs.Item.{global_or_tag, item_sig, SameKind, SameSig};
 
+use wat_tokens::enclosed::in_word_group;
 use wat_tokens::{Fault, Id, NameAnnotation, Parse, Parser, Result, Span};
 use wat_types::{FunctionType, GlobalType, MemoryType, TableType, TagType, TypeUse, take_label};
 
@@ -84,11 +85,7 @@ fn read_func_kind<'a>(parser: &mut Parser<'a>) -> Result<ItemKind<'a>>
     if !parser.second_is("exact") {
         return TypeUse::parse(parser).map(ItemKind::Func);
     }
-    parser.open()?;
-    parser.keyword("exact")?;
-    let ty = TypeUse::parse(parser)?;
-    parser.close()?;
-    Ok(ItemKind::FuncExact(ty))
+    in_word_group(parser, "exact").map(ItemKind::FuncExact)
 }
 
 /// `global` or `tag`, a label, and a type.

@@ -12,7 +12,7 @@ pub mod custom_place;
 pub mod dylink;
 pub mod export;
 pub mod field_head;
-pub mod flags;
+mod flags;
 pub mod import;
 pub mod item;
 pub mod laws;

@@ -186,7 +186,7 @@ impl<'a> Parse<'a> for Producers<'a> {
 
     ghost grammar = { producers };
 
-    #[tactic(auto, using(crate::specs::Laws::Producers::producer_entry_consumes, crate::proofs::Fields::fields_not_bare, crate::proofs::Fields::entries_not_bare), unfolding(crate::specs::Producers::producers, crate::specs::Producers::producer_entries))]
+    #[tactic(auto, using(crate::proofs::Fields::entry_steps), unfolding(crate::specs::Producers::producers, crate::specs::Producers::producer_entries))]
     fn parse(parser: &mut Parser<'a>) -> Result<Self> {
         parser.take_annotation("producers")?;
         let mut entries = Vec::new(parser.alloc());

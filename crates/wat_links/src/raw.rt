@@ -6,6 +6,7 @@ ghost use Rattle.wat_tokens.specs.Reads.{Reads};
 ghost use Rattle.wat_tokens.specs.Views.{plain, owning};
 
 use crate::custom_place::CustomPlace;
+use wat_tokens::enclosed::in_parens;
 use wat_tokens::repeat::rest_of_group;
 use wat_tokens::{Parse, Parser, Result, Span};
 
@@ -31,10 +32,7 @@ fn read_place<'a>(parser: &mut Parser<'a>) -> Result<CustomPlace>
     if !parser.opens() {
         return Ok(CustomPlace::AfterLast);
     }
-    parser.open()?;
-    let place = CustomPlace::parse(parser)?;
-    parser.close()?;
-    Ok(place)
+    in_parens(parser)
 }
 
 /// `@custom`, a name, a place in parentheses or none, and strings up to the end of the group.

@@ -37,18 +37,25 @@ no_place base size t l w h e =
 
 -- ---- how often a stretch can be halved
 
--- its greater half is short enough after one comparison more
-pub few_left : (size n p most : ℕ) → 1 < size → n ≡ p + 1 → IsFew size p most → IsFew (size - size / 2) n most
-few_left size n p most l e (zero, f, s) = absurd (omega (arith, l, s))
-few_left size n p most l e (suc k, f, s) = (k, omega (arith, e, f), omega (arith, s))
+-- b is a after one comparison more
+abbrev pub Probed : State → State → Type 0
+Probed a b = b ≡ record a { probes = a.probes + 1 }
+
+pub one_more : (a b : State) → Probed a b → b.probes ≡ a.probes + 1
+one_more a b e = ap (λ (s : State). s.probes) e
+
+-- then its greater half is short enough
+pub few_left : (size most : ℕ) (a b : State) → 1 < size → Probed a b → IsFew size a.probes most → IsFew (size - size / 2) b.probes most
+few_left size most a b l e (zero, f, s) = absurd (omega (arith, l, s))
+few_left size most a b l e (suc k, f, s) = (k, omega (arith, one_more a b e, f), omega (arith, s))
 
 -- the comparisons that are made are not too many
 pub few_made : (size p most : ℕ) → IsFew size p most → p ≤ most
 few_made size p most (k, f, s) = omega (arith, f)
 
 -- a comparison was made, or the whole table is left
-pub made_one : (n p q a b : ℕ) → q ≡ p + 1 → a ≤ 624 → 624 + 624 * n ≤ a + 624 * p → 624 + 624 * n ≤ b + 624 * q
-made_one n p q a b e l h = omega (arith, e, l, h)
+pub made_one : (n size left : ℕ) (a b : State) → Probed a b → size ≤ 624 → 624 + 624 * n ≤ size + 624 * a.probes → 624 + 624 * n ≤ left + 624 * b.probes
+made_one n size left a b e l h = omega (arith, one_more a b e, l, h)
 
 -- where only the count of comparisons had changed, it still is all
 pub probed_only : (a b e : State) (n : ℕ) → b ≡ record a { probes = b.probes } → e ≡ record b { probes = n } → e ≡ record a { probes = e.probes }

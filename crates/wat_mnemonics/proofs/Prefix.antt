@@ -48,14 +48,14 @@ told (Some a) b d n e t = subst (λ (l : List ℕ). get_or places_of_opcodes (co
     same : (a b : List ℕ) → Some a ≡ Some b → a ≡ b
     same a b e = cc
 
-mnemonic_told : (x : Op) (b d : List ℕ) → bytes (op_opcode x) ≡ Some b → get_or places_of_opcodes (code_of (b ++ d)) 0 ≡ place x
-mnemonic_told (h.Scalar x) b d e = told (bytes (scalar_opcode x)) b d (place (h.Scalar x)) e (scalar_tells x d)
-mnemonic_told (h.Vector x) b d e = told (bytes (vector_opcode x)) b d (place (h.Vector x)) e (vector_tells x d)
-mnemonic_told _ b d e = absurd (no_bytes b e)
+op_told : (x : Op) (b d : List ℕ) → bytes (op_opcode x) ≡ Some b → get_or places_of_opcodes (code_of (b ++ d)) 0 ≡ place x
+op_told (h.Scalar x) b d e = told (bytes (scalar_opcode x)) b d (place (h.Scalar x)) e (scalar_tells x d)
+op_told (h.Vector x) b d e = told (bytes (vector_opcode x)) b d (place (h.Vector x)) e (vector_tells x d)
+op_told _ b d e = absurd (no_bytes b e)
   where
     no_bytes : (b : List ℕ) → None ≡ Some b → ⊥
     no_bytes b e = cc
 
 pub one_opcode : (x y : Op) (b d : List ℕ) → bytes (op_opcode x) ≡ Some b → bytes (op_opcode y) ≡ Some (b ++ d) → x ≡ y
 one_opcode x y b d ex ey =
-    one_place x y (sym (mnemonic_told x b d ex) ∙ ap (λ (l : List ℕ). get_or places_of_opcodes (code_of l) 0) (sym (append-nil (b ++ d))) ∙ mnemonic_told y (b ++ d) [] ey)
+    one_place x y (sym (op_told x b d ex) ∙ ap (λ (l : List ℕ). get_or places_of_opcodes (code_of l) 0) (sym (append-nil (b ++ d))) ∙ op_told y (b ++ d) [] ey)

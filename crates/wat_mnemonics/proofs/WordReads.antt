@@ -21,7 +21,7 @@ first_none w (y ∷ ys) f =
     (λ t. absurd (f y ((bytes_decides (op_word y) w).0 t)))
     (λ t. rw t (first_none w ys f))
 
-pub mnemonic_of_none : (w : List ℕ) → ((x : Op) → op_word x ≡ w → ⊥) → mnemonic_of w ≡ None
+mnemonic_of_none : (w : List ℕ) → ((x : Op) → op_word x ≡ w → ⊥) → mnemonic_of w ≡ None
 unfolding mnemonic_of
 mnemonic_of_none w f = first_none w all_ops f
 
@@ -45,3 +45,6 @@ pub reads_no_word : (t : List Tok) → one_reads as_keyword t ≡ None → mnemo
 reads_no_word [] e = refl
 reads_no_word (Keyword k ∷ t) e = absurd cc
 reads_no_word (_ ∷ t) e = refl
+
+-- where no instruction's word is in front
+pub ruleset reads_nothing = (reads_other_word, reads_no_word)

@@ -12,6 +12,7 @@ use Rattle.wat_mnemonics.specs.declared.op.Op.{Op}
 abbrev pub AtMostTen : State → State → Type 0
 AtMostTen a b = (a.probes ≤ b.probes) × (b.probes ≤ a.probes + 10)
 
--- it answers the head whose word is in front, takes no memory, and counts no turn and no height
+-- it answers the instruction whose word is in front, takes no memory, and counts no turn and no
+-- height
 abbrev pub ReadsWord : Result Op Error → State → State → Type 0
-ReadsWord r a b = ReadsAt words_too (plain (λ h. h)) mnemonic r a b
+ReadsWord r a b = ReadsAt words_too (plain (λ op. op)) mnemonic r a b

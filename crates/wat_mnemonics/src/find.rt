@@ -12,13 +12,13 @@ use crate::op::Op;
 use crate::same_key::find_whole;
 use wat_tokens::{Error, Fault, Parser, Result};
 
-/// The mnemonic of a word, or None if the word is none.
+/// The instruction with this word, or None if there is none.
 ///
 /// The table of words, in strict order of their bytes, is searched by halves. The parser counts
 /// each comparison with an entry, of which there are 1 to 10, and changes in nothing else.
 pub fn find(parser: &mut Parser<'_>, text: &str) -> Option<Op>
-    ensures found { IfSome result (λ h. op_word h ≡ text.now) }
-    ensures missing { IfNone result ((h : AnyOp) → op_word h ≢ text.now) }
+    ensures found { IfSome result (λ op. op_word op ≡ text.now) }
+    ensures missing { IfNone result ((op : AnyOp) → op_word op ≢ text.now) }
     ensures only { parser.new ≡ record parser.old { probes = parser.new.probes } }
     ensures counts { Carries parser.old parser.new }
     ensures probed { parser.old.probes + 1 ≤ parser.new.probes }
@@ -46,7 +46,7 @@ impl Op {
     ///
     /// A word that is no mnemonic, or any other token, is refused with Operator at it.
     #[inline(always)]
-    #[tactic(auto, using(crate::proofs::WordReads::reads_other_word, crate::proofs::WordReads::reads_no_word))]
+    #[tactic(auto, using(crate::proofs::WordReads::reads_nothing))]
     pub fn take(parser: &mut Parser<'_>) -> Result<Op>
         ensures reads { ReadsWord result parser.old parser.new }
         ensures probes { AtMostTen parser.old parser.new }

@@ -12,7 +12,7 @@ pub fn words_in_order()
     ensures { IsTrue (rises (map op_word OPS)) }
 {}
 
-/// Each mnemonic has one row, and each row one mnemonic.
+/// No two instructions have one word or one row, and each of the 623 rows has an instruction.
 pub fn one_mnemonic()
     // Two instructions with one word are one.
     ensures word { (x y : AnyOp) → op_word x ≡ op_word y → x ≡ y }

@@ -1,8 +1,7 @@
 //! The words of the 623 instructions of the WebAssembly text format, without what follows them.
 //!
-//! A [`Op`](op::Op) is an instruction without its operand. A word is looked up by
-//! binary search ([`find`](find::find)). A mnemonic has its word, and its opcode if Core
-//! Specification 2.0 gives it one.
+//! An [`Op`](op::Op) is an instruction without its operand. It has its word, and its opcode if Core
+//! Specification 2.0 gives it one. A word is looked up by binary search ([`find`](find::find)).
 #![tactic(auto)]
 
 pub mod access;

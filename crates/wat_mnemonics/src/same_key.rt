@@ -64,7 +64,8 @@ fn compared(place: usize, key: u64, text: &str) -> Ordering
     }
 }
 
-/// The mnemonic of a word that is in a stretch of the table, or None if the word is none.
+/// The instruction with this word, which is in a stretch of the table if it is in the table at all;
+/// None if there is none.
 fn find_between(
     parser: &mut Parser<'_>,
     mut base: usize,
@@ -75,8 +76,8 @@ fn find_between(
     requires key { key ≡ key_of text.now }
     requires some { 0 < size }
     requires within { IsWithin base size text.now }
-    ensures found { IfSome result (λ h. op_word h ≡ text.now) }
-    ensures missing { IfNone result ((h : AnyOp) → op_word h ≢ text.now) }
+    ensures found { IfSome result (λ op. op_word op ≡ text.now) }
+    ensures missing { IfNone result ((op : AnyOp) → op_word op ≢ text.now) }
     ensures only { parser.new ≡ record parser.old { probes = parser.new.probes } }
     ensures counts { Carries parser.old parser.new }
     ensures more { parser.old.probes ≤ parser.new.probes }
@@ -108,8 +109,8 @@ pub(crate) fn find_whole(
     requires some { 1 < size }
     requires within { IsWithin base size text.now }
     requires same { slice_index KEYS (base + size / 2 - 1) ≡ key }
-    ensures found { IfSome result (λ h. op_word h ≡ text.now) }
-    ensures missing { IfNone result ((h : AnyOp) → op_word h ≢ text.now) }
+    ensures found { IfSome result (λ op. op_word op ≡ text.now) }
+    ensures missing { IfNone result ((op : AnyOp) → op_word op ≢ text.now) }
     ensures only { parser.new ≡ record parser.old { probes = parser.new.probes } }
     ensures counts { Carries parser.old parser.new }
     ensures probed { parser.old.probes + 1 ≤ parser.new.probes }

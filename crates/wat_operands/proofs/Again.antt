@@ -17,6 +17,8 @@ pub f64s_again : (xs : List F64) → map f64_of (map (λ x. x.bits) xs) ≡ xs
 f64s_again [] = refl
 f64s_again (x ∷ xs) = ap (λ (u : List F64). x ∷ u) (f64s_again xs)
 
+pub ruleset lanes = (items_again, f32s_again, f64s_again)
+
 pub map_both : {X A : Type 0} (view : X → A) (xs ys : List X) → map view (xs ++ ys) ≡ map view xs ++ map view ys
 map_both view xs ys = map-append view xs ys
 

@@ -10,6 +10,7 @@ ghost use Rattle.wat_operands.specs.Aggregates.{array_new_data_view, array_new_e
 ghost use Rattle.wat_operands.specs.Aggregates.{array_of_length};
 ghost use Rattle.wat_operands.specs.Tables.{index_pair};
 
+use crate::tables::index_pair;
 use wat_tokens::{Index, Parse, Parser, Result};
 
 /// The operands of `struct.get`, `struct.set` and the like, with each index as an `I` (WebAssembly
@@ -135,10 +136,8 @@ impl<'a> Parse<'a> for StructAccess<'a> {
 
     ghost grammar = { index_pair };
 
-    #[tactic(auto, unfolding(crate::specs::Tables::index_pair))]
     fn parse(parser: &mut Parser<'a>) -> Result<Self> {
-        let struct_ = Index::parse(parser)?;
-        let field = Index::parse(parser)?;
+        let (struct_, field) = index_pair(parser)?;
         Ok(StructAccess { struct_, field })
     }
 }
@@ -151,10 +150,8 @@ impl<'a> Parse<'a> for ContBind<'a> {
 
     ghost grammar = { index_pair };
 
-    #[tactic(auto, unfolding(crate::specs::Tables::index_pair))]
     fn parse(parser: &mut Parser<'a>) -> Result<Self> {
-        let argument_index = Index::parse(parser)?;
-        let result_index = Index::parse(parser)?;
+        let (argument_index, result_index) = index_pair(parser)?;
         Ok(ContBind {
             argument_index,
             result_index,
@@ -170,10 +167,8 @@ impl<'a> Parse<'a> for Switch<'a> {
 
     ghost grammar = { index_pair };
 
-    #[tactic(auto, unfolding(crate::specs::Tables::index_pair))]
     fn parse(parser: &mut Parser<'a>) -> Result<Self> {
-        let type_index = Index::parse(parser)?;
-        let tag_index = Index::parse(parser)?;
+        let (type_index, tag_index) = index_pair(parser)?;
         Ok(Switch {
             type_index,
             tag_index,
@@ -203,10 +198,8 @@ impl<'a> Parse<'a> for ArrayCopy<'a> {
 
     ghost grammar = { index_pair };
 
-    #[tactic(auto, unfolding(crate::specs::Tables::index_pair))]
     fn parse(parser: &mut Parser<'a>) -> Result<Self> {
-        let dest_array = Index::parse(parser)?;
-        let src_array = Index::parse(parser)?;
+        let (dest_array, src_array) = index_pair(parser)?;
         Ok(ArrayCopy {
             dest_array,
             src_array,
@@ -222,10 +215,8 @@ impl<'a> Parse<'a> for ArrayInit<'a> {
 
     ghost grammar = { index_pair };
 
-    #[tactic(auto, unfolding(crate::specs::Tables::index_pair))]
     fn parse(parser: &mut Parser<'a>) -> Result<Self> {
-        let array = Index::parse(parser)?;
-        let segment = Index::parse(parser)?;
+        let (array, segment) = index_pair(parser)?;
         Ok(ArrayInit { array, segment })
     }
 }
@@ -255,10 +246,8 @@ impl<'a> Parse<'a> for ArrayNewData<'a> {
 
     ghost grammar = { index_pair };
 
-    #[tactic(auto, unfolding(crate::specs::Tables::index_pair))]
     fn parse(parser: &mut Parser<'a>) -> Result<Self> {
-        let array = Index::parse(parser)?;
-        let data_idx = Index::parse(parser)?;
+        let (array, data_idx) = index_pair(parser)?;
         Ok(ArrayNewData { array, data_idx })
     }
 }
@@ -271,10 +260,8 @@ impl<'a> Parse<'a> for ArrayNewElem<'a> {
 
     ghost grammar = { index_pair };
 
-    #[tactic(auto, unfolding(crate::specs::Tables::index_pair))]
     fn parse(parser: &mut Parser<'a>) -> Result<Self> {
-        let array = Index::parse(parser)?;
-        let elem_idx = Index::parse(parser)?;
+        let (array, elem_idx) = index_pair(parser)?;
         Ok(ArrayNewElem { array, elem_idx })
     }
 }

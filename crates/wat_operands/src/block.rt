@@ -8,7 +8,7 @@ ghost use Rattle.wat_operands.specs.Block.{signature_view, bare_signature, signa
 ghost use Rattle.wat_operands.specs.Block.{block_view, bare_block, block_type, SameBlock};
 
 use wat_tokens::{Fault, Id, NameAnnotation, Parse, Parser, Result};
-use wat_types::{FunctionType, FunctionTypeNoNames, TypeUse};
+use wat_types::{FunctionType, FunctionTypeNoNames, TypeUse, take_label};
 
 /// What `block`, `loop`, `if` and `try` say of their block (WebAssembly Core Specification, Text
 /// Format, Instructions, "Control Instructions").
@@ -54,10 +54,9 @@ impl<'a> Parse<'a> for BlockType<'a> {
 
     ghost grammar = { block_type };
 
-    #[tactic(auto, unfolding(crate::specs::Block::block_type, wat_types::specs::Label::label))]
+    #[tactic(auto, unfolding(crate::specs::Block::block_type))]
     fn parse(parser: &mut Parser<'a>) -> Result<Self> {
-        let label = Option::<Id>::parse(parser)?;
-        let label_name = Option::<NameAnnotation>::parse(parser)?;
+        let (label, label_name) = take_label(parser)?;
         let ty = read_signature(parser)?;
         Ok(BlockType {
             label,

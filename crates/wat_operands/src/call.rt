@@ -6,6 +6,7 @@ ghost use Rattle.wat_tokens.specs.Views.{owning};
 ghost use Rattle.wat_operands.specs.Call.{CallTy, call_view, bare_call, call_indirect, SameCall};
 
 use crate::block::read_signature;
+use crate::tables::index_or_0;
 use wat_tokens::{Fault, Index, Parse, Parser, Result};
 use wat_types::{FunctionType, TypeUse};
 
@@ -41,13 +42,9 @@ impl<'a> Parse<'a> for CallIndirect<'a> {
 
     ghost grammar = { call_indirect };
 
-    #[tactic(auto, unfolding(crate::specs::Call::call_indirect))]
+    #[tactic(auto, unfolding(crate::specs::Call::call_indirect, crate::specs::Tables::index_or_0))]
     fn parse(parser: &mut Parser<'a>) -> Result<Self> {
-        let before = parser.prev_span();
-        let table = match Option::<Index>::parse(parser)? {
-            Some(table) => table,
-            None => Index::Num(0, before),
-        };
+        let table = index_or_0(parser)?;
         let ty = read_signature(parser)?;
         Ok(CallIndirect { table, ty })
     }

@@ -11,7 +11,8 @@ ghost use Rattle.wat_operands.specs.Memory.{align_or, mem_arg_view, mem_arg, ato
 ghost use Rattle.wat_operands.specs.Align.{past_front, field};
 
 use crate::ordering::Ordering;
-use crate::tables::index_or_zero;
+use crate::tables::index_or_0;
+use wat_tokens::enclosed::in_word_group;
 use wat_tokens::{Cursor, Error, Fault, Index, Integer, Parse, Parser, Result, Span};
 
 /// What an instruction accesses (WebAssembly Core Specification, Text Format, Instructions, "Memory
@@ -56,7 +57,7 @@ fn behind<'a>(text: &'a str, front: &str) -> Option<&'a str>
 }
 
 /// Whether a keyword that begins so is there.
-pub fn begins_with(cursor: Cursor<'_>, start: &str) -> bool
+pub(crate) fn begins_with(cursor: Cursor<'_>, start: &str) -> bool
     ensures { result ≡ begins_with start.now (in_front cursor.entry) }
 {
     match cursor.keyword() {
@@ -137,13 +138,9 @@ fn read_target<'a>(parser: &mut Parser<'a>) -> Result<MemArgTarget<'a>>
     ensures reads { Reads (plain target_view) target result parser.old parser.new }
 {
     if !parser.second_is("type") {
-        return index_or_zero(parser).map(MemArgTarget::Memory);
+        return index_or_0(parser).map(MemArgTarget::Memory);
     }
-    parser.open()?;
-    parser.keyword("type")?;
-    let index = Index::parse(parser)?;
-    parser.close()?;
-    Ok(MemArgTarget::Array(index))
+    in_word_group(parser, "type").map(MemArgTarget::Array)
 }
 
 impl<'a> MemArg<'a> {

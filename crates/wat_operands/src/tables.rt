@@ -4,9 +4,10 @@ ghost use Rattle.std.specs.Prelude.{◌≡◌};
 ghost use Rattle.wat_tokens.specs.Index.{Idx, number, index_view};
 ghost use Rattle.wat_tokens.specs.Reads.{Reads};
 ghost use Rattle.wat_tokens.specs.Views.{plain};
-ghost use Rattle.wat_operands.specs.Tables.{index_or_0, table_arg_view, memory_arg_view, init};
-ghost use Rattle.wat_operands.specs.Tables.{table_init_view, memory_init_view, copy};
-ghost use Rattle.wat_operands.specs.Tables.{table_copy_view, memory_copy_view};
+ghost use Rattle.wat_operands.specs.Tables.{index_or_0, index_pair, table_arg_view};
+ghost use Rattle.wat_operands.specs.Tables.{memory_arg_view, init, table_init_view};
+ghost use Rattle.wat_operands.specs.Tables.{memory_init_view, copy, table_copy_view};
+ghost use Rattle.wat_operands.specs.Tables.{memory_copy_view};
 
 use wat_tokens::{Index, Parse, Parser, Result};
 
@@ -93,7 +94,7 @@ pub(crate) fn zero<'a>(parser: &Parser<'a>) -> Index<'a>
 
 /// Takes an index, where one begins in front, and else answers 0.
 #[tactic(auto, unfolding(crate::specs::Tables::index_or_0))]
-pub fn index_or_zero<'a>(parser: &mut Parser<'a>) -> Result<Index<'a>>
+pub(crate) fn index_or_0<'a>(parser: &mut Parser<'a>) -> Result<Index<'a>>
     ensures reads { Reads (plain index_view) index_or_0 result parser.old parser.new }
 {
     if parser.peek::<Index>() {
@@ -103,24 +104,34 @@ pub fn index_or_zero<'a>(parser: &mut Parser<'a>) -> Result<Index<'a>>
     }
 }
 
+/// Takes two indices.
+#[tactic(auto, unfolding(crate::specs::Tables::index_pair))]
+pub(crate) fn index_pair<'a>(parser: &mut Parser<'a>) -> Result<(Index<'a>, Index<'a>)>
+    ensures reads { Reads (plain (λ p. (index_view p.0, index_view p.1))) index_pair result
+        parser.old parser.new }
+{
+    let first = Index::parse(parser)?;
+    let second = Index::parse(parser)?;
+    Ok((first, second))
+}
+
 /// Where the second token is an index, takes a target and a segment; else takes a segment, and the
 /// target is 0.
-#[tactic(auto, unfolding(crate::specs::Tables::init, crate::specs::Tables::index_pair))]
+#[tactic(auto, unfolding(crate::specs::Tables::init))]
 fn target_and_segment<'a>(parser: &mut Parser<'a>) -> Result<(Index<'a>, Index<'a>)>
     ensures reads { Reads (plain (λ p. (index_view p.0, index_view p.1))) init result parser.old
         parser.new }
 {
-    let target = if parser.peek2::<Index>() {
-        Index::parse(parser)?
-    } else {
-        zero(parser)
-    };
+    if parser.peek2::<Index>() {
+        return index_pair(parser);
+    }
+    let target = zero(parser);
     let segment = Index::parse(parser)?;
     Ok((target, segment))
 }
 
 /// Where an index begins, takes a destination and a source; else both are 0.
-#[tactic(auto, unfolding(crate::specs::Tables::copy, crate::specs::Tables::index_pair))]
+#[tactic(auto, unfolding(crate::specs::Tables::copy))]
 fn destination_and_source<'a>(parser: &mut Parser<'a>) -> Result<(Index<'a>, Index<'a>)>
     ensures reads { Reads (plain (λ p. (index_view p.0, index_view p.1))) copy result parser.old
         parser.new }
@@ -128,9 +139,7 @@ fn destination_and_source<'a>(parser: &mut Parser<'a>) -> Result<(Index<'a>, Ind
     if !parser.peek::<Index>() {
         return Ok((zero(parser), zero(parser)));
     }
-    let destination = Index::parse(parser)?;
-    let source = Index::parse(parser)?;
-    Ok((destination, source))
+    index_pair(parser)
 }
 
 /// An index, or none: table 0.
@@ -143,7 +152,7 @@ impl<'a> Parse<'a> for TableArg<'a> {
 
     fn parse(parser: &mut Parser<'a>) -> Result<Self> {
         Ok(TableArg {
-            dst: index_or_zero(parser)?,
+            dst: index_or_0(parser)?,
         })
     }
 }
@@ -158,7 +167,7 @@ impl<'a> Parse<'a> for MemoryArg<'a> {
 
     fn parse(parser: &mut Parser<'a>) -> Result<Self> {
         Ok(MemoryArg {
-            mem: index_or_zero(parser)?,
+            mem: index_or_0(parser)?,
         })
     }
 }

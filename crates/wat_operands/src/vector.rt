@@ -111,7 +111,7 @@ fn sixteen<'a, T: Parse<'a> + Copy>(parser: &mut Parser<'a>) -> Result<[T; 16]>
 }
 
 /// Takes a constant of floating-point lanes: its word is there, and then none can be read.
-#[tactic(auto, using(crate::proofs::Again::f32s_again, crate::proofs::Again::f64s_again), unfolding(crate::specs::Vector::float_const))]
+#[tactic(auto, using(crate::proofs::Again::lanes), unfolding(crate::specs::Vector::float_const))]
 fn read_floats<'a>(parser: &mut Parser<'a>) -> Result<V128Const>
     ensures reads { Reads (plain (λ v. v)) float_const result parser.old parser.new }
 {
@@ -123,7 +123,7 @@ fn read_floats<'a>(parser: &mut Parser<'a>) -> Result<V128Const>
 }
 
 /// Takes a constant whose lanes have 32 or 64 bits.
-#[tactic(auto, using(crate::proofs::Again::items_again), unfolding(crate::specs::Vector::wide_const))]
+#[tactic(auto, using(crate::proofs::Again::lanes), unfolding(crate::specs::Vector::wide_const))]
 fn read_wide<'a>(parser: &mut Parser<'a>) -> Result<V128Const>
     ensures reads { Reads (plain (λ v. v)) wide_const result parser.old parser.new }
 {
@@ -149,7 +149,7 @@ impl<'a> Parse<'a> for V128Const {
 
     ghost grammar = { v128_const };
 
-    #[tactic(auto, using(crate::proofs::Again::items_again), unfolding(crate::specs::Vector::v128_const))]
+    #[tactic(auto, using(crate::proofs::Again::lanes), unfolding(crate::specs::Vector::v128_const))]
     fn parse(parser: &mut Parser<'a>) -> Result<Self> {
         if parser.flag("i8x16") {
             return Ok(V128Const::I8x16(sixteen::<i8>(parser)?));
@@ -172,7 +172,7 @@ impl<'a> Parse<'a> for I8x16Shuffle {
 
     ghost grammar = { shuffle };
 
-    #[tactic(auto, using(crate::proofs::Again::items_again), unfolding(crate::specs::Vector::shuffle))]
+    #[tactic(auto, using(crate::proofs::Again::lanes), unfolding(crate::specs::Vector::shuffle))]
     fn parse(parser: &mut Parser<'a>) -> Result<Self> {
         let lanes = sixteen::<u8>(parser)?;
         Ok(I8x16Shuffle { lanes })

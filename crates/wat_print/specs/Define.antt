@@ -6,12 +6,12 @@ use Rattle.wat_tokens.specs.Index.{Idx}
 use Rattle.wat_tokens.specs.Spelled.{in_parens}
 use Rattle.wat_tokens.specs.Views.{no_items}
 use Rattle.wat_types.specs.Define.{InnerKindTy, func, struct_, array, cont, DefTy, TypeTy}
-use Rattle.wat_print.specs.Function.{spell_function, fit_function}
-use Rattle.wat_print.specs.Index.{spell_index, fit_index}
-use Rattle.wat_print.specs.Label.{spell_label, fit_label}
+use Rattle.wat_print.specs.Function.{spell_function, printable_function}
+use Rattle.wat_print.specs.Index.{spell_index, printable_index}
+use Rattle.wat_print.specs.Label.{spell_label, printable_label}
 use Rattle.wat_print.specs.Parts.{grouped, spell_flag, spell_option, if_some, each}
-use Rattle.wat_print.specs.Storage.{spell_field, fit_field}
-use Rattle.wat_print.specs.Struct.{spell_struct, fit_struct}
+use Rattle.wat_print.specs.Storage.{spell_field, printable_field}
+use Rattle.wat_print.specs.Struct.{spell_struct, printable_struct}
 
 -- ---- what is defined
 
@@ -21,11 +21,11 @@ spell_kind (struct_ ms) = Keyword (codes "struct") ∷ spell_struct ms
 spell_kind (array f) = Keyword (codes "array") ∷ spell_field f
 spell_kind (cont i) = Keyword (codes "cont") ∷ spell_index i
 
-abbrev pub fit_kind : InnerKindTy → Bool
-fit_kind (func f) = fit_function f
-fit_kind (struct_ ms) = fit_struct ms
-fit_kind (array f) = fit_field f
-fit_kind (cont i) = fit_index i
+abbrev pub printable_kind : InnerKindTy → Bool
+printable_kind (func f) = printable_function f
+printable_kind (struct_ ms) = printable_struct ms
+printable_kind (array f) = printable_field f
+printable_kind (cont i) = printable_index i
 
 -- ---- definitions, in their parentheses
 
@@ -57,16 +57,16 @@ abbrev pub spell_def : DefTy → List Tok
 spell_def d = spell_sub d d.final_type
 
 -- only behind `sub` are there types that it is below
-abbrev pub fit_parents : Option Bool → List Idx → Bool
-fit_parents (Some final) is = each fit_index is
-fit_parents None is = no_items is
+abbrev pub printable_parents : Option Bool → List Idx → Bool
+printable_parents (Some final) is = each printable_index is
+printable_parents None is = no_items is
 
-abbrev pub fit_described : DefTy → Bool
-fit_described d =
-    if_some fit_index d.describes && (if_some fit_index d.descriptor && fit_kind d.kind)
+abbrev pub printable_described : DefTy → Bool
+printable_described d =
+    if_some printable_index d.describes && (if_some printable_index d.descriptor && printable_kind d.kind)
 
-abbrev pub fit_def : DefTy → Bool
-fit_def d = fit_parents d.final_type d.parents && fit_described d
+abbrev pub printable_def : DefTy → Bool
+printable_def d = printable_parents d.final_type d.parents && printable_described d
 
 -- ---- types and recursion groups
 
@@ -74,8 +74,8 @@ fit_def d = fit_parents d.final_type d.parents && fit_described d
 abbrev pub spell_type : TypeTy → List Tok
 spell_type t = Keyword (codes "type") ∷ (spell_label t.label ++ spell_def t.def)
 
-abbrev pub fit_type : TypeTy → Bool
-fit_type t = fit_label t.label && fit_def t.def
+abbrev pub printable_type : TypeTy → Bool
+printable_type t = printable_label t.label && printable_def t.def
 
 abbrev pub spell_grouped_type : TypeTy → List Tok
 spell_grouped_type t = in_parens (spell_type t)
@@ -84,5 +84,5 @@ spell_grouped_type t = in_parens (spell_type t)
 abbrev pub spell_rec : List TypeTy → List Tok
 spell_rec ts = Keyword (codes "rec") ∷ flat_map spell_grouped_type ts
 
-abbrev pub fit_rec : List TypeTy → Bool
-fit_rec ts = each fit_type ts
+abbrev pub printable_rec : List TypeTy → Bool
+printable_rec ts = each printable_type ts

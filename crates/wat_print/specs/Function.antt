@@ -4,9 +4,9 @@ use Rattle.wat_lexer.specs.Token.{Tok}
 use Rattle.wat_types.specs.Group.{Group, param, result, FuncTy, ParamTy}
 use Rattle.wat_types.specs.Label.{Label}
 use Rattle.wat_types.specs.Value.{ValTy}
-use Rattle.wat_print.specs.Label.{spell_label, fit_label, by_itself, in_groups}
+use Rattle.wat_print.specs.Label.{spell_label, printable_label, by_itself, in_groups}
 use Rattle.wat_print.specs.Parts.{grouped, each}
-use Rattle.wat_print.specs.Reference.{spell_val, fit_val}
+use Rattle.wat_print.specs.Reference.{spell_val, printable_val}
 
 abbrev pub param_label : ParamTy → Label
 param_label p = p.label
@@ -14,8 +14,8 @@ param_label p = p.label
 abbrev pub spell_param : ParamTy → List Tok
 spell_param p = spell_label p.label ++ spell_val p.ty
 
-abbrev pub fit_param : ParamTy → Bool
-fit_param p = fit_label p.label && fit_val p.ty
+abbrev pub printable_param : ParamTy → Bool
+printable_param p = printable_label p.label && printable_val p.ty
 
 abbrev pub spell_group : Group → List Tok
 spell_group (param ps) = grouped (codes "param") (flat_map spell_param ps)
@@ -39,5 +39,5 @@ groups_of f = param_groups f.params ++ result_groups f.results
 abbrev pub spell_function : FuncTy → List Tok
 spell_function f = flat_map spell_group (groups_of f)
 
-abbrev pub fit_function : FuncTy → Bool
-fit_function f = each fit_param f.params && each fit_val f.results
+abbrev pub printable_function : FuncTy → Bool
+printable_function f = each printable_param f.params && each printable_val f.results

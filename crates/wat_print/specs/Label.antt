@@ -5,7 +5,7 @@ use Rattle.std.specs.Str.{is_utf8}
 use Rattle.wat_lexer.specs.Token.{Tok, Id, Annotation, String}
 use Rattle.wat_tokens.specs.Spelled.{in_parens}
 use Rattle.wat_types.specs.Label.{Label, labelled}
-use Rattle.wat_print.specs.Neat.{is_name}
+use Rattle.wat_print.specs.WellFormed.{is_name}
 use Rattle.wat_print.specs.Parts.{spell_option, if_some}
 
 abbrev pub spell_id : List ℕ → List Tok
@@ -19,8 +19,8 @@ spell_name n = in_parens (Annotation (codes "name") ∷ String n ∷ [])
 abbrev pub spell_label : Label → List Tok
 spell_label l = spell_option spell_id l.id ++ spell_option spell_name l.name
 
-abbrev pub fit_label : Label → Bool
-fit_label l = if_some is_name l.id && if_some is_utf8 l.name
+abbrev pub printable_label : Label → Bool
+printable_label l = if_some is_name l.id && if_some is_utf8 l.name
 
 -- none of the parts has a label
 abbrev pub none_labelled : {A : Type 0} → (A → Label) → List A → Bool

@@ -21,7 +21,7 @@ pub mod Label
 pub mod Laws
 pub mod Layout
 pub mod Limits
-pub mod Neat
+pub mod WellFormed
 pub mod Parts
 pub mod Printed
 pub mod Printings

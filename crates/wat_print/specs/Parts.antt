@@ -30,15 +30,15 @@ each test [] = true
 each test (v ∷ vs) = test v && each test vs
 
 -- From a to b the values were written, one behind the other, and all can be.
-pub record Wrote {X A : Type 0} (view : X → A) (spell : A → List Tok) (fit : A → Bool)
+pub record Wrote {X A : Type 0} (view : X → A) (spell : A → List Tok) (printable : A → Bool)
     (xs : List X) (a b : Page)
     : Type 0 where
   pub written : b ≡ put a (flat_map spell (map view xs))
-  pub fits : each fit (map view xs) ≡ true
+  pub fits : each printable (map view xs) ≡ true
 
 -- The same, where lines may have been broken.
-pub record WroteLines {X A : Type 0} (view : X → A) (spell : A → List Tok) (fit : A → Bool)
+pub record WroteLines {X A : Type 0} (view : X → A) (spell : A → List Tok) (printable : A → Bool)
     (xs : List X) (a b : Page)
     : Type 0 where
   pub written : Writes (flat_map spell (map view xs)) a b
-  pub fits : each fit (map view xs) ≡ true
+  pub fits : each printable (map view xs) ≡ true

@@ -5,8 +5,9 @@ use Rattle.wat_lexer.specs.Cut.{IsCut}
 use Rattle.wat_lexer.specs.Sight.{visible_tokens}
 use Rattle.wat_lexer.specs.Token.{Tok, Placed, tokens_of}
 use Rattle.wat_tokens.specs.Production.{Production}
-use Rattle.wat_print.specs.Neat.{Neat, is_given}
+use Rattle.wat_print.specs.WellFormed.{WellFormed, is_given}
 use Rattle.wat_print.specs.Parts.{each}
+use Rattle.wat_print.specs.Laws.Only.{OnlyPrintable, only_any}
 use Rattle.wat_print.specs.declared.output.Layout.{Layout}
 use Rattle.wat_print.specs.declared.output.Layout.TheVariants.{Line, Indented}
 
@@ -23,12 +24,45 @@ NoneSpells g v =
 
 -- How values of a production are printed.
 -- spell: the tokens that are written of a value
--- fit: whether it can be written
+-- printable: whether it can be written
 -- The facts say that what is written can be cut again, that it spells the value, and that each
 -- value which tokens of a text spell can be written.
 pub record Printing {A : Type 0} (g : Production A) : Type 0 where
   pub spell : A → List Tok
-  pub fit : A → Bool
-  pub neat : (v : A) → fit v ≡ true → Neat (spell v)
-  pub spells : (v : A) → fit v ≡ true → g.spells v (spell v) []
-  pub only : (v : A) (c r : List Tok) → each is_given c ≡ true → g.spells v c r → fit v ≡ true
+  pub printable : A → Bool
+  pub well_formed : (v : A) → printable v ≡ true → WellFormed (spell v)
+  pub spells : (v : A) → printable v ≡ true → g.spells v (spell v) []
+  pub only : (v : A) (c r : List Tok) → each is_given c ≡ true → g.spells v c r → printable v ≡ true
+
+-- what is written spells the value in front of any rest
+abbrev pub printing_of : {A : Type 0} {g : Production A} (spell : A → List Tok)
+    (printable : A → Bool) → ((v : A) → printable v ≡ true → WellFormed (spell v))
+    → ((v : A) → printable v ≡ true → (r : List Tok) → g.spells v (spell v) r)
+    → OnlyPrintable g printable → Printing g
+printing_of spell printable well_formed here only = record {
+  spell = spell;
+  printable = printable;
+  well_formed = well_formed;
+  spells = λ v h. here v h [];
+  only = only.holds;
+}
+
+-- what is written spells the value where nothing follows
+abbrev pub printing_at_end : {A : Type 0} {g : Production A} (spell : A → List Tok)
+    (printable : A → Bool) → ((v : A) → printable v ≡ true → WellFormed (spell v))
+    → ((v : A) → printable v ≡ true → g.spells v (spell v) []) → OnlyPrintable g printable
+    → Printing g
+printing_at_end spell printable well_formed here only = record {
+  spell = spell;
+  printable = printable;
+  well_formed = well_formed;
+  spells = here;
+  only = only.holds;
+}
+
+-- every value can be written
+abbrev pub printing_of_all : {A : Type 0} {g : Production A} (spell : A → List Tok)
+    → ((v : A) → WellFormed (spell v)) → ((v : A) (r : List Tok) → g.spells v (spell v) r)
+    → Printing g
+printing_of_all {g = g} spell well_formed here =
+    printing_of spell (λ _. true) (λ v h. well_formed v) (λ v h. here v) (only_any g)

@@ -21,282 +21,166 @@ use Rattle.wat_types.specs.Storage.{storage_type, global_type}
 use Rattle.wat_types.specs.StructType.{struct_type}
 use Rattle.wat_types.specs.Use.{type_use}
 use Rattle.wat_types.specs.Value.{val_type}
-use Rattle.wat_print.specs.Define.{spell_kind, fit_kind, spell_type, fit_type, spell_rec, fit_rec}
-use Rattle.wat_print.specs.Function.{spell_function, fit_function}
-use Rattle.wat_print.specs.Index.{spell_index, fit_index}
+use Rattle.wat_print.specs.Define.{spell_kind, printable_kind, spell_type, printable_type}
+use Rattle.wat_print.specs.Define.{spell_rec, printable_rec}
+use Rattle.wat_print.specs.Function.{spell_function, printable_function}
+use Rattle.wat_print.specs.Index.{spell_index, printable_index}
 use Rattle.wat_print.specs.Integer.{spell_integer}
 use Rattle.wat_print.specs.Label.{spell_id, spell_name}
-use Rattle.wat_print.specs.Limits.{spell_limits, fit_limits, spell_memory_type, fit_memory_type}
-use Rattle.wat_print.specs.Limits.{spell_table_type, fit_table_type}
-use Rattle.wat_print.specs.Neat.{is_name, is_keyword, nothing}
-use Rattle.wat_print.specs.Printed.{Printing}
-use Rattle.wat_print.specs.Reference.{spell_abstract, spell_heap, fit_heap, spell_ref, fit_ref}
-use Rattle.wat_print.specs.Reference.{spell_val, fit_val}
-use Rattle.wat_print.specs.Storage.{spell_storage, fit_storage, spell_field, fit_field}
-use Rattle.wat_print.specs.Storage.{spell_global, fit_global}
-use Rattle.wat_print.specs.Strings.{spell_string, fit_string}
-use Rattle.wat_print.specs.Struct.{spell_struct, fit_struct}
-use Rattle.wat_print.specs.Use.{spell_use, fit_use, fit_unnamed, fit_unnamed_use}
-use Rattle.wat_print.specs.Laws.Define.{kind_here, kind_neat, kind_only, type_here, type_neat}
-use Rattle.wat_print.specs.Laws.Define.{type_only, rec_here, rec_neat, rec_only}
-use Rattle.wat_print.specs.Laws.Function.{function_here, function_neat, function_only, unnamed_here}
-use Rattle.wat_print.specs.Laws.Function.{unnamed_neat, unnamed_only}
-use Rattle.wat_print.specs.Laws.Integer.{integer_here, integer_neat, integer_only}
-use Rattle.wat_print.specs.Laws.Label.{id_here, id_neat, id_only, name_here, name_neat, name_only}
-use Rattle.wat_print.specs.Laws.Limits.{limits_here, limits_neat, limits_only, memory_type_here}
-use Rattle.wat_print.specs.Laws.Limits.{memory_type_neat, memory_type_only, table_type_here}
-use Rattle.wat_print.specs.Laws.Limits.{table_type_neat, table_type_only}
-use Rattle.wat_print.specs.Laws.Parts.{word_here, neat_word}
-use Rattle.wat_print.specs.Laws.Reference.{abstract_here, abstract_neat, heap_here, heap_neat}
-use Rattle.wat_print.specs.Laws.Reference.{heap_only, ref_here, ref_neat, ref_only, val_here}
-use Rattle.wat_print.specs.Laws.Reference.{val_neat, val_only, index_here, index_neat, index_only}
-use Rattle.wat_print.specs.Laws.Storage.{storage_here, storage_neat, storage_only, field_here}
-use Rattle.wat_print.specs.Laws.Storage.{field_neat, field_only, global_here, global_neat}
-use Rattle.wat_print.specs.Laws.Storage.{global_only}
-use Rattle.wat_print.specs.Laws.Strings.{string_here, string_neat, string_only, text_here, text_neat}
-use Rattle.wat_print.specs.Laws.Strings.{text_only}
-use Rattle.wat_print.specs.Laws.Struct.{struct_here, struct_neat, struct_only}
-use Rattle.wat_print.specs.Laws.Use.{use_here, use_neat, use_only, unnamed_use_here}
-use Rattle.wat_print.specs.Laws.Use.{unnamed_use_neat, unnamed_use_only}
+use Rattle.wat_print.specs.Limits.{spell_limits, printable_limits, spell_memory_type}
+use Rattle.wat_print.specs.Limits.{printable_memory_type, spell_table_type, printable_table_type}
+use Rattle.wat_print.specs.WellFormed.{is_name, is_keyword, nothing}
+use Rattle.wat_print.specs.Printed.{Printing, printing_at_end, printing_of, printing_of_all}
+use Rattle.wat_print.specs.Reference.{spell_abstract, spell_heap, printable_heap, spell_ref}
+use Rattle.wat_print.specs.Reference.{printable_ref, spell_val, printable_val}
+use Rattle.wat_print.specs.Storage.{spell_storage, printable_storage, spell_field, printable_field}
+use Rattle.wat_print.specs.Storage.{spell_global, printable_global}
+use Rattle.wat_print.specs.Strings.{spell_string, printable_string}
+use Rattle.wat_print.specs.Struct.{spell_struct, printable_struct}
+use Rattle.wat_print.specs.Use.{spell_use, printable_use, printable_unnamed, printable_unnamed_use}
+use Rattle.wat_print.specs.Laws.Define.{kind_here, kind_well_formed, kind_only, type_here}
+use Rattle.wat_print.specs.Laws.Define.{type_well_formed, type_only, rec_here, rec_well_formed}
+use Rattle.wat_print.specs.Laws.Define.{rec_only}
+use Rattle.wat_print.specs.Laws.Function.{function_here, function_well_formed, function_only}
+use Rattle.wat_print.specs.Laws.Function.{unnamed_here, unnamed_well_formed, unnamed_only}
+use Rattle.wat_print.specs.Laws.Integer.{integer_here, integer_well_formed, integer_only}
+use Rattle.wat_print.specs.Laws.Label.{id_here, id_well_formed, id_only, name_here}
+use Rattle.wat_print.specs.Laws.Label.{name_well_formed, name_only}
+use Rattle.wat_print.specs.Laws.Limits.{limits_here, limits_well_formed, limits_only}
+use Rattle.wat_print.specs.Laws.Limits.{memory_type_here, memory_type_well_formed, memory_type_only}
+use Rattle.wat_print.specs.Laws.Limits.{table_type_here, table_type_well_formed, table_type_only}
+use Rattle.wat_print.specs.Laws.Parts.{word_here, well_formed_word}
+use Rattle.wat_print.specs.Laws.Reference.{abstract_here, abstract_well_formed, heap_here}
+use Rattle.wat_print.specs.Laws.Reference.{heap_well_formed, heap_only, ref_here, ref_well_formed}
+use Rattle.wat_print.specs.Laws.Reference.{ref_only, val_here, val_well_formed, val_only}
+use Rattle.wat_print.specs.Laws.Reference.{index_here, index_well_formed, index_only}
+use Rattle.wat_print.specs.Laws.Storage.{storage_here, storage_well_formed, storage_only}
+use Rattle.wat_print.specs.Laws.Storage.{field_here, field_well_formed, field_only, global_here}
+use Rattle.wat_print.specs.Laws.Storage.{global_well_formed, global_only}
+use Rattle.wat_print.specs.Laws.Strings.{string_here, string_well_formed, string_only, text_here}
+use Rattle.wat_print.specs.Laws.Strings.{text_well_formed, text_only}
+use Rattle.wat_print.specs.Laws.Struct.{struct_here, struct_well_formed, struct_only}
+use Rattle.wat_print.specs.Laws.Use.{use_here, use_well_formed, use_only, unnamed_use_here}
+use Rattle.wat_print.specs.Laws.Use.{unnamed_use_well_formed, unnamed_use_only}
 
 -- ---- words and strings
 
 abbrev pub word_printing : (w : List ℕ) → is_keyword w ≡ true → bytes_eq w w ≡ true
     → Printing (word w)
-word_printing w k e = record {
-  spell = λ _. Keyword w ∷ [];
-  fit = λ _. true;
-  neat = λ v h. neat_word w [] k nothing;
-  spells = λ v h. word_here w e [];
-  only = λ v c r a s. refl;
-}
+word_printing w k e =
+    printing_of_all (λ _. Keyword w ∷ []) (λ v. well_formed_word w [] k nothing)
+    (λ v. word_here w e)
 
 abbrev pub string_printing : Printing string
-string_printing = record {
-  spell = spell_string;
-  fit = fit_string;
-  neat = string_neat;
-  spells = λ v h. string_here v h [];
-  only = string_only.holds;
-}
+string_printing =
+    printing_of spell_string printable_string string_well_formed string_here string_only
 
 abbrev pub text_printing : Printing text
-text_printing = record {
-  spell = spell_string;
-  fit = is_utf8;
-  neat = text_neat;
-  spells = λ v h. text_here v h [];
-  only = text_only.holds;
-}
+text_printing = printing_of spell_string is_utf8 text_well_formed text_here text_only
 
 -- ---- integers, as they are written
 
 abbrev pub integer_printing : Printing integer
-integer_printing = record {
-  spell = spell_integer;
-  fit = is_integer;
-  neat = integer_neat;
-  spells = λ v h. integer_here v [];
-  only = integer_only.holds;
-}
+integer_printing =
+    printing_of spell_integer is_integer integer_well_formed (λ v h. integer_here v) integer_only
 
 -- ---- names and indices
 
 abbrev pub id_printing : Printing identifier
-id_printing = record {
-  spell = spell_id;
-  fit = is_name;
-  neat = id_neat;
-  spells = λ v h. id_here v h [];
-  only = id_only.holds;
-}
+id_printing = printing_of spell_id is_name id_well_formed id_here id_only
 
 abbrev pub name_printing : Printing name_annotation
-name_printing = record {
-  spell = spell_name;
-  fit = is_utf8;
-  neat = name_neat;
-  spells = λ v h. name_here v h [];
-  only = name_only.holds;
-}
+name_printing = printing_of spell_name is_utf8 name_well_formed name_here name_only
 
 abbrev pub index_printing : Printing index
-index_printing = record {
-  spell = spell_index;
-  fit = fit_index;
-  neat = index_neat;
-  spells = λ v h. index_here v h [];
-  only = index_only.holds;
-}
+index_printing = printing_of spell_index printable_index index_well_formed index_here index_only
 
 -- ---- value types
 
 abbrev pub abstract_printing : Printing abstract_heap_type
-abstract_printing = record {
-  spell = spell_abstract;
-  fit = λ _. true;
-  neat = λ v h. abstract_neat v;
-  spells = λ v h. abstract_here v [];
-  only = λ v c r a s. refl;
-}
+abstract_printing = printing_of_all spell_abstract abstract_well_formed abstract_here
 
 abbrev pub heap_printing : Printing heap_type
-heap_printing = record {
-  spell = spell_heap;
-  fit = fit_heap;
-  neat = heap_neat;
-  spells = λ v h. heap_here v h [];
-  only = heap_only.holds;
-}
+heap_printing = printing_of spell_heap printable_heap heap_well_formed heap_here heap_only
 
 abbrev pub ref_printing : Printing ref_type
-ref_printing = record {
-  spell = spell_ref;
-  fit = fit_ref;
-  neat = ref_neat;
-  spells = λ v h. ref_here v h [];
-  only = ref_only.holds;
-}
+ref_printing = printing_of spell_ref printable_ref ref_well_formed ref_here ref_only
 
 abbrev pub val_printing : Printing val_type
-val_printing = record {
-  spell = spell_val;
-  fit = fit_val;
-  neat = val_neat;
-  spells = λ v h. val_here v h [];
-  only = val_only.holds;
-}
+val_printing = printing_of spell_val printable_val val_well_formed val_here val_only
 
 -- ---- function types and their uses
 
 abbrev pub function_printing : Printing function_type
-function_printing = record {
-  spell = spell_function;
-  fit = fit_function;
-  neat = function_neat;
-  spells = λ v h. function_here v [] h refl;
-  only = function_only.holds;
-}
+function_printing =
+    printing_at_end spell_function printable_function function_well_formed
+    (λ v h. function_here v [] h refl) function_only
 
 abbrev pub unnamed_printing : Printing function_type_no_names
-unnamed_printing = record {
-  spell = spell_function;
-  fit = fit_unnamed;
-  neat = unnamed_neat;
-  spells = λ v h. unnamed_here v [] h refl;
-  only = unnamed_only.holds;
-}
+unnamed_printing =
+    printing_at_end spell_function printable_unnamed unnamed_well_formed
+    (λ v h. unnamed_here v [] h refl) unnamed_only
 
 abbrev pub use_printing : Printing (type_use begins_func function_type)
-use_printing = record {
-  spell = spell_use;
-  fit = fit_use;
-  neat = use_neat;
-  spells = λ v h. use_here v [] h (refl, refl, refl);
-  only = use_only.holds;
-}
+use_printing =
+    printing_at_end spell_use printable_use use_well_formed
+    (λ v h. use_here v [] h (refl, refl, refl)) use_only
 
 abbrev pub unnamed_use_printing : Printing (type_use begins_func function_type_no_names)
-unnamed_use_printing = record {
-  spell = spell_use;
-  fit = fit_unnamed_use;
-  neat = unnamed_use_neat;
-  spells = λ v h. unnamed_use_here v [] h (refl, refl, refl);
-  only = unnamed_use_only.holds;
-}
+unnamed_use_printing =
+    printing_at_end spell_use printable_unnamed_use unnamed_use_well_formed
+    (λ v h. unnamed_use_here v [] h (refl, refl, refl)) unnamed_use_only
 
 -- ---- limits, memory types and table types
 
 abbrev pub limits_printing : Printing limits_type
-limits_printing = record {
-  spell = spell_limits;
-  fit = fit_limits;
-  neat = limits_neat;
-  spells = λ v h. limits_here v [] h refl;
-  only = limits_only.holds;
-}
+limits_printing =
+    printing_at_end spell_limits printable_limits limits_well_formed
+    (λ v h. limits_here v [] h refl) limits_only
 
 abbrev pub memory_type_printing : Printing memory_type
-memory_type_printing = record {
-  spell = spell_memory_type;
-  fit = fit_memory_type;
-  neat = memory_type_neat;
-  spells = λ v h. memory_type_here v [] h (refl, refl, refl);
-  only = memory_type_only.holds;
-}
+memory_type_printing =
+    printing_at_end spell_memory_type printable_memory_type memory_type_well_formed
+    (λ v h. memory_type_here v [] h (refl, refl, refl)) memory_type_only
 
 abbrev pub table_type_printing : Printing table_type
-table_type_printing = record {
-  spell = spell_table_type;
-  fit = fit_table_type;
-  neat = table_type_neat;
-  spells = λ v h. table_type_here v h [];
-  only = table_type_only.holds;
-}
+table_type_printing =
+    printing_of spell_table_type printable_table_type table_type_well_formed table_type_here
+    table_type_only
 
 -- ---- storage types, fields and global types
 
 abbrev pub storage_printing : Printing storage_type
-storage_printing = record {
-  spell = spell_storage;
-  fit = fit_storage;
-  neat = storage_neat;
-  spells = λ v h. storage_here v h [];
-  only = storage_only.holds;
-}
+storage_printing =
+    printing_of spell_storage printable_storage storage_well_formed storage_here storage_only
 
 abbrev pub field_printing : Printing field_type
-field_printing = record {
-  spell = spell_field;
-  fit = fit_field;
-  neat = field_neat;
-  spells = λ v h. field_here v [] h refl;
-  only = field_only.holds;
-}
+field_printing =
+    printing_at_end spell_field printable_field field_well_formed (λ v h. field_here v [] h refl)
+    field_only
 
 abbrev pub global_printing : Printing global_type
-global_printing = record {
-  spell = spell_global;
-  fit = fit_global;
-  neat = global_neat;
-  spells = λ v h. global_here v [] h (refl, refl);
-  only = global_only.holds;
-}
+global_printing =
+    printing_at_end spell_global printable_global global_well_formed
+    (λ v h. global_here v [] h (refl, refl)) global_only
 
 -- ---- structure types, definitions and recursion groups
 
 abbrev pub struct_printing : Printing struct_type
-struct_printing = record {
-  spell = spell_struct;
-  fit = fit_struct;
-  neat = struct_neat;
-  spells = λ v h. struct_here v [] h refl;
-  only = struct_only.holds;
-}
+struct_printing =
+    printing_at_end spell_struct printable_struct struct_well_formed
+    (λ v h. struct_here v [] h refl) struct_only
 
 abbrev pub kind_printing : Printing kind
-kind_printing = record {
-  spell = spell_kind;
-  fit = fit_kind;
-  neat = kind_neat;
-  spells = λ v h. kind_here v [] h (refl, refl, refl);
-  only = kind_only.holds;
-}
+kind_printing =
+    printing_at_end spell_kind printable_kind kind_well_formed
+    (λ v h. kind_here v [] h (refl, refl, refl)) kind_only
 
 abbrev pub type_printing : Printing type_
-type_printing = record {
-  spell = spell_type;
-  fit = fit_type;
-  neat = type_neat;
-  spells = λ v h. type_here v [] h refl;
-  only = type_only.holds;
-}
+type_printing =
+    printing_at_end spell_type printable_type type_well_formed (λ v h. type_here v [] h refl)
+    type_only
 
 abbrev pub rec_printing : Printing rec
-rec_printing = record {
-  spell = spell_rec;
-  fit = fit_rec;
-  neat = rec_neat;
-  spells = λ v h. rec_here v [] h refl;
-  only = rec_only.holds;
-}
+rec_printing =
+    printing_at_end spell_rec printable_rec rec_well_formed (λ v h. rec_here v [] h refl) rec_only

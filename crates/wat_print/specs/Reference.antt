@@ -6,7 +6,7 @@ use Rattle.wat_types.specs.Reference.{RefTy}
 use Rattle.wat_types.specs.Value.{ValTy, i32, i64, f32, f64, v128, ref}
 use Rattle.wat_types.specs.declared.heap.AbstractHeapType.{AbstractHeapType}
 use Rattle.wat_types.specs.declared.heap.AbstractHeapType.TheVariants as word
-use Rattle.wat_print.specs.Index.{spell_index, fit_index}
+use Rattle.wat_print.specs.Index.{spell_index, printable_index}
 use Rattle.wat_print.specs.Parts.{grouped, spell_flag}
 
 -- ---- heap types
@@ -36,10 +36,10 @@ spell_heap (exact i) = grouped (codes "exact") (spell_index i)
 spell_heap (abstract_ true t) = grouped (codes "shared") (spell_abstract t)
 spell_heap (abstract_ false t) = spell_abstract t
 
-abbrev pub fit_heap : HeapTy → Bool
-fit_heap (concrete i) = fit_index i
-fit_heap (exact i) = fit_index i
-fit_heap (abstract_ shared t) = true
+abbrev pub printable_heap : HeapTy → Bool
+printable_heap (concrete i) = printable_index i
+printable_heap (exact i) = printable_index i
+printable_heap (abstract_ shared t) = true
 
 -- ---- reference types
 
@@ -72,8 +72,8 @@ spell_reference nullable h = spell_long nullable h
 abbrev pub spell_ref : RefTy → List Tok
 spell_ref r = spell_reference r.nullable r.heap
 
-abbrev pub fit_ref : RefTy → Bool
-fit_ref r = fit_heap r.heap
+abbrev pub printable_ref : RefTy → Bool
+printable_ref r = printable_heap r.heap
 
 -- ---- value types
 
@@ -85,6 +85,6 @@ spell_val f64 = Keyword (codes "f64") ∷ []
 spell_val v128 = Keyword (codes "v128") ∷ []
 spell_val (ref r) = spell_ref r
 
-abbrev pub fit_val : ValTy → Bool
-fit_val (ref r) = fit_ref r
-fit_val _ = true
+abbrev pub printable_val : ValTy → Bool
+printable_val (ref r) = printable_ref r
+printable_val _ = true

@@ -4,8 +4,8 @@ use Rattle.wat_lexer.specs.Token.{Tok}
 use Rattle.wat_tokens.specs.Index.{Idx}
 use Rattle.wat_types.specs.Group.{Group, param, FuncTy}
 use Rattle.wat_types.specs.Use.{UseTy}
-use Rattle.wat_print.specs.Function.{param_label, spell_group, groups_of, fit_function}
-use Rattle.wat_print.specs.Index.{spell_index, fit_index}
+use Rattle.wat_print.specs.Function.{param_label, spell_group, groups_of, printable_function}
+use Rattle.wat_print.specs.Index.{spell_index, printable_index}
 use Rattle.wat_print.specs.Label.{none_labelled}
 use Rattle.wat_print.specs.Parts.{grouped, spell_option, if_some}
 
@@ -26,12 +26,12 @@ spell_inline f = flat_map spell_group (or_empty (groups_of f))
 abbrev pub spell_use : UseTy FuncTy → List Tok
 spell_use u = spell_option spell_type_index u.index ++ spell_option spell_inline u.inline
 
-abbrev pub fit_use : UseTy FuncTy → Bool
-fit_use u = if_some fit_index u.index && if_some fit_function u.inline
+abbrev pub printable_use : UseTy FuncTy → Bool
+printable_use u = if_some printable_index u.index && if_some printable_function u.inline
 
 -- a function type without names: no parameter has a label
-abbrev pub fit_unnamed : FuncTy → Bool
-fit_unnamed f = none_labelled param_label f.params && fit_function f
+abbrev pub printable_unnamed : FuncTy → Bool
+printable_unnamed f = none_labelled param_label f.params && printable_function f
 
-abbrev pub fit_unnamed_use : UseTy FuncTy → Bool
-fit_unnamed_use u = if_some fit_index u.index && if_some fit_unnamed u.inline
+abbrev pub printable_unnamed_use : UseTy FuncTy → Bool
+printable_unnamed_use u = if_some printable_index u.index && if_some printable_unnamed u.inline

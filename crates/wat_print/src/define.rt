@@ -9,10 +9,11 @@ ghost use Rattle.wat_tokens.specs.Views.{option_view};
 ghost use Rattle.wat_types.specs.Define.{InnerKindTy, inner_kind_view, kind, def_view, TypeTy};
 ghost use Rattle.wat_types.specs.Define.{type_view, type_, types_view};
 ghost use Rattle.wat_types.specs.Recursion.{rec_view, rec};
-ghost use Rattle.wat_print.specs.Define.{spell_kind, fit_kind, spell_described, fit_described};
-ghost use Rattle.wat_print.specs.Define.{spell_shared, spell_sub, spell_def, fit_def, spell_type};
-ghost use Rattle.wat_print.specs.Define.{fit_type, spell_grouped_type, spell_rec, fit_rec};
-ghost use Rattle.wat_print.specs.Index.{spell_index, fit_index};
+ghost use Rattle.wat_print.specs.Define.{spell_kind, printable_kind, spell_described};
+ghost use Rattle.wat_print.specs.Define.{printable_described, spell_shared, spell_sub, spell_def};
+ghost use Rattle.wat_print.specs.Define.{printable_def, spell_type, printable_type};
+ghost use Rattle.wat_print.specs.Define.{spell_grouped_type, spell_rec, printable_rec};
+ghost use Rattle.wat_print.specs.Index.{spell_index, printable_index};
 ghost use Rattle.wat_print.specs.Layout.{Writes};
 ghost use Rattle.wat_print.specs.Parts.{grouped, spell_option, if_some, each, Wrote, WroteLines};
 ghost use Rattle.wat_print.specs.Printings.{index_printing, kind_printing, type_printing};
@@ -37,9 +38,9 @@ use wat_types::{ContType, InnerTypeKind, Rec, Type, TypeDef};
 pub fn write_kind(out: &mut Output, kind: &InnerTypeKind) -> Result<(), Refused>
     ensures written { OnOk result (out.new ≡ put out.old
         (spell_kind (inner_kind_view kind.now))) }
-    ensures fit { OnOk result (fit_kind (inner_kind_view kind.now) ≡ true) }
+    ensures printable { OnOk result (printable_kind (inner_kind_view kind.now) ≡ true) }
     ensures refused { IfErr result (λ e. e ≢ Memory
-        → fit_kind (inner_kind_view kind.now) ≡ false) }
+        → printable_kind (inner_kind_view kind.now) ≡ false) }
 {
     match kind {
         InnerTypeKind::Func(function) => {
@@ -65,9 +66,10 @@ pub fn write_kind(out: &mut Output, kind: &InnerTypeKind) -> Result<(), Refused>
 fn write_link(out: &mut Output, word: &str, index: &Option<Index>) -> Result<(), Refused>
     ensures written { OnOk result (out.new ≡ put out.old
         (spell_option (λ i. grouped word.now (spell_index i)) (option_view index_view index.now))) }
-    ensures fit { OnOk result (if_some fit_index (option_view index_view index.now) ≡ true) }
+    ensures printable { OnOk result (if_some printable_index (option_view index_view index.now) ≡
+        true) }
     ensures refused { IfErr result (λ e. e ≢ Memory
-        → if_some fit_index (option_view index_view index.now) ≡ false) }
+        → if_some printable_index (option_view index_view index.now) ≡ false) }
 {
     match index {
         Some(index) => {
@@ -84,9 +86,9 @@ fn write_link(out: &mut Output, word: &str, index: &Option<Index>) -> Result<(),
 /// parentheses.
 fn write_described(out: &mut Output, def: &TypeDef) -> Result<(), Refused>
     ensures written { OnOk result (out.new ≡ put out.old (spell_described (def_view def.now))) }
-    ensures fit { OnOk result (fit_described (def_view def.now) ≡ true) }
+    ensures printable { OnOk result (printable_described (def_view def.now) ≡ true) }
     ensures refused { IfErr result (λ e. e ≢ Memory
-        → fit_described (def_view def.now) ≡ false) }
+        → printable_described (def_view def.now) ≡ false) }
 {
     write_link(out, "describes", &def.describes)?;
     write_link(out, "descriptor", &def.descriptor)?;
@@ -98,9 +100,9 @@ fn write_described(out: &mut Output, def: &TypeDef) -> Result<(), Refused>
 /// Writes that behind `shared`, where the definition is shared.
 fn write_shared(out: &mut Output, def: &TypeDef) -> Result<(), Refused>
     ensures written { OnOk result (out.new ≡ put out.old (spell_shared (def_view def.now))) }
-    ensures fit { OnOk result (fit_described (def_view def.now) ≡ true) }
+    ensures printable { OnOk result (printable_described (def_view def.now) ≡ true) }
     ensures refused { IfErr result (λ e. e ≢ Memory
-        → fit_described (def_view def.now) ≡ false) }
+        → printable_described (def_view def.now) ≡ false) }
 {
     if !def.shared {
         return write_described(out, def);
@@ -114,10 +116,10 @@ fn write_shared(out: &mut Output, def: &TypeDef) -> Result<(), Refused>
 /// Writes indices, one behind the other.
 #[tactic(auto, using(crate::specs::Laws::Written::not_each))]
 fn write_indices(out: &mut Output, indices: &[Index]) -> Result<(), Refused>
-    ensures wrote { OnOk result (Wrote index_view spell_index fit_index indices.now out.old
+    ensures wrote { OnOk result (Wrote index_view spell_index printable_index indices.now out.old
         out.new) }
     ensures refused { IfErr result (λ e. e ≢ Memory
-        → each fit_index (map index_view indices.now) ≡ false) }
+        → each printable_index (map index_view indices.now) ≡ false) }
 {
     for index in indices {
         write_index(out, index)?;
@@ -129,11 +131,11 @@ fn write_indices(out: &mut Output, indices: &[Index]) -> Result<(), Refused>
 fn write_sub(out: &mut Output, def: &TypeDef, is_final: bool) -> Result<(), Refused>
     ensures written { OnOk result (out.new ≡ put out.old
         (spell_sub (def_view def.now) (Some is_final))) }
-    ensures fit { OnOk result (each fit_index (map index_view def.now.parents.items)
-        && fit_described (def_view def.now) ≡ true) }
+    ensures printable { OnOk result (each printable_index (map index_view def.now.parents.items)
+        && printable_described (def_view def.now) ≡ true) }
     ensures refused { IfErr result (λ e. e ≢ Memory
-        → each fit_index (map index_view def.now.parents.items)
-        && fit_described (def_view def.now) ≡ false) }
+        → each printable_index (map index_view def.now.parents.items)
+        && printable_described (def_view def.now) ≡ false) }
 {
     out.open()?;
     out.word("sub")?;
@@ -147,8 +149,8 @@ fn write_sub(out: &mut Output, def: &TypeDef, is_final: bool) -> Result<(), Refu
 /// below others without `sub` is refused with Parents.
 pub fn write_def(out: &mut Output, def: &TypeDef) -> Result<(), Refused>
     ensures written { OnOk result (out.new ≡ put out.old (spell_def (def_view def.now))) }
-    ensures fit { OnOk result (fit_def (def_view def.now) ≡ true) }
-    ensures refused { IfErr result (λ e. e ≢ Memory → fit_def (def_view def.now) ≡ false) }
+    ensures printable { OnOk result (printable_def (def_view def.now) ≡ true) }
+    ensures refused { IfErr result (λ e. e ≢ Memory → printable_def (def_view def.now) ≡ false) }
 {
     if let Some(is_final) = def.final_type {
         return write_sub(out, def, is_final);
@@ -162,8 +164,8 @@ pub fn write_def(out: &mut Output, def: &TypeDef) -> Result<(), Refused>
 /// Writes a type, without its parentheses (Text Format, Types, "Recursive Types").
 pub fn write_type(out: &mut Output, ty: &Type) -> Result<(), Refused>
     ensures written { OnOk result (out.new ≡ put out.old (spell_type (type_view ty.now))) }
-    ensures fit { OnOk result (fit_type (type_view ty.now) ≡ true) }
-    ensures refused { IfErr result (λ e. e ≢ Memory → fit_type (type_view ty.now) ≡ false) }
+    ensures printable { OnOk result (printable_type (type_view ty.now) ≡ true) }
+    ensures refused { IfErr result (λ e. e ≢ Memory → printable_type (type_view ty.now) ≡ false) }
 {
     out.word("type")?;
     write_label(out, &ty.id, &ty.name)?;
@@ -173,8 +175,8 @@ pub fn write_type(out: &mut Output, ty: &Type) -> Result<(), Refused>
 /// Writes a type in its parentheses, on a line of its own where the layout has lines.
 fn write_grouped_type(out: &mut Output, ty: &Type) -> Result<(), Refused>
     ensures written { OnOk result (Writes (spell_grouped_type (type_view ty.now)) out.old out.new) }
-    ensures fit { OnOk result (fit_type (type_view ty.now) ≡ true) }
-    ensures refused { IfErr result (λ e. e ≢ Memory → fit_type (type_view ty.now) ≡ false) }
+    ensures printable { OnOk result (printable_type (type_view ty.now) ≡ true) }
+    ensures refused { IfErr result (λ e. e ≢ Memory → printable_type (type_view ty.now) ≡ false) }
 {
     out.line()?;
     out.open()?;
@@ -185,10 +187,11 @@ fn write_grouped_type(out: &mut Output, ty: &Type) -> Result<(), Refused>
 /// Writes types in their parentheses, each on a line of its own where the layout has lines.
 #[tactic(auto, using(crate::specs::Laws::Written::not_each))]
 fn write_types(out: &mut Output, types: &[Type]) -> Result<(), Refused>
-    ensures wrote { OnOk result (WroteLines type_view spell_grouped_type fit_type types.now out.old
+    ensures wrote { OnOk result (WroteLines type_view spell_grouped_type printable_type types.now
+        out.old
         out.new) }
     ensures refused { IfErr result (λ e. e ≢ Memory
-        → each fit_type (types_view types.now) ≡ false) }
+        → each printable_type (types_view types.now) ≡ false) }
 {
     for ty in types {
         write_grouped_type(out, ty)?;
@@ -199,8 +202,8 @@ fn write_types(out: &mut Output, types: &[Type]) -> Result<(), Refused>
 /// Writes a recursion group, without its parentheses (Text Format, Types, "Recursive Types").
 pub fn write_rec(out: &mut Output, group: &Rec) -> Result<(), Refused>
     ensures written { OnOk result (Writes (spell_rec (rec_view group.now)) out.old out.new) }
-    ensures fit { OnOk result (fit_rec (rec_view group.now) ≡ true) }
-    ensures refused { IfErr result (λ e. e ≢ Memory → fit_rec (rec_view group.now) ≡ false) }
+    ensures printable { OnOk result (printable_rec (rec_view group.now) ≡ true) }
+    ensures refused { IfErr result (λ e. e ≢ Memory → printable_rec (rec_view group.now) ≡ false) }
 {
     out.word("rec")?;
     write_types(out, &group.types)

@@ -4,13 +4,13 @@ ghost use Rattle.std.specs.Prelude.{◌≡◌, ◌≢◌, OnOk, IfErr, true, fal
 ghost use Rattle.wat_types.specs.Function.{function_view, params_view, param_view, function_type};
 ghost use Rattle.wat_types.specs.Group.{FuncTy};
 ghost use Rattle.wat_types.specs.Value.{val_view};
-ghost use Rattle.wat_print.specs.Function.{param_label, spell_param, fit_param, spell_group};
+ghost use Rattle.wat_print.specs.Function.{param_label, spell_param, printable_param, spell_group};
 ghost use Rattle.wat_print.specs.Function.{spell_alone, param_groups, result_groups};
-ghost use Rattle.wat_print.specs.Function.{spell_function, fit_function};
+ghost use Rattle.wat_print.specs.Function.{spell_function, printable_function};
 ghost use Rattle.wat_print.specs.Label.{none_labelled};
 ghost use Rattle.wat_print.specs.Parts.{each, Wrote};
 ghost use Rattle.wat_print.specs.Printings.{function_printing};
-ghost use Rattle.wat_print.specs.Reference.{spell_val, fit_val};
+ghost use Rattle.wat_print.specs.Reference.{spell_val, printable_val};
 ghost use Rattle.wat_print.specs.Text.{put};
 ghost use Rattle.wat_print.specs.declared.fault.Refused.TheVariants.{Memory};
 
@@ -29,8 +29,9 @@ fn write_param(
     param: &(Option<Id>, Option<NameAnnotation>, ValType),
 ) -> Result<(), Refused>
     ensures written { OnOk result (out.new ≡ put out.old (spell_param (param_view param.now))) }
-    ensures fit { OnOk result (fit_param (param_view param.now) ≡ true) }
-    ensures refused { IfErr result (λ e. e ≢ Memory → fit_param (param_view param.now) ≡ false) }
+    ensures printable { OnOk result (printable_param (param_view param.now) ≡ true) }
+    ensures refused { IfErr result (λ e. e ≢ Memory → printable_param (param_view param.now) ≡
+        false) }
 {
     write_label(out, &param.0, &param.1)?;
     write_val(out, &param.2)
@@ -39,9 +40,9 @@ fn write_param(
 /// Writes value types, one behind the other.
 #[tactic(auto, using(crate::specs::Laws::Written::not_each))]
 pub fn write_vals(out: &mut Output, types: &[ValType]) -> Result<(), Refused>
-    ensures wrote { OnOk result (Wrote val_view spell_val fit_val types.now out.old out.new) }
+    ensures wrote { OnOk result (Wrote val_view spell_val printable_val types.now out.old out.new) }
     ensures refused { IfErr result (λ e. e ≢ Memory
-        → each fit_val (map val_view types.now) ≡ false) }
+        → each printable_val (map val_view types.now) ≡ false) }
 {
     for ty in types {
         write_val(out, ty)?;
@@ -55,10 +56,10 @@ fn write_params(
     out: &mut Output,
     params: &[(Option<Id>, Option<NameAnnotation>, ValType)],
 ) -> Result<(), Refused>
-    ensures wrote { OnOk result (Wrote param_view spell_param fit_param params.now out.old
+    ensures wrote { OnOk result (Wrote param_view spell_param printable_param params.now out.old
         out.new) }
     ensures refused { IfErr result (λ e. e ≢ Memory
-        → each fit_param (params_view params.now) ≡ false) }
+        → each printable_param (params_view params.now) ≡ false) }
 {
     for param in params {
         write_param(out, param)?;
@@ -73,8 +74,9 @@ fn write_alone(
     param: &(Option<Id>, Option<NameAnnotation>, ValType),
 ) -> Result<(), Refused>
     ensures written { OnOk result (out.new ≡ put out.old (spell_alone (param_view param.now))) }
-    ensures fit { OnOk result (fit_param (param_view param.now) ≡ true) }
-    ensures refused { IfErr result (λ e. e ≢ Memory → fit_param (param_view param.now) ≡ false) }
+    ensures printable { OnOk result (printable_param (param_view param.now) ≡ true) }
+    ensures refused { IfErr result (λ e. e ≢ Memory → printable_param (param_view param.now) ≡
+        false) }
 {
     out.open()?;
     out.word("param")?;
@@ -88,10 +90,10 @@ fn write_each_alone(
     out: &mut Output,
     params: &[(Option<Id>, Option<NameAnnotation>, ValType)],
 ) -> Result<(), Refused>
-    ensures wrote { OnOk result (Wrote param_view spell_alone fit_param params.now out.old
+    ensures wrote { OnOk result (Wrote param_view spell_alone printable_param params.now out.old
         out.new) }
     ensures refused { IfErr result (λ e. e ≢ Memory
-        → each fit_param (params_view params.now) ≡ false) }
+        → each printable_param (params_view params.now) ≡ false) }
 {
     for param in params {
         write_alone(out, param)?;
@@ -119,9 +121,9 @@ fn write_param_groups(
 ) -> Result<(), Refused>
     ensures written { OnOk result (out.new ≡ put out.old
         (flat_map spell_group (param_groups (params_view params.now)))) }
-    ensures fit { OnOk result (each fit_param (params_view params.now) ≡ true) }
+    ensures printable { OnOk result (each printable_param (params_view params.now) ≡ true) }
     ensures refused { IfErr result (λ e. e ≢ Memory
-        → each fit_param (params_view params.now) ≡ false) }
+        → each printable_param (params_view params.now) ≡ false) }
 {
     if params.is_empty() {
         return Ok(());
@@ -140,9 +142,9 @@ fn write_param_groups(
 fn write_result_groups(out: &mut Output, types: &[ValType]) -> Result<(), Refused>
     ensures written { OnOk result (out.new ≡ put out.old
         (flat_map spell_group (result_groups (map val_view types.now)))) }
-    ensures fit { OnOk result (each fit_val (map val_view types.now) ≡ true) }
+    ensures printable { OnOk result (each printable_val (map val_view types.now) ≡ true) }
     ensures refused { IfErr result (λ e. e ≢ Memory
-        → each fit_val (map val_view types.now) ≡ false) }
+        → each printable_val (map val_view types.now) ≡ false) }
 {
     if types.is_empty() {
         return Ok(());
@@ -158,9 +160,9 @@ fn write_result_groups(out: &mut Output, types: &[ValType]) -> Result<(), Refuse
 pub fn write_function(out: &mut Output, function: &FunctionType) -> Result<(), Refused>
     ensures written { OnOk result (out.new ≡ put out.old
         (spell_function (function_view function.now))) }
-    ensures fit { OnOk result (fit_function (function_view function.now) ≡ true) }
+    ensures printable { OnOk result (printable_function (function_view function.now) ≡ true) }
     ensures refused { IfErr result (λ e. e ≢ Memory
-        → fit_function (function_view function.now) ≡ false) }
+        → printable_function (function_view function.now) ≡ false) }
 {
     write_param_groups(out, &function.params)?;
     write_result_groups(out, &function.results)

@@ -6,8 +6,8 @@ ghost use Rattle.wat_tokens.specs.Index.{name_of, identifier};
 ghost use Rattle.wat_tokens.specs.NameAnnotation.{name_annotation};
 ghost use Rattle.wat_tokens.specs.Views.{option_view};
 ghost use Rattle.wat_types.specs.Label.{label_view};
-ghost use Rattle.wat_print.specs.Label.{spell_id, spell_name, spell_label, fit_label};
-ghost use Rattle.wat_print.specs.Neat.{is_name};
+ghost use Rattle.wat_print.specs.Label.{spell_id, spell_name, spell_label, printable_label};
+ghost use Rattle.wat_print.specs.WellFormed.{is_name};
 ghost use Rattle.wat_print.specs.Parts.{spell_option, if_some};
 ghost use Rattle.wat_print.specs.Printings.{id_printing, name_printing};
 ghost use Rattle.wat_print.specs.Text.{put};
@@ -22,7 +22,7 @@ use wat_tokens::{Id, NameAnnotation};
 fn write_id(out: &mut Output, id: &Option<Id>) -> Result<(), Refused>
     ensures written { OnOk result (out.new ≡ put out.old
         (spell_option spell_id (option_view name_of id.now))) }
-    ensures fit { OnOk result (if_some is_name (option_view name_of id.now) ≡ true) }
+    ensures printable { OnOk result (if_some is_name (option_view name_of id.now) ≡ true) }
     ensures refused { IfErr result (λ e. e ≢ Memory
         → if_some is_name (option_view name_of id.now) ≡ false) }
 {
@@ -35,7 +35,7 @@ fn write_id(out: &mut Output, id: &Option<Id>) -> Result<(), Refused>
 /// Writes `( @name name )`.
 fn write_annotation(out: &mut Output, annotation: &NameAnnotation) -> Result<(), Refused>
     ensures written { OnOk result (out.new ≡ put out.old (spell_name annotation.now.name.now)) }
-    ensures fit { OnOk result (is_utf8 annotation.now.name.now ≡ true) }
+    ensures printable { OnOk result (is_utf8 annotation.now.name.now ≡ true) }
     ensures refused { IfErr result (λ e. e ≡ Memory) }
 {
     out.open()?;
@@ -48,7 +48,8 @@ fn write_annotation(out: &mut Output, annotation: &NameAnnotation) -> Result<(),
 fn write_name(out: &mut Output, name: &Option<NameAnnotation>) -> Result<(), Refused>
     ensures written { OnOk result (out.new ≡ put out.old
         (spell_option spell_name (option_view (λ a. a.name.now) name.now))) }
-    ensures fit { OnOk result (if_some is_utf8 (option_view (λ a. a.name.now) name.now) ≡ true) }
+    ensures printable { OnOk result (if_some is_utf8 (option_view (λ a. a.name.now) name.now) ≡
+        true) }
     ensures refused { IfErr result (λ e. e ≡ Memory) }
 {
     match name {
@@ -66,9 +67,9 @@ pub fn write_label(
 ) -> Result<(), Refused>
     ensures written { OnOk result (out.new ≡ put out.old
         (spell_label (label_view id.now name.now))) }
-    ensures fit { OnOk result (fit_label (label_view id.now name.now) ≡ true) }
+    ensures printable { OnOk result (printable_label (label_view id.now name.now) ≡ true) }
     ensures refused { IfErr result (λ e. e ≢ Memory
-        → fit_label (label_view id.now name.now) ≡ false) }
+        → printable_label (label_view id.now name.now) ≡ false) }
 {
     write_id(out, id)?;
     write_name(out, name)

@@ -5,7 +5,7 @@ ghost use Rattle.wat_lexer.specs.Cut.{IsCut};
 ghost use Rattle.wat_lexer.specs.Sight.{visible_tokens};
 ghost use Rattle.wat_lexer.specs.Token.{Tok, Placed, tokens_of};
 ghost use Rattle.wat_print.specs.Layout.{Writes};
-ghost use Rattle.wat_print.specs.Neat.{Neat, is_given};
+ghost use Rattle.wat_print.specs.WellFormed.{WellFormed, is_given};
 ghost use Rattle.wat_print.specs.Text.{Page, printed_text, blank_page};
 ghost use Rattle.std.specs.Prelude.{Bool};
 ghost use Rattle.std.specs.Str.{IsUtf8};
@@ -14,14 +14,14 @@ ghost use Rattle.wat_print.specs.Parts.{each};
 /// The text of tokens that can be written is cut into these tokens, and with the standard
 /// annotations known all of them are visible.
 pub fn text_is_cut()
-    ensures cut { (ts : List Tok) → Neat ts
+    ensures cut { (ts : List Tok) → WellFormed ts
         → (ps : List Placed) × IsCut (printed_text ts) ps × (tokens_of ps ≡ ts) }
-    ensures visible { (ts : List Tok) → Neat ts → visible_tokens true ts ≡ ts }
+    ensures visible { (ts : List Tok) → WellFormed ts → visible_tokens true ts ≡ ts }
 {}
 
 /// Tokens that can be written are cut again from each text in which they are laid out on lines.
 pub fn lines_are_cut()
-    ensures { (ts : List Tok) (lines : Bool) (page : Page) → Neat ts
+    ensures { (ts : List Tok) (lines : Bool) (page : Page) → WellFormed ts
         → Writes ts (blank_page lines) page
         → (ps : List Placed) × IsCut page.bytes ps × (tokens_of ps ≡ ts) }
 {}

@@ -3,9 +3,9 @@
 ghost use Rattle.std.specs.Prelude.{◌≡◌, ◌≢◌, OnOk, IfErr, true, false};
 ghost use Rattle.wat_types.specs.Limits.{limits_type, memory_type, table_type, TableTy};
 ghost use Rattle.wat_types.specs.Limits.{table_type_view};
-ghost use Rattle.wat_print.specs.Limits.{spell_limits, fit_limits, spell_page_size};
-ghost use Rattle.wat_print.specs.Limits.{is_exponent, spell_memory_type, fit_memory_type};
-ghost use Rattle.wat_print.specs.Limits.{spell_table_type, fit_table_type};
+ghost use Rattle.wat_print.specs.Limits.{spell_limits, printable_limits, spell_page_size};
+ghost use Rattle.wat_print.specs.Limits.{is_exponent, spell_memory_type, printable_memory_type};
+ghost use Rattle.wat_print.specs.Limits.{spell_table_type, printable_table_type};
 ghost use Rattle.wat_print.specs.Parts.{spell_flag, spell_option, if_some};
 ghost use Rattle.wat_print.specs.Printings.{limits_printing, memory_type_printing};
 ghost use Rattle.wat_print.specs.Printings.{table_type_printing};
@@ -34,7 +34,7 @@ pub fn write_flag(out: &mut Output, word: &str, flag: bool) -> Result<(), Refuse
 #[tactic(auto, using(crate::specs::Laws::Written::put_both))]
 pub fn write_limits(out: &mut Output, limits: &Limits) -> Result<(), Refused>
     ensures written { OnOk result (out.new ≡ put out.old (spell_limits limits.now)) }
-    ensures fit { OnOk result (fit_limits limits.now ≡ true) }
+    ensures printable { OnOk result (printable_limits limits.now ≡ true) }
     ensures refused { IfErr result (λ e. e ≡ Memory) }
 {
     write_flag(out, "i64", limits.is64)?;
@@ -50,7 +50,7 @@ pub fn write_limits(out: &mut Output, limits: &Limits) -> Result<(), Refused>
 pub fn write_page_size(out: &mut Output, exponent: Option<u32>) -> Result<(), Refused>
     ensures written { OnOk result (out.new ≡ put out.old
         (spell_option spell_page_size exponent)) }
-    ensures fit { OnOk result (if_some is_exponent exponent ≡ true) }
+    ensures printable { OnOk result (if_some is_exponent exponent ≡ true) }
     ensures refused { IfErr result (λ e. e ≢ Memory → if_some is_exponent exponent ≡ false) }
 {
     match exponent {
@@ -70,8 +70,8 @@ pub fn write_page_size(out: &mut Output, exponent: Option<u32>) -> Result<(), Re
 #[tactic(auto, using(crate::specs::Laws::Written::put_both))]
 pub fn write_memory_type(out: &mut Output, memory: &MemoryType) -> Result<(), Refused>
     ensures written { OnOk result (out.new ≡ put out.old (spell_memory_type memory.now)) }
-    ensures fit { OnOk result (fit_memory_type memory.now ≡ true) }
-    ensures refused { IfErr result (λ e. e ≢ Memory → fit_memory_type memory.now ≡ false) }
+    ensures printable { OnOk result (printable_memory_type memory.now ≡ true) }
+    ensures refused { IfErr result (λ e. e ≢ Memory → printable_memory_type memory.now ≡ false) }
 {
     write_limits(out, &memory.limits)?;
     write_flag(out, "shared", memory.shared)?;
@@ -83,9 +83,9 @@ pub fn write_memory_type(out: &mut Output, memory: &MemoryType) -> Result<(), Re
 pub fn write_table_type(out: &mut Output, table: &TableType) -> Result<(), Refused>
     ensures written { OnOk result (out.new ≡ put out.old
         (spell_table_type (table_type_view table.now))) }
-    ensures fit { OnOk result (fit_table_type (table_type_view table.now) ≡ true) }
+    ensures printable { OnOk result (printable_table_type (table_type_view table.now) ≡ true) }
     ensures refused { IfErr result (λ e. e ≢ Memory
-        → fit_table_type (table_type_view table.now) ≡ false) }
+        → printable_table_type (table_type_view table.now) ≡ false) }
 {
     write_flag(out, "shared", table.shared)?;
     write_limits(out, &table.limits)?;

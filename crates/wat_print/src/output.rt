@@ -10,7 +10,7 @@ ghost use Rattle.wat_lexer.specs.Bytes.{is_idchar};
 ghost use Rattle.wat_lexer.specs.Token.{LParen, RParen, Keyword, Id, Annotation, Integer};
 ghost use Rattle.wat_lexer.specs.Token.{String as Text};
 ghost use Rattle.wat_print.specs.Layout.{broken, blanks};
-ghost use Rattle.wat_print.specs.Neat.{is_name};
+ghost use Rattle.wat_print.specs.WellFormed.{is_name};
 ghost use Rattle.wat_print.specs.Text.{put, blank_page, escape, quoted, quoted_as};
 ghost use Rattle.wat_print.specs.Text.{name_text, all_are};
 ghost use Rattle.wat_print.specs.declared.fault.Refused.TheVariants.{Memory};
@@ -191,7 +191,8 @@ impl Output {
 
     /// Writes a number in decimal digits, behind `-` where it is below 0.
     pub fn signed(&mut self, value: i64) -> Result<(), Refused>
-        ensures written { OnOk result (self.new ≡ put self.old (Integer (signed_decimal value) ∷ [])) }
+        ensures written { OnOk result (self.new ≡ put self.old (Integer (signed_decimal value) ∷
+            [])) }
         ensures refused { IfErr result (λ e. e ≡ Memory) }
     {
         self.space()?;
@@ -203,7 +204,8 @@ impl Output {
     /// Writes a keyword that ends in a number, as `offset=8`: its front, and behind it the number
     /// in decimal digits.
     pub fn numbered(&mut self, front: &str, number: u64) -> Result<(), Refused>
-        ensures written { OnOk result (self.new ≡ put self.old (Keyword (front.now ++ decimal number)
+        ensures written { OnOk result (self.new ≡ put self.old (Keyword (front.now ++ decimal
+            number)
             ∷ [])) }
         ensures refused { IfErr result (λ e. e ≡ Memory) }
     {
@@ -306,7 +308,7 @@ impl Output {
     /// Writes an identifier, given without its `$`. One that is empty is refused.
     pub fn id(&mut self, name: &str) -> Result<(), Refused>
         ensures written { OnOk result (self.new ≡ put self.old (Id name.now ∷ [])) }
-        ensures fit { OnOk result (is_name name.now ≡ true) }
+        ensures printable { OnOk result (is_name name.now ≡ true) }
         ensures refused { IfErr result (λ e. e ≢ Memory → is_name name.now ≡ false) }
     {
         if name.is_empty() {
@@ -334,7 +336,7 @@ impl Output {
     /// Writes a string that is UTF-8.
     pub fn text(&mut self, content: &str) -> Result<(), Refused>
         ensures written { OnOk result (self.new ≡ put self.old (Text content.now ∷ [])) }
-        ensures fit { is_utf8 content.now ≡ true }
+        ensures printable { is_utf8 content.now ≡ true }
         ensures refused { IfErr result (λ e. e ≡ Memory) }
     {
         self.space()?;

@@ -5,11 +5,12 @@ ghost use Rattle.wat_tokens.specs.Index.{Idx, index_view, index};
 ghost use Rattle.wat_types.specs.Heap.{HeapTy, heap_view, abstract_, heap_type, abstract_heap_type};
 ghost use Rattle.wat_types.specs.Reference.{RefTy, ref_view, ref_type};
 ghost use Rattle.wat_types.specs.Value.{ValTy, val_view, val_type};
-ghost use Rattle.wat_print.specs.Index.{spell_index, fit_index};
+ghost use Rattle.wat_print.specs.Index.{spell_index, printable_index};
 ghost use Rattle.wat_print.specs.Printings.{index_printing, abstract_printing, heap_printing};
 ghost use Rattle.wat_print.specs.Printings.{ref_printing, val_printing};
-ghost use Rattle.wat_print.specs.Reference.{abstract_word, short_word, spell_heap, fit_heap};
-ghost use Rattle.wat_print.specs.Reference.{spell_long, spell_ref, fit_ref, spell_val, fit_val};
+ghost use Rattle.wat_print.specs.Reference.{abstract_word, short_word, spell_heap, printable_heap};
+ghost use Rattle.wat_print.specs.Reference.{spell_long, spell_ref, printable_ref, spell_val};
+ghost use Rattle.wat_print.specs.Reference.{printable_val};
 ghost use Rattle.wat_print.specs.Text.{put};
 ghost use Rattle.wat_print.specs.declared.fault.Refused.TheVariants.{Memory};
 
@@ -22,8 +23,9 @@ use wat_types::{AbstractHeapType, HeapType, RefType, ValType};
 /// Writes an index.
 pub fn write_index(out: &mut Output, index: &Index) -> Result<(), Refused>
     ensures written { OnOk result (out.new ≡ put out.old (spell_index (index_view index.now))) }
-    ensures fit { OnOk result (fit_index (index_view index.now) ≡ true) }
-    ensures refused { IfErr result (λ e. e ≢ Memory → fit_index (index_view index.now) ≡ false) }
+    ensures printable { OnOk result (printable_index (index_view index.now) ≡ true) }
+    ensures refused { IfErr result (λ e. e ≢ Memory → printable_index (index_view index.now) ≡
+        false) }
 {
     match index {
         Index::Num(number, _) => out.number(u64::from(*number)),
@@ -71,8 +73,8 @@ fn write_abstract(out: &mut Output, shared: bool, ty: AbstractHeapType) -> Resul
 #[tactic(auto, using(crate::specs::Laws::Written::put_both))]
 pub fn write_heap(out: &mut Output, heap: &HeapType) -> Result<(), Refused>
     ensures written { OnOk result (out.new ≡ put out.old (spell_heap (heap_view heap.now))) }
-    ensures fit { OnOk result (fit_heap (heap_view heap.now) ≡ true) }
-    ensures refused { IfErr result (λ e. e ≢ Memory → fit_heap (heap_view heap.now) ≡ false) }
+    ensures printable { OnOk result (printable_heap (heap_view heap.now) ≡ true) }
+    ensures refused { IfErr result (λ e. e ≢ Memory → printable_heap (heap_view heap.now) ≡ false) }
 {
     match heap {
         HeapType::Concrete(index) => write_index(out, index),
@@ -113,8 +115,9 @@ fn shorthand_of(ty: AbstractHeapType) -> &'static str
 fn write_long(out: &mut Output, reference: &RefType) -> Result<(), Refused>
     ensures written { OnOk result (out.new ≡ put out.old
         (spell_long reference.now.nullable (heap_view reference.now.heap))) }
-    ensures fit { OnOk result (fit_ref (ref_view reference.now) ≡ true) }
-    ensures refused { IfErr result (λ e. e ≢ Memory → fit_ref (ref_view reference.now) ≡ false) }
+    ensures printable { OnOk result (printable_ref (ref_view reference.now) ≡ true) }
+    ensures refused { IfErr result (λ e. e ≢ Memory → printable_ref (ref_view reference.now) ≡
+        false) }
 {
     out.open()?;
     out.word("ref")?;
@@ -128,8 +131,9 @@ fn write_long(out: &mut Output, reference: &RefType) -> Result<(), Refused>
 /// Writes a reference type: by its shorthand, where it has one and isn't shared.
 pub fn write_ref(out: &mut Output, reference: &RefType) -> Result<(), Refused>
     ensures written { OnOk result (out.new ≡ put out.old (spell_ref (ref_view reference.now))) }
-    ensures fit { OnOk result (fit_ref (ref_view reference.now) ≡ true) }
-    ensures refused { IfErr result (λ e. e ≢ Memory → fit_ref (ref_view reference.now) ≡ false) }
+    ensures printable { OnOk result (printable_ref (ref_view reference.now) ≡ true) }
+    ensures refused { IfErr result (λ e. e ≢ Memory → printable_ref (ref_view reference.now) ≡
+        false) }
 {
     match (reference.nullable, reference.heap) {
         (true, HeapType::Abstract { shared: false, ty }) => out.word(shorthand_of(ty)),
@@ -140,8 +144,8 @@ pub fn write_ref(out: &mut Output, reference: &RefType) -> Result<(), Refused>
 /// Writes a value type.
 pub fn write_val(out: &mut Output, ty: &ValType) -> Result<(), Refused>
     ensures written { OnOk result (out.new ≡ put out.old (spell_val (val_view ty.now))) }
-    ensures fit { OnOk result (fit_val (val_view ty.now) ≡ true) }
-    ensures refused { IfErr result (λ e. e ≢ Memory → fit_val (val_view ty.now) ≡ false) }
+    ensures printable { OnOk result (printable_val (val_view ty.now) ≡ true) }
+    ensures refused { IfErr result (λ e. e ≢ Memory → printable_val (val_view ty.now) ≡ false) }
 {
     let word = match ty {
         ValType::I32 => "i32",

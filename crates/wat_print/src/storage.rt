@@ -6,8 +6,8 @@ ghost use Rattle.wat_types.specs.Storage.{StorageTy, storage_view, storage_type,
 ghost use Rattle.wat_types.specs.Storage.{global_type_view, global_type};
 ghost use Rattle.wat_types.specs.Struct.{array_view};
 ghost use Rattle.wat_print.specs.Printings.{storage_printing, field_printing, global_printing};
-ghost use Rattle.wat_print.specs.Storage.{spell_storage, fit_storage, spell_field, fit_field};
-ghost use Rattle.wat_print.specs.Storage.{spell_global, fit_global};
+ghost use Rattle.wat_print.specs.Storage.{spell_storage, printable_storage, spell_field};
+ghost use Rattle.wat_print.specs.Storage.{printable_field, spell_global, printable_global};
 ghost use Rattle.wat_print.specs.Text.{put};
 ghost use Rattle.wat_print.specs.declared.fault.Refused.TheVariants.{Memory};
 
@@ -21,9 +21,9 @@ use wat_types::{ArrayType, GlobalType, StorageType};
 /// Writes a storage type (Text Format, Types, "Composite Types").
 pub fn write_storage(out: &mut Output, ty: &StorageType) -> Result<(), Refused>
     ensures written { OnOk result (out.new ≡ put out.old (spell_storage (storage_view ty.now))) }
-    ensures fit { OnOk result (fit_storage (storage_view ty.now) ≡ true) }
+    ensures printable { OnOk result (printable_storage (storage_view ty.now) ≡ true) }
     ensures refused { IfErr result (λ e. e ≢ Memory
-        → fit_storage (storage_view ty.now) ≡ false) }
+        → printable_storage (storage_view ty.now) ≡ false) }
 {
     match ty {
         StorageType::I8 => out.word("i8"),
@@ -37,9 +37,10 @@ pub fn write_storage(out: &mut Output, ty: &StorageType) -> Result<(), Refused>
 pub fn write_field(out: &mut Output, mutable: bool, ty: &StorageType) -> Result<(), Refused>
     ensures written { OnOk result (out.new ≡ put out.old
         (spell_field (field_of mutable (storage_view ty.now)))) }
-    ensures fit { OnOk result (fit_field (field_of mutable (storage_view ty.now)) ≡ true) }
+    ensures printable { OnOk result (printable_field (field_of mutable (storage_view ty.now)) ≡
+        true) }
     ensures refused { IfErr result (λ e. e ≢ Memory
-        → fit_field (field_of mutable (storage_view ty.now)) ≡ false) }
+        → printable_field (field_of mutable (storage_view ty.now)) ≡ false) }
 {
     if !mutable {
         return write_storage(out, ty);
@@ -53,9 +54,9 @@ pub fn write_field(out: &mut Output, mutable: bool, ty: &StorageType) -> Result<
 /// Writes an array type (Text Format, Types, "Composite Types").
 pub fn write_array(out: &mut Output, array: &ArrayType) -> Result<(), Refused>
     ensures written { OnOk result (out.new ≡ put out.old (spell_field (array_view array.now))) }
-    ensures fit { OnOk result (fit_field (array_view array.now) ≡ true) }
+    ensures printable { OnOk result (printable_field (array_view array.now) ≡ true) }
     ensures refused { IfErr result (λ e. e ≢ Memory
-        → fit_field (array_view array.now) ≡ false) }
+        → printable_field (array_view array.now) ≡ false) }
 {
     write_field(out, array.mutable, &array.ty)
 }
@@ -65,9 +66,9 @@ pub fn write_array(out: &mut Output, array: &ArrayType) -> Result<(), Refused>
 pub fn write_global(out: &mut Output, global: &GlobalType) -> Result<(), Refused>
     ensures written { OnOk result (out.new ≡ put out.old
         (spell_global (global_type_view global.now))) }
-    ensures fit { OnOk result (fit_global (global_type_view global.now) ≡ true) }
+    ensures printable { OnOk result (printable_global (global_type_view global.now) ≡ true) }
     ensures refused { IfErr result (λ e. e ≢ Memory
-        → fit_global (global_type_view global.now) ≡ false) }
+        → printable_global (global_type_view global.now) ≡ false) }
 {
     if !global.shared && !global.mutable {
         return write_val(out, &global.ty);

@@ -3,7 +3,7 @@
 ghost use Rattle.std.specs.Prelude.{◌≡◌, List, ℕ, OnOk, true, IfErr};
 ghost use Rattle.wat_tokens.specs.Strings.{string, text};
 ghost use Rattle.wat_print.specs.Printings.{string_printing, text_printing};
-ghost use Rattle.wat_print.specs.Strings.{spell_string, fit_string};
+ghost use Rattle.wat_print.specs.Strings.{spell_string, printable_string};
 ghost use Rattle.wat_print.specs.Text.{put};
 ghost use Rattle.wat_print.specs.declared.fault.Refused.TheVariants.{Memory};
 
@@ -14,7 +14,7 @@ use crate::traits::Print;
 /// Writes a string of bytes (Text Format, "Strings").
 pub fn write_string(out: &mut Output, content: &[u8]) -> Result<(), Refused>
     ensures written { OnOk result (out.new ≡ put out.old (spell_string content.now)) }
-    ensures fit { fit_string content.now ≡ true }
+    ensures printable { printable_string content.now ≡ true }
     ensures refused { IfErr result (λ e. e ≡ Memory) }
 {
     out.string(content)

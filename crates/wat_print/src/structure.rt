@@ -6,8 +6,8 @@ ghost use Rattle.wat_types.specs.StructType.{struct_type};
 ghost use Rattle.wat_print.specs.Label.{none_labelled};
 ghost use Rattle.wat_print.specs.Parts.{each, Wrote};
 ghost use Rattle.wat_print.specs.Printings.{struct_printing};
-ghost use Rattle.wat_print.specs.Struct.{member_label, spell_member, fit_member};
-ghost use Rattle.wat_print.specs.Struct.{spell_member_alone, spell_struct, fit_struct};
+ghost use Rattle.wat_print.specs.Struct.{member_label, spell_member, printable_member};
+ghost use Rattle.wat_print.specs.Struct.{spell_member_alone, spell_struct, printable_struct};
 ghost use Rattle.wat_print.specs.Text.{put};
 ghost use Rattle.wat_print.specs.declared.fault.Refused.TheVariants.{Memory};
 
@@ -22,9 +22,9 @@ use wat_types::{StructField, StructType};
 #[tactic(auto, using(crate::specs::Laws::Written::put_both))]
 fn write_member(out: &mut Output, field: &StructField) -> Result<(), Refused>
     ensures written { OnOk result (out.new ≡ put out.old (spell_member (member_view field.now))) }
-    ensures fit { OnOk result (fit_member (member_view field.now) ≡ true) }
+    ensures printable { OnOk result (printable_member (member_view field.now) ≡ true) }
     ensures refused { IfErr result (λ e. e ≢ Memory
-        → fit_member (member_view field.now) ≡ false) }
+        → printable_member (member_view field.now) ≡ false) }
 {
     write_label(out, &field.id, &field.name)?;
     write_field(out, field.mutable, &field.ty)
@@ -33,10 +33,10 @@ fn write_member(out: &mut Output, field: &StructField) -> Result<(), Refused>
 /// Writes fields, one behind the other.
 #[tactic(auto, using(crate::specs::Laws::Written::not_each))]
 fn write_members(out: &mut Output, fields: &[StructField]) -> Result<(), Refused>
-    ensures wrote { OnOk result (Wrote member_view spell_member fit_member fields.now out.old
+    ensures wrote { OnOk result (Wrote member_view spell_member printable_member fields.now out.old
         out.new) }
     ensures refused { IfErr result (λ e. e ≢ Memory
-        → each fit_member (members_view fields.now) ≡ false) }
+        → each printable_member (members_view fields.now) ≡ false) }
 {
     for field in fields {
         write_member(out, field)?;
@@ -48,9 +48,9 @@ fn write_members(out: &mut Output, fields: &[StructField]) -> Result<(), Refused
 fn write_alone(out: &mut Output, field: &StructField) -> Result<(), Refused>
     ensures written { OnOk result (out.new ≡ put out.old
         (spell_member_alone (member_view field.now))) }
-    ensures fit { OnOk result (fit_member (member_view field.now) ≡ true) }
+    ensures printable { OnOk result (printable_member (member_view field.now) ≡ true) }
     ensures refused { IfErr result (λ e. e ≢ Memory
-        → fit_member (member_view field.now) ≡ false) }
+        → printable_member (member_view field.now) ≡ false) }
 {
     out.open()?;
     out.word("field")?;
@@ -61,10 +61,11 @@ fn write_alone(out: &mut Output, field: &StructField) -> Result<(), Refused>
 /// Writes fields, each in a group of its own.
 #[tactic(auto, using(crate::specs::Laws::Written::not_each))]
 fn write_each_alone(out: &mut Output, fields: &[StructField]) -> Result<(), Refused>
-    ensures wrote { OnOk result (Wrote member_view spell_member_alone fit_member fields.now out.old
+    ensures wrote { OnOk result (Wrote member_view spell_member_alone printable_member fields.now
+        out.old
         out.new) }
     ensures refused { IfErr result (λ e. e ≢ Memory
-        → each fit_member (members_view fields.now) ≡ false) }
+        → each printable_member (members_view fields.now) ≡ false) }
 {
     for field in fields {
         write_alone(out, field)?;
@@ -89,9 +90,9 @@ fn are_unlabelled(fields: &[StructField]) -> bool
 fn write_fields(out: &mut Output, fields: &[StructField]) -> Result<(), Refused>
     ensures written { OnOk result (out.new ≡ put out.old
         (spell_struct (members_view fields.now))) }
-    ensures fit { OnOk result (fit_struct (members_view fields.now) ≡ true) }
+    ensures printable { OnOk result (printable_struct (members_view fields.now) ≡ true) }
     ensures refused { IfErr result (λ e. e ≢ Memory
-        → fit_struct (members_view fields.now) ≡ false) }
+        → printable_struct (members_view fields.now) ≡ false) }
 {
     if fields.is_empty() {
         return Ok(());
@@ -110,9 +111,9 @@ fn write_fields(out: &mut Output, fields: &[StructField]) -> Result<(), Refused>
 pub fn write_struct(out: &mut Output, structure: &StructType) -> Result<(), Refused>
     ensures written { OnOk result (out.new ≡ put out.old
         (spell_struct (struct_view structure.now))) }
-    ensures fit { OnOk result (fit_struct (struct_view structure.now) ≡ true) }
+    ensures printable { OnOk result (printable_struct (struct_view structure.now) ≡ true) }
     ensures refused { IfErr result (λ e. e ≢ Memory
-        → fit_struct (struct_view structure.now) ≡ false) }
+        → printable_struct (struct_view structure.now) ≡ false) }
 {
     write_fields(out, &structure.fields)
 }

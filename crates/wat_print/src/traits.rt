@@ -29,7 +29,7 @@ pub trait Print {
     /// can be only with Memory. What was written before a refusal stays.
     fn write(&self, out: &mut Output) -> Result<(), Refused>
         ensures written { OnOk result (Writes (printing.spell (view self.now)) out.old out.new) }
-        ensures fit { OnOk result (printing.fit (view self.now) ≡ true) }
+        ensures printable { OnOk result (printing.printable (view self.now) ≡ true) }
         ensures refused { IfErr result (λ e. e ≢ Memory
-            → printing.fit (view self.now) ≡ false) };
+            → printing.printable (view self.now) ≡ false) };
 }

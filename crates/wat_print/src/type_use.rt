@@ -9,13 +9,13 @@ ghost use Rattle.wat_types.specs.FunctionNoNames.{function_type_no_names};
 ghost use Rattle.wat_types.specs.Group.{FuncTy, begins_func};
 ghost use Rattle.wat_types.specs.Tag.{tag_type_view, tag_type};
 ghost use Rattle.wat_types.specs.Use.{UseTy, use_view, type_use};
-ghost use Rattle.wat_print.specs.Function.{spell_function, fit_function};
-ghost use Rattle.wat_print.specs.Index.{fit_index};
+ghost use Rattle.wat_print.specs.Function.{spell_function, printable_function};
+ghost use Rattle.wat_print.specs.Index.{printable_index};
 ghost use Rattle.wat_print.specs.Parts.{spell_option, if_some};
 ghost use Rattle.wat_print.specs.Printings.{unnamed_printing, use_printing, unnamed_use_printing};
 ghost use Rattle.wat_print.specs.Text.{put};
-ghost use Rattle.wat_print.specs.Use.{spell_type_index, spell_inline, spell_use, fit_use};
-ghost use Rattle.wat_print.specs.Use.{fit_unnamed, fit_unnamed_use};
+ghost use Rattle.wat_print.specs.Use.{spell_type_index, spell_inline, spell_use, printable_use};
+ghost use Rattle.wat_print.specs.Use.{printable_unnamed, printable_unnamed_use};
 ghost use Rattle.wat_print.specs.declared.fault.Refused.TheVariants.{Memory};
 
 use crate::fault::Refused;
@@ -30,9 +30,10 @@ use wat_types::{FunctionType, FunctionTypeNoNames, TagType, TypeUse};
 fn write_type_index(out: &mut Output, index: &Option<Index>) -> Result<(), Refused>
     ensures written { OnOk result (out.new ≡ put out.old
         (spell_option spell_type_index (option_view index_view index.now))) }
-    ensures fit { OnOk result (if_some fit_index (option_view index_view index.now) ≡ true) }
+    ensures printable { OnOk result (if_some printable_index (option_view index_view index.now) ≡
+        true) }
     ensures refused { IfErr result (λ e. e ≢ Memory
-        → if_some fit_index (option_view index_view index.now) ≡ false) }
+        → if_some printable_index (option_view index_view index.now) ≡ false) }
 {
     match index {
         Some(index) => {
@@ -57,9 +58,9 @@ fn is_bare(function: &FunctionType) -> bool
 fn write_inline(out: &mut Output, function: &FunctionType) -> Result<(), Refused>
     ensures written { OnOk result (out.new ≡ put out.old
         (spell_inline (function_view function.now))) }
-    ensures fit { OnOk result (fit_function (function_view function.now) ≡ true) }
+    ensures printable { OnOk result (printable_function (function_view function.now) ≡ true) }
     ensures refused { IfErr result (λ e. e ≢ Memory
-        → fit_function (function_view function.now) ≡ false) }
+        → printable_function (function_view function.now) ≡ false) }
 {
     if !is_bare(function) {
         return write_function(out, function);
@@ -73,9 +74,9 @@ fn write_inline(out: &mut Output, function: &FunctionType) -> Result<(), Refused
 pub fn write_use(out: &mut Output, ty: &TypeUse<FunctionType>) -> Result<(), Refused>
     ensures written { OnOk result (out.new ≡ put out.old
         (spell_use (use_view function_view ty.now))) }
-    ensures fit { OnOk result (fit_use (use_view function_view ty.now) ≡ true) }
+    ensures printable { OnOk result (printable_use (use_view function_view ty.now) ≡ true) }
     ensures refused { IfErr result (λ e. e ≢ Memory
-        → fit_use (use_view function_view ty.now) ≡ false) }
+        → printable_use (use_view function_view ty.now) ≡ false) }
 {
     write_type_index(out, &ty.index)?;
     match &ty.inline {
@@ -89,9 +90,9 @@ pub fn write_use(out: &mut Output, ty: &TypeUse<FunctionType>) -> Result<(), Ref
 fn write_unnamed_inline(out: &mut Output, function: &FunctionTypeNoNames) -> Result<(), Refused>
     ensures written { OnOk result (out.new ≡ put out.old
         (spell_inline (unnamed_view function.now))) }
-    ensures fit { OnOk result (fit_unnamed (unnamed_view function.now) ≡ true) }
+    ensures printable { OnOk result (printable_unnamed (unnamed_view function.now) ≡ true) }
     ensures refused { IfErr result (λ e. e ≢ Memory
-        → fit_unnamed (unnamed_view function.now) ≡ false) }
+        → printable_unnamed (unnamed_view function.now) ≡ false) }
 {
     if !are_unlabelled(&function.0.params) {
         return Err(Refused::Label);
@@ -104,9 +105,9 @@ fn write_unnamed_inline(out: &mut Output, function: &FunctionTypeNoNames) -> Res
 pub fn write_unnamed_use(out: &mut Output, ty: &TypeUse<FunctionTypeNoNames>) -> Result<(), Refused>
     ensures written { OnOk result (out.new ≡ put out.old
         (spell_use (use_view unnamed_view ty.now))) }
-    ensures fit { OnOk result (fit_unnamed_use (use_view unnamed_view ty.now) ≡ true) }
+    ensures printable { OnOk result (printable_unnamed_use (use_view unnamed_view ty.now) ≡ true) }
     ensures refused { IfErr result (λ e. e ≢ Memory
-        → fit_unnamed_use (use_view unnamed_view ty.now) ≡ false) }
+        → printable_unnamed_use (use_view unnamed_view ty.now) ≡ false) }
 {
     write_type_index(out, &ty.index)?;
     match &ty.inline {
@@ -119,9 +120,9 @@ pub fn write_unnamed_use(out: &mut Output, ty: &TypeUse<FunctionTypeNoNames>) ->
 pub fn write_unnamed(out: &mut Output, function: &FunctionTypeNoNames) -> Result<(), Refused>
     ensures written { OnOk result (out.new ≡ put out.old
         (spell_function (unnamed_view function.now))) }
-    ensures fit { OnOk result (fit_unnamed (unnamed_view function.now) ≡ true) }
+    ensures printable { OnOk result (printable_unnamed (unnamed_view function.now) ≡ true) }
     ensures refused { IfErr result (λ e. e ≢ Memory
-        → fit_unnamed (unnamed_view function.now) ≡ false) }
+        → printable_unnamed (unnamed_view function.now) ≡ false) }
 {
     if !are_unlabelled(&function.0.params) {
         return Err(Refused::Label);

@@ -1,9 +1,8 @@
 -- Instructions in groups that are written.
-use Rattle.std.specs.Prelude.{◌≡◌, ◌==◌, ℕ, Bool, true, false, ◌&&◌, List, []}
-use Rattle.std.specs.Prelude.{◌∷◌, ◌++◌, flat_map, map, length, Option, Some, None}
-use Rattle.std.specs.Prelude.{option_map, is_some}
+use Rattle.std.specs.Prelude.{◌≡◌, ◌==◌, ℕ, Bool, true, false, ◌&&◌, List, [], ◌∷◌, ◌++◌, flat_map}
+use Rattle.std.specs.Prelude.{map, length, Option, Some, None, option_map, is_some}
 use Rattle.std.proofs.Common.{refl, ap, subst, sym, ◌∙◌, append-nil, get_or, arith}
-use Rattle.std.proofs.lemmas.Bool.{and_parts}
+use Rattle.std.proofs.lemmas.Bool.{and_parts, eqb-true, and_left, and_right}
 use Rattle.std.proofs.lemmas.List.{map-append}
 use Rattle.wat_tokens.specs.Laws.Production.{by_test}
 use Rattle.wat_lexer.specs.Token.{Tok, LParen, RParen}
@@ -17,10 +16,9 @@ use Rattle.wat_print.specs.Laws.Parts.{each_both}
 use Rattle.wat_print.specs.Laws.Written.{put_then, put_parens}
 use Rattle.wat_print_instr.specs.FoldedForm.{takes_catches, is_catch, op_of, own_groups}
 use Rattle.wat_print_instr.specs.FoldedForm.{catch_first, groups_behind, group_from, spell_own}
-use Rattle.wat_print_instr.specs.FoldedForm.{spell_groups, spell_folded, no_hints, fit_folded}
+use Rattle.wat_print_instr.specs.FoldedForm.{spell_groups, spell_folded, no_hints, printable_folded}
 use Rattle.wat_print_instr.specs.Laws.Folded.{group_last}
-use Rattle.wat_print_instr.specs.Laws.Numbers.{equal_by}
-use Rattle.wat_print_instr.specs.InstructionForm.{spell_instruction, fit_instruction}
+use Rattle.wat_print_instr.specs.InstructionForm.{spell_instruction, printable_instruction}
 
 -- ---- texts
 
@@ -46,47 +44,45 @@ own_written is a b e = e ∙ ap (λ (l : List Tok). put a l) (own_spelled is)
 
 -- ---- what can be written
 
-pub part_fits : (xs : List Instr) (i : Instr) (ys : List Instr) → each fit_instruction xs ≡ true
-    → fit_instruction i ≡ true → each fit_instruction ys ≡ true
-    → each fit_instruction (xs ++ i ∷ ys) ≡ true
-part_fits xs i ys f g h = each_both fit_instruction xs (i ∷ ys) f (rw (g, h) refl)
+pub part_fits : (xs : List Instr) (i : Instr) (ys : List Instr)
+    → each printable_instruction xs ≡ true
+    → printable_instruction i ≡ true → each printable_instruction ys ≡ true
+    → each printable_instruction (xs ++ i ∷ ys) ≡ true
+part_fits xs i ys f g h = each_both printable_instruction xs (i ∷ ys) f (rw (g, h) refl)
 
-pub not_after : (a b : Bool) → b ≡ false → a && b ≡ false
-not_after true b e = e
-not_after false b e = refl
+unprintable_front : (xs ys : List Instr) → each printable_instruction xs ≡ false
+    → each printable_instruction (xs ++ ys) ≡ false
+unprintable_front [] ys e = absurd cc
+unprintable_front (x ∷ xs) ys e =
+    by_test (printable_instruction x)
+    (λ t. and_right (printable_instruction x) (each printable_instruction (xs ++ ys))
+    (unprintable_front xs ys
+    (subst (λ (b : Bool). b && each printable_instruction xs ≡ false) t e)))
+    (λ t. and_left (printable_instruction x) (each printable_instruction (xs ++ ys)) t)
 
-pub not_before : (a b : Bool) → a ≡ false → a && b ≡ false
-not_before true b e = absurd cc
-not_before false b e = refl
+unprintable_back : (xs ys : List Instr) → each printable_instruction ys ≡ false
+    → each printable_instruction (xs ++ ys) ≡ false
+unprintable_back [] ys e = e
+unprintable_back (x ∷ xs) ys e =
+    and_right (printable_instruction x) (each printable_instruction (xs ++ ys))
+    (unprintable_back xs ys e)
 
-unfit_front : (xs ys : List Instr) → each fit_instruction xs ≡ false
-    → each fit_instruction (xs ++ ys) ≡ false
-unfit_front [] ys e = absurd cc
-unfit_front (x ∷ xs) ys e =
-    by_test (fit_instruction x)
-    (λ t. not_after (fit_instruction x) (each fit_instruction (xs ++ ys))
-    (unfit_front xs ys (subst (λ (b : Bool). b && each fit_instruction xs ≡ false) t e)))
-    (λ t. not_before (fit_instruction x) (each fit_instruction (xs ++ ys)) t)
+pub unprintable_before : (xs : List Instr) (i : Instr) (ys : List Instr)
+    → each printable_instruction xs ≡ false → each printable_instruction (xs ++ i ∷ ys) ≡ false
+unprintable_before xs i ys e = unprintable_front xs (i ∷ ys) e
 
-unfit_back : (xs ys : List Instr) → each fit_instruction ys ≡ false
-    → each fit_instruction (xs ++ ys) ≡ false
-unfit_back [] ys e = e
-unfit_back (x ∷ xs) ys e =
-    not_after (fit_instruction x) (each fit_instruction (xs ++ ys)) (unfit_back xs ys e)
+pub unprintable_here : (xs : List Instr) (i : Instr) (ys : List Instr)
+    → printable_instruction i ≡ false
+    → each printable_instruction (xs ++ i ∷ ys) ≡ false
+unprintable_here xs i ys e =
+    unprintable_back xs (i ∷ ys)
+    (and_left (printable_instruction i) (each printable_instruction ys) e)
 
-pub unfit_before : (xs : List Instr) (i : Instr) (ys : List Instr)
-    → each fit_instruction xs ≡ false → each fit_instruction (xs ++ i ∷ ys) ≡ false
-unfit_before xs i ys e = unfit_front xs (i ∷ ys) e
-
-pub unfit_here : (xs : List Instr) (i : Instr) (ys : List Instr) → fit_instruction i ≡ false
-    → each fit_instruction (xs ++ i ∷ ys) ≡ false
-unfit_here xs i ys e =
-    unfit_back xs (i ∷ ys) (not_before (fit_instruction i) (each fit_instruction ys) e)
-
-pub unfit_behind : (xs : List Instr) (i : Instr) (ys : List Instr)
-    → each fit_instruction ys ≡ false → each fit_instruction (xs ++ i ∷ ys) ≡ false
-unfit_behind xs i ys e =
-    unfit_back xs (i ∷ ys) (not_after (fit_instruction i) (each fit_instruction ys) e)
+pub unprintable_behind : (xs : List Instr) (i : Instr) (ys : List Instr)
+    → each printable_instruction ys ≡ false → each printable_instruction (xs ++ i ∷ ys) ≡ false
+unprintable_behind xs i ys e =
+    unprintable_back xs (i ∷ ys)
+    (and_right (printable_instruction i) (each printable_instruction ys) e)
 
 -- ---- of values that are seen as instructions
 
@@ -108,29 +104,35 @@ module _ {X : Type 0} (v : X → Instr) where
     seen_parts : map v all ≡ map v before ++ v x ∷ map v behind
     seen_parts = ap (map v) e ∙ map-append v before (x ∷ behind)
 
-    pub parts_fit : (o : Option Groups) (g : Groups) → each fit_instruction (map v before) ≡ true
-        → fit_instruction (v x) ≡ true → each fit_instruction (map v behind) ≡ true → o ≡ Some g
-        → each fit_instruction (map v all) && is_some o ≡ true
-    parts_fit o g f h k s =
+    pub parts_printable : (o : Option Groups) (g : Groups)
+        → each printable_instruction (map v before) ≡ true
+        → printable_instruction (v x) ≡ true → each printable_instruction (map v behind) ≡ true
+        → o ≡ Some g
+        → each printable_instruction (map v all) && is_some o ≡ true
+    parts_printable o g f h k s =
         rw (seen_parts, s, part_fits (map v before) (v x) (map v behind) f h k) refl
 
-    unfit_parts : (b : Bool)
-        → each fit_instruction (map v before ++ v x ∷ map v behind) ≡ false
-        → each fit_instruction (map v all) && b ≡ false
-    unfit_parts b f =
-        not_before (each fit_instruction (map v all)) b (ap (each fit_instruction) seen_parts ∙ f)
+    unprintable_parts : (b : Bool)
+        → each printable_instruction (map v before ++ v x ∷ map v behind) ≡ false
+        → each printable_instruction (map v all) && b ≡ false
+    unprintable_parts b f =
+        and_left (each printable_instruction (map v all)) b
+        (ap (each printable_instruction) seen_parts ∙ f)
 
-    pub before_unfit : (b : Bool) → each fit_instruction (map v before) ≡ false
-        → each fit_instruction (map v all) && b ≡ false
-    before_unfit b f = unfit_parts b (unfit_before (map v before) (v x) (map v behind) f)
+    pub before_unprintable : (b : Bool) → each printable_instruction (map v before) ≡ false
+        → each printable_instruction (map v all) && b ≡ false
+    before_unprintable b f =
+        unprintable_parts b (unprintable_before (map v before) (v x) (map v behind) f)
 
-    pub one_unfit : (b : Bool) → fit_instruction (v x) ≡ false
-        → each fit_instruction (map v all) && b ≡ false
-    one_unfit b f = unfit_parts b (unfit_here (map v before) (v x) (map v behind) f)
+    pub one_unprintable : (b : Bool) → printable_instruction (v x) ≡ false
+        → each printable_instruction (map v all) && b ≡ false
+    one_unprintable b f =
+        unprintable_parts b (unprintable_here (map v before) (v x) (map v behind) f)
 
-    pub behind_unfit : (b : Bool) → each fit_instruction (map v behind) ≡ false
-        → each fit_instruction (map v all) && b ≡ false
-    behind_unfit b f = unfit_parts b (unfit_behind (map v before) (v x) (map v behind) f)
+    pub behind_unprintable : (b : Bool) → each printable_instruction (map v behind) ≡ false
+        → each printable_instruction (map v all) && b ≡ false
+    behind_unprintable b f =
+        unprintable_parts b (unprintable_behind (map v before) (v x) (map v behind) f)
 
 -- the group of the first instruction that keeps apart, and those behind it
 pub apart_written : (i : Instr) (bs ds : List Instr) (o : Option Groups) (a b c d e f : Page)
@@ -176,54 +178,56 @@ module _ (e : Expr) (is : List Instr) (i : Instr) (s : e.instrs ≡ is ++ i ∷ 
   pub folded_written : (a b c d f : Page) → b ≡ put a (LParen ∷ [])
       → c ≡ put b (spell_instruction i) → d ≡ put c (spell_option spell_groups (groups_behind i is))
       → f ≡ put d (RParen ∷ [])
-      → each fit_instruction is && is_some (groups_behind i is) ≡ true → f ≡ put a (spell_folded e)
+      → each printable_instruction is && is_some (groups_behind i is) ≡ true
+      → f ≡ put a (spell_folded e)
   folded_written a b c d f g h k l m =
       whole_written i (groups_behind i is) a b c d f g h k l
-      (and_parts (each fit_instruction is) (is_some (groups_behind i is)) m).1
+      (and_parts (each printable_instruction is) (is_some (groups_behind i is)) m).1
       ∙ ap (λ (o : Option Groups). put a (spell_option spell_groups o)) (sym whole_is)
 
   some_is : is_some (group_from [] e.instrs) ≡ is_some (groups_behind i is)
   some_is = ap is_some whole_is ∙ some_whole i (groups_behind i is)
 
-  pub folded_fit : no_hints e.hints ≡ true → fit_instruction i ≡ true
-      → each fit_instruction is && is_some (groups_behind i is) ≡ true → fit_folded e ≡ true
-  folded_fit n f m =
-      let p = and_parts (each fit_instruction is) (is_some (groups_behind i is)) m in
-      let a : each fit_instruction e.instrs ≡ true =
-      ap (each fit_instruction) s ∙ part_fits is i [] p.0 f refl in
+  pub folded_printable : no_hints e.hints ≡ true → printable_instruction i ≡ true
+      → each printable_instruction is && is_some (groups_behind i is) ≡ true
+      → printable_folded e ≡ true
+  folded_printable n f m =
+      let p = and_parts (each printable_instruction is) (is_some (groups_behind i is)) m in
+      let a : each printable_instruction e.instrs ≡ true =
+      ap (each printable_instruction) s ∙ part_fits is i [] p.0 f refl in
       let b : is_some (group_from [] e.instrs) ≡ true = some_is ∙ p.1 in
       rw (n, a, b) refl
 
-  pub last_unfit : fit_instruction i ≡ false → fit_folded e ≡ false
-  last_unfit f =
-      not_after (no_hints e.hints) _
-      (not_before (each fit_instruction e.instrs) _
-      (ap (each fit_instruction) s ∙ unfit_here is i [] f))
+  pub last_unprintable : printable_instruction i ≡ false → printable_folded e ≡ false
+  last_unprintable f =
+      and_right (no_hints e.hints) _
+      (and_left (each printable_instruction e.instrs) _
+      (ap (each printable_instruction) s ∙ unprintable_here is i [] f))
 
-  pub others_unfit : each fit_instruction is && is_some (groups_behind i is) ≡ false
-      → fit_folded e ≡ false
-  others_unfit m =
-      not_after (no_hints e.hints) _
-      (by_test (each fit_instruction is)
-      (λ t. not_after (each fit_instruction e.instrs) _
+  pub others_unprintable : each printable_instruction is && is_some (groups_behind i is) ≡ false
+      → printable_folded e ≡ false
+  others_unprintable m =
+      and_right (no_hints e.hints) _
+      (by_test (each printable_instruction is)
+      (λ t. and_right (each printable_instruction e.instrs) _
       (some_is ∙ subst (λ (b : Bool). b && is_some (groups_behind i is) ≡ false) t m))
-      (λ t. not_before (each fit_instruction e.instrs) _
-      (ap (each fit_instruction) s ∙ unfit_before is i [] t)))
+      (λ t. and_left (each printable_instruction e.instrs) _
+      (ap (each printable_instruction) s ∙ unprintable_before is i [] t)))
 
-pub hinted_unfit : (e : Expr) → no_hints e.hints ≡ false → fit_folded e ≡ false
-hinted_unfit e n = not_before (no_hints e.hints) _ n
+pub hinted_unprintable : (e : Expr) → no_hints e.hints ≡ false → printable_folded e ≡ false
+hinted_unprintable e n = and_left (no_hints e.hints) _ n
 
-pub empty_unfit : (e : Expr) → e.instrs ≡ [] → fit_folded e ≡ false
-empty_unfit e s =
-    not_after (no_hints e.hints) _
-    (not_after (each fit_instruction e.instrs) _
+pub empty_unprintable : (e : Expr) → e.instrs ≡ [] → printable_folded e ≡ false
+empty_unprintable e s =
+    and_right (no_hints e.hints) _
+    (and_right (each printable_instruction e.instrs) _
     (ap (λ (l : List Instr). is_some (group_from [] l)) s))
 
 -- no hints are left where there are none
 module _ {X : Type 0} (v : X → ℕ × ℕ) where
   none_by : (hs : List X) → (length hs == 0) ≡ true → no_hints (map v hs) ≡ true
   none_by [] e = refl
-  none_by (h ∷ hs) e = absurd (omega (arith, equal_by (length (h ∷ hs)) 0 e))
+  none_by (h ∷ hs) e = absurd (omega (arith, eqb-true (length (h ∷ hs)) 0 e))
 
   pub hints_none : (all hs : List X) → hs ≡ all → (length hs == 0) ≡ true
       → no_hints (map v all) ≡ true

@@ -1,3 +1,2 @@
 pub mod FoldedWritten
 pub mod Walked
-pub mod Written

@@ -1,22 +1,24 @@
 -- Instructions and hints that are written in turn.
-use Rattle.std.specs.Prelude.{◌≡◌, ℕ, zero, suc, ◌+◌, ◌<◌, Bool, true, false, ◌&&◌, ◌==◌, List, []}
-use Rattle.std.specs.Prelude.{◌∷◌, ◌++◌}
-use Rattle.std.specs.Prelude.{if◌then◌else◌, flat_map, map, length, drop, Option, Some, None}
-use Rattle.std.specs.Prelude.{option_map}
+use Rattle.std.specs.Prelude.{◌≡◌, ℕ, zero, suc, ◌+◌, ◌<◌, true, false, List, [], ◌∷◌, ◌++◌}
+use Rattle.std.specs.Prelude.{flat_map, map, length, drop, Option, Some, None, option_map}
 use Rattle.std.proofs.Common.{refl, ap, subst, sym, ◌∙◌, append_assoc, append-nil, get_or, arith}
 use Rattle.std.proofs.lemmas.Grind.{flat_map-append}
+use Rattle.std.proofs.lemmas.Bool.{and_right}
 use Rattle.wat_lexer.specs.Token.{Tok}
 use Rattle.wat_instr.specs.Instruction.{Instr}
 use Rattle.wat_print.specs.Layout.{Writes}
 use Rattle.wat_print.specs.Parts.{each, spell_option}
 use Rattle.wat_print.specs.Text.{Page}
 use Rattle.wat_print.specs.Laws.Parts.{each_both}
-use Rattle.wat_print.specs.Laws.Written.{puts_both, puts_put}
-use Rattle.wat_print_instr.specs.ExpressionForm.{HintedInstr, step_of, spell_step, fit_step}
-use Rattle.wat_print_instr.specs.ExpressionForm.{steps_from}
-use Rattle.wat_print_instr.specs.ExpressionForm.{hint_for, hints_after, spell_expression}
-use Rattle.wat_print_instr.specs.ExpressionForm.{fit_expression}
+use Rattle.wat_print.specs.Laws.Written.{puts_both, puts_put, puts_line}
+use Rattle.wat_print_instr.specs.ExpressionForm.{HintedInstr, step_of, spell_step, printable_step}
+use Rattle.wat_print_instr.specs.ExpressionForm.{steps_from, hint_for, hints_after}
+use Rattle.wat_print_instr.specs.ExpressionForm.{spell_expression, printable_expression}
 use Rattle.wat_print_instr.specs.InstructionForm.{passes}
+use Rattle.wat_print_instr.specs.Laws.Expression.{next_step}
+
+-- a line break, or nothing
+pub ruleset line_or_nothing = (puts_line, puts_put)
 
 -- From p to q the steps before the index b were written, and what is left of the instructions and
 -- of the hints gives those behind them.
@@ -26,7 +28,7 @@ pub record Walked (is : List Instr) (hs : List (ℕ × ℕ)) (b : ℕ) (left : L
   pub goes : steps_from 0 is hs
       ≡ option_map (λ xs. done ++ xs) (steps_from b (drop b is) left)
   pub written : Writes (flat_map spell_step done) p q
-  pub fits : each fit_step done ≡ true
+  pub fits : each printable_step done ≡ true
 
 same_option : (o : Option (List HintedInstr)) → o ≡ option_map (λ xs. [] ++ xs) o
 same_option (Some xs) = refl
@@ -41,21 +43,6 @@ walk_begins is hs p = record {
 }
 
 -- an instruction more
-chosen : (t : Bool) (b : ℕ) (i : Instr) (is : List Instr) (h : ℕ × ℕ) (hs : List (ℕ × ℕ))
-    → (if t then option_map (λ xs. step_of (Some h.1) i ∷ xs) (steps_from (b + 1) is hs)
-    else option_map (λ xs. step_of None i ∷ xs) (steps_from (b + 1) is (h ∷ hs)))
-    ≡ option_map (λ xs. step_of (if t then Some h.1 else None) i ∷ xs)
-    (steps_from (b + 1) is (if t then hs else h ∷ hs))
-chosen true b i is h hs = refl
-chosen false b i is h hs = refl
-
-next_step : (b : ℕ) (i : Instr) (is : List Instr) (hs : List (ℕ × ℕ))
-    → steps_from b (i ∷ is) hs
-    ≡ option_map (λ xs. step_of (hint_for b hs) i ∷ xs) (steps_from (b + 1) is (hints_after b hs))
-next_step b i is [] = refl
-next_step b i is (h ∷ hs) =
-    chosen (h.0 == b) b i is h hs
-
 map_twice : (x : HintedInstr) (done : List HintedInstr) (o : Option (List HintedInstr))
     → option_map (λ xs. done ++ xs) (option_map (λ xs. x ∷ xs) o)
     ≡ option_map (λ xs. (done ++ x ∷ []) ++ xs) o
@@ -66,7 +53,7 @@ map_twice x done None = refl
 pub walk_goes : (is : List Instr) (hs : List (ℕ × ℕ)) (b : ℕ) (left : List (ℕ × ℕ)) (i : Instr)
     (p q s : Page) → drop b is ≡ i ∷ drop (b + 1) is → Walked is hs b left p q
     → Writes (spell_step (step_of (hint_for b left) i)) q s
-    → fit_step (step_of (hint_for b left) i) ≡ true
+    → printable_step (step_of (hint_for b left) i) ≡ true
     → Walked is hs (b + 1) (hints_after b left) p s
 walk_goes is hs b left i p q s e w v f =
     let x = step_of (hint_for b left) i in record {
@@ -80,7 +67,7 @@ walk_goes is hs b left i p q s e w v f =
           (sym (flat_map-append spell_step w.done (x ∷ [])
           ∙ ap (λ (l : List Tok). flat_map spell_step w.done ++ l) (append-nil (spell_step x))))
           (puts_both (flat_map spell_step w.done) (spell_step x) p q s w.written v);
-      fits = each_both fit_step w.done (x ∷ []) w.fits (rw f refl);
+      fits = each_both printable_step w.done (x ∷ []) w.fits (rw f refl);
     }
 
 -- ---- where it ends
@@ -93,11 +80,12 @@ all_steps is hs b p q e w =
 -- what was found is all, and it can be written
 pub walk_fits : (is : List Instr) (hs : List (ℕ × ℕ)) (b : ℕ) (p q : Page) → drop b is ≡ []
     → Walked is hs b [] p q
-    → fit_expression (record { instrs = is; hints = hs }) ≡ true
+    → printable_expression (record { instrs = is; hints = hs }) ≡ true
 walk_fits is hs b p q e w =
-    subst (λ (o : Option (List HintedInstr)). passes (each fit_step) o ≡ true)
+    subst (λ (o : Option (List HintedInstr)). passes (each printable_step) o ≡ true)
     (sym (all_steps is hs b p q e w))
-    (subst (λ (l : List HintedInstr). each fit_step l ≡ true) (sym (append-nil w.done)) w.fits)
+    (subst (λ (l : List HintedInstr). each printable_step l ≡ true)
+    (sym (append-nil w.done)) w.fits)
 
 pub walk_written : (is : List Instr) (hs : List (ℕ × ℕ)) (b : ℕ) (p q : Page) → drop b is ≡ []
     → Walked is hs b [] p q
@@ -111,25 +99,22 @@ walk_written is hs b p q e w =
 -- a hint is left
 pub walk_left : (is : List Instr) (hs : List (ℕ × ℕ)) (b : ℕ) (h : ℕ × ℕ) (left : List (ℕ × ℕ))
     (p q : Page) → drop b is ≡ [] → Walked is hs b (h ∷ left) p q
-    → fit_expression (record { instrs = is; hints = hs }) ≡ false
+    → printable_expression (record { instrs = is; hints = hs }) ≡ false
 walk_left is hs b h left p q e w =
-    subst (λ (o : Option (List HintedInstr)). passes (each fit_step) o ≡ false)
+    subst (λ (o : Option (List HintedInstr)). passes (each printable_step) o ≡ false)
     (sym (w.goes ∙ ap (λ (l : List Instr). option_map (λ xs. w.done ++ xs)
     (steps_from b l (h ∷ left))) e)) refl
 
-after : (a b : Bool) → b ≡ false → a && b ≡ false
-after true b e = e
-after false b e = refl
-
-not_all : (done : List HintedInstr) (x : HintedInstr) (xs : List HintedInstr) → fit_step x ≡ false
-    → each fit_step (done ++ x ∷ xs) ≡ false
+not_all : (done : List HintedInstr) (x : HintedInstr) (xs : List HintedInstr)
+    → printable_step x ≡ false
+    → each printable_step (done ++ x ∷ xs) ≡ false
 not_all [] x xs f = rw f refl
 not_all (d ∷ done) x xs f =
-    after (fit_step d) (each fit_step (done ++ x ∷ xs)) (not_all done x xs f)
+    and_right (printable_step d) (each printable_step (done ++ x ∷ xs)) (not_all done x xs f)
 
 not_passed : (done : List HintedInstr) (x : HintedInstr) (o : Option (List HintedInstr))
-    → fit_step x ≡ false
-    → passes (each fit_step)
+    → printable_step x ≡ false
+    → passes (each printable_step)
     (option_map (λ xs. done ++ xs) (option_map (λ xs. x ∷ xs) o)) ≡ false
 not_passed done x (Some xs) f = not_all done x xs f
 not_passed done x None f = refl
@@ -137,10 +122,10 @@ not_passed done x None f = refl
 -- one of the steps can't be written
 pub walk_stops : (is : List Instr) (hs : List (ℕ × ℕ)) (b : ℕ) (left : List (ℕ × ℕ)) (i : Instr)
     (p q : Page) → drop b is ≡ i ∷ drop (b + 1) is → Walked is hs b left p q
-    → fit_step (step_of (hint_for b left) i) ≡ false
-    → fit_expression (record { instrs = is; hints = hs }) ≡ false
+    → printable_step (step_of (hint_for b left) i) ≡ false
+    → printable_expression (record { instrs = is; hints = hs }) ≡ false
 walk_stops is hs b left i p q e w f =
-    subst (λ (o : Option (List HintedInstr)). passes (each fit_step) o ≡ false)
+    subst (λ (o : Option (List HintedInstr)). passes (each printable_step) o ≡ false)
     (sym (w.goes
     ∙ ap (λ (l : List Instr). option_map (λ xs. w.done ++ xs) (steps_from b l left)) e
     ∙ ap (λ (o : Option (List HintedInstr)). option_map (λ xs. w.done ++ xs) o)

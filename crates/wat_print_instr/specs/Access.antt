@@ -10,7 +10,7 @@ use Rattle.wat_operands.specs.declared.memory.MemArgOrdering.{MemArgOrdering}
 use Rattle.wat_operands.specs.declared.memory.MemArgOrdering.TheVariants.{Op, Rmw}
 use Rattle.wat_operands.specs.declared.ordering.Ordering.{Ordering}
 use Rattle.wat_operands.specs.declared.ordering.Ordering.TheVariants.{AcqRel, SeqCst}
-use Rattle.wat_print.specs.Index.{spell_index, fit_index}
+use Rattle.wat_print.specs.Index.{spell_index, printable_index}
 use Rattle.wat_print.specs.Limits.{spell_number, is_u64}
 use Rattle.wat_print.specs.Parts.{grouped, spell_option}
 use Rattle.wat_print_instr.specs.Numbers.{numbered, is_unsigned}
@@ -22,9 +22,9 @@ abbrev pub spell_target : TargetTy → List Tok
 spell_target (memory i) = spell_index_or_0 i
 spell_target (array i) = grouped (codes "type") (spell_index i)
 
-abbrev pub fit_target : TargetTy → Bool
-fit_target (memory i) = fit_index i
-fit_target (array i) = fit_index i
+abbrev pub printable_target : TargetTy → Bool
+printable_target (memory i) = printable_index i
+printable_target (array i) = printable_index i
 
 -- a word that ends in the number; nothing, where the number is meant without it
 abbrev pub spell_unless : Bool → List ℕ → ℕ → List Tok
@@ -42,16 +42,17 @@ abbrev pub spell_access : ℕ → MemArgTy → List Tok
 spell_access a m = spell_target m.target ++ spell_fields a m
 
 -- the default alignment a, or a power of two of 64 bits
-abbrev pub fit_alignment : ℕ → ℕ → Bool
-fit_alignment a n = (n == a) || (is_power_of_two n && is_u64 n)
+abbrev pub printable_alignment : ℕ → ℕ → Bool
+printable_alignment a n = (n == a) || (is_power_of_two n && is_u64 n)
 
 -- an access but for its ordering
-abbrev pub fit_place : ℕ → MemArgTy → Bool
-fit_place a m = fit_target m.target && (is_u64 m.offset && fit_alignment a m.align)
+abbrev pub printable_place : ℕ → MemArgTy → Bool
+printable_place a m =
+    printable_target m.target && (is_u64 m.offset && printable_alignment a m.align)
 
 -- without an ordering
-abbrev pub fit_access : ℕ → MemArgTy → Bool
-fit_access a m = fit_place a m && is_none m.ordering
+abbrev pub printable_access : ℕ → MemArgTy → Bool
+printable_access a m = printable_place a m && is_none m.ordering
 
 -- ---- orderings
 
@@ -71,32 +72,32 @@ abbrev pub spell_atomic : ℕ → MemArgTy → List Tok
 spell_atomic a m = spell_access a m ++ spell_option (λ o. spell_ordering (ordering_in o)) m.ordering
 
 -- none, or one as of a read-modify-write instruction or of another
-abbrev pub fit_ordering : Bool → Option MemArgOrdering → Bool
-fit_ordering rmw None = true
-fit_ordering rmw (Some (Op o)) = not rmw
-fit_ordering rmw (Some (Rmw o)) = rmw
+abbrev pub printable_ordering : Bool → Option MemArgOrdering → Bool
+printable_ordering rmw None = true
+printable_ordering rmw (Some (Op o)) = not rmw
+printable_ordering rmw (Some (Rmw o)) = rmw
 
-abbrev pub fit_atomic : ℕ → Bool → MemArgTy → Bool
-fit_atomic a rmw m = fit_place a m && fit_ordering rmw m.ordering
+abbrev pub printable_atomic : ℕ → Bool → MemArgTy → Bool
+printable_atomic a rmw m = printable_place a m && printable_ordering rmw m.ordering
 
 -- an ordering, and what it is in front of
 abbrev pub spell_ordered : {A : Type 0} → (A → List Tok) → Ordering × A → List Tok
 spell_ordered spell v = spell_ordering v.0 ++ spell v.1
 
-abbrev pub fit_ordered : {A : Type 0} → (A → Bool) → Ordering × A → Bool
-fit_ordered fit v = fit v.1
+abbrev pub printable_ordered : {A : Type 0} → (A → Bool) → Ordering × A → Bool
+printable_ordered printable v = printable v.1
 
 -- ---- lanes
 
 abbrev pub spell_lane : LaneArg → List Tok
 spell_lane l = spell_number l.lane
 
-abbrev pub fit_lane : LaneArg → Bool
-fit_lane l = is_unsigned 8 l.lane
+abbrev pub printable_lane : LaneArg → Bool
+printable_lane l = is_unsigned 8 l.lane
 
 -- with the default alignment a
 abbrev pub spell_lane_access : ℕ → LaneAccessTy → List Tok
 spell_lane_access a l = spell_access a l.memarg ++ spell_lane l.lane
 
-abbrev pub fit_lane_access : ℕ → LaneAccessTy → Bool
-fit_lane_access a l = fit_access a l.memarg && fit_lane l.lane
+abbrev pub printable_lane_access : ℕ → LaneAccessTy → Bool
+printable_lane_access a l = printable_access a l.memarg && printable_lane l.lane

@@ -7,7 +7,7 @@ use Rattle.wat_instr.specs.Instruction.{Instr}
 use Rattle.wat_expr.specs.Expression.{Expr}
 use Rattle.wat_expr.specs.Items.{is_branch, hint_name}
 use Rattle.wat_print.specs.Parts.{spell_option, if_some, each}
-use Rattle.wat_print_instr.specs.InstructionForm.{passes, spell_instruction, fit_instruction}
+use Rattle.wat_print_instr.specs.InstructionForm.{passes, spell_instruction, printable_instruction}
 
 -- an instruction, and the hint that stands before it
 pub record HintedInstr : Type 0 where
@@ -22,14 +22,14 @@ abbrev pub spell_hint : ℕ → List Tok
 spell_hint v = in_parens (hint_name ∷ String (v ∷ []) ∷ [])
 
 -- 0 or 1, before a `br_if` or an `if`
-abbrev pub fit_hint : Instr → ℕ → Bool
-fit_hint i v = is_branch i && nat_lt v 2
+abbrev pub printable_hint : Instr → ℕ → Bool
+printable_hint i v = is_branch i && nat_lt v 2
 
 abbrev pub spell_step : HintedInstr → List Tok
 spell_step x = spell_option spell_hint x.hint ++ spell_instruction x.instr
 
-abbrev pub fit_step : HintedInstr → Bool
-fit_step x = if_some (fit_hint x.instr) x.hint && fit_instruction x.instr
+abbrev pub printable_step : HintedInstr → Bool
+printable_step x = if_some (printable_hint x.instr) x.hint && printable_instruction x.instr
 
 -- the instructions from the index b on, each with its hint; None, where a hint has none of their
 -- indices, or a lower one than a hint before it
@@ -44,8 +44,8 @@ steps_from b (i ∷ is) (h ∷ hs) =
 abbrev pub spell_expression : Expr → List Tok
 spell_expression e = spell_option (flat_map spell_step) (steps_from 0 e.instrs e.hints)
 
-abbrev pub fit_expression : Expr → Bool
-fit_expression e = passes (each fit_step) (steps_from 0 e.instrs e.hints)
+abbrev pub printable_expression : Expr → Bool
+printable_expression e = passes (each printable_step) (steps_from 0 e.instrs e.hints)
 
 -- the hint of the instruction at the index b, where the first of the hints is its
 abbrev pub hint_for : ℕ → List (ℕ × ℕ) → Option ℕ

@@ -13,7 +13,7 @@ use Rattle.wat_instr.specs.Instruction.{Instr}
 use Rattle.wat_expr.specs.Expression.{Expr}
 use Rattle.wat_expr.specs.Folded.{Groups, NoGroup, Group}
 use Rattle.wat_print.specs.Parts.{spell_option, each}
-use Rattle.wat_print_instr.specs.InstructionForm.{spell_instruction, fit_instruction}
+use Rattle.wat_print_instr.specs.InstructionForm.{spell_instruction, printable_instruction}
 
 -- ---- what a `try_table` takes for its own
 
@@ -86,6 +86,6 @@ no_hints [] = true
 no_hints (h ∷ hs) = false
 
 -- no hints; each instruction can be written, and there is a group for them
-abbrev pub fit_folded : Expr → Bool
-fit_folded e =
-    no_hints e.hints && (each fit_instruction e.instrs && is_some (group_from [] e.instrs))
+abbrev pub printable_folded : Expr → Bool
+printable_folded e =
+    no_hints e.hints && (each printable_instruction e.instrs && is_some (group_from [] e.instrs))

@@ -156,13 +156,13 @@ passes test None = false
 -- the tokens that are written of an operand, and whether it can be written
 pub record OperandForm : Type 0 where
   pub spell : Operand → List Tok
-  pub fit : Operand → Bool
+  pub printable : Operand → Bool
 
 -- as what `from` finds in it is printed
 abbrev pub form : {A : Type 0} {g : Production A} → (Operand → Option A) → Printing g → OperandForm
 form from p = record {
   spell = λ o. spell_option p.spell (from o);
-  fit = λ o. passes p.fit (from o);
+  printable = λ o. passes p.printable (from o);
 }
 
 -- behind the instruction's word
@@ -232,7 +232,7 @@ spell_instruction i =
     ∷ (operand_form (op_of_row i.row)).spell i.operand
 
 -- there is such a row, and the operand is one of its instruction
-abbrev pub fit_instruction : Instr → Bool
-fit_instruction i =
+abbrev pub printable_instruction : Instr → Bool
+printable_instruction i =
     (op_row (op_of_row i.row) == i.row)
-    && (operand_form (op_of_row i.row)).fit i.operand
+    && (operand_form (op_of_row i.row)).printable i.operand

@@ -28,5 +28,5 @@ abbrev pub numbered : List ℕ → ℕ → Tok
 numbered front n = Keyword (front ++ decimal n)
 
 -- so many values that pass the test
-abbrev pub fit_number_of : {A : Type 0} → ℕ → (A → Bool) → List A → Bool
-fit_number_of n fit vs = (length vs == n) && each fit vs
+abbrev pub printable_number_of : {A : Type 0} → ℕ → (A → Bool) → List A → Bool
+printable_number_of n printable vs = (length vs == n) && each printable vs

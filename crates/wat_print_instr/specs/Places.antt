@@ -4,7 +4,7 @@ use Rattle.std.specs.Prelude.{flat_map}
 use Rattle.wat_lexer.specs.Token.{Tok}
 use Rattle.wat_tokens.specs.Index.{Idx, number}
 use Rattle.wat_operands.specs.Branch.{BrTableTy}
-use Rattle.wat_print.specs.Index.{spell_index, fit_index}
+use Rattle.wat_print.specs.Index.{spell_index, printable_index}
 use Rattle.wat_print.specs.Limits.{spell_number}
 use Rattle.wat_print.specs.Parts.{each}
 use Rattle.wat_print_instr.specs.Numbers.{is_unsigned}
@@ -21,8 +21,8 @@ spell_index_or_0 i = if is_index_0 i then [] else spell_index i
 abbrev pub spell_pair : Idx × Idx → List Tok
 spell_pair p = spell_index p.0 ++ spell_index p.1
 
-abbrev pub fit_pair : Idx × Idx → Bool
-fit_pair p = fit_index p.0 && fit_index p.1
+abbrev pub printable_pair : Idx × Idx → Bool
+printable_pair p = printable_index p.0 && printable_index p.1
 
 -- the target, unless it is 0, and the segment
 abbrev pub spell_init : Idx × Idx → List Tok
@@ -36,12 +36,12 @@ spell_copy p = if is_index_0 p.0 && is_index_0 p.1 then [] else spell_pair p
 abbrev pub spell_sized : Idx × ℕ → List Tok
 spell_sized p = spell_index p.0 ++ spell_number p.1
 
-abbrev pub fit_sized : Idx × ℕ → Bool
-fit_sized p = fit_index p.0 && is_unsigned 32 p.1
+abbrev pub printable_sized : Idx × ℕ → Bool
+printable_sized p = printable_index p.0 && is_unsigned 32 p.1
 
 -- the labels, and behind them the default
 abbrev pub spell_br_table : BrTableTy → List Tok
 spell_br_table b = flat_map spell_index b.labels ++ spell_index b.default
 
-abbrev pub fit_br_table : BrTableTy → Bool
-fit_br_table b = each fit_index b.labels && fit_index b.default
+abbrev pub printable_br_table : BrTableTy → Bool
+printable_br_table b = each printable_index b.labels && printable_index b.default

@@ -6,7 +6,7 @@ use Rattle.wat_operands.specs.declared.vector.V128Const.{V128Const}
 use Rattle.wat_operands.specs.declared.vector.V128Const.TheVariants.{I8x16, I16x8, I32x4, I64x2}
 use Rattle.wat_operands.specs.declared.vector.V128Const.TheVariants.{F32x4, F64x2}
 use Rattle.wat_print.specs.Limits.{spell_number}
-use Rattle.wat_print_instr.specs.Numbers.{spell_signed, is_signed, is_unsigned, fit_number_of}
+use Rattle.wat_print_instr.specs.Numbers.{spell_signed, is_signed, is_unsigned, printable_number_of}
 
 -- a shape's word, and its lanes
 abbrev pub spell_lanes : List ℕ → List ℤ → List Tok
@@ -21,16 +21,16 @@ spell_vector (I64x2 zs) = spell_lanes (codes "i64x2") zs
 spell_vector (F32x4 xs) = []
 spell_vector (F64x2 xs) = []
 
-abbrev pub fit_vector : V128Const → Bool
-fit_vector (I8x16 zs) = fit_number_of 16 (is_signed 8) zs
-fit_vector (I16x8 zs) = fit_number_of 8 (is_signed 16) zs
-fit_vector (I32x4 zs) = fit_number_of 4 (is_signed 32) zs
-fit_vector (I64x2 zs) = fit_number_of 2 (is_signed 64) zs
-fit_vector (F32x4 xs) = false
-fit_vector (F64x2 xs) = false
+abbrev pub printable_vector : V128Const → Bool
+printable_vector (I8x16 zs) = printable_number_of 16 (is_signed 8) zs
+printable_vector (I16x8 zs) = printable_number_of 8 (is_signed 16) zs
+printable_vector (I32x4 zs) = printable_number_of 4 (is_signed 32) zs
+printable_vector (I64x2 zs) = printable_number_of 2 (is_signed 64) zs
+printable_vector (F32x4 xs) = false
+printable_vector (F64x2 xs) = false
 
 abbrev pub spell_shuffle : I8x16Shuffle → List Tok
 spell_shuffle s = flat_map spell_number s.lanes
 
-abbrev pub fit_shuffle : I8x16Shuffle → Bool
-fit_shuffle s = fit_number_of 16 (is_unsigned 8) s.lanes
+abbrev pub printable_shuffle : I8x16Shuffle → Bool
+printable_shuffle s = printable_number_of 16 (is_unsigned 8) s.lanes

@@ -7,16 +7,17 @@ ghost use Rattle.wat_operands.specs.Ordering.{ordering, ordered, ordered_view};
 ghost use Rattle.wat_print.specs.Parts.{spell_option};
 ghost use Rattle.wat_print.specs.Text.{put};
 ghost use Rattle.wat_print.specs.declared.fault.Refused.TheVariants.{Memory};
-ghost use Rattle.wat_print_instr.specs.Access.{spell_target, fit_target, spell_access, fit_place};
-ghost use Rattle.wat_print_instr.specs.Access.{fit_access, spell_ordering, spell_atomic};
-ghost use Rattle.wat_print_instr.specs.Access.{fit_ordering, fit_atomic, ordering_in};
-ghost use Rattle.wat_print_instr.specs.Access.{spell_lane_access, fit_lane_access, fit_alignment};
-ghost use Rattle.wat_print_instr.specs.Access.{spell_lane, fit_lane, ordering_word};
+ghost use Rattle.wat_print_instr.specs.Access.{spell_target, printable_target, spell_access};
+ghost use Rattle.wat_print_instr.specs.Access.{printable_place, printable_access, spell_ordering};
+ghost use Rattle.wat_print_instr.specs.Access.{spell_atomic, printable_ordering, printable_atomic};
+ghost use Rattle.wat_print_instr.specs.Access.{ordering_in, spell_lane_access};
+ghost use Rattle.wat_print_instr.specs.Access.{printable_lane_access, printable_alignment};
+ghost use Rattle.wat_print_instr.specs.Access.{spell_lane, printable_lane, ordering_word};
 ghost use Rattle.wat_print_instr.specs.Printings.{ordering_printing, ordered_printing};
 ghost use Rattle.wat_print_instr.specs.Printings.{lane_printing};
 
 use crate::numbers::write_unless;
-use crate::places::write_index_or_zero;
+use crate::places::write_index_or_0;
 use crate::traits::PrintCode;
 use wat_operands::{
     LaneArg, LoadOrStoreLane, MemArg, MemArgOrdering, MemArgTarget, Ordered, Ordering,
@@ -28,12 +29,12 @@ use wat_print::{Output, Refused};
 #[tactic(auto, using(wat_print::specs::Laws::Written::put_both))]
 fn write_target(out: &mut Output, target: &MemArgTarget) -> Result<(), Refused>
     ensures written { OnOk result (out.new ≡ put out.old (spell_target (target_view target.now))) }
-    ensures fit { OnOk result (fit_target (target_view target.now) ≡ true) }
+    ensures printable { OnOk result (printable_target (target_view target.now) ≡ true) }
     ensures refused { IfErr result (λ e. e ≢ Memory
-        → fit_target (target_view target.now) ≡ false) }
+        → printable_target (target_view target.now) ≡ false) }
 {
     match target {
-        MemArgTarget::Memory(index) => write_index_or_zero(out, index),
+        MemArgTarget::Memory(index) => write_index_or_0(out, index),
         MemArgTarget::Array(index) => {
             out.open()?;
             out.word("type")?;
@@ -45,7 +46,7 @@ fn write_target(out: &mut Output, target: &MemArgTarget) -> Result<(), Refused>
 
 /// Whether it is the default, or a power of two.
 fn may_align(align: u64, default: u64) -> bool
-    ensures { result ≡ fit_alignment default align }
+    ensures { result ≡ printable_alignment default align }
 {
     align == default || align.is_power_of_two()
 }
@@ -57,9 +58,9 @@ fn may_align(align: u64, default: u64) -> bool
 fn write_place(out: &mut Output, access: &MemArg, default: u64) -> Result<(), Refused>
     ensures written { OnOk result (out.new ≡ put out.old
         (spell_access default (mem_arg_view access.now))) }
-    ensures fit { OnOk result (fit_place default (mem_arg_view access.now) ≡ true) }
+    ensures printable { OnOk result (printable_place default (mem_arg_view access.now) ≡ true) }
     ensures refused { IfErr result (λ e. e ≢ Memory
-        → fit_place default (mem_arg_view access.now) ≡ false) }
+        → printable_place default (mem_arg_view access.now) ≡ false) }
 {
     if !may_align(access.align, default) {
         return Err(Refused::Alignment);
@@ -77,9 +78,9 @@ fn write_place(out: &mut Output, access: &MemArg, default: u64) -> Result<(), Re
 pub fn write_access(out: &mut Output, access: &MemArg, default: u64) -> Result<(), Refused>
     ensures written { OnOk result (out.new ≡ put out.old
         (spell_access default (mem_arg_view access.now))) }
-    ensures fit { OnOk result (fit_access default (mem_arg_view access.now) ≡ true) }
+    ensures printable { OnOk result (printable_access default (mem_arg_view access.now) ≡ true) }
     ensures refused { IfErr result (λ e. e ≢ Memory
-        → fit_access default (mem_arg_view access.now) ≡ false) }
+        → printable_access default (mem_arg_view access.now) ≡ false) }
 {
     if access.ordering.is_some() {
         return Err(Refused::Ordering);
@@ -98,7 +99,7 @@ fn word_of(ordering: Ordering) -> &'static str
 }
 
 /// Writes an ordering.
-pub fn write_ordering(out: &mut Output, ordering: Ordering) -> Result<(), Refused>
+pub(crate) fn write_ordering(out: &mut Output, ordering: Ordering) -> Result<(), Refused>
     ensures written { OnOk result (out.new ≡ put out.old (spell_ordering ordering)) }
     ensures refused { IfErr result (λ e. e ≡ Memory) }
 {
@@ -108,7 +109,7 @@ pub fn write_ordering(out: &mut Output, ordering: Ordering) -> Result<(), Refuse
 /// Whether an atomic instruction can have the ordering; `rmw` says whether it reads, changes and
 /// writes.
 fn may_order(ordering: Option<MemArgOrdering>, rmw: bool) -> bool
-    ensures { result ≡ fit_ordering rmw ordering }
+    ensures { result ≡ printable_ordering rmw ordering }
 {
     match ordering {
         None => true,
@@ -146,9 +147,10 @@ pub fn write_atomic(
 ) -> Result<(), Refused>
     ensures written { OnOk result (out.new ≡ put out.old
         (spell_atomic default (mem_arg_view access.now))) }
-    ensures fit { OnOk result (fit_atomic default rmw (mem_arg_view access.now) ≡ true) }
+    ensures printable { OnOk result
+        (printable_atomic default rmw (mem_arg_view access.now) ≡ true) }
     ensures refused { IfErr result (λ e. e ≢ Memory
-        → fit_atomic default rmw (mem_arg_view access.now) ≡ false) }
+        → printable_atomic default rmw (mem_arg_view access.now) ≡ false) }
 {
     if !may_order(access.ordering, rmw) {
         return Err(Refused::Ordering);
@@ -160,7 +162,7 @@ pub fn write_atomic(
 /// Writes a lane.
 fn write_lane(out: &mut Output, lane: &LaneArg) -> Result<(), Refused>
     ensures written { OnOk result (out.new ≡ put out.old (spell_lane lane.now)) }
-    ensures fit { OnOk result (fit_lane lane.now ≡ true) }
+    ensures printable { OnOk result (printable_lane lane.now ≡ true) }
     ensures refused { IfErr result (λ e. e ≡ Memory) }
 {
     out.number(u64::from(lane.lane))
@@ -176,9 +178,10 @@ pub fn write_lane_access(
 ) -> Result<(), Refused>
     ensures written { OnOk result (out.new ≡ put out.old
         (spell_lane_access default (lane_access_view lane.now))) }
-    ensures fit { OnOk result (fit_lane_access default (lane_access_view lane.now) ≡ true) }
+    ensures printable { OnOk result
+        (printable_lane_access default (lane_access_view lane.now) ≡ true) }
     ensures refused { IfErr result (λ e. e ≢ Memory
-        → fit_lane_access default (lane_access_view lane.now) ≡ false) }
+        → printable_lane_access default (lane_access_view lane.now) ≡ false) }
 {
     write_access(out, &lane.memarg, default)?;
     write_lane(out, &lane.lane)

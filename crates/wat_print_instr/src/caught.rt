@@ -11,8 +11,8 @@ ghost use Rattle.wat_operands.specs.Handlers.{ResumeTy, resume_view, resume_thro
 ghost use Rattle.wat_operands.specs.Handlers.{ThrowTy, resume_throw_view, resume_throw};
 ghost use Rattle.wat_print.specs.Text.{put};
 ghost use Rattle.wat_print.specs.declared.fault.Refused.TheVariants.{Memory};
-ghost use Rattle.wat_print_instr.specs.Control.{spell_catch_kind, fit_catch_kind};
-ghost use Rattle.wat_print_instr.specs.Control.{spell_resume_table, fit_resume_table};
+ghost use Rattle.wat_print_instr.specs.Control.{spell_catch_kind, printable_catch_kind};
+ghost use Rattle.wat_print_instr.specs.Control.{spell_resume_table, printable_resume_table};
 ghost use Rattle.wat_print_instr.specs.Printings.{catch_printing, try_printing, handler_printing};
 ghost use Rattle.wat_print_instr.specs.Printings.{resume_table_printing, resume_printing};
 ghost use Rattle.wat_print_instr.specs.Printings.{throw_printing};
@@ -30,9 +30,10 @@ use wat_print::{Output, Refused};
 fn write_catch_kind(out: &mut Output, kind: &TryTableCatchKind) -> Result<(), Refused>
     ensures written { OnOk result (out.new ≡ put out.old
         (spell_catch_kind (catch_kind_view index_view kind.now))) }
-    ensures fit { OnOk result (fit_catch_kind (catch_kind_view index_view kind.now) ≡ true) }
+    ensures printable { OnOk result
+        (printable_catch_kind (catch_kind_view index_view kind.now) ≡ true) }
     ensures refused { IfErr result (λ e. e ≢ Memory
-        → fit_catch_kind (catch_kind_view index_view kind.now) ≡ false) }
+        → printable_catch_kind (catch_kind_view index_view kind.now) ≡ false) }
 {
     match kind {
         CatchKind::Catch(tag) => {
@@ -114,9 +115,9 @@ impl PrintCode for Handle<'_> {
 fn write_handlers(out: &mut Output, table: &ResumeTable) -> Result<(), Refused>
     ensures written { OnOk result (out.new ≡ put out.old
         (spell_resume_table (resume_table_view table.now))) }
-    ensures fit { OnOk result (fit_resume_table (resume_table_view table.now) ≡ true) }
+    ensures printable { OnOk result (printable_resume_table (resume_table_view table.now) ≡ true) }
     ensures refused { IfErr result (λ e. e ≢ Memory
-        → fit_resume_table (resume_table_view table.now) ≡ false) }
+        → printable_resume_table (resume_table_view table.now) ≡ false) }
 {
     write_each(out, &table.handlers)
 }

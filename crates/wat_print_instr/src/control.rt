@@ -14,16 +14,16 @@ ghost use Rattle.wat_print.specs.Function.{param_label};
 ghost use Rattle.wat_print.specs.Label.{none_labelled};
 ghost use Rattle.wat_print.specs.Parts.{if_some, each};
 ghost use Rattle.wat_print.specs.Printings.{ref_printing};
-ghost use Rattle.wat_print.specs.Reference.{fit_val};
+ghost use Rattle.wat_print.specs.Reference.{printable_val};
 ghost use Rattle.wat_print.specs.Text.{put};
-ghost use Rattle.wat_print.specs.Use.{spell_use, fit_unnamed_use};
+ghost use Rattle.wat_print.specs.Use.{spell_use, printable_unnamed_use};
 ghost use Rattle.wat_print.specs.declared.fault.Refused.TheVariants.{Memory};
-ghost use Rattle.wat_print_instr.specs.Control.{spell_block, fit_block, spell_branch, fit_branch};
-ghost use Rattle.wat_print_instr.specs.Control.{spell_result};
+ghost use Rattle.wat_print_instr.specs.Control.{spell_block, printable_block, spell_branch};
+ghost use Rattle.wat_print_instr.specs.Control.{printable_branch, spell_result};
 ghost use Rattle.wat_print_instr.specs.Printings.{block_printing, call_printing, select_printing};
 ghost use Rattle.wat_print_instr.specs.Printings.{branch_printing};
 
-use crate::places::write_index_or_zero;
+use crate::places::write_index_or_0;
 use crate::traits::PrintCode;
 use wat_operands::{
     BlockType, BrOnCast, BrOnCastDescEq, BrOnCastDescEqFail, BrOnCastFail, CallIndirect, RefCast,
@@ -52,9 +52,9 @@ fn is_unlabelled(ty: &TypeUse<FunctionType>) -> bool
 /// inline type has a label is refused with Label.
 fn write_signature(out: &mut Output, ty: &TypeUse<FunctionType>) -> Result<(), Refused>
     ensures written { OnOk result (out.new ≡ put out.old (spell_use (signature_view ty.now))) }
-    ensures fit { OnOk result (fit_unnamed_use (signature_view ty.now) ≡ true) }
+    ensures printable { OnOk result (printable_unnamed_use (signature_view ty.now) ≡ true) }
     ensures refused { IfErr result (λ e. e ≢ Memory
-        → fit_unnamed_use (signature_view ty.now) ≡ false) }
+        → printable_unnamed_use (signature_view ty.now) ≡ false) }
 {
     if !is_unlabelled(ty) {
         return Err(Refused::Label);
@@ -67,8 +67,9 @@ fn write_signature(out: &mut Output, ty: &TypeUse<FunctionType>) -> Result<(), R
 #[tactic(auto, using(wat_print::specs::Laws::Written::put_both))]
 pub fn write_block(out: &mut Output, block: &BlockType) -> Result<(), Refused>
     ensures written { OnOk result (out.new ≡ put out.old (spell_block (block_view block.now))) }
-    ensures fit { OnOk result (fit_block (block_view block.now) ≡ true) }
-    ensures refused { IfErr result (λ e. e ≢ Memory → fit_block (block_view block.now) ≡ false) }
+    ensures printable { OnOk result (printable_block (block_view block.now) ≡ true) }
+    ensures refused { IfErr result (λ e. e ≢ Memory
+        → printable_block (block_view block.now) ≡ false) }
 {
     write_label(out, &block.label, &block.label_name)?;
     write_signature(out, &block.ty)
@@ -84,10 +85,10 @@ fn write_branch(
 ) -> Result<(), Refused>
     ensures written { OnOk result (out.new ≡ put out.old
         (spell_branch (branch_between label.now from_type.now to_type.now))) }
-    ensures fit { OnOk result
-        (fit_branch (branch_between label.now from_type.now to_type.now) ≡ true) }
+    ensures printable { OnOk result
+        (printable_branch (branch_between label.now from_type.now to_type.now) ≡ true) }
     ensures refused { IfErr result (λ e. e ≢ Memory
-        → fit_branch (branch_between label.now from_type.now to_type.now) ≡ false) }
+        → printable_branch (branch_between label.now from_type.now to_type.now) ≡ false) }
 {
     write_index(out, label)?;
     write_ref(out, from_type)?;
@@ -120,7 +121,7 @@ impl PrintCode for CallIndirect<'_> {
 
     #[tactic(auto, using(wat_print::specs::Laws::Written::put_both))]
     fn write(&self, out: &mut Output) -> Result<(), Refused> {
-        write_index_or_zero(out, &self.table)?;
+        write_index_or_0(out, &self.table)?;
         write_signature(out, &self.ty)
     }
 }
@@ -128,9 +129,9 @@ impl PrintCode for CallIndirect<'_> {
 /// Writes types in a group of results.
 fn write_result(out: &mut Output, types: &[ValType]) -> Result<(), Refused>
     ensures written { OnOk result (out.new ≡ put out.old (spell_result (map val_view types.now))) }
-    ensures fit { OnOk result (each fit_val (map val_view types.now) ≡ true) }
+    ensures printable { OnOk result (each printable_val (map val_view types.now) ≡ true) }
     ensures refused { IfErr result (λ e. e ≢ Memory
-        → each fit_val (map val_view types.now) ≡ false) }
+        → each printable_val (map val_view types.now) ≡ false) }
 {
     out.open()?;
     out.word("result")?;

@@ -12,9 +12,10 @@ ghost use Rattle.wat_print.specs.Printed.{NoneSpells};
 ghost use Rattle.wat_print.specs.Text.{put, printed_text};
 ghost use Rattle.wat_print.specs.declared.fault.Refused.TheVariants.{Memory};
 ghost use Rattle.wat_print.specs.declared.output.Layout.TheVariants.{Line};
-ghost use Rattle.wat_print_instr.specs.ExpressionForm.{step_of, spell_hint, fit_hint, spell_step};
-ghost use Rattle.wat_print_instr.specs.ExpressionForm.{fit_step, hint_for, hints_after};
-ghost use Rattle.wat_print_instr.specs.ExpressionForm.{spell_expression, fit_expression};
+ghost use Rattle.wat_print_instr.specs.ExpressionForm.{step_of, spell_hint, printable_hint};
+ghost use Rattle.wat_print_instr.specs.ExpressionForm.{spell_step, printable_step, hint_for};
+ghost use Rattle.wat_print_instr.specs.ExpressionForm.{hints_after, spell_expression};
+ghost use Rattle.wat_print_instr.specs.ExpressionForm.{printable_expression};
 ghost use Rattle.wat_tokens.specs.Whole.{TextSpells};
 
 use crate::traits::PrintCode;
@@ -23,8 +24,9 @@ use std::alloc::Global;
 use wat_expr::{BranchHint, Expression};
 use wat_instr::Instruction;
 use wat_mnemonics::{IndexedOp, LabelOp, Op, ScalarOp};
-use wat_print::{Layout, Output, Refused, read_value};
+use wat_print::{Layout, Output, Refused};
 use wat_tokens::Fault;
+use wat_tokens::whole_text::read_text;
 
 /// Whether the instruction is `br_if` or `if`.
 fn may_branch(instr: &Instruction) -> bool
@@ -48,9 +50,10 @@ fn write_value(out: &mut Output, value: u8) -> Result<(), Refused>
 /// neither 0 nor 1, or the instruction neither `br_if` nor `if`.
 fn write_hint(out: &mut Output, hint: Option<u32>, instr: &Instruction) -> Result<(), Refused>
     ensures written { OnOk result (out.new ≡ put out.old (spell_option spell_hint hint)) }
-    ensures fit { OnOk result (if_some (fit_hint (instruction_view instr.now)) hint ≡ true) }
+    ensures printable { OnOk result
+        (if_some (printable_hint (instruction_view instr.now)) hint ≡ true) }
     ensures refused { IfErr result (λ e. e ≢ Memory
-        → if_some (fit_hint (instruction_view instr.now)) hint ≡ false) }
+        → if_some (printable_hint (instruction_view instr.now)) hint ≡ false) }
 {
     match hint {
         None => Ok(()),
@@ -84,7 +87,7 @@ fn begins_part(op: Op) -> bool {
 
 /// Breaks the line in front of an instruction, if it is to stand on a line of its own. One that
 /// ends a part of a block stands as far to the left as the block.
-#[tactic(auto, using(wat_print::specs::Laws::Written::puts_line, wat_print::specs::Laws::Written::puts_put))]
+#[tactic(auto, using(crate::proofs::Walked::line_or_nothing))]
 fn begin_step(out: &mut Output, op: Op, on_lines: bool) -> Result<(), Refused>
     ensures written { OnOk result (Writes [] out.old out.new) }
     ensures refused { IfErr result (λ e. e ≡ Memory) }
@@ -117,9 +120,10 @@ fn write_step(
 ) -> Result<(), Refused>
     ensures written { OnOk result
         (Writes (spell_step (step_of hint (instruction_view instr.now))) out.old out.new) }
-    ensures fit { OnOk result (fit_step (step_of hint (instruction_view instr.now)) ≡ true) }
+    ensures printable { OnOk result
+        (printable_step (step_of hint (instruction_view instr.now)) ≡ true) }
     ensures refused { IfErr result (λ e. e ≢ Memory
-        → fit_step (step_of hint (instruction_view instr.now)) ≡ false) }
+        → printable_step (step_of hint (instruction_view instr.now)) ≡ false) }
 {
     let op = instr.op();
     begin_step(out, op, on_lines)?;
@@ -153,11 +157,11 @@ fn write_steps(
       instrs = map instruction_view instrs.now;
       hints = map hint_view hints.now;
     })) out.old out.new) }
-    ensures fit { OnOk result (fit_expression (record {
+    ensures printable { OnOk result (printable_expression (record {
       instrs = map instruction_view instrs.now;
       hints = map hint_view hints.now;
     }) ≡ true) }
-    ensures refused { IfErr result (λ e. e ≢ Memory → fit_expression (record {
+    ensures refused { IfErr result (λ e. e ≢ Memory → printable_expression (record {
       instrs = map instruction_view instrs.now;
       hints = map hint_view hints.now;
     }) ≡ false) }
@@ -181,9 +185,9 @@ fn write_steps(
 pub fn write_expression(out: &mut Output, value: &Expression) -> Result<(), Refused>
     ensures written { OnOk result
         (Writes (spell_expression (expression_view value.now)) out.old out.new) }
-    ensures fit { OnOk result (fit_expression (expression_view value.now) ≡ true) }
+    ensures printable { OnOk result (printable_expression (expression_view value.now) ≡ true) }
     ensures refused { IfErr result (λ e. e ≢ Memory
-        → fit_expression (expression_view value.now) ≡ false) }
+        → printable_expression (expression_view value.now) ≡ false) }
 {
     write_steps(out, &value.instrs, &value.branch_hints, true)?;
     out.leave_all();
@@ -195,9 +199,9 @@ pub fn write_expression(out: &mut Output, value: &Expression) -> Result<(), Refu
 pub fn write_constant(out: &mut Output, value: &Expression) -> Result<(), Refused>
     ensures written { OnOk result
         (Writes (spell_expression (expression_view value.now)) out.old out.new) }
-    ensures fit { OnOk result (fit_expression (expression_view value.now) ≡ true) }
+    ensures printable { OnOk result (printable_expression (expression_view value.now) ≡ true) }
     ensures refused { IfErr result (λ e. e ≢ Memory
-        → fit_expression (expression_view value.now) ≡ false) }
+        → printable_expression (expression_view value.now) ≡ false) }
 {
     let on_lines = value.instrs.len() != 1;
     write_steps(out, &value.instrs, &value.branch_hints, on_lines)?;
@@ -243,7 +247,7 @@ pub fn expression_read_again<'a>(
 {
     let printed = print_expression(alloc, value, layout)?;
     let text = arena.try_alloc_str(printed.as_str())?;
-    match read_value::<Expression>(alloc, text, arena) {
+    match read_text::<Expression>(alloc, text, arena, true) {
         Ok(again) => Ok(again),
         Err(error) => match error.fault {
             Fault::Memory => Err(Refused::Memory),

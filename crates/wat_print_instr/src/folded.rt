@@ -10,10 +10,10 @@ ghost use Rattle.wat_print.specs.Parts.{each, spell_option, Wrote};
 ghost use Rattle.wat_print.specs.Text.{put};
 ghost use Rattle.wat_print.specs.declared.fault.Refused.TheVariants.{Memory};
 ghost use Rattle.wat_print_instr.specs.FoldedForm.{takes_catches, is_catch, op_of, keeps_apart};
-ghost use Rattle.wat_print_instr.specs.FoldedForm.{own_groups, first_apart, catch_first, groups_behind};
-ghost use Rattle.wat_print_instr.specs.FoldedForm.{spell_own, spell_groups};
+ghost use Rattle.wat_print_instr.specs.FoldedForm.{own_groups, first_apart, catch_first};
+ghost use Rattle.wat_print_instr.specs.FoldedForm.{groups_behind, spell_own, spell_groups};
 ghost use Rattle.wat_print_instr.specs.FoldedPrinting.{folded_printing};
-ghost use Rattle.wat_print_instr.specs.InstructionForm.{fit_instruction};
+ghost use Rattle.wat_print_instr.specs.InstructionForm.{printable_instruction};
 
 use crate::traits::PrintCode;
 use wat_expr::{BranchHint, FoldedInstruction};
@@ -51,9 +51,9 @@ fn keeps_apart(instr: &Instruction) -> bool
 #[tactic(auto, using(wat_print::specs::Laws::Written::put_both))]
 fn write_own(out: &mut Output, instr: &Instruction) -> Result<(), Refused>
     ensures written { OnOk result (out.new ≡ put out.old (spell_own (instruction_view instr.now))) }
-    ensures fit { OnOk result (fit_instruction (instruction_view instr.now) ≡ true) }
+    ensures printable { OnOk result (printable_instruction (instruction_view instr.now) ≡ true) }
     ensures refused { IfErr result (λ e. e ≢ Memory
-        → fit_instruction (instruction_view instr.now) ≡ false) }
+        → printable_instruction (instruction_view instr.now) ≡ false) }
 {
     out.open()?;
     instr.write(out)?;
@@ -62,10 +62,10 @@ fn write_own(out: &mut Output, instr: &Instruction) -> Result<(), Refused>
 
 /// Writes instructions, each in a group of its own.
 fn write_each_own(out: &mut Output, instrs: &[Instruction]) -> Result<(), Refused>
-    ensures wrote { OnOk result (Wrote instruction_view spell_own fit_instruction instrs.now
+    ensures wrote { OnOk result (Wrote instruction_view spell_own printable_instruction instrs.now
         out.old out.new) }
     ensures refused { IfErr result (λ e. e ≢ Memory
-        → each fit_instruction (map instruction_view instrs.now) ≡ false) }
+        → each printable_instruction (map instruction_view instrs.now) ≡ false) }
 {
     for instr in instrs {
         write_own(out, instr)?;
@@ -102,10 +102,10 @@ fn find_apart<'b, 'a>(
 fn write_apart(out: &mut Output, instrs: &[Instruction]) -> Result<(), Refused>
     ensures written { OnOk result (out.new ≡ put out.old
         (spell_option spell_groups (first_apart [] (map instruction_view instrs.now)))) }
-    ensures fit { OnOk result (each fit_instruction (map instruction_view instrs.now)
+    ensures printable { OnOk result (each printable_instruction (map instruction_view instrs.now)
         && is_some (first_apart [] (map instruction_view instrs.now)) ≡ true) }
     ensures refused { IfErr result (λ e. e ≢ Memory
-        → each fit_instruction (map instruction_view instrs.now)
+        → each printable_instruction (map instruction_view instrs.now)
         && is_some (first_apart [] (map instruction_view instrs.now)) ≡ false) }
 {
     let Some((before, instr, behind)) = find_apart(instrs) else {
@@ -142,11 +142,11 @@ fn catch_first(last: &Instruction, instrs: &[Instruction]) -> bool
 fn write_behind(out: &mut Output, last: &Instruction, instrs: &[Instruction]) -> Result<(), Refused>
     ensures written { OnOk result (out.new ≡ put out.old (spell_option spell_groups
         (groups_behind (instruction_view last.now) (map instruction_view instrs.now)))) }
-    ensures fit { OnOk result (each fit_instruction (map instruction_view instrs.now)
+    ensures printable { OnOk result (each printable_instruction (map instruction_view instrs.now)
         && is_some (groups_behind (instruction_view last.now) (map instruction_view instrs.now))
         ≡ true) }
     ensures refused { IfErr result (λ e. e ≢ Memory
-        → each fit_instruction (map instruction_view instrs.now)
+        → each printable_instruction (map instruction_view instrs.now)
         && is_some (groups_behind (instruction_view last.now) (map instruction_view instrs.now))
         ≡ false) }
 {

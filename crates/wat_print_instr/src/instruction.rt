@@ -6,12 +6,12 @@ ghost use Rattle.wat_tokens.specs.Views.{option_view};
 ghost use Rattle.wat_instr.specs.Instruction.{Instr, op_in, operand_in, instruction_view};
 ghost use Rattle.wat_instr.specs.Instruction.{instruction, block_in};
 ghost use Rattle.wat_print.specs.Label.{spell_id};
-ghost use Rattle.wat_print.specs.Neat.{is_name};
+ghost use Rattle.wat_print.specs.WellFormed.{is_name};
 ghost use Rattle.wat_print.specs.Parts.{spell_option, if_some};
 ghost use Rattle.wat_print.specs.Text.{put};
 ghost use Rattle.wat_print.specs.declared.fault.Refused.TheVariants.{Memory};
 ghost use Rattle.wat_print_instr.specs.Access.{spell_ordering};
-ghost use Rattle.wat_print_instr.specs.Control.{spell_block, fit_block};
+ghost use Rattle.wat_print_instr.specs.Control.{spell_block, printable_block};
 ghost use Rattle.wat_print_instr.specs.InstructionForm.{operand_form};
 ghost use Rattle.wat_print_instr.specs.InstructionPrinting.{instruction_printing};
 
@@ -28,7 +28,7 @@ use wat_tokens::Id;
 fn write_end_label(out: &mut Output, label: &Option<Id>) -> Result<(), Refused>
     ensures written { OnOk result (out.new ≡ put out.old
         (spell_option spell_id (option_view name_of label.now))) }
-    ensures fit { OnOk result (if_some is_name (option_view name_of label.now) ≡ true) }
+    ensures printable { OnOk result (if_some is_name (option_view name_of label.now) ≡ true) }
     ensures refused { IfErr result (λ e. e ≢ Memory
         → if_some is_name (option_view name_of label.now) ≡ false) }
 {
@@ -53,8 +53,9 @@ fn write_fence(out: &mut Output, ordering: Option<Ordering>) -> Result<(), Refus
 /// Writes what is said of a block, which is nothing where there is no box.
 fn write_said(out: &mut Output, block: &Option<Box<BlockType>>) -> Result<(), Refused>
     ensures written { OnOk result (out.new ≡ put out.old (spell_block (block_in block.now))) }
-    ensures fit { OnOk result (fit_block (block_in block.now) ≡ true) }
-    ensures refused { IfErr result (λ e. e ≢ Memory → fit_block (block_in block.now) ≡ false) }
+    ensures printable { OnOk result (printable_block (block_in block.now) ≡ true) }
+    ensures refused { IfErr result (λ e. e ≢ Memory
+        → printable_block (block_in block.now) ≡ false) }
 {
     match block {
         Some(block) => write_block(out, block),
@@ -66,10 +67,10 @@ fn write_said(out: &mut Output, block: &Option<Box<BlockType>>) -> Result<(), Re
 fn write_operand(out: &mut Output, instr: &Instruction) -> Result<(), Refused>
     ensures written { OnOk result (out.new ≡ put out.old
         ((operand_form (op_in instr.now)).spell (operand_in instr.now))) }
-    ensures fit { OnOk result
-        ((operand_form (op_in instr.now)).fit (operand_in instr.now) ≡ true) }
+    ensures printable { OnOk result
+        ((operand_form (op_in instr.now)).printable (operand_in instr.now) ≡ true) }
     ensures refused { IfErr result (λ e. e ≢ Memory
-        → (operand_form (op_in instr.now)).fit (operand_in instr.now) ≡ false) }
+        → (operand_form (op_in instr.now)).printable (operand_in instr.now) ≡ false) }
 {
     match instr {
         InstructionOf::Block(_, block) => write_said(out, block),

@@ -5,7 +5,7 @@ ghost use Rattle.std.specs.Str.{bytes_eq};
 ghost use Rattle.wat_lexer.specs.Token.{Tok, LParen, Annotation};
 ghost use Rattle.wat_instr.specs.Follows.{MayFollow};
 ghost use Rattle.wat_instr.specs.Instruction.{Instr, instruction};
-ghost use Rattle.wat_print_instr.specs.InstructionForm.{spell_instruction, fit_instruction};
+ghost use Rattle.wat_print_instr.specs.InstructionForm.{spell_instruction, printable_instruction};
 
 use wat_instr::laws::stands_before_what_may_follow;
 
@@ -13,10 +13,10 @@ use wat_instr::laws::stands_before_what_may_follow;
 pub fn instruction_is_read_again()
     // It spells the instruction in front of what is empty or begins with `)` or a mnemonic, and has
     // none of the words `type`, `param` and `result` second.
-    ensures follow { (i : Instr) (s : List Tok) → fit_instruction i ≡ true → MayFollow s
+    ensures follow { (i : Instr) (s : List Tok) → printable_instruction i ≡ true → MayFollow s
         → instruction.spells i (spell_instruction i) s }
     // So it does in front of a group that begins with another annotation than `@name`, as a hint.
-    ensures annotated { (i : Instr) (n : List ℕ) (s : List Tok) → fit_instruction i ≡ true
+    ensures annotated { (i : Instr) (n : List ℕ) (s : List Tok) → printable_instruction i ≡ true
         → bytes_eq n (codes "name") ≡ false
         → instruction.spells i (spell_instruction i) (LParen ∷ Annotation n ∷ s) }
 {

@@ -1,10 +1,15 @@
 //! How numbers are printed.
 
-ghost use Rattle.std.specs.Prelude.{◌≡◌, OnOk, IfErr};
+ghost use Rattle.std.specs.Prelude.{◌≡◌, ℕ, ℤ, OnOk, IfErr};
+ghost use Rattle.wat_tokens.specs.Floats.{none};
+ghost use Rattle.wat_tokens.specs.Integers.{signed, unsigned};
 ghost use Rattle.wat_print.specs.Text.{put};
 ghost use Rattle.wat_print.specs.declared.fault.Refused.TheVariants.{Memory};
 ghost use Rattle.wat_print_instr.specs.Access.{spell_unless};
 ghost use Rattle.wat_print_instr.specs.Numbers.{spell_signed};
+ghost use Rattle.wat_print_instr.specs.Printings.{i8_printing, i16_printing, i32_printing};
+ghost use Rattle.wat_print_instr.specs.Printings.{i64_printing, u8_printing, u16_printing};
+ghost use Rattle.wat_print_instr.specs.Printings.{u32_printing, u64_printing, number_printing};
 
 use crate::traits::PrintCode;
 use wat_print::{Output, Refused};
@@ -36,10 +41,6 @@ pub(crate) fn write_unless(
 }
 
 impl PrintCode for i8 {
-    ghost use Rattle.std.specs.Prelude.{ℤ};
-    ghost use Rattle.wat_tokens.specs.Integers.{signed};
-    ghost use Rattle.wat_print_instr.specs.Printings.{i8_printing};
-
     ghost View = { ℤ };
 
     ghost view = { λ z. z };
@@ -54,10 +55,6 @@ impl PrintCode for i8 {
 }
 
 impl PrintCode for i16 {
-    ghost use Rattle.std.specs.Prelude.{ℤ};
-    ghost use Rattle.wat_tokens.specs.Integers.{signed};
-    ghost use Rattle.wat_print_instr.specs.Printings.{i16_printing};
-
     ghost View = { ℤ };
 
     ghost view = { λ z. z };
@@ -72,10 +69,6 @@ impl PrintCode for i16 {
 }
 
 impl PrintCode for i32 {
-    ghost use Rattle.std.specs.Prelude.{ℤ};
-    ghost use Rattle.wat_tokens.specs.Integers.{signed};
-    ghost use Rattle.wat_print_instr.specs.Printings.{i32_printing};
-
     ghost View = { ℤ };
 
     ghost view = { λ z. z };
@@ -90,10 +83,6 @@ impl PrintCode for i32 {
 }
 
 impl PrintCode for i64 {
-    ghost use Rattle.std.specs.Prelude.{ℤ};
-    ghost use Rattle.wat_tokens.specs.Integers.{signed};
-    ghost use Rattle.wat_print_instr.specs.Printings.{i64_printing};
-
     ghost View = { ℤ };
 
     ghost view = { λ z. z };
@@ -109,10 +98,6 @@ impl PrintCode for i64 {
 }
 
 impl PrintCode for u8 {
-    ghost use Rattle.std.specs.Prelude.{ℕ};
-    ghost use Rattle.wat_tokens.specs.Integers.{unsigned};
-    ghost use Rattle.wat_print_instr.specs.Printings.{u8_printing};
-
     ghost View = { ℕ };
 
     ghost view = { λ n. n };
@@ -128,10 +113,6 @@ impl PrintCode for u8 {
 }
 
 impl PrintCode for u16 {
-    ghost use Rattle.std.specs.Prelude.{ℕ};
-    ghost use Rattle.wat_tokens.specs.Integers.{unsigned};
-    ghost use Rattle.wat_print_instr.specs.Printings.{u16_printing};
-
     ghost View = { ℕ };
 
     ghost view = { λ n. n };
@@ -147,10 +128,6 @@ impl PrintCode for u16 {
 }
 
 impl PrintCode for u32 {
-    ghost use Rattle.std.specs.Prelude.{ℕ};
-    ghost use Rattle.wat_tokens.specs.Integers.{unsigned};
-    ghost use Rattle.wat_print_instr.specs.Printings.{u32_printing};
-
     ghost View = { ℕ };
 
     ghost view = { λ n. n };
@@ -166,10 +143,6 @@ impl PrintCode for u32 {
 }
 
 impl PrintCode for u64 {
-    ghost use Rattle.std.specs.Prelude.{ℕ};
-    ghost use Rattle.wat_tokens.specs.Integers.{unsigned};
-    ghost use Rattle.wat_print_instr.specs.Printings.{u64_printing};
-
     ghost View = { ℕ };
 
     ghost view = { λ n. n };
@@ -186,10 +159,6 @@ impl PrintCode for u64 {
 
 /// No text has one: it is refused with Float.
 impl PrintCode for F32 {
-    ghost use Rattle.std.specs.Prelude.{ℕ};
-    ghost use Rattle.wat_tokens.specs.Floats.{none};
-    ghost use Rattle.wat_print_instr.specs.Printings.{number_printing};
-
     ghost View = { ℕ };
 
     ghost view = { λ x. x.bits };
@@ -206,10 +175,6 @@ impl PrintCode for F32 {
 
 /// No text has one: it is refused with Float.
 impl PrintCode for F64 {
-    ghost use Rattle.std.specs.Prelude.{ℕ};
-    ghost use Rattle.wat_tokens.specs.Floats.{none};
-    ghost use Rattle.wat_print_instr.specs.Printings.{number_printing};
-
     ghost View = { ℕ };
 
     ghost view = { λ x. x.bits };

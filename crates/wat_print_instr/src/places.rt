@@ -11,12 +11,12 @@ ghost use Rattle.wat_operands.specs.BranchTable.{br_table};
 ghost use Rattle.wat_operands.specs.Tables.{index_or_0, index_pair, init, copy, table_arg_view};
 ghost use Rattle.wat_operands.specs.Tables.{memory_arg_view, table_init_view, memory_init_view};
 ghost use Rattle.wat_operands.specs.Tables.{table_copy_view, memory_copy_view};
-ghost use Rattle.wat_print.specs.Index.{fit_index};
+ghost use Rattle.wat_print.specs.Index.{printable_index};
 ghost use Rattle.wat_print.specs.Printings.{index_printing};
 ghost use Rattle.wat_print.specs.Text.{put};
 ghost use Rattle.wat_print.specs.declared.fault.Refused.TheVariants.{Memory};
-ghost use Rattle.wat_print_instr.specs.Places.{is_index_0, spell_index_or_0, spell_pair, fit_pair};
-ghost use Rattle.wat_print_instr.specs.Places.{spell_init, spell_copy};
+ghost use Rattle.wat_print_instr.specs.Places.{is_index_0, spell_index_or_0, spell_pair};
+ghost use Rattle.wat_print_instr.specs.Places.{printable_pair, spell_init, spell_copy};
 ghost use Rattle.wat_print_instr.specs.Printings.{index_or_0_printing, pair_printing};
 ghost use Rattle.wat_print_instr.specs.Printings.{init_printing, copy_printing, sized_printing};
 ghost use Rattle.wat_print_instr.specs.Printings.{br_table_printing};
@@ -32,20 +32,21 @@ use wat_print::{Output, Refused};
 use wat_tokens::Index;
 
 /// Whether it is the number 0.
-pub fn is_zero(index: &Index) -> bool
+pub fn is_index_0(index: &Index) -> bool
     ensures { result ≡ is_index_0 (index_view index.now) }
 {
     matches!(index, Index::Num(0, _))
 }
 
 /// Writes an index, or nothing where 0 is meant.
-pub fn write_index_or_zero(out: &mut Output, index: &Index) -> Result<(), Refused>
+pub fn write_index_or_0(out: &mut Output, index: &Index) -> Result<(), Refused>
     ensures written { OnOk result (out.new ≡ put out.old
         (spell_index_or_0 (index_view index.now))) }
-    ensures fit { OnOk result (fit_index (index_view index.now) ≡ true) }
-    ensures refused { IfErr result (λ e. e ≢ Memory → fit_index (index_view index.now) ≡ false) }
+    ensures printable { OnOk result (printable_index (index_view index.now) ≡ true) }
+    ensures refused { IfErr result (λ e. e ≢ Memory
+        → printable_index (index_view index.now) ≡ false) }
 {
-    if is_zero(index) {
+    if is_index_0(index) {
         return Ok(());
     }
     write_index(out, index)
@@ -56,9 +57,10 @@ pub fn write_index_or_zero(out: &mut Output, index: &Index) -> Result<(), Refuse
 fn write_pair(out: &mut Output, first: &Index, second: &Index) -> Result<(), Refused>
     ensures written { OnOk result (out.new ≡ put out.old
         (spell_pair (index_view first.now, index_view second.now))) }
-    ensures fit { OnOk result (fit_pair (index_view first.now, index_view second.now) ≡ true) }
+    ensures printable { OnOk result
+        (printable_pair (index_view first.now, index_view second.now) ≡ true) }
     ensures refused { IfErr result (λ e. e ≢ Memory
-        → fit_pair (index_view first.now, index_view second.now) ≡ false) }
+        → printable_pair (index_view first.now, index_view second.now) ≡ false) }
 {
     write_index(out, first)?;
     write_index(out, second)
@@ -69,11 +71,12 @@ fn write_pair(out: &mut Output, first: &Index, second: &Index) -> Result<(), Ref
 fn write_init(out: &mut Output, target: &Index, segment: &Index) -> Result<(), Refused>
     ensures written { OnOk result (out.new ≡ put out.old
         (spell_init (index_view target.now, index_view segment.now))) }
-    ensures fit { OnOk result (fit_pair (index_view target.now, index_view segment.now) ≡ true) }
+    ensures printable { OnOk result (printable_pair (index_view target.now, index_view segment.now)
+        ≡ true) }
     ensures refused { IfErr result (λ e. e ≢ Memory
-        → fit_pair (index_view target.now, index_view segment.now) ≡ false) }
+        → printable_pair (index_view target.now, index_view segment.now) ≡ false) }
 {
-    write_index_or_zero(out, target)?;
+    write_index_or_0(out, target)?;
     write_index(out, segment)
 }
 
@@ -81,12 +84,12 @@ fn write_init(out: &mut Output, target: &Index, segment: &Index) -> Result<(), R
 fn write_copy(out: &mut Output, destination: &Index, source: &Index) -> Result<(), Refused>
     ensures written { OnOk result (out.new ≡ put out.old
         (spell_copy (index_view destination.now, index_view source.now))) }
-    ensures fit { OnOk result
-        (fit_pair (index_view destination.now, index_view source.now) ≡ true) }
+    ensures printable { OnOk result
+        (printable_pair (index_view destination.now, index_view source.now) ≡ true) }
     ensures refused { IfErr result (λ e. e ≢ Memory
-        → fit_pair (index_view destination.now, index_view source.now) ≡ false) }
+        → printable_pair (index_view destination.now, index_view source.now) ≡ false) }
 {
-    if is_zero(destination) && is_zero(source) {
+    if is_index_0(destination) && is_index_0(source) {
         return Ok(());
     }
     write_pair(out, destination, source)
@@ -116,7 +119,7 @@ impl PrintCode for TableArg<'_> {
     ghost printing = { index_or_0_printing };
 
     fn write(&self, out: &mut Output) -> Result<(), Refused> {
-        write_index_or_zero(out, &self.dst)?;
+        write_index_or_0(out, &self.dst)?;
         Ok(())
     }
 }
@@ -131,7 +134,7 @@ impl PrintCode for MemoryArg<'_> {
     ghost printing = { index_or_0_printing };
 
     fn write(&self, out: &mut Output) -> Result<(), Refused> {
-        write_index_or_zero(out, &self.mem)?;
+        write_index_or_0(out, &self.mem)?;
         Ok(())
     }
 }

@@ -10,6 +10,9 @@ ghost use Rattle.wat_print.specs.declared.fault.Refused.TheVariants.{Memory};
 use wat_print::{Output, Print, Refused};
 
 /// A type whose values are written on one line, and read again as the same values.
+///
+/// It says more than [`Print`], which lets lines break between tokens. So what is written of an
+/// instruction is told to the token.
 pub trait PrintCode {
     /// What contracts see of a value.
     ghost View: { Type 0 };
@@ -29,9 +32,9 @@ pub trait PrintCode {
     /// can be only with Memory. What was written before a refusal stays.
     fn write(&self, out: &mut Output) -> Result<(), Refused>
         ensures written { OnOk result (out.new ≡ put out.old (printing.spell (view self.now))) }
-        ensures fit { OnOk result (printing.fit (view self.now) ≡ true) }
+        ensures printable { OnOk result (printing.printable (view self.now) ≡ true) }
         ensures refused { IfErr result (λ e. e ≢ Memory
-            → printing.fit (view self.now) ≡ false) };
+            → printing.printable (view self.now) ≡ false) };
 }
 
 /// A value as [`wat_print::print`] takes it.
@@ -55,10 +58,10 @@ impl<T: PrintCode> Print for Code<'_, T> {
 
 /// Writes values, one behind the other.
 pub fn write_each<T: PrintCode>(out: &mut Output, values: &[T]) -> Result<(), Refused>
-    ensures wrote { OnOk result (Wrote T.view T.printing.spell T.printing.fit values.now out.old
-        out.new) }
+    ensures wrote { OnOk result (Wrote T.view T.printing.spell T.printing.printable values.now
+        out.old out.new) }
     ensures refused { IfErr result (λ e. e ≢ Memory
-        → each T.printing.fit (map T.view values.now) ≡ false) }
+        → each T.printing.printable (map T.view values.now) ≡ false) }
 {
     for value in values {
         value.write(out)?;

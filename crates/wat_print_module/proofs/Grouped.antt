@@ -1,12 +1,11 @@
 -- Tokens that are written on lines, one behind the other and in groups.
-use Rattle.std.specs.Prelude.{◌≡◌, ℕ, ◌+◌, ◌<◌, Bool, true, List, [], ◌∷◌, ◌++◌, length, take}
-use Rattle.std.proofs.Common.{subst, get_or}
+use Rattle.std.specs.Prelude.{◌≡◌, ℕ, List, [], ◌∷◌, ◌++◌}
 use Rattle.wat_lexer.specs.Token.{Tok, LParen, RParen, Keyword}
 use Rattle.wat_tokens.specs.Spelled.{in_parens}
 use Rattle.wat_print.specs.Layout.{Writes, broken}
-use Rattle.wat_print.specs.Parts.{grouped, Wrote}
+use Rattle.wat_print.specs.Parts.{grouped}
 use Rattle.wat_print.specs.Text.{Page, put}
-use Rattle.wat_print.specs.Laws.Written.{puts_put, puts_both, puts_line, wrote_more}
+use Rattle.wat_print.specs.Laws.Written.{puts_put, puts_both, puts_line}
 
 -- first these on one line, and then those
 pub puts_first : (ts us : List Tok) (a b c : Page) → b ≡ put a ts → Writes us b c
@@ -36,13 +35,3 @@ puts_grouped w ts a b c d e f g k h =
 pub puts_broken : (n : ℕ) (ts : List Tok) (a b c : Page) → b ≡ broken n a → Writes ts b c
     → Writes ts a c
 puts_broken n ts a b c e w = puts_both [] ts a b c (puts_line n a b e) w
-
--- one value more, of those in which it stands
-pub wrote_next : {X A : Type 0} (view : X → A) (spell : A → List Tok) (fit : A → Bool)
-    (xs : List X) (i : ℕ) (x : X) (a b c : Page) → i < length xs → x ≡ get_or xs i x
-    → Wrote view spell fit (take i xs) a b → c ≡ put b (spell (view x)) → fit (view x) ≡ true
-    → Wrote view spell fit (take (i + 1) xs) a c
-wrote_next {X = X} view spell fit xs i x a b c lt s w e f =
-    wrote_more view spell fit xs i x a b c lt w
-    (subst (λ (y : X). c ≡ put b (spell (view y))) s e)
-    (subst (λ (y : X). fit (view y) ≡ true) s f)

@@ -7,10 +7,10 @@ use Rattle.wat_links.specs.Custom.{CustomTy, raw, produced, linked}
 use Rattle.wat_links.specs.Dylink.{SubsectionTy}
 use Rattle.wat_links.specs.Raw.{RawTy}
 use Rattle.wat_print.specs.Parts.{each}
-use Rattle.wat_print_module.specs.Dylink.{spell_dylink, fit_dylink}
+use Rattle.wat_print_module.specs.Dylink.{spell_dylink, printable_dylink}
 use Rattle.wat_print_module.specs.CustomPlace.{spell_place_group}
-use Rattle.wat_print_module.specs.Producers.{ProducedTy, spell_producers, fit_producers}
-use Rattle.wat_print.specs.Strings.{spell_string, fit_string}
+use Rattle.wat_print_module.specs.Producers.{ProducedTy, spell_producers, printable_producers}
+use Rattle.wat_print.specs.Strings.{spell_string, printable_string}
 
 -- @custom name ( place )? bytes*
 abbrev pub spell_raw : RawTy → List Tok
@@ -18,18 +18,18 @@ spell_raw r =
     Annotation (codes "custom") ∷ String r.name
     ∷ (spell_place_group r.place ++ flat_map spell_string r.data)
 
-abbrev pub fit_raw : RawTy → Bool
-fit_raw r = is_utf8 r.name && each fit_string r.data
+abbrev pub printable_raw : RawTy → Bool
+printable_raw r = is_utf8 r.name && each printable_string r.data
 
 abbrev pub spell_custom : CustomTy → List Tok
 spell_custom (raw r) = spell_raw r
 spell_custom (produced fs) = spell_producers fs
 spell_custom (linked ss) = spell_dylink ss
 
-abbrev pub fit_custom : CustomTy → Bool
-fit_custom (raw r) = fit_raw r
-fit_custom (produced fs) = fit_producers fs
-fit_custom (linked ss) = fit_dylink ss
+abbrev pub printable_custom : CustomTy → Bool
+printable_custom (raw r) = printable_raw r
+printable_custom (produced fs) = printable_producers fs
+printable_custom (linked ss) = printable_dylink ss
 
 -- ---- in their parentheses
 

@@ -3,8 +3,8 @@ use Rattle.std.specs.Prelude.{ℕ, List, [], ◌∷◌, codes}
 use Rattle.wat_lexer.specs.Token.{Tok, Keyword}
 use Rattle.wat_tokens.specs.Spelled.{in_parens}
 use Rattle.wat_links.specs.declared.custom_place.CustomPlace.{CustomPlace}
-use Rattle.wat_links.specs.declared.custom_place.CustomPlace.TheVariants.{BeforeFirst, Before, After}
-use Rattle.wat_links.specs.declared.custom_place.CustomPlace.TheVariants.{AfterLast}
+use Rattle.wat_links.specs.declared.custom_place.CustomPlace.TheVariants.{BeforeFirst, Before}
+use Rattle.wat_links.specs.declared.custom_place.CustomPlace.TheVariants.{After, AfterLast}
 use Rattle.wat_links.specs.declared.custom_place.CustomPlaceAnchor.{CustomPlaceAnchor}
 use Rattle.wat_links.specs.declared.custom_place.CustomPlaceAnchor.TheVariants as anchor
 

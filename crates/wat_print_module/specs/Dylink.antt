@@ -44,22 +44,22 @@ spell_dylink ss = Annotation (codes "dylink.0") ∷ flat_map spell_subsection ss
 -- ---- what can be written
 
 -- two numbers of 32 bits
-abbrev pub fit_sizes : ℕ → ℕ → Bool
-fit_sizes size align = is_unsigned 32 size && is_unsigned 32 align
+abbrev pub printable_sizes : ℕ → ℕ → Bool
+printable_sizes size align = is_unsigned 32 size && is_unsigned 32 align
 
-abbrev pub fit_export_flags : List ℕ × ℕ → Bool
-fit_export_flags e = is_utf8 e.0 && is_unsigned 32 e.1
+abbrev pub printable_export_flags : List ℕ × ℕ → Bool
+printable_export_flags e = is_utf8 e.0 && is_unsigned 32 e.1
 
-abbrev pub fit_import_flags : List ℕ × List ℕ × ℕ → Bool
-fit_import_flags e = is_utf8 e.0 && (is_utf8 e.1 && is_unsigned 32 e.2)
+abbrev pub printable_import_flags : List ℕ × List ℕ × ℕ → Bool
+printable_import_flags e = is_utf8 e.0 && (is_utf8 e.1 && is_unsigned 32 e.2)
 
-abbrev pub fit_subsection : SubsectionTy → Bool
-fit_subsection (mem_info ms ma ts ta) = fit_sizes ms ma && fit_sizes ts ta
-fit_subsection (needed ns) = each is_utf8 ns
-fit_subsection (export_info es) = each fit_export_flags es
-fit_subsection (import_info es) = each fit_import_flags es
-fit_subsection (runtime_path ns) = each is_utf8 ns
-fit_subsection (target_arch n) = is_utf8 n
+abbrev pub printable_subsection : SubsectionTy → Bool
+printable_subsection (mem_info ms ma ts ta) = printable_sizes ms ma && printable_sizes ts ta
+printable_subsection (needed ns) = each is_utf8 ns
+printable_subsection (export_info es) = each printable_export_flags es
+printable_subsection (import_info es) = each printable_import_flags es
+printable_subsection (runtime_path ns) = each is_utf8 ns
+printable_subsection (target_arch n) = is_utf8 n
 
 -- a subsection of exports or of imports has an entry
 abbrev pub is_filled : SubsectionTy → Bool
@@ -78,5 +78,5 @@ abbrev pub are_cut : List SubsectionTy → Bool
 are_cut [] = true
 are_cut (s ∷ ss) = (is_filled s && is_apart s ss) && are_cut ss
 
-abbrev pub fit_dylink : List SubsectionTy → Bool
-fit_dylink ss = each fit_subsection ss && are_cut ss
+abbrev pub printable_dylink : List SubsectionTy → Bool
+printable_dylink ss = each printable_subsection ss && are_cut ss

@@ -3,7 +3,7 @@ use Rattle.std.specs.Prelude.{ℕ, Bool, ◌&&◌, List, [], ◌∷◌, ◌++◌
 use Rattle.std.specs.Str.{is_utf8}
 use Rattle.wat_lexer.specs.Token.{Tok, String}
 use Rattle.wat_links.specs.FieldHead.{FieldHeadTy}
-use Rattle.wat_print.specs.Label.{spell_label, fit_label}
+use Rattle.wat_print.specs.Label.{spell_label, printable_label}
 use Rattle.wat_print.specs.Parts.{grouped, each}
 
 -- ---- exports in line
@@ -16,8 +16,8 @@ spell_inline_name n = grouped (codes "export") (String n ∷ [])
 abbrev pub spell_inline_export : List (List ℕ) → List Tok
 spell_inline_export ns = flat_map spell_inline_name ns
 
-abbrev pub fit_inline_export : List (List ℕ) → Bool
-fit_inline_export ns = each is_utf8 ns
+abbrev pub printable_inline_export : List (List ℕ) → Bool
+printable_inline_export ns = each is_utf8 ns
 
 -- ---- imports in line
 
@@ -25,8 +25,8 @@ fit_inline_export ns = each is_utf8 ns
 abbrev pub spell_inline_import : List ℕ × List ℕ → List Tok
 spell_inline_import i = grouped (codes "import") (String i.0 ∷ String i.1 ∷ [])
 
-abbrev pub fit_inline_import : List ℕ × List ℕ → Bool
-fit_inline_import i = is_utf8 i.0 && is_utf8 i.1
+abbrev pub printable_inline_import : List ℕ × List ℕ → Bool
+printable_inline_import i = is_utf8 i.0 && is_utf8 i.1
 
 -- ---- heads
 
@@ -34,5 +34,5 @@ fit_inline_import i = is_utf8 i.0 && is_utf8 i.1
 abbrev pub spell_head : FieldHeadTy → List Tok
 spell_head h = spell_label h.label ++ spell_inline_export h.exports
 
-abbrev pub fit_head : FieldHeadTy → Bool
-fit_head h = fit_label h.label && fit_inline_export h.exports
+abbrev pub printable_head : FieldHeadTy → Bool
+printable_head h = printable_label h.label && printable_inline_export h.exports

@@ -3,11 +3,11 @@ use Rattle.std.specs.Prelude.{Bool, true, false, ◌&&◌, List, ◌∷◌, ◌+
 use Rattle.wat_lexer.specs.Token.{Tok, Keyword}
 use Rattle.wat_fields.specs.Func.{FuncKindTy, imported, inline, FuncUse, DefinedFunc, FuncFieldTy}
 use Rattle.wat_print.specs.Parts.{grouped}
-use Rattle.wat_print.specs.Use.{spell_use, fit_use}
-use Rattle.wat_print_instr.specs.ExpressionForm.{spell_expression, fit_expression}
-use Rattle.wat_print_module.specs.FieldHead.{spell_inline_import, fit_inline_import, spell_head}
-use Rattle.wat_print_module.specs.FieldHead.{fit_head}
-use Rattle.wat_print_module.specs.Local.{spell_locals, fit_locals}
+use Rattle.wat_print.specs.Use.{spell_use, printable_use}
+use Rattle.wat_print_instr.specs.ExpressionForm.{spell_expression, printable_expression}
+use Rattle.wat_print_module.specs.FieldHead.{spell_inline_import, printable_inline_import}
+use Rattle.wat_print_module.specs.FieldHead.{spell_head, printable_head}
+use Rattle.wat_print_module.specs.Local.{spell_locals, printable_locals}
 
 -- in parentheses behind `exact`, where the function is of exactly the type
 abbrev pub spell_exact_use : FuncUse → Bool → List Tok
@@ -19,15 +19,15 @@ abbrev pub spell_defined_func : DefinedFunc → List Tok
 spell_defined_func (u, imported i exact) = spell_inline_import i ++ spell_exact_use u exact
 spell_defined_func (u, inline ls e) = spell_use u ++ (spell_locals ls ++ spell_expression e)
 
-abbrev pub fit_func_kind : FuncKindTy → Bool
-fit_func_kind (imported i exact) = fit_inline_import i
-fit_func_kind (inline ls e) = fit_locals ls && fit_expression e
+abbrev pub printable_func_kind : FuncKindTy → Bool
+printable_func_kind (imported i exact) = printable_inline_import i
+printable_func_kind (inline ls e) = printable_locals ls && printable_expression e
 
-abbrev pub fit_defined_func : DefinedFunc → Bool
-fit_defined_func d = fit_use d.0 && fit_func_kind d.1
+abbrev pub printable_defined_func : DefinedFunc → Bool
+printable_defined_func d = printable_use d.0 && printable_func_kind d.1
 
 abbrev pub spell_func : FuncFieldTy → List Tok
 spell_func f = Keyword (codes "func") ∷ (spell_head f.head ++ spell_defined_func (f.ty, f.kind))
 
-abbrev pub fit_func : FuncFieldTy → Bool
-fit_func f = fit_head f.head && fit_defined_func (f.ty, f.kind)
+abbrev pub printable_func : FuncFieldTy → Bool
+printable_func f = printable_head f.head && printable_defined_func (f.ty, f.kind)

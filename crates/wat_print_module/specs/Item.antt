@@ -3,12 +3,12 @@ use Rattle.std.specs.Prelude.{ℕ, Bool, ◌&&◌, List, ◌∷◌, ◌++◌, co
 use Rattle.wat_lexer.specs.Token.{Tok, Keyword}
 use Rattle.wat_tokens.specs.Spelled.{in_parens}
 use Rattle.wat_links.specs.Item.{ItemKindTy, func, table, memory, global, tag, exact_func, SigTy}
-use Rattle.wat_print.specs.Label.{spell_label, fit_label}
-use Rattle.wat_print.specs.Limits.{spell_memory_type, fit_memory_type, spell_table_type}
-use Rattle.wat_print.specs.Limits.{fit_table_type}
+use Rattle.wat_print.specs.Label.{spell_label, printable_label}
+use Rattle.wat_print.specs.Limits.{spell_memory_type, printable_memory_type, spell_table_type}
+use Rattle.wat_print.specs.Limits.{printable_table_type}
 use Rattle.wat_print.specs.Parts.{grouped}
-use Rattle.wat_print.specs.Storage.{spell_global, fit_global}
-use Rattle.wat_print.specs.Use.{spell_use, fit_use}
+use Rattle.wat_print.specs.Storage.{spell_global, printable_global}
+use Rattle.wat_print.specs.Use.{spell_use, printable_use}
 
 abbrev pub item_word : ItemKindTy → List ℕ
 item_word (func u) = codes "func"
@@ -27,20 +27,20 @@ spell_item (global g) = spell_global g
 spell_item (tag u) = spell_use u
 spell_item (exact_func u) = grouped (codes "exact") (spell_use u)
 
-abbrev pub fit_item : ItemKindTy → Bool
-fit_item (func u) = fit_use u
-fit_item (table t) = fit_table_type t
-fit_item (memory m) = fit_memory_type m
-fit_item (global g) = fit_global g
-fit_item (tag u) = fit_use u
-fit_item (exact_func u) = fit_use u
+abbrev pub printable_item : ItemKindTy → Bool
+printable_item (func u) = printable_use u
+printable_item (table t) = printable_table_type t
+printable_item (memory m) = printable_memory_type m
+printable_item (global g) = printable_global g
+printable_item (tag u) = printable_use u
+printable_item (exact_func u) = printable_use u
 
 -- the word, id? name? and the type
 abbrev pub spell_sig : SigTy → List Tok
 spell_sig s = Keyword (item_word s.kind) ∷ (spell_label s.label ++ spell_item s.kind)
 
-abbrev pub fit_sig : SigTy → Bool
-fit_sig s = fit_label s.label && fit_item s.kind
+abbrev pub printable_sig : SigTy → Bool
+printable_sig s = printable_label s.label && printable_item s.kind
 
 abbrev pub spell_sig_group : SigTy → List Tok
 spell_sig_group s = in_parens (spell_sig s)

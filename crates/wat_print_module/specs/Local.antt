@@ -3,9 +3,9 @@ use Rattle.std.specs.Prelude.{Bool, true, ◌&&◌, List, [], ◌∷◌, ◌++�
 use Rattle.wat_lexer.specs.Token.{Tok, Keyword}
 use Rattle.wat_types.specs.Label.{Label}
 use Rattle.wat_fields.specs.Local.{LocalTy}
-use Rattle.wat_print.specs.Label.{spell_label, fit_label, none_labelled}
+use Rattle.wat_print.specs.Label.{spell_label, printable_label, none_labelled}
 use Rattle.wat_print.specs.Parts.{grouped, each}
-use Rattle.wat_print.specs.Reference.{spell_val, fit_val}
+use Rattle.wat_print.specs.Reference.{spell_val, printable_val}
 
 abbrev pub local_label : LocalTy → Label
 local_label l = l.label
@@ -14,8 +14,8 @@ local_label l = l.label
 abbrev pub spell_listed : LocalTy → List Tok
 spell_listed l = spell_label l.label ++ spell_val l.ty
 
-abbrev pub fit_local : LocalTy → Bool
-fit_local l = fit_label l.label && fit_val l.ty
+abbrev pub printable_local : LocalTy → Bool
+printable_local l = printable_label l.label && printable_val l.ty
 
 -- ---- each in a group of its own
 
@@ -26,8 +26,8 @@ spell_local l = grouped (codes "local") (spell_listed l)
 abbrev pub spell_locals : List LocalTy → List Tok
 spell_locals ls = flat_map spell_local ls
 
-abbrev pub fit_locals : List LocalTy → Bool
-fit_locals ls = each fit_local ls
+abbrev pub printable_locals : List LocalTy → Bool
+printable_locals ls = each printable_local ls
 
 -- ---- in one group
 
@@ -41,5 +41,5 @@ may_share_group [] = true
 may_share_group (l ∷ []) = true
 may_share_group (l ∷ k ∷ ls) = none_labelled local_label (l ∷ k ∷ ls)
 
-abbrev pub fit_local_parser : List LocalTy → Bool
-fit_local_parser ls = may_share_group ls && each fit_local ls
+abbrev pub printable_local_parser : List LocalTy → Bool
+printable_local_parser ls = may_share_group ls && each printable_local ls

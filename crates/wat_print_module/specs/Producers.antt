@@ -35,12 +35,12 @@ spell_producers fs = Annotation (codes "producers") ∷ flat_map spell_produced_
 
 -- ---- what can be written
 
-abbrev pub fit_versioned : Versioned → Bool
-fit_versioned e = is_utf8 e.0 && is_utf8 e.1
+abbrev pub printable_versioned : Versioned → Bool
+printable_versioned e = is_utf8 e.0 && is_utf8 e.1
 
 -- a field has an entry
-abbrev pub fit_produced_field : ProducedTy → Bool
-fit_produced_field f = not (no_items f.1) && each fit_versioned f.1
+abbrev pub printable_produced_field : ProducedTy → Bool
+printable_produced_field f = not (no_items f.1) && each printable_versioned f.1
 
 -- the first field, where it is of the word
 abbrev pub field_of_word : List ℕ → List ProducedTy → List ProducedTy
@@ -53,11 +53,11 @@ fields_behind w [] = []
 fields_behind w (f ∷ fs) = if bytes_eq f.0 w then fs else f ∷ fs
 
 -- fields of these words, in this order, each once or not at all
-abbrev pub fit_in_turn : List (List ℕ) → List ProducedTy → Bool
-fit_in_turn [] fs = no_items fs
-fit_in_turn (w ∷ ws) fs =
-    each fit_produced_field (field_of_word w fs) && fit_in_turn ws (fields_behind w fs)
+abbrev pub printable_in_turn : List (List ℕ) → List ProducedTy → Bool
+printable_in_turn [] fs = no_items fs
+printable_in_turn (w ∷ ws) fs =
+    each printable_produced_field (field_of_word w fs) && printable_in_turn ws (fields_behind w fs)
 
-abbrev pub fit_producers : List ProducedTy → Bool
-fit_producers fs =
-    fit_in_turn (codes "language" ∷ codes "sdk" ∷ codes "processed-by" ∷ []) fs
+abbrev pub printable_producers : List ProducedTy → Bool
+printable_producers fs =
+    printable_in_turn (codes "language" ∷ codes "sdk" ∷ codes "processed-by" ∷ []) fs

@@ -10,14 +10,14 @@ use Rattle.wat_fields.specs.DataVal.{DataValTy, written, numbers}
 use Rattle.wat_fields.specs.Elem.{ElemKindTy, ElemTy}
 use Rattle.wat_fields.specs.Elem as elem_kind
 use Rattle.wat_fields.specs.Payload.{PayloadTy, indices, exprs}
-use Rattle.wat_print.specs.Index.{spell_index, fit_index}
-use Rattle.wat_print.specs.Label.{spell_label, fit_label}
+use Rattle.wat_print.specs.Index.{spell_index, printable_index}
+use Rattle.wat_print.specs.Label.{spell_label, printable_label}
 use Rattle.wat_print.specs.Limits.{spell_number}
-use Rattle.wat_print.specs.Neat.{is_byte}
+use Rattle.wat_print.specs.WellFormed.{is_byte}
 use Rattle.wat_print.specs.Parts.{grouped, spell_option, if_some, each}
-use Rattle.wat_print.specs.Reference.{spell_ref, fit_ref}
+use Rattle.wat_print.specs.Reference.{spell_ref, printable_ref}
 use Rattle.wat_print.specs.Text.{all_are}
-use Rattle.wat_print_instr.specs.ExpressionForm.{spell_expression, fit_expression}
+use Rattle.wat_print_instr.specs.ExpressionForm.{spell_expression, printable_expression}
 use Rattle.wat_print_instr.specs.Places.{is_index_0}
 
 -- ---- values of data segments
@@ -28,9 +28,9 @@ spell_data_val (written bs) = String bs ∷ []
 spell_data_val (numbers bs) = grouped (codes "i8") (flat_map spell_number bs)
 
 -- bytes
-abbrev pub fit_data_val : DataValTy → Bool
-fit_data_val (written bs) = all_are is_byte bs
-fit_data_val (numbers bs) = all_are is_byte bs
+abbrev pub printable_data_val : DataValTy → Bool
+printable_data_val (written bs) = all_are is_byte bs
+printable_data_val (numbers bs) = all_are is_byte bs
 
 -- ---- offsets
 
@@ -49,9 +49,9 @@ abbrev pub spell_data_kind : DataKindTy → List Tok
 spell_data_kind data_kind.passive = []
 spell_data_kind (data_kind.active i e) = spell_data_memory i ++ spell_offset e
 
-abbrev pub fit_data_kind : DataKindTy → Bool
-fit_data_kind data_kind.passive = true
-fit_data_kind (data_kind.active i e) = fit_index i && fit_expression e
+abbrev pub printable_data_kind : DataKindTy → Bool
+printable_data_kind data_kind.passive = true
+printable_data_kind (data_kind.active i e) = printable_index i && printable_expression e
 
 abbrev pub spell_data_vals : List DataValTy → List Tok
 spell_data_vals vs = flat_map spell_data_val vs
@@ -62,8 +62,9 @@ spell_data d =
     Keyword (codes "data")
     ∷ (spell_label d.label ++ (spell_data_kind d.kind ++ spell_data_vals d.vals))
 
-abbrev pub fit_data : DataTy → Bool
-fit_data d = fit_label d.label && (fit_data_kind d.kind && each fit_data_val d.vals)
+abbrev pub printable_data : DataTy → Bool
+printable_data d =
+    printable_label d.label && (printable_data_kind d.kind && each printable_data_val d.vals)
 
 -- in its parentheses
 abbrev pub spell_grouped_data : DataTy → List Tok
@@ -80,9 +81,9 @@ abbrev pub spell_payload : PayloadTy → List Tok
 spell_payload (indices is) = Keyword (codes "func") ∷ flat_map spell_index is
 spell_payload (exprs t es) = spell_ref t ++ flat_map spell_item es
 
-abbrev pub fit_payload : PayloadTy → Bool
-fit_payload (indices is) = each fit_index is
-fit_payload (exprs t es) = fit_ref t && each fit_expression es
+abbrev pub printable_payload : PayloadTy → Bool
+printable_payload (indices is) = each printable_index is
+printable_payload (exprs t es) = printable_ref t && each printable_expression es
 
 -- ---- element segments
 
@@ -96,10 +97,10 @@ spell_elem_kind elem_kind.passive = []
 spell_elem_kind elem_kind.declared = Keyword (codes "declare") ∷ []
 spell_elem_kind (elem_kind.active t e) = spell_option spell_elem_table t ++ spell_offset e
 
-abbrev pub fit_elem_kind : ElemKindTy → Bool
-fit_elem_kind elem_kind.passive = true
-fit_elem_kind elem_kind.declared = true
-fit_elem_kind (elem_kind.active t e) = if_some fit_index t && fit_expression e
+abbrev pub printable_elem_kind : ElemKindTy → Bool
+printable_elem_kind elem_kind.passive = true
+printable_elem_kind elem_kind.declared = true
+printable_elem_kind (elem_kind.active t e) = if_some printable_index t && printable_expression e
 
 -- elem id? name? kind payload
 abbrev pub spell_elem : ElemTy → List Tok
@@ -107,5 +108,6 @@ spell_elem e =
     Keyword (codes "elem")
     ∷ (spell_label e.label ++ (spell_elem_kind e.segment.0 ++ spell_payload e.segment.1))
 
-abbrev pub fit_elem : ElemTy → Bool
-fit_elem e = fit_label e.label && (fit_elem_kind e.segment.0 && fit_payload e.segment.1)
+abbrev pub printable_elem : ElemTy → Bool
+printable_elem e =
+    printable_label e.label && (printable_elem_kind e.segment.0 && printable_payload e.segment.1)

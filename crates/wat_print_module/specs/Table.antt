@@ -11,13 +11,13 @@ use Rattle.wat_types.specs.declared.heap.AbstractHeapType.TheVariants as word
 use Rattle.wat_expr.specs.Expression.{Expr}
 use Rattle.wat_fields.specs.Payload.{PayloadTy, indices, exprs, is_funcref}
 use Rattle.wat_fields.specs.Table.{TableKindTy, imported, normal, inline, TableFieldTy}
-use Rattle.wat_print.specs.Index.{spell_index, fit_index}
-use Rattle.wat_print.specs.Limits.{spell_table_type, fit_table_type}
+use Rattle.wat_print.specs.Index.{spell_index, printable_index}
+use Rattle.wat_print.specs.Limits.{spell_table_type, printable_table_type}
 use Rattle.wat_print.specs.Parts.{grouped, spell_flag, spell_option, if_some, each}
-use Rattle.wat_print.specs.Reference.{spell_ref, fit_ref}
-use Rattle.wat_print_instr.specs.ExpressionForm.{spell_expression, fit_expression}
-use Rattle.wat_print_module.specs.FieldHead.{spell_inline_import, fit_inline_import, spell_head}
-use Rattle.wat_print_module.specs.FieldHead.{fit_head}
+use Rattle.wat_print.specs.Reference.{spell_ref, printable_ref}
+use Rattle.wat_print_instr.specs.ExpressionForm.{spell_expression, printable_expression}
+use Rattle.wat_print_module.specs.FieldHead.{spell_inline_import, printable_inline_import}
+use Rattle.wat_print_module.specs.FieldHead.{spell_head, printable_head}
 use Rattle.wat_print_module.specs.Segments.{spell_item}
 
 -- ---- types that are the same
@@ -61,14 +61,14 @@ spell_elements (exprs t es) = flat_map spell_item es
 
 -- of a table whose elements have the type: indices where it is `funcref`, and expressions of the
 -- type, but not none of them where it is `funcref`
-abbrev pub fit_elements : RefTy → PayloadTy → Bool
-fit_elements t (indices is) = is_funcref t && each fit_index is
-fit_elements t (exprs u es) =
-    same_ref t u && (not (is_funcref t && no_items es) && each fit_expression es)
+abbrev pub printable_elements : RefTy → PayloadTy → Bool
+printable_elements t (indices is) = is_funcref t && each printable_index is
+printable_elements t (exprs u es) =
+    same_ref t u && (not (is_funcref t && no_items es) && each printable_expression es)
 
 -- what each element is at first has an instruction
-abbrev pub fit_initial : Expr → Bool
-fit_initial e = not (no_items e.instrs) && fit_expression e
+abbrev pub printable_initial : Expr → Bool
+printable_initial e = not (no_items e.instrs) && printable_expression e
 
 -- ---- tables
 
@@ -82,15 +82,15 @@ spell_table_kind (inline t is64 shared p) =
     ++ (spell_ref t ++ grouped (codes "elem") (spell_elements p)))
 
 -- one with elements in line isn't both shared and of 64 bits
-abbrev pub fit_table_kind : TableKindTy → Bool
-fit_table_kind (imported i t) = fit_inline_import i && fit_table_type t
-fit_table_kind (normal t e) = fit_table_type t && if_some fit_initial e
-fit_table_kind (inline t is64 shared p) =
-    not (shared && is64) && (fit_ref t && fit_elements t p)
+abbrev pub printable_table_kind : TableKindTy → Bool
+printable_table_kind (imported i t) = printable_inline_import i && printable_table_type t
+printable_table_kind (normal t e) = printable_table_type t && if_some printable_initial e
+printable_table_kind (inline t is64 shared p) =
+    not (shared && is64) && (printable_ref t && printable_elements t p)
 
 -- table head kind
 abbrev pub spell_table : TableFieldTy → List Tok
 spell_table t = Keyword (codes "table") ∷ (spell_head t.head ++ spell_table_kind t.kind)
 
-abbrev pub fit_table : TableFieldTy → Bool
-fit_table t = fit_head t.head && fit_table_kind t.kind
+abbrev pub printable_table : TableFieldTy → Bool
+printable_table t = printable_head t.head && printable_table_kind t.kind

@@ -5,7 +5,7 @@ ghost use Rattle.wat_tokens.specs.Groups.{paren};
 ghost use Rattle.wat_links.specs.Custom.{CustomTy, custom_view, custom};
 ghost use Rattle.wat_print.specs.Text.{put};
 ghost use Rattle.wat_print.specs.declared.fault.Refused.TheVariants.{Memory};
-ghost use Rattle.wat_print_module.specs.Custom.{spell_custom, fit_custom};
+ghost use Rattle.wat_print_module.specs.Custom.{spell_custom, printable_custom};
 ghost use Rattle.wat_print_module.specs.LinkPrintings.{custom_printing};
 
 use crate::dylink::write_dylink;
@@ -18,9 +18,9 @@ use wat_print::{Output, Refused};
 /// Writes a custom section, without its parentheses (Text Format, "Custom Annotation").
 pub fn write_custom(out: &mut Output, section: &Custom) -> Result<(), Refused>
     ensures written { OnOk result (out.new ≡ put out.old (spell_custom (custom_view section.now))) }
-    ensures fit { OnOk result (fit_custom (custom_view section.now) ≡ true) }
+    ensures printable { OnOk result (printable_custom (custom_view section.now) ≡ true) }
     ensures refused { IfErr result (λ e. e ≢ Memory
-        → fit_custom (custom_view section.now) ≡ false) }
+        → printable_custom (custom_view section.now) ≡ false) }
 {
     match section {
         Custom::Raw(section) => write_raw(out, section),

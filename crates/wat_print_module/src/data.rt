@@ -3,15 +3,15 @@
 ghost use Rattle.std.specs.Prelude.{◌≡◌, ◌≢◌, OnOk, IfErr, true, false};
 ghost use Rattle.wat_expr.specs.Expression.{expression_view};
 ghost use Rattle.wat_fields.specs.Data.{active, data_kind_view, DataTy, data_view, data_segment};
-ghost use Rattle.wat_print.specs.Index.{fit_index};
+ghost use Rattle.wat_print.specs.Index.{printable_index};
 ghost use Rattle.wat_print.specs.Layout.{Writes};
 ghost use Rattle.wat_print.specs.Text.{put};
 ghost use Rattle.wat_print.specs.declared.fault.Refused.TheVariants.{Memory};
-ghost use Rattle.wat_print_instr.specs.ExpressionForm.{fit_expression};
+ghost use Rattle.wat_print_instr.specs.ExpressionForm.{printable_expression};
 ghost use Rattle.wat_print_module.specs.SegmentPrintings.{grouped_data_printing};
 ghost use Rattle.wat_print_module.specs.Segments.{spell_offset, spell_data_memory};
-ghost use Rattle.wat_print_module.specs.Segments.{spell_data_kind, fit_data_kind, spell_data};
-ghost use Rattle.wat_print_module.specs.Segments.{fit_data, spell_grouped_data};
+ghost use Rattle.wat_print_module.specs.Segments.{spell_data_kind, printable_data_kind, spell_data};
+ghost use Rattle.wat_print_module.specs.Segments.{printable_data, spell_grouped_data};
 ghost use Rattle.wat_tokens.specs.Groups.{paren};
 ghost use Rattle.wat_tokens.specs.Index.{index_view};
 
@@ -23,16 +23,16 @@ use wat_print::label::write_label;
 use wat_print::reference::write_index;
 use wat_print::{Output, Refused};
 use wat_print_instr::expression::write_constant;
-use wat_print_instr::places::is_zero;
+use wat_print_instr::places::is_index_0;
 use wat_tokens::Index;
 
 /// Writes `( offset Expression )`.
 pub(crate) fn write_offset(out: &mut Output, offset: &Expression) -> Result<(), Refused>
     ensures written { OnOk result
         (Writes (spell_offset (expression_view offset.now)) out.old out.new) }
-    ensures fit { OnOk result (fit_expression (expression_view offset.now) ≡ true) }
+    ensures printable { OnOk result (printable_expression (expression_view offset.now) ≡ true) }
     ensures refused { IfErr result (λ e. e ≢ Memory
-        → fit_expression (expression_view offset.now) ≡ false) }
+        → printable_expression (expression_view offset.now) ≡ false) }
 {
     out.open()?;
     out.word("offset")?;
@@ -44,10 +44,11 @@ pub(crate) fn write_offset(out: &mut Output, offset: &Expression) -> Result<(), 
 fn write_memory(out: &mut Output, memory: &Index) -> Result<(), Refused>
     ensures written { OnOk result (out.new ≡ put out.old
         (spell_data_memory (index_view memory.now))) }
-    ensures fit { OnOk result (fit_index (index_view memory.now) ≡ true) }
-    ensures refused { IfErr result (λ e. e ≢ Memory → fit_index (index_view memory.now) ≡ false) }
+    ensures printable { OnOk result (printable_index (index_view memory.now) ≡ true) }
+    ensures refused { IfErr result (λ e. e ≢ Memory
+        → printable_index (index_view memory.now) ≡ false) }
 {
-    if is_zero(memory) {
+    if is_index_0(memory) {
         return Ok(());
     }
     out.open()?;
@@ -60,9 +61,9 @@ fn write_memory(out: &mut Output, memory: &Index) -> Result<(), Refused>
 fn write_active(out: &mut Output, memory: &Index, offset: &Expression) -> Result<(), Refused>
     ensures written { OnOk result (Writes (spell_data_kind
         (active (index_view memory.now) (expression_view offset.now))) out.old out.new) }
-    ensures fit { OnOk result (fit_data_kind
+    ensures printable { OnOk result (printable_data_kind
         (active (index_view memory.now) (expression_view offset.now)) ≡ true) }
-    ensures refused { IfErr result (λ e. e ≢ Memory → fit_data_kind
+    ensures refused { IfErr result (λ e. e ≢ Memory → printable_data_kind
         (active (index_view memory.now) (expression_view offset.now)) ≡ false) }
 {
     write_memory(out, memory)?;
@@ -74,9 +75,9 @@ fn write_active(out: &mut Output, memory: &Index, offset: &Expression) -> Result
 fn write_data_kind(out: &mut Output, kind: &DataKind) -> Result<(), Refused>
     ensures written { OnOk result
         (Writes (spell_data_kind (data_kind_view kind.now)) out.old out.new) }
-    ensures fit { OnOk result (fit_data_kind (data_kind_view kind.now) ≡ true) }
+    ensures printable { OnOk result (printable_data_kind (data_kind_view kind.now) ≡ true) }
     ensures refused { IfErr result (λ e. e ≢ Memory
-        → fit_data_kind (data_kind_view kind.now) ≡ false) }
+        → printable_data_kind (data_kind_view kind.now) ≡ false) }
 {
     match kind {
         DataKind::Passive => Ok(()),
@@ -88,8 +89,9 @@ fn write_data_kind(out: &mut Output, kind: &DataKind) -> Result<(), Refused>
 /// memory is left out where it is memory 0, and the offset is written as `( offset Expression )`.
 pub fn write_data(out: &mut Output, segment: &Data) -> Result<(), Refused>
     ensures written { OnOk result (Writes (spell_data (data_view segment.now)) out.old out.new) }
-    ensures fit { OnOk result (fit_data (data_view segment.now) ≡ true) }
-    ensures refused { IfErr result (λ e. e ≢ Memory → fit_data (data_view segment.now) ≡ false) }
+    ensures printable { OnOk result (printable_data (data_view segment.now) ≡ true) }
+    ensures refused { IfErr result (λ e. e ≢ Memory
+        → printable_data (data_view segment.now) ≡ false) }
 {
     out.word("data")?;
     write_label(out, &segment.id, &segment.name)?;
@@ -101,8 +103,9 @@ pub fn write_data(out: &mut Output, segment: &Data) -> Result<(), Refused>
 pub fn write_grouped_data(out: &mut Output, segment: &Data) -> Result<(), Refused>
     ensures written { OnOk result
         (Writes (spell_grouped_data (data_view segment.now)) out.old out.new) }
-    ensures fit { OnOk result (fit_data (data_view segment.now) ≡ true) }
-    ensures refused { IfErr result (λ e. e ≢ Memory → fit_data (data_view segment.now) ≡ false) }
+    ensures printable { OnOk result (printable_data (data_view segment.now) ≡ true) }
+    ensures refused { IfErr result (λ e. e ≢ Memory
+        → printable_data (data_view segment.now) ≡ false) }
 {
     out.open()?;
     write_data(out, segment)?;

@@ -3,12 +3,12 @@
 ghost use Rattle.std.specs.Prelude.{◌≡◌, OnOk, IfErr, true};
 ghost use Rattle.wat_fields.specs.DataVal.{DataValTy, written, numbers, data_val_view, data_val};
 ghost use Rattle.wat_print.specs.Limits.{spell_number};
-ghost use Rattle.wat_print.specs.Neat.{is_byte};
+ghost use Rattle.wat_print.specs.WellFormed.{is_byte};
 ghost use Rattle.wat_print.specs.Parts.{Wrote};
 ghost use Rattle.wat_print.specs.Text.{put};
 ghost use Rattle.wat_print.specs.declared.fault.Refused.TheVariants.{Memory};
 ghost use Rattle.wat_print_module.specs.SegmentPrintings.{data_val_printing};
-ghost use Rattle.wat_print_module.specs.Segments.{spell_data_val, fit_data_val};
+ghost use Rattle.wat_print_module.specs.Segments.{spell_data_val, printable_data_val};
 
 use crate::traits::PrintPart;
 use wat_fields::DataVal;
@@ -18,7 +18,7 @@ use wat_print::{Output, Refused};
 /// Writes a byte as a number.
 fn write_byte(out: &mut Output, byte: u8) -> Result<(), Refused>
     ensures written { OnOk result (out.new ≡ put out.old (spell_number byte)) }
-    ensures fit { OnOk result (is_byte byte ≡ true) }
+    ensures printable { OnOk result (is_byte byte ≡ true) }
     ensures refused { IfErr result (λ e. e ≡ Memory) }
 {
     out.number(u64::from(byte))
@@ -38,7 +38,7 @@ fn write_bytes(out: &mut Output, bytes: &[u8]) -> Result<(), Refused>
 /// Writes the bytes of numbers: as numbers of 8 bits.
 fn write_numbers(out: &mut Output, bytes: &[u8]) -> Result<(), Refused>
     ensures written { OnOk result (out.new ≡ put out.old (spell_data_val (numbers bytes.now))) }
-    ensures fit { OnOk result (fit_data_val (numbers bytes.now) ≡ true) }
+    ensures printable { OnOk result (printable_data_val (numbers bytes.now) ≡ true) }
     ensures refused { IfErr result (λ e. e ≡ Memory) }
 {
     out.open()?;
@@ -53,7 +53,7 @@ fn write_numbers(out: &mut Output, bytes: &[u8]) -> Result<(), Refused>
 pub fn write_data_val(out: &mut Output, value: &DataVal) -> Result<(), Refused>
     ensures written { OnOk result (out.new ≡ put out.old
         (spell_data_val (data_val_view value.now))) }
-    ensures fit { OnOk result (fit_data_val (data_val_view value.now) ≡ true) }
+    ensures printable { OnOk result (printable_data_val (data_val_view value.now) ≡ true) }
     ensures refused { IfErr result (λ e. e ≡ Memory) }
 {
     match value {
@@ -64,8 +64,8 @@ pub fn write_data_val(out: &mut Output, value: &DataVal) -> Result<(), Refused>
 
 /// Writes values of a data segment, one behind the other.
 pub fn write_data_vals(out: &mut Output, values: &[DataVal]) -> Result<(), Refused>
-    ensures wrote { OnOk result (Wrote data_val_view spell_data_val fit_data_val values.now out.old
-        out.new) }
+    ensures wrote { OnOk result (Wrote data_val_view spell_data_val printable_data_val values.now
+        out.old out.new) }
     ensures refused { IfErr result (λ e. e ≡ Memory) }
 {
     for value in values {

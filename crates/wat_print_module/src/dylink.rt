@@ -11,9 +11,9 @@ ghost use Rattle.wat_print.specs.Text.{put};
 ghost use Rattle.wat_print.specs.declared.fault.Refused.TheVariants.{Memory};
 ghost use Rattle.wat_print_module.specs.Dylink.{spell_sizes, spell_names, spell_export_flags};
 ghost use Rattle.wat_print_module.specs.Dylink.{spell_import_flags, spell_subsection, spell_dylink};
-ghost use Rattle.wat_print_module.specs.Dylink.{fit_sizes, fit_export_flags, fit_import_flags};
-ghost use Rattle.wat_print_module.specs.Dylink.{fit_subsection, is_filled, is_apart, are_cut};
-ghost use Rattle.wat_print_module.specs.Dylink.{fit_dylink};
+ghost use Rattle.wat_print_module.specs.Dylink.{printable_sizes, printable_export_flags};
+ghost use Rattle.wat_print_module.specs.Dylink.{printable_import_flags, printable_subsection};
+ghost use Rattle.wat_print_module.specs.Dylink.{is_filled, is_apart, are_cut, printable_dylink};
 ghost use Rattle.wat_print_module.specs.LinkPrintings.{dylink_printing};
 ghost use Rattle.wat_print.specs.Strings.{spell_string};
 
@@ -24,7 +24,7 @@ use wat_print::{Output, Refused};
 /// Writes `( word size alignment )`.
 fn write_sizes(out: &mut Output, word: &str, size: u32, align: u32) -> Result<(), Refused>
     ensures written { OnOk result (out.new ≡ put out.old (spell_sizes word.now size align)) }
-    ensures fit { fit_sizes size align ≡ true }
+    ensures printable { printable_sizes size align ≡ true }
     ensures refused { IfErr result (λ e. e ≡ Memory) }
 {
     out.open()?;
@@ -36,7 +36,8 @@ fn write_sizes(out: &mut Output, word: &str, size: u32, align: u32) -> Result<()
 
 /// Writes names, one behind the other.
 fn write_strings(out: &mut Output, names: &[&str]) -> Result<(), Refused>
-    ensures wrote { OnOk result (Wrote (λ n. n.now) spell_string is_utf8 names.now out.old out.new) }
+    ensures wrote { OnOk result
+        (Wrote (λ n. n.now) spell_string is_utf8 names.now out.old out.new) }
     ensures refused { IfErr result (λ e. e ≡ Memory) }
 {
     for name in names {
@@ -49,7 +50,7 @@ fn write_strings(out: &mut Output, names: &[&str]) -> Result<(), Refused>
 fn write_names(out: &mut Output, word: &str, names: &[&str]) -> Result<(), Refused>
     ensures written { OnOk result (out.new ≡ put out.old
         (spell_names word.now (map (λ n. n.now) names.now))) }
-    ensures fit { OnOk result (each is_utf8 (map (λ n. n.now) names.now) ≡ true) }
+    ensures printable { OnOk result (each is_utf8 (map (λ n. n.now) names.now) ≡ true) }
     ensures refused { IfErr result (λ e. e ≡ Memory) }
 {
     out.open()?;
@@ -62,7 +63,7 @@ fn write_names(out: &mut Output, word: &str, names: &[&str]) -> Result<(), Refus
 fn write_export(out: &mut Output, entry: &(&str, u32)) -> Result<(), Refused>
     ensures written { OnOk result (out.new ≡ put out.old
         (spell_export_flags (dylink_export_view entry.now))) }
-    ensures fit { OnOk result (fit_export_flags (dylink_export_view entry.now) ≡ true) }
+    ensures printable { OnOk result (printable_export_flags (dylink_export_view entry.now) ≡ true) }
     ensures refused { IfErr result (λ e. e ≡ Memory) }
 {
     out.open()?;
@@ -74,8 +75,8 @@ fn write_export(out: &mut Output, entry: &(&str, u32)) -> Result<(), Refused>
 
 /// Writes the entries of exports, one behind the other.
 fn write_exports(out: &mut Output, entries: &[(&str, u32)]) -> Result<(), Refused>
-    ensures wrote { OnOk result (Wrote dylink_export_view spell_export_flags fit_export_flags entries.now
-        out.old out.new) }
+    ensures wrote { OnOk result (Wrote dylink_export_view spell_export_flags printable_export_flags
+        entries.now out.old out.new) }
     ensures refused { IfErr result (λ e. e ≡ Memory) }
 {
     for entry in entries {
@@ -88,7 +89,7 @@ fn write_exports(out: &mut Output, entries: &[(&str, u32)]) -> Result<(), Refuse
 fn write_import(out: &mut Output, entry: &(&str, &str, u32)) -> Result<(), Refused>
     ensures written { OnOk result (out.new ≡ put out.old
         (spell_import_flags (dylink_import_view entry.now))) }
-    ensures fit { OnOk result (fit_import_flags (dylink_import_view entry.now) ≡ true) }
+    ensures printable { OnOk result (printable_import_flags (dylink_import_view entry.now) ≡ true) }
     ensures refused { IfErr result (λ e. e ≡ Memory) }
 {
     out.open()?;
@@ -101,8 +102,8 @@ fn write_import(out: &mut Output, entry: &(&str, &str, u32)) -> Result<(), Refus
 
 /// Writes the entries of imports, one behind the other.
 fn write_imports(out: &mut Output, entries: &[(&str, &str, u32)]) -> Result<(), Refused>
-    ensures wrote { OnOk result (Wrote dylink_import_view spell_import_flags fit_import_flags entries.now
-        out.old out.new) }
+    ensures wrote { OnOk result (Wrote dylink_import_view spell_import_flags printable_import_flags
+        entries.now out.old out.new) }
     ensures refused { IfErr result (λ e. e ≡ Memory) }
 {
     for entry in entries {
@@ -115,7 +116,7 @@ fn write_imports(out: &mut Output, entries: &[(&str, &str, u32)]) -> Result<(), 
 fn write_subsection(out: &mut Output, subsection: &Dylink0Subsection) -> Result<(), Refused>
     ensures written { OnOk result (out.new ≡ put out.old
         (spell_subsection (subsection_view subsection.now))) }
-    ensures fit { OnOk result (fit_subsection (subsection_view subsection.now) ≡ true) }
+    ensures printable { OnOk result (printable_subsection (subsection_view subsection.now) ≡ true) }
     ensures refused { IfErr result (λ e. e ≡ Memory) }
 {
     match subsection {
@@ -146,8 +147,8 @@ fn write_subsection(out: &mut Output, subsection: &Dylink0Subsection) -> Result<
 
 /// Writes subsections, one behind the other.
 fn write_subsections(out: &mut Output, subsections: &[Dylink0Subsection]) -> Result<(), Refused>
-    ensures wrote { OnOk result (Wrote subsection_view spell_subsection fit_subsection subsections.now
-        out.old out.new) }
+    ensures wrote { OnOk result (Wrote subsection_view spell_subsection printable_subsection
+        subsections.now out.old out.new) }
     ensures refused { IfErr result (λ e. e ≡ Memory) }
 {
     for subsection in subsections {
@@ -199,9 +200,9 @@ fn are_cut(subsections: &[Dylink0Subsection]) -> bool
 /// kind.
 pub fn write_dylink(out: &mut Output, section: &Dylink0) -> Result<(), Refused>
     ensures written { OnOk result (out.new ≡ put out.old (spell_dylink (dylink_view section.now))) }
-    ensures fit { OnOk result (fit_dylink (dylink_view section.now) ≡ true) }
+    ensures printable { OnOk result (printable_dylink (dylink_view section.now) ≡ true) }
     ensures refused { IfErr result (λ e. e ≢ Memory
-        → fit_dylink (dylink_view section.now) ≡ false) }
+        → printable_dylink (dylink_view section.now) ≡ false) }
 {
     if !are_cut(&section.subsections) {
         return Err(Refused::Section);

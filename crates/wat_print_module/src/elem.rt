@@ -4,16 +4,16 @@ ghost use Rattle.std.specs.Prelude.{◌≡◌, ◌≢◌, OnOk, IfErr, true, fal
 ghost use Rattle.wat_expr.specs.Expression.{expression_view};
 ghost use Rattle.wat_fields.specs.Elem.{active, elem_kind_view, ElemTy, elem_view, elem};
 ghost use Rattle.wat_fields.specs.Payload.{payload_view, indices, exprs};
-ghost use Rattle.wat_print.specs.Index.{spell_index, fit_index};
+ghost use Rattle.wat_print.specs.Index.{spell_index, printable_index};
 ghost use Rattle.wat_print.specs.Layout.{Writes};
 ghost use Rattle.wat_print.specs.Parts.{spell_option, if_some, each, WroteLines};
 ghost use Rattle.wat_print.specs.Text.{put};
 ghost use Rattle.wat_print.specs.declared.fault.Refused.TheVariants.{Memory};
-ghost use Rattle.wat_print_instr.specs.ExpressionForm.{fit_expression};
+ghost use Rattle.wat_print_instr.specs.ExpressionForm.{printable_expression};
 ghost use Rattle.wat_print_module.specs.SegmentPrintings.{elem_printing};
-ghost use Rattle.wat_print_module.specs.Segments.{spell_item, spell_payload, fit_payload};
+ghost use Rattle.wat_print_module.specs.Segments.{spell_item, spell_payload, printable_payload};
 ghost use Rattle.wat_print_module.specs.Segments.{spell_elem_table, spell_elem_kind};
-ghost use Rattle.wat_print_module.specs.Segments.{fit_elem_kind, spell_elem, fit_elem};
+ghost use Rattle.wat_print_module.specs.Segments.{printable_elem_kind, spell_elem, printable_elem};
 ghost use Rattle.wat_tokens.specs.Index.{index_view};
 ghost use Rattle.wat_tokens.specs.Views.{option_view};
 ghost use Rattle.wat_types.specs.Reference.{ref_view};
@@ -33,9 +33,9 @@ use wat_types::RefType;
 /// Writes `( item Expression )`, on a line of its own where the layout has lines.
 fn write_item(out: &mut Output, item: &Expression) -> Result<(), Refused>
     ensures written { OnOk result (Writes (spell_item (expression_view item.now)) out.old out.new) }
-    ensures fit { OnOk result (fit_expression (expression_view item.now) ≡ true) }
+    ensures printable { OnOk result (printable_expression (expression_view item.now) ≡ true) }
     ensures refused { IfErr result (λ e. e ≢ Memory
-        → fit_expression (expression_view item.now) ≡ false) }
+        → printable_expression (expression_view item.now) ≡ false) }
 {
     out.line()?;
     out.open()?;
@@ -46,10 +46,10 @@ fn write_item(out: &mut Output, item: &Expression) -> Result<(), Refused>
 
 /// Writes items, one behind the other.
 pub(crate) fn write_items(out: &mut Output, items: &[Expression]) -> Result<(), Refused>
-    ensures wrote { OnOk result (WroteLines expression_view spell_item fit_expression items.now
-        out.old out.new) }
+    ensures wrote { OnOk result (WroteLines expression_view spell_item printable_expression
+        items.now out.old out.new) }
     ensures refused { IfErr result (λ e. e ≢ Memory
-        → each fit_expression (map expression_view items.now) ≡ false) }
+        → each printable_expression (map expression_view items.now) ≡ false) }
 {
     for item in items {
         write_item(out, item)?;
@@ -61,9 +61,9 @@ pub(crate) fn write_items(out: &mut Output, items: &[Expression]) -> Result<(), 
 fn write_typed(out: &mut Output, ty: &RefType, items: &[Expression]) -> Result<(), Refused>
     ensures written { OnOk result (Writes (spell_payload
         (exprs (ref_view ty.now) (map expression_view items.now))) out.old out.new) }
-    ensures fit { OnOk result (fit_payload
+    ensures printable { OnOk result (printable_payload
         (exprs (ref_view ty.now) (map expression_view items.now)) ≡ true) }
-    ensures refused { IfErr result (λ e. e ≢ Memory → fit_payload
+    ensures refused { IfErr result (λ e. e ≢ Memory → printable_payload
         (exprs (ref_view ty.now) (map expression_view items.now)) ≡ false) }
 {
     write_ref(out, ty)?;
@@ -74,9 +74,9 @@ fn write_typed(out: &mut Output, ty: &RefType, items: &[Expression]) -> Result<(
 pub(crate) fn write_indices(out: &mut Output, list: &[Index]) -> Result<(), Refused>
     ensures written { OnOk result (out.new ≡ put out.old
         (flat_map spell_index (map index_view list.now))) }
-    ensures fit { OnOk result (each fit_index (map index_view list.now) ≡ true) }
+    ensures printable { OnOk result (each printable_index (map index_view list.now) ≡ true) }
     ensures refused { IfErr result (λ e. e ≢ Memory
-        → each fit_index (map index_view list.now) ≡ false) }
+        → each printable_index (map index_view list.now) ≡ false) }
 {
     write_each(out, list)
 }
@@ -85,9 +85,9 @@ pub(crate) fn write_indices(out: &mut Output, list: &[Index]) -> Result<(), Refu
 fn write_functions(out: &mut Output, list: &[Index]) -> Result<(), Refused>
     ensures written { OnOk result (out.new ≡ put out.old
         (spell_payload (indices (map index_view list.now)))) }
-    ensures fit { OnOk result (fit_payload (indices (map index_view list.now)) ≡ true) }
+    ensures printable { OnOk result (printable_payload (indices (map index_view list.now)) ≡ true) }
     ensures refused { IfErr result (λ e. e ≢ Memory
-        → fit_payload (indices (map index_view list.now)) ≡ false) }
+        → printable_payload (indices (map index_view list.now)) ≡ false) }
 {
     out.word("func")?;
     write_indices(out, list)
@@ -99,9 +99,9 @@ fn write_functions(out: &mut Output, list: &[Index]) -> Result<(), Refused>
 pub fn write_payload(out: &mut Output, payload: &ElemPayload) -> Result<(), Refused>
     ensures written { OnOk result
         (Writes (spell_payload (payload_view payload.now)) out.old out.new) }
-    ensures fit { OnOk result (fit_payload (payload_view payload.now) ≡ true) }
+    ensures printable { OnOk result (printable_payload (payload_view payload.now) ≡ true) }
     ensures refused { IfErr result (λ e. e ≢ Memory
-        → fit_payload (payload_view payload.now) ≡ false) }
+        → printable_payload (payload_view payload.now) ≡ false) }
 {
     match payload {
         ElemPayload::Indices(list) => write_functions(out, list),
@@ -113,9 +113,10 @@ pub fn write_payload(out: &mut Output, payload: &ElemPayload) -> Result<(), Refu
 fn write_elem_table(out: &mut Output, table: &Option<Index>) -> Result<(), Refused>
     ensures written { OnOk result (out.new ≡ put out.old
         (spell_option spell_elem_table (option_view index_view table.now))) }
-    ensures fit { OnOk result (if_some fit_index (option_view index_view table.now) ≡ true) }
+    ensures printable { OnOk result
+        (if_some printable_index (option_view index_view table.now) ≡ true) }
     ensures refused { IfErr result (λ e. e ≢ Memory
-        → if_some fit_index (option_view index_view table.now) ≡ false) }
+        → if_some printable_index (option_view index_view table.now) ≡ false) }
 {
     match table {
         Some(table) => {
@@ -133,9 +134,9 @@ fn write_active(out: &mut Output, table: &Option<Index>, offset: &Expression) ->
     ensures written { OnOk result (Writes (spell_elem_kind
         (active (option_view index_view table.now) (expression_view offset.now))) out.old
         out.new) }
-    ensures fit { OnOk result (fit_elem_kind
+    ensures printable { OnOk result (printable_elem_kind
         (active (option_view index_view table.now) (expression_view offset.now)) ≡ true) }
-    ensures refused { IfErr result (λ e. e ≢ Memory → fit_elem_kind
+    ensures refused { IfErr result (λ e. e ≢ Memory → printable_elem_kind
         (active (option_view index_view table.now) (expression_view offset.now)) ≡ false) }
 {
     write_elem_table(out, table)?;
@@ -147,9 +148,9 @@ fn write_active(out: &mut Output, table: &Option<Index>, offset: &Expression) ->
 fn write_elem_kind(out: &mut Output, kind: &ElemKind) -> Result<(), Refused>
     ensures written { OnOk result
         (Writes (spell_elem_kind (elem_kind_view kind.now)) out.old out.new) }
-    ensures fit { OnOk result (fit_elem_kind (elem_kind_view kind.now) ≡ true) }
+    ensures printable { OnOk result (printable_elem_kind (elem_kind_view kind.now) ≡ true) }
     ensures refused { IfErr result (λ e. e ≢ Memory
-        → fit_elem_kind (elem_kind_view kind.now) ≡ false) }
+        → printable_elem_kind (elem_kind_view kind.now) ≡ false) }
 {
     match kind {
         ElemKind::Passive => Ok(()),
@@ -162,8 +163,8 @@ fn write_elem_kind(out: &mut Output, kind: &ElemKind) -> Result<(), Refused>
 /// the table is written where the segment has one, and the offset as `( offset Expression )`.
 pub fn write_elem(out: &mut Output, elem: &Elem) -> Result<(), Refused>
     ensures written { OnOk result (Writes (spell_elem (elem_view elem.now)) out.old out.new) }
-    ensures fit { OnOk result (fit_elem (elem_view elem.now) ≡ true) }
-    ensures refused { IfErr result (λ e. e ≢ Memory → fit_elem (elem_view elem.now) ≡ false) }
+    ensures printable { OnOk result (printable_elem (elem_view elem.now) ≡ true) }
+    ensures refused { IfErr result (λ e. e ≢ Memory → printable_elem (elem_view elem.now) ≡ false) }
 {
     out.word("elem")?;
     write_label(out, &elem.id, &elem.name)?;

@@ -5,8 +5,8 @@ ghost use Rattle.wat_links.specs.Export.{export_kind, ExportTy, export_view, exp
 ghost use Rattle.wat_links.specs.Export.{ExportTypeTy, export_type_view, export_type};
 ghost use Rattle.wat_print.specs.Text.{put};
 ghost use Rattle.wat_print.specs.declared.fault.Refused.TheVariants.{Memory};
-ghost use Rattle.wat_print_module.specs.Export.{export_kind_word, spell_export, fit_export};
-ghost use Rattle.wat_print_module.specs.Export.{spell_export_type, fit_export_type};
+ghost use Rattle.wat_print_module.specs.Export.{export_kind_word, spell_export, printable_export};
+ghost use Rattle.wat_print_module.specs.Export.{spell_export_type, printable_export_type};
 ghost use Rattle.wat_print_module.specs.LinkPrintings.{export_kind_printing, export_printing};
 ghost use Rattle.wat_print_module.specs.LinkPrintings.{export_type_printing};
 
@@ -32,9 +32,9 @@ fn word_of(kind: ExportKind) -> &'static str
 /// Writes an export, without its parentheses (Text Format, Modules, "Exports").
 pub fn write_export(out: &mut Output, export: &Export) -> Result<(), Refused>
     ensures written { OnOk result (out.new ≡ put out.old (spell_export (export_view export.now))) }
-    ensures fit { OnOk result (fit_export (export_view export.now) ≡ true) }
+    ensures printable { OnOk result (printable_export (export_view export.now) ≡ true) }
     ensures refused { IfErr result (λ e. e ≢ Memory
-        → fit_export (export_view export.now) ≡ false) }
+        → printable_export (export_view export.now) ≡ false) }
 {
     out.word("export")?;
     out.text(export.name)?;
@@ -48,9 +48,9 @@ pub fn write_export(out: &mut Output, export: &Export) -> Result<(), Refused>
 pub fn write_export_type(out: &mut Output, export: &ExportType) -> Result<(), Refused>
     ensures written { OnOk result (out.new ≡ put out.old
         (spell_export_type (export_type_view export.now))) }
-    ensures fit { OnOk result (fit_export_type (export_type_view export.now) ≡ true) }
+    ensures printable { OnOk result (printable_export_type (export_type_view export.now) ≡ true) }
     ensures refused { IfErr result (λ e. e ≢ Memory
-        → fit_export_type (export_type_view export.now) ≡ false) }
+        → printable_export_type (export_type_view export.now) ≡ false) }
 {
     out.word("export")?;
     out.text(export.name)?;

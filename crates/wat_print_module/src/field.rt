@@ -4,12 +4,12 @@ ghost use Rattle.std.specs.Prelude.{◌≡◌, ◌≢◌, OnOk, IfErr, true, fal
 ghost use Rattle.wat_tokens.specs.Index.{index_view};
 ghost use Rattle.wat_core.specs.Field.{ModuleFieldTy, field_view};
 ghost use Rattle.wat_core.specs.FieldGroup.{field_group};
-ghost use Rattle.wat_print.specs.Index.{fit_index};
+ghost use Rattle.wat_print.specs.Index.{printable_index};
 ghost use Rattle.wat_print.specs.Layout.{Writes};
 ghost use Rattle.wat_print.specs.Text.{put};
 ghost use Rattle.wat_print.specs.declared.fault.Refused.TheVariants.{Memory};
-ghost use Rattle.wat_print_module.specs.Field.{spell_start, spell_module_field, fit_module_field};
-ghost use Rattle.wat_print_module.specs.Field.{spell_field_group};
+ghost use Rattle.wat_print_module.specs.Field.{spell_start, spell_module_field};
+ghost use Rattle.wat_print_module.specs.Field.{printable_module_field, spell_field_group};
 ghost use Rattle.wat_print_module.specs.ModulePrintings.{module_field_printing};
 
 use crate::custom::write_custom;
@@ -33,8 +33,9 @@ use wat_tokens::Index;
 /// Format, Modules, "Start Function").
 pub fn write_start(out: &mut Output, index: &Index) -> Result<(), Refused>
     ensures written { OnOk result (out.new ≡ put out.old (spell_start (index_view index.now))) }
-    ensures fit { OnOk result (fit_index (index_view index.now) ≡ true) }
-    ensures refused { IfErr result (λ e. e ≢ Memory → fit_index (index_view index.now) ≡ false) }
+    ensures printable { OnOk result (printable_index (index_view index.now) ≡ true) }
+    ensures refused { IfErr result (λ e. e ≢ Memory
+        → printable_index (index_view index.now) ≡ false) }
 {
     out.word("start")?;
     write_index(out, index)
@@ -45,9 +46,9 @@ pub fn write_start(out: &mut Output, index: &Index) -> Result<(), Refused>
 fn write_inside(out: &mut Output, field: &ModuleField) -> Result<(), Refused>
     ensures written { OnOk result (Writes (spell_module_field (field_view field.now)) out.old
         out.new) }
-    ensures fit { OnOk result (fit_module_field (field_view field.now) ≡ true) }
+    ensures printable { OnOk result (printable_module_field (field_view field.now) ≡ true) }
     ensures refused { IfErr result (λ e. e ≢ Memory
-        → fit_module_field (field_view field.now) ≡ false) }
+        → printable_module_field (field_view field.now) ≡ false) }
 {
     match field {
         ModuleFieldOf::Type(ty) => write_type(out, ty),
@@ -71,9 +72,9 @@ fn write_inside(out: &mut Output, field: &ModuleField) -> Result<(), Refused>
 pub fn write_field(out: &mut Output, field: &ModuleField) -> Result<(), Refused>
     ensures written { OnOk result (Writes (spell_field_group (field_view field.now)) out.old
         out.new) }
-    ensures fit { OnOk result (fit_module_field (field_view field.now) ≡ true) }
+    ensures printable { OnOk result (printable_module_field (field_view field.now) ≡ true) }
     ensures refused { IfErr result (λ e. e ≢ Memory
-        → fit_module_field (field_view field.now) ≡ false) }
+        → printable_module_field (field_view field.now) ≡ false) }
 {
     out.line()?;
     out.open()?;

@@ -10,8 +10,9 @@ ghost use Rattle.wat_print.specs.Parts.{Wrote};
 ghost use Rattle.wat_print.specs.Text.{put};
 ghost use Rattle.wat_print.specs.declared.fault.Refused.TheVariants.{Memory};
 ghost use Rattle.wat_print_module.specs.FieldHead.{spell_inline_name, spell_inline_export};
-ghost use Rattle.wat_print_module.specs.FieldHead.{fit_inline_export, spell_inline_import};
-ghost use Rattle.wat_print_module.specs.FieldHead.{fit_inline_import, spell_head, fit_head};
+ghost use Rattle.wat_print_module.specs.FieldHead.{printable_inline_export, spell_inline_import};
+ghost use Rattle.wat_print_module.specs.FieldHead.{printable_inline_import, spell_head};
+ghost use Rattle.wat_print_module.specs.FieldHead.{printable_head};
 ghost use Rattle.wat_print_module.specs.FieldPrintings.{inline_export_printing};
 ghost use Rattle.wat_print_module.specs.FieldPrintings.{inline_import_printing, head_printing};
 
@@ -24,7 +25,7 @@ use wat_tokens::{Id, NameAnnotation};
 /// Writes `( export name )`.
 fn write_inline_name(out: &mut Output, name: &str) -> Result<(), Refused>
     ensures written { OnOk result (out.new ≡ put out.old (spell_inline_name name.now)) }
-    ensures fit { OnOk result (is_utf8 name.now ≡ true) }
+    ensures printable { OnOk result (is_utf8 name.now ≡ true) }
     ensures refused { IfErr result (λ e. e ≡ Memory) }
 {
     out.open()?;
@@ -50,7 +51,8 @@ fn write_inline_names(out: &mut Output, names: &[&str]) -> Result<(), Refused>
 pub fn write_inline_export(out: &mut Output, exports: &InlineExport) -> Result<(), Refused>
     ensures written { OnOk result (out.new ≡ put out.old
         (spell_inline_export (inline_export_view exports.now))) }
-    ensures fit { OnOk result (fit_inline_export (inline_export_view exports.now) ≡ true) }
+    ensures printable { OnOk result
+        (printable_inline_export (inline_export_view exports.now) ≡ true) }
     ensures refused { IfErr result (λ e. e ≡ Memory) }
 {
     write_inline_names(out, &exports.names)
@@ -61,7 +63,8 @@ pub fn write_inline_export(out: &mut Output, exports: &InlineExport) -> Result<(
 pub fn write_inline_import(out: &mut Output, import: &InlineImport) -> Result<(), Refused>
     ensures written { OnOk result (out.new ≡ put out.old
         (spell_inline_import (inline_import_view import.now))) }
-    ensures fit { OnOk result (fit_inline_import (inline_import_view import.now) ≡ true) }
+    ensures printable { OnOk result
+        (printable_inline_import (inline_import_view import.now) ≡ true) }
     ensures refused { IfErr result (λ e. e ≡ Memory) }
 {
     out.open()?;
@@ -81,9 +84,9 @@ pub fn write_head(
 ) -> Result<(), Refused>
     ensures written { OnOk result (out.new ≡ put out.old (spell_head
         (field_head (label_view id.now name.now) (inline_export_view exports.now)))) }
-    ensures fit { OnOk result (fit_head
+    ensures printable { OnOk result (printable_head
         (field_head (label_view id.now name.now) (inline_export_view exports.now)) ≡ true) }
-    ensures refused { IfErr result (λ e. e ≢ Memory → fit_head
+    ensures refused { IfErr result (λ e. e ≢ Memory → printable_head
         (field_head (label_view id.now name.now) (inline_export_view exports.now)) ≡ false) }
 {
     write_label(out, id, name)?;

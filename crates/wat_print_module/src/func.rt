@@ -8,13 +8,13 @@ ghost use Rattle.wat_fields.specs.Local.{locals_view};
 ghost use Rattle.wat_links.specs.Import.{inline_import_view};
 ghost use Rattle.wat_print.specs.Layout.{Writes};
 ghost use Rattle.wat_print.specs.Text.{put};
-ghost use Rattle.wat_print.specs.Use.{fit_use};
+ghost use Rattle.wat_print.specs.Use.{printable_use};
 ghost use Rattle.wat_print.specs.declared.fault.Refused.TheVariants.{Memory};
-ghost use Rattle.wat_print_instr.specs.ExpressionForm.{spell_expression, fit_expression};
+ghost use Rattle.wat_print_instr.specs.ExpressionForm.{spell_expression, printable_expression};
 ghost use Rattle.wat_print_module.specs.FieldPrintings.{func_printing};
 ghost use Rattle.wat_print_module.specs.Func.{spell_exact_use, spell_defined_func};
-ghost use Rattle.wat_print_module.specs.Func.{fit_defined_func, spell_func, fit_func};
-ghost use Rattle.wat_print_module.specs.Local.{spell_locals, fit_locals};
+ghost use Rattle.wat_print_module.specs.Func.{printable_defined_func, spell_func, printable_func};
+ghost use Rattle.wat_print_module.specs.Local.{spell_locals, printable_locals};
 
 use crate::field_head::{write_head, write_inline_import};
 use crate::local::write_locals;
@@ -35,8 +35,9 @@ fn write_exact_use(
 ) -> Result<(), Refused>
     ensures written { OnOk result (out.new ≡ put out.old
         (spell_exact_use (func_use_view ty.now) is_exact)) }
-    ensures fit { OnOk result (fit_use (func_use_view ty.now) ≡ true) }
-    ensures refused { IfErr result (λ e. e ≢ Memory → fit_use (func_use_view ty.now) ≡ false) }
+    ensures printable { OnOk result (printable_use (func_use_view ty.now) ≡ true) }
+    ensures refused { IfErr result (λ e. e ≢ Memory
+        → printable_use (func_use_view ty.now) ≡ false) }
 {
     if !is_exact {
         return write_use(out, ty);
@@ -56,9 +57,9 @@ fn write_imported(
 ) -> Result<(), Refused>
     ensures written { OnOk result (out.new ≡ put out.old (spell_defined_func
         (func_use_view ty.now, imported (inline_import_view import.now) is_exact))) }
-    ensures fit { OnOk result (fit_defined_func
+    ensures printable { OnOk result (printable_defined_func
         (func_use_view ty.now, imported (inline_import_view import.now) is_exact) ≡ true) }
-    ensures refused { IfErr result (λ e. e ≢ Memory → fit_defined_func
+    ensures refused { IfErr result (λ e. e ≢ Memory → printable_defined_func
         (func_use_view ty.now, imported (inline_import_view import.now) is_exact) ≡ false) }
 {
     write_inline_import(out, import)?;
@@ -69,10 +70,10 @@ fn write_imported(
 fn write_body(out: &mut Output, locals: &[Local], body: &Expression) -> Result<(), Refused>
     ensures written { OnOk result (Writes (spell_locals (locals_view locals.now)
         ++ spell_expression (expression_view body.now)) out.old out.new) }
-    ensures fit { OnOk result (fit_locals (locals_view locals.now)
-        && fit_expression (expression_view body.now) ≡ true) }
-    ensures refused { IfErr result (λ e. e ≢ Memory → fit_locals (locals_view locals.now)
-        && fit_expression (expression_view body.now) ≡ false) }
+    ensures printable { OnOk result (printable_locals (locals_view locals.now)
+        && printable_expression (expression_view body.now) ≡ true) }
+    ensures refused { IfErr result (λ e. e ≢ Memory → printable_locals (locals_view locals.now)
+        && printable_expression (expression_view body.now) ≡ false) }
 {
     write_locals(out, locals)?;
     write_expression(out, body)
@@ -89,11 +90,11 @@ fn write_inline(
       func_use_view ty.now,
       inline (locals_view locals.now) (expression_view body.now),
     )) out.old out.new) }
-    ensures fit { OnOk result (fit_defined_func (
+    ensures printable { OnOk result (printable_defined_func (
       func_use_view ty.now,
       inline (locals_view locals.now) (expression_view body.now),
     ) ≡ true) }
-    ensures refused { IfErr result (λ e. e ≢ Memory → fit_defined_func (
+    ensures refused { IfErr result (λ e. e ≢ Memory → printable_defined_func (
       func_use_view ty.now,
       inline (locals_view locals.now) (expression_view body.now),
     ) ≡ false) }
@@ -111,9 +112,9 @@ fn write_defined(
 ) -> Result<(), Refused>
     ensures written { OnOk result (Writes (spell_defined_func
         (func_use_view ty.now, func_kind_view kind.now)) out.old out.new) }
-    ensures fit { OnOk result (fit_defined_func
+    ensures printable { OnOk result (printable_defined_func
         (func_use_view ty.now, func_kind_view kind.now) ≡ true) }
-    ensures refused { IfErr result (λ e. e ≢ Memory → fit_defined_func
+    ensures refused { IfErr result (λ e. e ≢ Memory → printable_defined_func
         (func_use_view ty.now, func_kind_view kind.now) ≡ false) }
 {
     match kind {
@@ -127,8 +128,8 @@ fn write_defined(
 /// its own.
 pub fn write_func(out: &mut Output, func: &Func) -> Result<(), Refused>
     ensures written { OnOk result (Writes (spell_func (func_view func.now)) out.old out.new) }
-    ensures fit { OnOk result (fit_func (func_view func.now) ≡ true) }
-    ensures refused { IfErr result (λ e. e ≢ Memory → fit_func (func_view func.now) ≡ false) }
+    ensures printable { OnOk result (printable_func (func_view func.now) ≡ true) }
+    ensures refused { IfErr result (λ e. e ≢ Memory → printable_func (func_view func.now) ≡ false) }
 {
     out.word("func")?;
     write_head(out, &func.id, &func.name, &func.exports)?;

@@ -9,8 +9,8 @@ ghost use Rattle.wat_print.specs.Layout.{Writes};
 ghost use Rattle.wat_print.specs.Text.{put};
 ghost use Rattle.wat_print.specs.declared.fault.Refused.TheVariants.{Memory};
 ghost use Rattle.wat_print_module.specs.FieldPrintings.{global_field_printing};
-ghost use Rattle.wat_print_module.specs.Global.{spell_defined_global, fit_defined_global};
-ghost use Rattle.wat_print_module.specs.Global.{spell_global_field, fit_global_field};
+ghost use Rattle.wat_print_module.specs.Global.{spell_defined_global, printable_defined_global};
+ghost use Rattle.wat_print_module.specs.Global.{spell_global_field, printable_global_field};
 ghost use Rattle.wat_types.specs.Storage.{global_type_view};
 
 use crate::field_head::{write_head, write_inline_import};
@@ -27,9 +27,9 @@ use wat_types::GlobalType;
 fn write_imported(out: &mut Output, ty: &GlobalType, import: &InlineImport) -> Result<(), Refused>
     ensures written { OnOk result (out.new ≡ put out.old (spell_defined_global
         (global_type_view ty.now, imported (inline_import_view import.now)))) }
-    ensures fit { OnOk result (fit_defined_global
+    ensures printable { OnOk result (printable_defined_global
         (global_type_view ty.now, imported (inline_import_view import.now)) ≡ true) }
-    ensures refused { IfErr result (λ e. e ≢ Memory → fit_defined_global
+    ensures refused { IfErr result (λ e. e ≢ Memory → printable_defined_global
         (global_type_view ty.now, imported (inline_import_view import.now)) ≡ false) }
 {
     write_inline_import(out, import)?;
@@ -40,9 +40,9 @@ fn write_imported(out: &mut Output, ty: &GlobalType, import: &InlineImport) -> R
 fn write_inline(out: &mut Output, ty: &GlobalType, value: &Expression) -> Result<(), Refused>
     ensures written { OnOk result (Writes (spell_defined_global
         (global_type_view ty.now, inline (expression_view value.now))) out.old out.new) }
-    ensures fit { OnOk result (fit_defined_global
+    ensures printable { OnOk result (printable_defined_global
         (global_type_view ty.now, inline (expression_view value.now)) ≡ true) }
-    ensures refused { IfErr result (λ e. e ≢ Memory → fit_defined_global
+    ensures refused { IfErr result (λ e. e ≢ Memory → printable_defined_global
         (global_type_view ty.now, inline (expression_view value.now)) ≡ false) }
 {
     write_global(out, ty)?;
@@ -54,9 +54,9 @@ fn write_inline(out: &mut Output, ty: &GlobalType, value: &Expression) -> Result
 fn write_defined(out: &mut Output, ty: &GlobalType, kind: &GlobalKind) -> Result<(), Refused>
     ensures written { OnOk result (Writes (spell_defined_global
         (global_type_view ty.now, global_kind_view kind.now)) out.old out.new) }
-    ensures fit { OnOk result (fit_defined_global
+    ensures printable { OnOk result (printable_defined_global
         (global_type_view ty.now, global_kind_view kind.now) ≡ true) }
-    ensures refused { IfErr result (λ e. e ≢ Memory → fit_defined_global
+    ensures refused { IfErr result (λ e. e ≢ Memory → printable_defined_global
         (global_type_view ty.now, global_kind_view kind.now) ≡ false) }
 {
     match kind {
@@ -70,9 +70,9 @@ fn write_defined(out: &mut Output, ty: &GlobalType, kind: &GlobalKind) -> Result
 pub fn write_global_field(out: &mut Output, global: &Global) -> Result<(), Refused>
     ensures written { OnOk result
         (Writes (spell_global_field (global_view global.now)) out.old out.new) }
-    ensures fit { OnOk result (fit_global_field (global_view global.now) ≡ true) }
+    ensures printable { OnOk result (printable_global_field (global_view global.now) ≡ true) }
     ensures refused { IfErr result (λ e. e ≢ Memory
-        → fit_global_field (global_view global.now) ≡ false) }
+        → printable_global_field (global_view global.now) ≡ false) }
 {
     out.word("global")?;
     write_head(out, &global.id, &global.name, &global.exports)?;

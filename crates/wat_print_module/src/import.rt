@@ -9,8 +9,9 @@ ghost use Rattle.wat_links.specs.Item.{sig_view};
 ghost use Rattle.wat_print.specs.Parts.{each, Wrote};
 ghost use Rattle.wat_print.specs.Text.{put};
 ghost use Rattle.wat_print.specs.declared.fault.Refused.TheVariants.{Memory};
-ghost use Rattle.wat_print_module.specs.Import.{spell_typed, fit_typed, spell_named, fit_shared};
-ghost use Rattle.wat_print_module.specs.Import.{spell_items, fit_items, spell_imports, fit_imports};
+ghost use Rattle.wat_print_module.specs.Import.{spell_typed, printable_typed, spell_named};
+ghost use Rattle.wat_print_module.specs.Import.{printable_shared, spell_items, printable_items};
+ghost use Rattle.wat_print_module.specs.Import.{spell_imports, printable_imports};
 ghost use Rattle.wat_print_module.specs.Item.{spell_sig_group};
 ghost use Rattle.wat_print_module.specs.LinkPrintings.{imports_printing};
 
@@ -22,8 +23,9 @@ use wat_print::{Output, Refused};
 /// Writes an item with its signature: `( item name ( ItemSig ) )`.
 fn write_typed(out: &mut Output, item: &ImportGroup1Item) -> Result<(), Refused>
     ensures written { OnOk result (out.new ≡ put out.old (spell_typed (typed_view item.now))) }
-    ensures fit { OnOk result (fit_typed (typed_view item.now) ≡ true) }
-    ensures refused { IfErr result (λ e. e ≢ Memory → fit_typed (typed_view item.now) ≡ false) }
+    ensures printable { OnOk result (printable_typed (typed_view item.now) ≡ true) }
+    ensures refused { IfErr result (λ e. e ≢ Memory
+        → printable_typed (typed_view item.now) ≡ false) }
 {
     out.open()?;
     out.word("item")?;
@@ -34,9 +36,10 @@ fn write_typed(out: &mut Output, item: &ImportGroup1Item) -> Result<(), Refused>
 
 /// Writes items with their signatures, one behind the other.
 fn write_typed_items(out: &mut Output, items: &[ImportGroup1Item]) -> Result<(), Refused>
-    ensures wrote { OnOk result (Wrote typed_view spell_typed fit_typed items.now out.old out.new) }
+    ensures wrote { OnOk result (Wrote typed_view spell_typed printable_typed items.now out.old
+        out.new) }
     ensures refused { IfErr result (λ e. e ≢ Memory
-        → each fit_typed (map typed_view items.now) ≡ false) }
+        → each printable_typed (map typed_view items.now) ≡ false) }
 {
     for item in items {
         write_typed(out, item)?;
@@ -47,7 +50,7 @@ fn write_typed_items(out: &mut Output, items: &[ImportGroup1Item]) -> Result<(),
 /// Writes an item that shares its signature: `( item name )`.
 fn write_named(out: &mut Output, item: &ImportGroup2Item) -> Result<(), Refused>
     ensures written { OnOk result (out.new ≡ put out.old (spell_named (named_view item.now))) }
-    ensures fit { OnOk result (is_utf8 (named_view item.now) ≡ true) }
+    ensures printable { OnOk result (is_utf8 (named_view item.now) ≡ true) }
     ensures refused { IfErr result (λ e. e ≡ Memory) }
 {
     out.open()?;
@@ -70,8 +73,8 @@ fn write_named_items(out: &mut Output, items: &[ImportGroup2Item]) -> Result<(),
 /// Writes the signature that items share. One that has an identifier is refused with Label.
 fn write_shared(out: &mut Output, sig: &ItemSig) -> Result<(), Refused>
     ensures written { OnOk result (out.new ≡ put out.old (spell_sig_group (sig_view sig.now))) }
-    ensures fit { OnOk result (fit_shared (sig_view sig.now) ≡ true) }
-    ensures refused { IfErr result (λ e. e ≢ Memory → fit_shared (sig_view sig.now) ≡ false) }
+    ensures printable { OnOk result (printable_shared (sig_view sig.now) ≡ true) }
+    ensures refused { IfErr result (λ e. e ≢ Memory → printable_shared (sig_view sig.now) ≡ false) }
 {
     if sig.id.is_some() {
         return Err(Refused::Label);
@@ -82,8 +85,9 @@ fn write_shared(out: &mut Output, sig: &ItemSig) -> Result<(), Refused>
 /// Writes what is imported.
 fn write_items(out: &mut Output, items: &ImportItems) -> Result<(), Refused>
     ensures written { OnOk result (out.new ≡ put out.old (spell_items (items_view items.now))) }
-    ensures fit { OnOk result (fit_items (items_view items.now) ≡ true) }
-    ensures refused { IfErr result (λ e. e ≢ Memory → fit_items (items_view items.now) ≡ false) }
+    ensures printable { OnOk result (printable_items (items_view items.now) ≡ true) }
+    ensures refused { IfErr result (λ e. e ≢ Memory
+        → printable_items (items_view items.now) ≡ false) }
 {
     match items {
         ImportItemsOf::Single { name, sig, .. } => {
@@ -118,9 +122,9 @@ fn module_name<'a>(items: &ImportItems<'a>) -> &'a str
 pub fn write_imports(out: &mut Output, imports: &Imports) -> Result<(), Refused>
     ensures written { OnOk result (out.new ≡ put out.old
         (spell_imports (imports_view imports.now))) }
-    ensures fit { OnOk result (fit_imports (imports_view imports.now) ≡ true) }
+    ensures printable { OnOk result (printable_imports (imports_view imports.now) ≡ true) }
     ensures refused { IfErr result (λ e. e ≢ Memory
-        → fit_imports (imports_view imports.now) ≡ false) }
+        → printable_imports (imports_view imports.now) ≡ false) }
 {
     out.word("import")?;
     out.text(module_name(&imports.items))?;

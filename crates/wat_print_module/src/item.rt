@@ -4,8 +4,8 @@ ghost use Rattle.std.specs.Prelude.{◌≡◌, ◌≢◌, OnOk, IfErr, true, fal
 ghost use Rattle.wat_links.specs.Item.{item_kind_view, SigTy, sig_view, item_sig};
 ghost use Rattle.wat_print.specs.Text.{put};
 ghost use Rattle.wat_print.specs.declared.fault.Refused.TheVariants.{Memory};
-ghost use Rattle.wat_print_module.specs.Item.{item_word, spell_item, fit_item, spell_sig, fit_sig};
-ghost use Rattle.wat_print_module.specs.Item.{spell_sig_group};
+ghost use Rattle.wat_print_module.specs.Item.{item_word, spell_item, printable_item, spell_sig};
+ghost use Rattle.wat_print_module.specs.Item.{printable_sig, spell_sig_group};
 ghost use Rattle.wat_print_module.specs.LinkPrintings.{sig_printing};
 
 use crate::traits::PrintPart;
@@ -34,9 +34,10 @@ fn word_of(kind: &ItemKind) -> &'static str
 fn write_exact(out: &mut Output, ty: &TypeUse<FunctionType>) -> Result<(), Refused>
     ensures written { OnOk result (out.new ≡ put out.old
         (spell_item (item_kind_view (ItemKind.FuncExact ty.now)))) }
-    ensures fit { OnOk result (fit_item (item_kind_view (ItemKind.FuncExact ty.now)) ≡ true) }
+    ensures printable { OnOk result
+        (printable_item (item_kind_view (ItemKind.FuncExact ty.now)) ≡ true) }
     ensures refused { IfErr result (λ e. e ≢ Memory
-        → fit_item (item_kind_view (ItemKind.FuncExact ty.now)) ≡ false) }
+        → printable_item (item_kind_view (ItemKind.FuncExact ty.now)) ≡ false) }
 {
     out.open()?;
     out.word("exact")?;
@@ -49,9 +50,9 @@ fn write_exact(out: &mut Output, ty: &TypeUse<FunctionType>) -> Result<(), Refus
 fn write_kind(out: &mut Output, kind: &ItemKind) -> Result<(), Refused>
     ensures written { OnOk result (out.new ≡ put out.old
         (spell_item (item_kind_view kind.now))) }
-    ensures fit { OnOk result (fit_item (item_kind_view kind.now) ≡ true) }
+    ensures printable { OnOk result (printable_item (item_kind_view kind.now) ≡ true) }
     ensures refused { IfErr result (λ e. e ≢ Memory
-        → fit_item (item_kind_view kind.now) ≡ false) }
+        → printable_item (item_kind_view kind.now) ≡ false) }
 {
     match kind {
         ItemKind::Func(ty) => write_use(out, ty),
@@ -67,8 +68,8 @@ fn write_kind(out: &mut Output, kind: &ItemKind) -> Result<(), Refused>
 /// Types"): the word of its kind, what names it, and its type.
 pub fn write_sig(out: &mut Output, sig: &ItemSig) -> Result<(), Refused>
     ensures written { OnOk result (out.new ≡ put out.old (spell_sig (sig_view sig.now))) }
-    ensures fit { OnOk result (fit_sig (sig_view sig.now) ≡ true) }
-    ensures refused { IfErr result (λ e. e ≢ Memory → fit_sig (sig_view sig.now) ≡ false) }
+    ensures printable { OnOk result (printable_sig (sig_view sig.now) ≡ true) }
+    ensures refused { IfErr result (λ e. e ≢ Memory → printable_sig (sig_view sig.now) ≡ false) }
 {
     out.word(word_of(&sig.kind))?;
     write_label(out, &sig.id, &sig.name)?;
@@ -78,8 +79,8 @@ pub fn write_sig(out: &mut Output, sig: &ItemSig) -> Result<(), Refused>
 /// Writes a signature in parentheses.
 pub fn write_sig_group(out: &mut Output, sig: &ItemSig) -> Result<(), Refused>
     ensures written { OnOk result (out.new ≡ put out.old (spell_sig_group (sig_view sig.now))) }
-    ensures fit { OnOk result (fit_sig (sig_view sig.now) ≡ true) }
-    ensures refused { IfErr result (λ e. e ≢ Memory → fit_sig (sig_view sig.now) ≡ false) }
+    ensures printable { OnOk result (printable_sig (sig_view sig.now) ≡ true) }
+    ensures refused { IfErr result (λ e. e ≢ Memory → printable_sig (sig_view sig.now) ≡ false) }
 {
     out.open()?;
     write_sig(out, sig)?;

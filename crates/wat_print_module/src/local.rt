@@ -8,9 +8,9 @@ ghost use Rattle.wat_print.specs.Parts.{each, Wrote};
 ghost use Rattle.wat_print.specs.Text.{put};
 ghost use Rattle.wat_print.specs.declared.fault.Refused.TheVariants.{Memory};
 ghost use Rattle.wat_print_module.specs.FieldPrintings.{local_parser_printing};
-ghost use Rattle.wat_print_module.specs.Local.{local_label, spell_listed, fit_local, spell_local};
-ghost use Rattle.wat_print_module.specs.Local.{spell_local_parser, may_share_group};
-ghost use Rattle.wat_print_module.specs.Local.{fit_local_parser};
+ghost use Rattle.wat_print_module.specs.Local.{local_label, spell_listed, printable_local};
+ghost use Rattle.wat_print_module.specs.Local.{spell_local, spell_local_parser, may_share_group};
+ghost use Rattle.wat_print_module.specs.Local.{printable_local_parser};
 
 use crate::traits::PrintPart;
 use wat_fields::{Local, LocalParser};
@@ -22,8 +22,9 @@ use wat_print::{Output, Refused};
 #[tactic(auto, using(wat_print::specs::Laws::Written::put_both))]
 fn write_listed(out: &mut Output, local: &Local) -> Result<(), Refused>
     ensures written { OnOk result (out.new ≡ put out.old (spell_listed (local_view local.now))) }
-    ensures fit { OnOk result (fit_local (local_view local.now) ≡ true) }
-    ensures refused { IfErr result (λ e. e ≢ Memory → fit_local (local_view local.now) ≡ false) }
+    ensures printable { OnOk result (printable_local (local_view local.now) ≡ true) }
+    ensures refused { IfErr result (λ e. e ≢ Memory
+        → printable_local (local_view local.now) ≡ false) }
 {
     write_label(out, &local.id, &local.name)?;
     write_val(out, &local.ty)
@@ -32,10 +33,10 @@ fn write_listed(out: &mut Output, local: &Local) -> Result<(), Refused>
 /// Writes locals, one behind the other, without a group.
 #[tactic(auto, using(wat_print::specs::Laws::Written::not_each))]
 fn write_all_listed(out: &mut Output, locals: &[Local]) -> Result<(), Refused>
-    ensures wrote { OnOk result (Wrote local_view spell_listed fit_local locals.now out.old
+    ensures wrote { OnOk result (Wrote local_view spell_listed printable_local locals.now out.old
         out.new) }
     ensures refused { IfErr result (λ e. e ≢ Memory
-        → each fit_local (locals_view locals.now) ≡ false) }
+        → each printable_local (locals_view locals.now) ≡ false) }
 {
     for local in locals {
         write_listed(out, local)?;
@@ -46,8 +47,9 @@ fn write_all_listed(out: &mut Output, locals: &[Local]) -> Result<(), Refused>
 /// Writes a local in a group of its own.
 fn write_local(out: &mut Output, local: &Local) -> Result<(), Refused>
     ensures written { OnOk result (out.new ≡ put out.old (spell_local (local_view local.now))) }
-    ensures fit { OnOk result (fit_local (local_view local.now) ≡ true) }
-    ensures refused { IfErr result (λ e. e ≢ Memory → fit_local (local_view local.now) ≡ false) }
+    ensures printable { OnOk result (printable_local (local_view local.now) ≡ true) }
+    ensures refused { IfErr result (λ e. e ≢ Memory
+        → printable_local (local_view local.now) ≡ false) }
 {
     out.open()?;
     out.word("local")?;
@@ -58,10 +60,10 @@ fn write_local(out: &mut Output, local: &Local) -> Result<(), Refused>
 /// Writes the locals of a function (Text Format, Modules, "Functions"), each in a group of its own.
 #[tactic(auto, using(wat_print::specs::Laws::Written::not_each))]
 pub fn write_locals(out: &mut Output, locals: &[Local]) -> Result<(), Refused>
-    ensures wrote { OnOk result (Wrote local_view spell_local fit_local locals.now out.old
+    ensures wrote { OnOk result (Wrote local_view spell_local printable_local locals.now out.old
         out.new) }
     ensures refused { IfErr result (λ e. e ≢ Memory
-        → each fit_local (locals_view locals.now) ≡ false) }
+        → each printable_local (locals_view locals.now) ≡ false) }
 {
     for local in locals {
         write_local(out, local)?;
@@ -94,12 +96,12 @@ fn may_stand_together(locals: &[Local]) -> bool
 
 /// Writes the locals of one group, without its parentheses (Text Format, Modules, "Functions",
 /// Abbreviations). More than one, of which one has an identifier or a name, are refused with Label.
-pub fn write_local_parser(out: &mut Output, group: &LocalParser) -> Result<(), Refused>
+fn write_local_parser(out: &mut Output, group: &LocalParser) -> Result<(), Refused>
     ensures written { OnOk result (out.new ≡ put out.old
         (spell_local_parser (local_parser_view group.now))) }
-    ensures fit { OnOk result (fit_local_parser (local_parser_view group.now) ≡ true) }
+    ensures printable { OnOk result (printable_local_parser (local_parser_view group.now) ≡ true) }
     ensures refused { IfErr result (λ e. e ≢ Memory
-        → fit_local_parser (local_parser_view group.now) ≡ false) }
+        → printable_local_parser (local_parser_view group.now) ≡ false) }
 {
     if !may_stand_together(&group.locals) {
         return Err(Refused::Label);

@@ -8,10 +8,10 @@ ghost use Rattle.wat_links.specs.Import.{inline_import_view};
 ghost use Rattle.wat_print.specs.Parts.{grouped, each};
 ghost use Rattle.wat_print.specs.Text.{put};
 ghost use Rattle.wat_print.specs.declared.fault.Refused.TheVariants.{Memory as NoMemory};
-ghost use Rattle.wat_print_module.specs.Memory.{spell_memory_kind, fit_memory_kind};
-ghost use Rattle.wat_print_module.specs.Memory.{spell_memory, fit_memory};
+ghost use Rattle.wat_print_module.specs.Memory.{spell_memory_kind, printable_memory_kind};
+ghost use Rattle.wat_print_module.specs.Memory.{spell_memory, printable_memory};
 ghost use Rattle.wat_print_module.specs.SegmentPrintings.{memory_printing};
-ghost use Rattle.wat_print_module.specs.Segments.{fit_data_val, spell_data_vals};
+ghost use Rattle.wat_print_module.specs.Segments.{printable_data_val, spell_data_vals};
 
 use crate::data_val::write_data_vals;
 use crate::field_head::{write_head, write_inline_import};
@@ -26,9 +26,9 @@ use wat_types::MemoryType;
 fn write_imported(out: &mut Output, import: &InlineImport, ty: &MemoryType) -> Result<(), Refused>
     ensures written { OnOk result (out.new ≡ put out.old (spell_memory_kind
         (imported (inline_import_view import.now) ty.now))) }
-    ensures fit { OnOk result (fit_memory_kind
+    ensures printable { OnOk result (printable_memory_kind
         (imported (inline_import_view import.now) ty.now) ≡ true) }
-    ensures refused { IfErr result (λ e. e ≢ NoMemory → fit_memory_kind
+    ensures refused { IfErr result (λ e. e ≢ NoMemory → printable_memory_kind
         (imported (inline_import_view import.now) ty.now) ≡ false) }
 {
     write_inline_import(out, import)?;
@@ -39,7 +39,7 @@ fn write_imported(out: &mut Output, import: &InlineImport, ty: &MemoryType) -> R
 fn write_inline_data(out: &mut Output, values: &[DataVal]) -> Result<(), Refused>
     ensures written { OnOk result (out.new ≡ put out.old
         (grouped (codes "data") (spell_data_vals (data_vals_view values.now)))) }
-    ensures fit { OnOk result (each fit_data_val (data_vals_view values.now) ≡ true) }
+    ensures printable { OnOk result (each printable_data_val (data_vals_view values.now) ≡ true) }
     ensures refused { IfErr result (λ e. e ≡ NoMemory) }
 {
     out.open()?;
@@ -57,9 +57,9 @@ fn write_inline(
 ) -> Result<(), Refused>
     ensures written { OnOk result (out.new ≡ put out.old (spell_memory_kind
         (inline is64 page_size_log2 (data_vals_view values.now)))) }
-    ensures fit { OnOk result (fit_memory_kind
+    ensures printable { OnOk result (printable_memory_kind
         (inline is64 page_size_log2 (data_vals_view values.now)) ≡ true) }
-    ensures refused { IfErr result (λ e. e ≢ NoMemory → fit_memory_kind
+    ensures refused { IfErr result (λ e. e ≢ NoMemory → printable_memory_kind
         (inline is64 page_size_log2 (data_vals_view values.now)) ≡ false) }
 {
     write_flag(out, "i64", is64)?;
@@ -71,9 +71,9 @@ fn write_inline(
 fn write_memory_kind(out: &mut Output, kind: &MemoryKind) -> Result<(), Refused>
     ensures written { OnOk result (out.new ≡ put out.old
         (spell_memory_kind (memory_kind_view kind.now))) }
-    ensures fit { OnOk result (fit_memory_kind (memory_kind_view kind.now) ≡ true) }
+    ensures printable { OnOk result (printable_memory_kind (memory_kind_view kind.now) ≡ true) }
     ensures refused { IfErr result (λ e. e ≢ NoMemory
-        → fit_memory_kind (memory_kind_view kind.now) ≡ false) }
+        → printable_memory_kind (memory_kind_view kind.now) ≡ false) }
 {
     match kind {
         MemoryKind::Import { import, ty } => write_imported(out, import, ty),
@@ -91,9 +91,9 @@ fn write_memory_kind(out: &mut Output, kind: &MemoryKind) -> Result<(), Refused>
 /// PageSize where k is 32 or more.
 pub fn write_memory(out: &mut Output, memory: &Memory) -> Result<(), Refused>
     ensures written { OnOk result (out.new ≡ put out.old (spell_memory (memory_view memory.now))) }
-    ensures fit { OnOk result (fit_memory (memory_view memory.now) ≡ true) }
+    ensures printable { OnOk result (printable_memory (memory_view memory.now) ≡ true) }
     ensures refused { IfErr result (λ e. e ≢ NoMemory
-        → fit_memory (memory_view memory.now) ≡ false) }
+        → printable_memory (memory_view memory.now) ≡ false) }
 {
     out.word("memory")?;
     write_head(out, &memory.id, &memory.name, &memory.exports)?;

@@ -12,12 +12,13 @@ ghost use Rattle.wat_print.specs.Printed.{NoneSpells};
 ghost use Rattle.wat_print.specs.Text.{put, printed_text};
 ghost use Rattle.wat_print.specs.declared.fault.Refused.TheVariants.{Memory};
 ghost use Rattle.wat_print.specs.declared.output.Layout.TheVariants.{Line};
-ghost use Rattle.wat_print_module.specs.Field.{fit_module_field, spell_field_group};
-ghost use Rattle.wat_print_module.specs.Module.{spell_module_kind, fit_module_kind, spell_module};
-ghost use Rattle.wat_print_module.specs.Module.{fit_module, spell_module_group, UnfitPart};
-ghost use Rattle.wat_print_module.specs.Module.{UnfitField, NonePart, fields_of_kind};
+ghost use Rattle.wat_print_module.specs.Field.{printable_module_field, spell_field_group};
+ghost use Rattle.wat_print_module.specs.Module.{spell_module_kind, printable_module_kind};
+ghost use Rattle.wat_print_module.specs.Module.{spell_module, printable_module, spell_module_group};
+ghost use Rattle.wat_print_module.specs.Module.{UnprintablePart, UnprintableField, NonePart};
+ghost use Rattle.wat_print_module.specs.Module.{fields_of_kind};
 ghost use Rattle.wat_print_module.specs.ModulePrintings.{module_printing};
-ghost use Rattle.wat_print.specs.Strings.{fit_string};
+ghost use Rattle.wat_print.specs.Strings.{printable_string};
 
 use crate::field::write_field;
 use crate::raw::write_pieces;
@@ -71,9 +72,9 @@ impl From<Refused> for ModuleRefused {
 fn write_numbered(out: &mut Output, field: &ModuleField, number: usize) -> Result<(), ModuleRefused>
     ensures written { OnOk result (Writes (spell_field_group (field_view field.now)) out.old
         out.new) }
-    ensures fit { OnOk result (fit_module_field (field_view field.now) ≡ true) }
+    ensures printable { OnOk result (printable_module_field (field_view field.now) ≡ true) }
     ensures refused { IfErr result (λ e. e.reason ≢ Memory
-        → fit_module_field (field_view field.now) ≡ false) }
+        → printable_module_field (field_view field.now) ≡ false) }
     ensures number { IfErr result (λ e. e.field ≡ Some number) }
 {
     match write_field(out, field) {
@@ -87,10 +88,10 @@ fn write_numbered(out: &mut Output, field: &ModuleField, number: usize) -> Resul
 
 /// Writes fields, each on a line of its own where the layout has lines.
 fn write_fields(out: &mut Output, fields: &[ModuleField]) -> Result<(), ModuleRefused>
-    ensures wrote { OnOk result (WroteLines field_view spell_field_group fit_module_field fields.now
-        out.old out.new) }
+    ensures wrote { OnOk result (WroteLines field_view spell_field_group printable_module_field
+        fields.now out.old out.new) }
     ensures refused { IfErr result (λ e. e.reason ≢ Memory
-        → UnfitField (map field_view fields.now) e.field) }
+        → UnprintableField (map field_view fields.now) e.field) }
 {
     for number in 0..fields.len() {
         write_numbered(out, &fields[number], number)?;
@@ -102,7 +103,7 @@ fn write_fields(out: &mut Output, fields: &[ModuleField]) -> Result<(), ModuleRe
 fn write_binary(out: &mut Output, pieces: &[&[u8]]) -> Result<(), Refused>
     ensures written { OnOk result (out.new ≡ put out.old
         (spell_module_kind (binary (map (λ s. s.now) pieces.now)))) }
-    ensures fit { OnOk result (each fit_string (map (λ s. s.now) pieces.now) ≡ true) }
+    ensures printable { OnOk result (each printable_string (map (λ s. s.now) pieces.now) ≡ true) }
     ensures refused { IfErr result (λ e. e ≡ Memory) }
 {
     out.word("binary")?;
@@ -113,9 +114,9 @@ fn write_binary(out: &mut Output, pieces: &[&[u8]]) -> Result<(), Refused>
 fn write_kind(out: &mut Output, kind: &ModuleKind) -> Result<(), ModuleRefused>
     ensures written { OnOk result (Writes (spell_module_kind (module_kind_view kind.now)) out.old
         out.new) }
-    ensures fit { OnOk result (fit_module_kind (module_kind_view kind.now) ≡ true) }
+    ensures printable { OnOk result (printable_module_kind (module_kind_view kind.now) ≡ true) }
     ensures refused { IfErr result (λ e. e.reason ≢ Memory
-        → UnfitField (fields_of_kind (module_kind_view kind.now)) e.field) }
+        → UnprintableField (fields_of_kind (module_kind_view kind.now)) e.field) }
 {
     match kind {
         ModuleKindOf::Text(fields) => {
@@ -132,9 +133,9 @@ fn write_kind(out: &mut Output, kind: &ModuleKind) -> Result<(), ModuleRefused>
 /// Writes a module without its parentheses.
 fn write_content(out: &mut Output, value: &Module) -> Result<(), ModuleRefused>
     ensures written { OnOk result (Writes (spell_module (module_view value.now)) out.old out.new) }
-    ensures fit { OnOk result (fit_module (module_view value.now) ≡ true) }
+    ensures printable { OnOk result (printable_module (module_view value.now) ≡ true) }
     ensures refused { IfErr result (λ e. e.reason ≢ Memory
-        → UnfitPart (module_view value.now) e.field) }
+        → UnprintablePart (module_view value.now) e.field) }
 {
     out.word("module")?;
     write_label(out, &value.id, &value.name)?;
@@ -147,9 +148,9 @@ fn write_content(out: &mut Output, value: &Module) -> Result<(), ModuleRefused>
 pub fn write_module(out: &mut Output, value: &Module) -> Result<(), ModuleRefused>
     ensures written { OnOk result (Writes (spell_module_group (module_view value.now)) out.old
         out.new) }
-    ensures fit { OnOk result (fit_module (module_view value.now) ≡ true) }
+    ensures printable { OnOk result (printable_module (module_view value.now) ≡ true) }
     ensures refused { IfErr result (λ e. e.reason ≢ Memory
-        → UnfitPart (module_view value.now) e.field) }
+        → UnprintablePart (module_view value.now) e.field) }
 {
     out.open()?;
     write_content(out, value)?;
@@ -189,7 +190,7 @@ impl PrintPart for VisibleModule<'_> {
 
     ghost printing = { module_printing };
 
-    #[tactic(auto, using(crate::specs::Laws::Module::part_unfit))]
+    #[tactic(auto, using(crate::specs::Laws::Module::part_unprintable))]
     fn write(&self, out: &mut Output) -> Result<(), Refused> {
         match write_content(out, &self.0) {
             Ok(()) => Ok(()),

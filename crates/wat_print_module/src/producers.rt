@@ -1,18 +1,16 @@
 //! How the `producers` section is printed.
 
-ghost use Rattle.std.specs.Prelude.{◌≡◌, ◌≢◌, List, OnOk, IfOk, IfErr};
-ghost use Rattle.std.specs.Prelude.{true};
-ghost use Rattle.std.specs.Prelude.{false, map, flat_map};
+ghost use Rattle.std.specs.Prelude.{◌≡◌, ◌≢◌, List, OnOk, IfOk, IfErr, true, false, map, flat_map};
 ghost use Rattle.wat_tokens.specs.Groups.{paren};
 ghost use Rattle.wat_links.specs.Producers.{producers_view, producers};
 ghost use Rattle.wat_print.specs.Parts.{each, Wrote};
 ghost use Rattle.wat_print.specs.Text.{put};
 ghost use Rattle.wat_print.specs.declared.fault.Refused.TheVariants.{Memory};
 ghost use Rattle.wat_print_module.specs.LinkPrintings.{producers_printing};
-ghost use Rattle.wat_print_module.specs.Producers.{ProducedTy, spell_produced, fit_versioned};
-ghost use Rattle.wat_print_module.specs.Producers.{spell_produced_field, fit_produced_field};
+ghost use Rattle.wat_print_module.specs.Producers.{ProducedTy, spell_produced, printable_versioned};
+ghost use Rattle.wat_print_module.specs.Producers.{spell_produced_field, printable_produced_field};
 ghost use Rattle.wat_print_module.specs.Producers.{field_of_word, fields_behind, spell_producers};
-ghost use Rattle.wat_print_module.specs.Producers.{fit_producers, produced_view};
+ghost use Rattle.wat_print_module.specs.Producers.{printable_producers, produced_view};
 
 use crate::traits::PrintPart;
 use wat_links::Producers;
@@ -22,7 +20,7 @@ use wat_print::{Output, Refused};
 fn write_produced(out: &mut Output, word: &str, name: &str, version: &str) -> Result<(), Refused>
     ensures written { OnOk result (out.new ≡ put out.old
         (spell_produced word.now (name.now, version.now))) }
-    ensures fit { OnOk result (fit_versioned (name.now, version.now) ≡ true) }
+    ensures printable { OnOk result (printable_versioned (name.now, version.now) ≡ true) }
     ensures refused { IfErr result (λ e. e ≡ Memory) }
 {
     out.open()?;
@@ -34,7 +32,8 @@ fn write_produced(out: &mut Output, word: &str, name: &str, version: &str) -> Re
 
 /// Writes the entries of a field.
 fn write_entries(out: &mut Output, word: &str, entries: &[(&str, &str)]) -> Result<(), Refused>
-    ensures wrote { OnOk result (Wrote (λ e. (e.0.now, e.1.now)) (spell_produced word.now) fit_versioned
+    ensures wrote { OnOk result (Wrote (λ e. (e.0.now, e.1.now)) (spell_produced word.now)
+        printable_versioned
         entries.now out.old out.new) }
     ensures refused { IfErr result (λ e. e ≡ Memory) }
 {
@@ -53,11 +52,11 @@ fn write_field<'f, 'a>(
 ) -> Result<&'f [(&'a str, Vec<(&'a str, &'a str)>)], Refused>
     ensures written { OnOk result (out.new ≡ put out.old (flat_map spell_produced_field
         (field_of_word word.now (map produced_view fields.now)))) }
-    ensures fit { OnOk result (each fit_produced_field
+    ensures printable { OnOk result (each printable_produced_field
         (field_of_word word.now (map produced_view fields.now)) ≡ true) }
     ensures behind { IfOk result (λ rest. map produced_view rest.now
         ≡ fields_behind word.now (map produced_view fields.now)) }
-    ensures refused { IfErr result (λ e. e ≢ Memory → each fit_produced_field
+    ensures refused { IfErr result (λ e. e ≢ Memory → each printable_produced_field
         (field_of_word word.now (map produced_view fields.now)) ≡ false) }
 {
     if fields.is_empty() || fields[0].0 != word {
@@ -78,9 +77,9 @@ fn write_fields<'a>(
 ) -> Result<(), Refused>
     ensures written { OnOk result (out.new ≡ put out.old
         (flat_map spell_produced_field (map produced_view fields.now))) }
-    ensures fit { OnOk result (fit_producers (map produced_view fields.now) ≡ true) }
+    ensures printable { OnOk result (printable_producers (map produced_view fields.now) ≡ true) }
     ensures refused { IfErr result (λ e. e ≢ Memory
-        → fit_producers (map produced_view fields.now) ≡ false) }
+        → printable_producers (map produced_view fields.now) ≡ false) }
 {
     let behind_languages = write_field(out, "language", fields)?;
     let behind_sdks = write_field(out, "sdk", behind_languages)?;
@@ -97,9 +96,9 @@ fn write_fields<'a>(
 pub fn write_producers(out: &mut Output, section: &Producers) -> Result<(), Refused>
     ensures written { OnOk result (out.new ≡ put out.old
         (spell_producers (producers_view section.now))) }
-    ensures fit { OnOk result (fit_producers (producers_view section.now) ≡ true) }
+    ensures printable { OnOk result (printable_producers (producers_view section.now) ≡ true) }
     ensures refused { IfErr result (λ e. e ≢ Memory
-        → fit_producers (producers_view section.now) ≡ false) }
+        → printable_producers (producers_view section.now) ≡ false) }
 {
     out.annotation("producers")?;
     write_fields(out, &section.fields)?;

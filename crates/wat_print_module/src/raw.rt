@@ -5,9 +5,9 @@ ghost use Rattle.wat_tokens.specs.Groups.{paren};
 ghost use Rattle.wat_links.specs.Raw.{RawTy, raw_view, raw_custom};
 ghost use Rattle.wat_print.specs.Parts.{Wrote};
 ghost use Rattle.wat_print.specs.Text.{put};
-ghost use Rattle.wat_print_module.specs.Custom.{spell_raw, fit_raw};
+ghost use Rattle.wat_print_module.specs.Custom.{spell_raw, printable_raw};
 ghost use Rattle.wat_print_module.specs.LinkPrintings.{raw_printing};
-ghost use Rattle.wat_print.specs.Strings.{spell_string, fit_string};
+ghost use Rattle.wat_print.specs.Strings.{spell_string, printable_string};
 ghost use Rattle.wat_print.specs.declared.fault.Refused.TheVariants.{Memory};
 
 use crate::custom_place::write_place_group;
@@ -18,7 +18,8 @@ use wat_print::{Output, Refused};
 
 /// Writes strings of bytes, one behind the other.
 pub fn write_pieces(out: &mut Output, pieces: &[&[u8]]) -> Result<(), Refused>
-    ensures wrote { OnOk result (Wrote (λ s. s.now) spell_string fit_string pieces.now out.old out.new) }
+    ensures wrote { OnOk result (Wrote (λ s. s.now) spell_string printable_string pieces.now out.old
+        out.new) }
     ensures refused { IfErr result (λ e. e ≡ Memory) }
 {
     for piece in pieces {
@@ -31,7 +32,7 @@ pub fn write_pieces(out: &mut Output, pieces: &[&[u8]]) -> Result<(), Refused>
 /// Its place is left out where it is behind the last section.
 pub fn write_raw(out: &mut Output, section: &RawCustomSection) -> Result<(), Refused>
     ensures written { OnOk result (out.new ≡ put out.old (spell_raw (raw_view section.now))) }
-    ensures fit { OnOk result (fit_raw (raw_view section.now) ≡ true) }
+    ensures printable { OnOk result (printable_raw (raw_view section.now) ≡ true) }
     ensures refused { IfErr result (λ e. e ≡ Memory) }
 {
     out.annotation("custom")?;

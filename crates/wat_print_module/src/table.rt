@@ -13,9 +13,9 @@ ghost use Rattle.wat_print.specs.declared.fault.Refused.TheVariants.{Memory};
 ghost use Rattle.wat_print_instr.specs.ExpressionForm.{spell_expression};
 ghost use Rattle.wat_print_module.specs.SegmentPrintings.{table_printing};
 ghost use Rattle.wat_print_module.specs.Table.{heap_number, same_flag, same_heap, same_ref};
-ghost use Rattle.wat_print_module.specs.Table.{spell_elements, fit_elements, fit_initial};
-ghost use Rattle.wat_print_module.specs.Table.{spell_table_kind, fit_table_kind, spell_table};
-ghost use Rattle.wat_print_module.specs.Table.{fit_table};
+ghost use Rattle.wat_print_module.specs.Table.{spell_elements, printable_elements};
+ghost use Rattle.wat_print_module.specs.Table.{printable_initial, spell_table_kind};
+ghost use Rattle.wat_print_module.specs.Table.{printable_table_kind, spell_table, printable_table};
 ghost use Rattle.wat_tokens.specs.Index.{index_view};
 ghost use Rattle.wat_tokens.specs.Views.{option_view, no_items};
 ghost use Rattle.wat_types.specs.Heap.{heap_view};
@@ -26,7 +26,7 @@ use crate::elem::{write_indices, write_items};
 use crate::field_head::{write_head, write_inline_import};
 use crate::traits::PrintPart;
 use wat_expr::Expression;
-use wat_fields::{ElemPayload, Table, TableKind};
+use wat_fields::{ElemPayload, Table, TableKind, is_funcref};
 use wat_links::InlineImport;
 use wat_print::limits::{write_flag, write_table_type};
 use wat_print::reference::write_ref;
@@ -70,30 +70,17 @@ fn same_type(a: &RefType, b: &RefType) -> bool
     same_flag(a.nullable, b.nullable) && same_heap(&a.heap, &b.heap)
 }
 
-/// Whether it is the type that `funcref` is.
-fn is_funcref(ty: &RefType) -> bool
-    ensures { result ≡ is_funcref (ref_view ty.now) }
-{
-    match ty.heap {
-        HeapType::Abstract {
-            shared: false,
-            ty: AbstractHeapType::Func,
-        } => ty.nullable,
-        _ => false,
-    }
-}
-
 /// Writes indices in a table whose elements have the type. They are refused where it isn't
 /// `funcref`.
 fn write_functions(out: &mut Output, ty: &RefType, list: &[Index]) -> Result<(), Refused>
     ensures written { OnOk result (out.new ≡ put out.old
         (spell_elements (indices (map index_view list.now)))) }
-    ensures fit { OnOk result (fit_elements (ref_view ty.now)
+    ensures printable { OnOk result (printable_elements (ref_view ty.now)
         (indices (map index_view list.now)) ≡ true) }
-    ensures refused { IfErr result (λ e. e ≢ Memory → fit_elements (ref_view ty.now)
+    ensures refused { IfErr result (λ e. e ≢ Memory → printable_elements (ref_view ty.now)
         (indices (map index_view list.now)) ≡ false) }
 {
-    if !is_funcref(ty) {
+    if !is_funcref(*ty) {
         return Err(Refused::Table);
     }
     write_indices(out, list)
@@ -104,7 +91,7 @@ fn is_bare_funcref(ty: &RefType, list: &[Expression]) -> bool
     ensures { result ≡ is_funcref (ref_view ty.now) && no_items
         (map expression_view list.now) }
 {
-    is_funcref(ty) && list.is_empty()
+    is_funcref(*ty) && list.is_empty()
 }
 
 /// Writes expressions in a table whose elements have the type. They are refused where they are of
@@ -117,9 +104,9 @@ fn write_listed_items(
 ) -> Result<(), Refused>
     ensures written { OnOk result (Writes (spell_elements
         (exprs (ref_view own.now) (map expression_view list.now))) out.old out.new) }
-    ensures fit { OnOk result (fit_elements (ref_view ty.now)
+    ensures printable { OnOk result (printable_elements (ref_view ty.now)
         (exprs (ref_view own.now) (map expression_view list.now)) ≡ true) }
-    ensures refused { IfErr result (λ e. e ≢ Memory → fit_elements (ref_view ty.now)
+    ensures refused { IfErr result (λ e. e ≢ Memory → printable_elements (ref_view ty.now)
         (exprs (ref_view own.now) (map expression_view list.now)) ≡ false) }
 {
     if !same_type(ty, own) {
@@ -136,9 +123,10 @@ fn write_listed_items(
 fn write_elements(out: &mut Output, ty: &RefType, payload: &ElemPayload) -> Result<(), Refused>
     ensures written { OnOk result
         (Writes (spell_elements (payload_view payload.now)) out.old out.new) }
-    ensures fit { OnOk result (fit_elements (ref_view ty.now) (payload_view payload.now) ≡ true) }
+    ensures printable { OnOk result (printable_elements (ref_view ty.now) (payload_view payload.now)
+        ≡ true) }
     ensures refused { IfErr result (λ e. e ≢ Memory
-        → fit_elements (ref_view ty.now) (payload_view payload.now) ≡ false) }
+        → printable_elements (ref_view ty.now) (payload_view payload.now) ≡ false) }
 {
     match payload {
         ElemPayload::Indices(list) => write_functions(out, ty, list),
@@ -150,9 +138,10 @@ fn write_elements(out: &mut Output, ty: &RefType, payload: &ElemPayload) -> Resu
 fn write_elem_group(out: &mut Output, ty: &RefType, payload: &ElemPayload) -> Result<(), Refused>
     ensures written { OnOk result (Writes (grouped (codes "elem")
         (spell_elements (payload_view payload.now))) out.old out.new) }
-    ensures fit { OnOk result (fit_elements (ref_view ty.now) (payload_view payload.now) ≡ true) }
+    ensures printable { OnOk result (printable_elements (ref_view ty.now) (payload_view payload.now)
+        ≡ true) }
     ensures refused { IfErr result (λ e. e ≢ Memory
-        → fit_elements (ref_view ty.now) (payload_view payload.now) ≡ false) }
+        → printable_elements (ref_view ty.now) (payload_view payload.now) ≡ false) }
 {
     out.open()?;
     out.word("elem")?;
@@ -171,9 +160,9 @@ fn write_inline(
 ) -> Result<(), Refused>
     ensures written { OnOk result (Writes (spell_table_kind
         (inline (ref_view elem.now) is64 shared (payload_view payload.now))) out.old out.new) }
-    ensures fit { OnOk result (fit_table_kind
+    ensures printable { OnOk result (printable_table_kind
         (inline (ref_view elem.now) is64 shared (payload_view payload.now)) ≡ true) }
-    ensures refused { IfErr result (λ e. e ≢ Memory → fit_table_kind
+    ensures refused { IfErr result (λ e. e ≢ Memory → printable_table_kind
         (inline (ref_view elem.now) is64 shared (payload_view payload.now)) ≡ false) }
 {
     if shared && is64 {
@@ -190,10 +179,10 @@ fn write_inline(
 fn write_initial(out: &mut Output, value: &Option<Expression>) -> Result<(), Refused>
     ensures written { OnOk result (Writes
         (spell_option spell_expression (option_view expression_view value.now)) out.old out.new) }
-    ensures fit { OnOk result
-        (if_some fit_initial (option_view expression_view value.now) ≡ true) }
+    ensures printable { OnOk result
+        (if_some printable_initial (option_view expression_view value.now) ≡ true) }
     ensures refused { IfErr result (λ e. e ≢ Memory
-        → if_some fit_initial (option_view expression_view value.now) ≡ false) }
+        → if_some printable_initial (option_view expression_view value.now) ≡ false) }
 {
     match value {
         Some(value) => {
@@ -211,9 +200,9 @@ fn write_normal(out: &mut Output, ty: &TableType, value: &Option<Expression>) ->
     ensures written { OnOk result (Writes (spell_table_kind
         (normal (table_type_view ty.now) (option_view expression_view value.now))) out.old
         out.new) }
-    ensures fit { OnOk result (fit_table_kind
+    ensures printable { OnOk result (printable_table_kind
         (normal (table_type_view ty.now) (option_view expression_view value.now)) ≡ true) }
-    ensures refused { IfErr result (λ e. e ≢ Memory → fit_table_kind
+    ensures refused { IfErr result (λ e. e ≢ Memory → printable_table_kind
         (normal (table_type_view ty.now) (option_view expression_view value.now)) ≡ false) }
 {
     write_table_type(out, ty)?;
@@ -224,9 +213,9 @@ fn write_normal(out: &mut Output, ty: &TableType, value: &Option<Expression>) ->
 fn write_imported(out: &mut Output, import: &InlineImport, ty: &TableType) -> Result<(), Refused>
     ensures written { OnOk result (out.new ≡ put out.old (spell_table_kind
         (imported (inline_import_view import.now) (table_type_view ty.now)))) }
-    ensures fit { OnOk result (fit_table_kind
+    ensures printable { OnOk result (printable_table_kind
         (imported (inline_import_view import.now) (table_type_view ty.now)) ≡ true) }
-    ensures refused { IfErr result (λ e. e ≢ Memory → fit_table_kind
+    ensures refused { IfErr result (λ e. e ≢ Memory → printable_table_kind
         (imported (inline_import_view import.now) (table_type_view ty.now)) ≡ false) }
 {
     write_inline_import(out, import)?;
@@ -238,9 +227,9 @@ fn write_imported(out: &mut Output, import: &InlineImport, ty: &TableType) -> Re
 fn write_table_kind(out: &mut Output, kind: &TableKind) -> Result<(), Refused>
     ensures written { OnOk result
         (Writes (spell_table_kind (table_kind_view kind.now)) out.old out.new) }
-    ensures fit { OnOk result (fit_table_kind (table_kind_view kind.now) ≡ true) }
+    ensures printable { OnOk result (printable_table_kind (table_kind_view kind.now) ≡ true) }
     ensures refused { IfErr result (λ e. e ≢ Memory
-        → fit_table_kind (table_kind_view kind.now) ≡ false) }
+        → printable_table_kind (table_kind_view kind.now) ≡ false) }
 {
     match kind {
         TableKind::Import { import, ty } => write_imported(out, import, ty),
@@ -262,8 +251,9 @@ fn write_table_kind(out: &mut Output, kind: &TableKind) -> Result<(), Refused>
 /// is both shared and of 64 bits. So is a first value without an instruction.
 pub fn write_table(out: &mut Output, table: &Table) -> Result<(), Refused>
     ensures written { OnOk result (Writes (spell_table (table_view table.now)) out.old out.new) }
-    ensures fit { OnOk result (fit_table (table_view table.now) ≡ true) }
-    ensures refused { IfErr result (λ e. e ≢ Memory → fit_table (table_view table.now) ≡ false) }
+    ensures printable { OnOk result (printable_table (table_view table.now) ≡ true) }
+    ensures refused { IfErr result (λ e. e ≢ Memory
+        → printable_table (table_view table.now) ≡ false) }
 {
     out.word("table")?;
     write_head(out, &table.id, &table.name, &table.exports)?;

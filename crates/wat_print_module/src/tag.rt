@@ -4,11 +4,11 @@ ghost use Rattle.std.specs.Prelude.{◌≡◌, ◌≢◌, OnOk, IfErr, true, fal
 ghost use Rattle.wat_fields.specs.Tag.{TagTy, tag_kind_view, tag_view, tag};
 ghost use Rattle.wat_print.specs.Parts.{spell_option, if_some};
 ghost use Rattle.wat_print.specs.Text.{put};
-ghost use Rattle.wat_print.specs.Use.{spell_use, fit_use};
+ghost use Rattle.wat_print.specs.Use.{spell_use, printable_use};
 ghost use Rattle.wat_print.specs.declared.fault.Refused.TheVariants.{Memory};
-ghost use Rattle.wat_print_module.specs.FieldHead.{spell_inline_import, fit_inline_import};
+ghost use Rattle.wat_print_module.specs.FieldHead.{spell_inline_import, printable_inline_import};
 ghost use Rattle.wat_print_module.specs.FieldPrintings.{tag_printing};
-ghost use Rattle.wat_print_module.specs.Tag.{spell_tag, fit_tag};
+ghost use Rattle.wat_print_module.specs.Tag.{spell_tag, printable_tag};
 ghost use Rattle.wat_types.specs.Tag.{tag_type_view};
 
 use crate::field_head::{write_head, write_inline_import};
@@ -22,7 +22,8 @@ use wat_types::TagType;
 fn write_import(out: &mut Output, kind: &TagKind) -> Result<(), Refused>
     ensures written { OnOk result (out.new ≡ put out.old
         (spell_option spell_inline_import (tag_kind_view kind.now))) }
-    ensures fit { OnOk result (if_some fit_inline_import (tag_kind_view kind.now) ≡ true) }
+    ensures printable { OnOk result
+        (if_some printable_inline_import (tag_kind_view kind.now) ≡ true) }
     ensures refused { IfErr result (λ e. e ≡ Memory) }
 {
     match kind {
@@ -34,8 +35,9 @@ fn write_import(out: &mut Output, kind: &TagKind) -> Result<(), Refused>
 /// Writes the type of a tag.
 fn write_tag_type(out: &mut Output, ty: &TagType) -> Result<(), Refused>
     ensures written { OnOk result (out.new ≡ put out.old (spell_use (tag_type_view ty.now))) }
-    ensures fit { OnOk result (fit_use (tag_type_view ty.now) ≡ true) }
-    ensures refused { IfErr result (λ e. e ≢ Memory → fit_use (tag_type_view ty.now) ≡ false) }
+    ensures printable { OnOk result (printable_use (tag_type_view ty.now) ≡ true) }
+    ensures refused { IfErr result (λ e. e ≢ Memory
+        → printable_use (tag_type_view ty.now) ≡ false) }
 {
     match ty {
         TagType::Exception(ty) => write_use(out, ty),
@@ -47,8 +49,8 @@ fn write_tag_type(out: &mut Output, ty: &TagType) -> Result<(), Refused>
 #[tactic(auto, using(wat_print::specs::Laws::Written::put_both))]
 pub fn write_tag(out: &mut Output, tag: &Tag) -> Result<(), Refused>
     ensures written { OnOk result (out.new ≡ put out.old (spell_tag (tag_view tag.now))) }
-    ensures fit { OnOk result (fit_tag (tag_view tag.now) ≡ true) }
-    ensures refused { IfErr result (λ e. e ≢ Memory → fit_tag (tag_view tag.now) ≡ false) }
+    ensures printable { OnOk result (printable_tag (tag_view tag.now) ≡ true) }
+    ensures refused { IfErr result (λ e. e ≢ Memory → printable_tag (tag_view tag.now) ≡ false) }
 {
     out.word("tag")?;
     write_head(out, &tag.id, &tag.name, &tag.exports)?;

@@ -9,6 +9,10 @@ ghost use Rattle.wat_print.specs.declared.fault.Refused.TheVariants.{Memory};
 use wat_print::{Output, Print, Refused};
 
 /// A type of parts of a module, whose values are printed and read again as the same values.
+///
+/// It says what [`Print`] says. That trait and the types are of other crates, so they can't have it
+/// here. If each had it as a [`ModulePart`], generic code would need a bound for every lifetime,
+/// which the prover doesn't state.
 pub trait PrintPart {
     /// What contracts see of a value: what its `Parse` has.
     ghost View: { Type 0 };
@@ -28,9 +32,9 @@ pub trait PrintPart {
     /// can be only with Memory. What was written before a refusal stays.
     fn write(&self, out: &mut Output) -> Result<(), Refused>
         ensures written { OnOk result (Writes (printing.spell (view self.now)) out.old out.new) }
-        ensures fit { OnOk result (printing.fit (view self.now) ≡ true) }
+        ensures printable { OnOk result (printing.printable (view self.now) ≡ true) }
         ensures refused { IfErr result (λ e. e ≢ Memory
-            → printing.fit (view self.now) ≡ false) };
+            → printing.printable (view self.now) ≡ false) };
 }
 
 /// A value as [`wat_print::print`] takes it.

@@ -6,8 +6,9 @@ use Rattle.wat_lexer.specs.Token.{Tok}
 use Rattle.wat_lexer.specs.Sight.{hidden_count}
 use Rattle.wat_tokens.specs.Parens.{nest}
 use Rattle.wat_tokens.specs.State.{State, behind}
-use Rattle.wat_tokens.specs.Counts.{Counts, Carries, Quiet, Grows}
-use Rattle.wat_tokens.specs.Laws.Counts.{carries_of, carried}
+use Rattle.wat_tokens.specs.Counts.{Counts, Carries, Quiet}
+use Rattle.wat_tokens.specs.Laws.Counts.{carries_of, carried, counts_within}
+use Rattle.wat_tokens.specs.Outcome.{TakesPrefix}
 
 some_left : (l : List Tok) → l ≢ [] → (take 1 l ++ drop 1 l ≡ l) × (length (take 1 l) ≡ 1)
 some_left [] f = absurd (f refl)
@@ -25,33 +26,17 @@ pub carries_still : (a b : State) → b.left ≡ a.left → b.taken ≡ a.taken 
 unfolding Counts behind
 carries_still a b l t m n h p k e = carries_of a b (record { front = []; left = sym l; taken = omega (arith, t); more = (m, n, omega (arith, p), h); peak = omega (arith, p); known = k; position = e })
 
--- in plain words: what was taken is a prefix, `taken` rose by its length, and `peak` at most to how
--- it nests
-pub counts_taken : (a b : State) (c : List Tok) → Carries a b → a.left ≡ c ++ b.left → b.taken ≡ a.taken + length c
+-- in plain words: what was taken is a prefix, and what was counted is its
+pub takes_prefix : (a b : State) → Carries a b → TakesPrefix a b
 unfolding Counts
-counts_taken a b c f e =
+takes_prefix a b f =
     let p = carried a b f in
-    p.taken ∙ ap (λ l. a.taken + length l) (sym (append_cancel_right c p.front b.left (sym e ∙ p.left)))
-
-pub counts_peak : (a b : State) (c : List Tok) → Carries a b → a.left ≡ c ++ b.left → b.peak ≤ max a.peak (nest c)
-unfolding Counts
-counts_peak a b c f e =
-    let p = carried a b f in
-    let same : c ≡ p.front = append_cancel_right c p.front b.left (sym e ∙ p.left) in
-    subst (λ (l : List Tok). b.peak ≤ max a.peak (nest l)) (sym same) p.peak
-
--- the place is directly behind what was taken
-pub counts_position : (a b : State) (c : List Tok) → Carries a b → a.left ≡ c ++ b.left → b.rest ≡ behind a.known (length c) a.rest
-unfolding Counts
-counts_position a b c f e =
-    let p = carried a b f in
-    p.position ∙ ap (λ l. behind a.known (length l) a.rest) (sym (append_cancel_right c p.front b.left (sym e ∙ p.left)))
-
--- what is left is an end of the tokens in front
-pub counts_end : (a b : State) → Carries a b → (c : List Tok) × (a.left ≡ c ++ b.left)
-unfolding Counts
-counts_end a b f = let p = carried a b f in (p.front, p.left)
-
-pub counts_grows : (a b : State) → Carries a b → Grows a b
-unfolding Counts
-counts_grows a b f = (carried a b f).more
+    let same : (c : List Tok) → a.left ≡ c ++ b.left → p.front ≡ c = λ c e. append_cancel_right p.front c b.left (sym p.left ∙ e) in
+    record {
+      end = (p.front, p.left);
+      position = λ c e. p.position ∙ ap (λ (l : List Tok). behind a.known (length l) a.rest) (same c e);
+      taken = λ c e. p.taken ∙ ap (λ (l : List Tok). a.taken + length l) (same c e);
+      within = counts_within a b f;
+      peak = λ c e. subst (λ (l : List Tok). b.peak ≤ max a.peak (nest l)) (same c e) p.peak;
+      grows = p.more;
+    }

@@ -1,9 +1,11 @@
 -- What follows from an answer that is exactly what is read.
 use Rattle.std.proofs.Common.{◌≡◌, ◌≢◌, true, List, ◌++◌, Some, None, Result, Ok, Err, sym, ap, ◌∙◌}
-use Rattle.std.specs.Prelude.{IfErr}
+use Rattle.std.specs.Prelude.{IfOk, IfErr}
 use Rattle.wat_lexer.specs.Token.{Tok}
 use Rattle.wat_tokens.specs.Error.{Error, Memory}
-use Rattle.wat_tokens.specs.Production.{Production}
+use Rattle.wat_tokens.specs.Production.{Production, Front}
+use Rattle.wat_tokens.specs.Outcome.{ReadsPrefix}
+use Rattle.wat_tokens.specs.State.{State}
 use Rattle.wat_tokens.specs.Laws.Production.{some_is}
 use Rattle.wat_tokens.specs.Laws.Error.{by_fault}
 use Rattle.wat_tokens.specs.Laws.Refuses.{refused_read, refused_memory}
@@ -11,7 +13,7 @@ use Rattle.wat_tokens.specs.Parses.{Gives, Accepts}
 use Rattle.wat_tokens.specs.Views.{ViewOf}
 
 module _ {X A : Type 0} (view : ViewOf X A) (g : Production A) where
-  pub gives_refused : (res : Result X Error) (t left : List Tok) → Gives view res (g.reads t) left
+  gives_refused : (res : Result X Error) (t left : List Tok) → Gives view res (g.reads t) left
       → IfErr res (λ e. e.fault ≢ Memory → (v : A) (c r : List Tok) → t ≡ c ++ r → g.spells v c r → ⊥)
   gives_refused (Ok x) t left h = tt
   gives_refused (Err e) t left h = λ not v c r whole s.
@@ -19,7 +21,7 @@ module _ {X A : Type 0} (view : ViewOf X A) (g : Production A) where
       let none : g.reads t ≡ None = refused_read view.may_own view.bare e.fault (g.reads t) h not in
       cc)
 
-  pub gives_accepts : (res : Result X Error) (t left : List Tok) → Gives view res (g.reads t) left
+  gives_accepts : (res : Result X Error) (t left : List Tok) → Gives view res (g.reads t) left
       → (v : A) (c r : List Tok) → t ≡ c ++ r → g.spells v c r → Accepts view res v left r
   gives_accepts (Ok x) t left h v c r whole s =
       let read : g.reads t ≡ Some (v, r) = ap (λ (u : List Tok). g.reads u) whole ∙ g.complete v c r s in
@@ -35,3 +37,15 @@ module _ {X A : Type 0} (view : ViewOf X A) (g : Production A) where
       → IfErr res (λ e. e.fault ≡ Memory → view.may_own ≡ true)
   gives_memory (Ok x) t left h = tt
   gives_memory (Err e) t left h = λ m. (refused_memory view.may_own view.bare e.fault (g.reads t) h m).0
+
+  gives_sound : (res : Result X Error) (t left : List Tok) → Gives view res (g.reads t) left
+      → IfOk res (λ x. Front g.spells t (view.of x, left))
+  gives_sound (Ok x) t left h = g.sound t (view.of x, left) h
+  gives_sound (Err e) t left h = tt
+
+  pub reads_prefix : (res : Result X Error) (a b : State) → Gives view res (g.reads a.left) b.left → ReadsPrefix view g res a b
+  reads_prefix res a b h = record {
+    sound = gives_sound res a.left b.left h;
+    accepts = gives_accepts res a.left b.left h;
+    refused = gives_refused res a.left b.left h;
+  }

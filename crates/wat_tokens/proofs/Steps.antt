@@ -2,9 +2,10 @@
 use Rattle.std.proofs.Common.{inl, inr, refl, ◌≡◌, ◌≢◌, ℕ, ◌+◌, ◌<◌, ◌≤◌, Bool, List, [], ◌∷◌, length, drop, sym, ap, ◌∙◌, arith, drop-drop}
 use Rattle.std.proofs.Math.ListN.{get_or}
 use Rattle.std.proofs.lemmas.Bool.{cases_lt, cases_Bool}
-use Rattle.std.proofs.lemmas.List.{drop-map, drop_more, length-drop}
+use Rattle.std.proofs.lemmas.List.{drop-map}
 use Rattle.std.specs.Prelude.{false, None}
 use Rattle.wat_lexer.specs.Token.{Tok, Entry, LParen, RParen, Annotation, is_open, is_close, is_annotation}
+use Rattle.wat_lexer.specs.Laws.Hidden.{begins_hidden_few, begins_hidden_other}
 use Rattle.wat_lexer.specs.Laws.Kinds.{open_is, close_is}
 use Rattle.wat_lexer.specs.Laws.VisibleFrom.{visible_some, visible_none}
 use Rattle.wat_lexer.specs.Sight.{visible, visible_tokens, hidden_count, hidden_count_at, begins_hidden_group}
@@ -44,35 +45,25 @@ unfolding hidden_count hidden_count_at
 not_hidden known [] h = refl
 not_hidden known (x ∷ r) h = rw h
 
-alone : (known : Bool) (t : Tok) → begins_hidden_group known (t ∷ []) ≡ false
-alone known LParen = refl
-alone known _ = refl
-
-few : (known : Bool) (ls : List Entry) → length ls ≤ 1 → begins_hidden_group known (toks ls) ≡ false
-few known [] h = refl
-few known (x ∷ []) h = alone known x.token
-few known (x ∷ y ∷ ls) h = absurd (omega arith)
-
-no_annotation : (known : Bool) (s t : Tok) (r : List Tok) → is_annotation t ≡ false → begins_hidden_group known (s ∷ t ∷ r) ≡ false
-no_annotation known LParen (Annotation n) r h = cc
-no_annotation known LParen _ r h = refl
-no_annotation known _ t r h = refl
-
 -- where fewer than two tokens are left
 pub shown_few : (known : Bool) (ls : List Entry) (i : ℕ) → length ls ≤ i + 1 → hidden_count known (toks (drop i ls)) ≡ 0
-shown_few known ls i h = not_hidden known (toks (drop i ls)) (few known (drop i ls) (omega (arith, length-drop i ls)))
+shown_few known ls i h = not_hidden known (toks (drop i ls)) (begins_hidden_few known ls i h)
 
 -- where no annotation is the second
 pub shown_other : (known : Bool) (ls : List Entry) (i : ℕ) → i + 1 < length ls → is_annotation ((get_or ls (i + 1) no_entry).token) ≡ false → hidden_count known (toks (drop i ls)) ≡ 0
-shown_other known ls i lt h =
-    let none : begins_hidden_group known (toks (drop i ls)) ≡ false = rw (drop_more ls i no_entry (omega arith), drop_more ls (i + 1) no_entry lt) (no_annotation known (entry_tok (get_or ls i no_entry)) (entry_tok (get_or ls (i + 1) no_entry)) (toks (drop (i + 1 + 1) ls)) h) in
-    not_hidden known (toks (drop i ls)) none
+shown_other known ls i lt h = not_hidden known (toks (drop i ls)) (begins_hidden_other known ls i lt h)
 
 -- the place is that of the first that is visible
 pub shown_at : (known : Bool) (ls : List Entry) (i : ℕ) → hidden_count known (toks (drop i ls)) ≡ 0 → VisibleFrom known (drop i ls) (visible_tokens known (toks (drop i ls)))
 shown_at known ls i h = shown_here known (drop i ls) h
 
 pub ruleset sight_steps = (shown_few, shown_other, shown_at)
+
+-- what is visible from the place of the first that is
+pub ruleset visible_steps = (visible_some, visible_none)
+
+-- one step on
+pub ruleset advance_steps = (stands_before, steps_to, rest_behind)
 
 -- so a lookup sees the token at its place, where one is there
 pub front_some : (known : Bool) (ls : List Entry) (i : ℕ) → hidden_count known (toks (drop i ls)) ≡ 0 → i < length ls
@@ -82,6 +73,8 @@ front_some known ls i h lt = visible_some known ls i (visible_tokens known (toks
 pub front_none : (known : Bool) (ls : List Entry) (i : ℕ) → hidden_count known (toks (drop i ls)) ≡ 0 → length ls ≤ i
     → visible_tokens known (toks (drop i ls)) ≡ []
 front_none known ls i h le = visible_none known ls i (visible_tokens known (toks (drop i ls))) (shown_here known (drop i ls) h) le
+
+pub ruleset front_steps = (front_some, front_none)
 
 -- WHAT A TOKEN'S KIND TELLS
 

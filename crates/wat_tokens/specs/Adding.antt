@@ -3,8 +3,6 @@ use Rattle.std.specs.Prelude.{List, [], ◌∷◌, Option, Some, None}
 use Rattle.wat_tokens.specs.Production.{Read, bind}
 use Rattle.wat_tokens.specs.PartSpells.{with_rest}
 
--- ---- a loop that adds each part to what it has, where it fits
-
 abbrev pub option_then : {A B : Type 0} → Option A → (A → Option B) → Option B
 option_then (Some x) f = f x
 option_then None f = None

@@ -28,6 +28,7 @@ pub mod ManySpells
 pub mod NameAnnotation
 pub mod NoneSpells
 pub mod Once
+pub mod Outcome
 pub mod Parens
 pub mod Parses
 pub mod PartSpells

@@ -16,16 +16,17 @@ use Rattle.wat_tokens.specs.Views.{ViewOf, plain}
 -- memory ran out
 -- counts: what was taken, and no more turns than tokens
 -- cost: what wasn't counted
--- names: which names are on, and whether spans are kept, stays
-pub record Call {X A : Type 0} (price : Cost) (view : ViewOf X A) (read : Read A) (r : Result X Error)
-    (a b : State) : Type 0 where
+-- settings: which names are on, and whether spans are kept, stays
+pub record Call {X A : Type 0} (price : Cost) (view : ViewOf X A) (read : Read A)
+    (r : Result X Error) (a b : State) : Type 0 where
   pub exact : Gives view r read b.left
   pub counts : Counted r a b
   pub cost : Costs price a b
   pub settings : SameSettings a b
 
 -- it answers the value that the tokens in front spell, as it is seen, and counts tokens alone
-abbrev pub Reads : {X A : Type 0} → ViewOf X A → Production A → Result X Error → State → State → Type 0
+abbrev pub Reads : {X A : Type 0} → ViewOf X A → Production A → Result X Error → State → State
+    → Type 0
 Reads view g r a b = Call tokens_alone view (g.reads a.left) r a b
 
 -- the same of a call that may count more

@@ -10,7 +10,7 @@ use wat_lexer::token::Token;
 use wat_lexer::tokens::Tokens;
 
 /// A place in the tokens, to look at what is there. A lookup takes nothing: where a token of its
-/// kind is the next that is visible, it answers the place behind that token, and what is in it.
+/// kind is in front, it answers the place behind that token, and what is in it.
 ///
 /// Groups of annotations that aren't known to the parser (Text Format, "Annotations") are passed
 /// over, however many are there, in one step.
@@ -57,7 +57,7 @@ impl<'p> Cursor<'p> {
 
     /// The token in front, and the place behind it.
     #[inline(always)]
-    #[tactic(auto, using(crate::proofs::Steps::front_some, crate::proofs::Steps::front_none))]
+    #[tactic(auto, using(crate::proofs::Steps::front_steps))]
     fn next(self) -> Option<(Token<'p>, Cursor<'p>)>
         ensures { NextIs result (in_front self.entry) }
     {
@@ -70,7 +70,7 @@ impl<'p> Cursor<'p> {
 
     /// Behind a `(`. No more is read of the token than its kind.
     #[inline(always)]
-    #[tactic(auto, using(crate::proofs::Steps::paren_steps, crate::proofs::Steps::front_some, crate::proofs::Steps::front_none))]
+    #[tactic(auto, using(crate::proofs::Steps::paren_steps, crate::proofs::Steps::front_steps))]
     pub fn lparen(self) -> Option<Cursor<'p>>
         ensures { GivesRest as_lparen (in_front self.entry) result }
     {
@@ -83,7 +83,7 @@ impl<'p> Cursor<'p> {
 
     /// Behind a `)`. No more is read of the token than its kind.
     #[inline(always)]
-    #[tactic(auto, using(crate::proofs::Steps::paren_steps, crate::proofs::Steps::front_some, crate::proofs::Steps::front_none))]
+    #[tactic(auto, using(crate::proofs::Steps::paren_steps, crate::proofs::Steps::front_steps))]
     pub fn rparen(self) -> Option<Cursor<'p>>
         ensures { GivesRest as_rparen (in_front self.entry) result }
     {
@@ -96,7 +96,7 @@ impl<'p> Cursor<'p> {
 
     /// Behind one token, whatever it is.
     #[inline(always)]
-    #[tactic(auto, using(crate::proofs::Steps::front_some, crate::proofs::Steps::front_none))]
+    #[tactic(auto, using(crate::proofs::Steps::front_steps))]
     pub fn any(self) -> Option<Cursor<'p>>
         ensures { GivesRest as_any (in_front self.entry) result }
     {
@@ -133,7 +133,7 @@ impl<'p> Cursor<'p> {
 
     /// Behind an annotation, with the name, without its `@`. Of another token no more is read than
     /// its kind.
-    #[tactic(auto, using(crate::proofs::Steps::annotation_none, crate::proofs::Steps::front_some, crate::proofs::Steps::front_none))]
+    #[tactic(auto, using(crate::proofs::Steps::annotation_none, crate::proofs::Steps::front_steps))]
     pub fn annotation(self) -> Option<(&'p str, Cursor<'p>)>
         ensures { GivesContent (λ n. n.now) as_annotation (in_front self.entry) result }
     {
@@ -192,7 +192,8 @@ impl<'p> Cursor<'p> {
         }
     }
 
-    /// Whether a group that begins with the annotation of the name, given without its `@`, is there.
+    /// Whether a group that begins with the annotation of the name, given without its `@`, is
+    /// there.
     pub fn annotation_is(self, name: &str) -> bool
         ensures { result ≡ begins_annotation name.now (in_front self.entry) }
     {

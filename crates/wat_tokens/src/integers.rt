@@ -1,6 +1,6 @@
 //! Integers, and the numbers that they are read as.
 
-ghost use Rattle.std.specs.Prelude.{◌≡◌, List, ℕ, ℤ, IsTrue};
+ghost use Rattle.std.specs.Prelude.{List, ℕ, ℤ, IsTrue};
 ghost use Rattle.wat_lexer.specs.Integer.{text_of};
 ghost use Rattle.wat_lexer.specs.Number.{is_width};
 ghost use Rattle.wat_tokens.specs.Integers.{integer, unsigned, signed};

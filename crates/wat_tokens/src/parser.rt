@@ -8,7 +8,7 @@ ghost use Rattle.wat_lexer.specs.Place.{offset_of};
 ghost use Rattle.wat_lexer.specs.Sight.{visible_tokens, hidden_count};
 ghost use Rattle.wat_lexer.specs.Token.{Placed, LParen, RParen};
 ghost use Rattle.wat_lexer.specs.View.{toks, AreSkips};
-ghost use Rattle.wat_tokens.specs.Counts.{Carries, Counted, Quiet, SameSettings};
+ghost use Rattle.wat_tokens.specs.Counts.{Carries, Quiet, SameSettings};
 ghost use Rattle.wat_tokens.specs.Lookup.{in_front, FirstIs};
 ghost use Rattle.wat_tokens.specs.Error.{Error};
 ghost use Rattle.wat_tokens.specs.PartSpells.{one_reads};
@@ -17,8 +17,8 @@ ghost use Rattle.wat_tokens.specs.Reads.{Reads, Takes, Unmoved, BehindOne};
 ghost use Rattle.wat_tokens.specs.State.{begun, IsFresh};
 ghost use Rattle.wat_tokens.specs.Tests.{as_lparen, as_rparen, as_keyword, as_id, as_integer};
 ghost use Rattle.wat_tokens.specs.Tests.{as_string, word_only, annotation_only, begins_word};
-ghost use Rattle.wat_tokens.specs.Tests.{begins_lparen, begins_group, begins_annotation, none_left, ends};
-ghost use Rattle.wat_tokens.specs.Tests.{second};
+ghost use Rattle.wat_tokens.specs.Tests.{begins_lparen, begins_group, begins_annotation};
+ghost use Rattle.wat_tokens.specs.Tests.{none_left, ends, second};
 ghost use Rattle.wat_tokens.specs.Views.{plain};
 
 use crate::counter::Counter;
@@ -251,7 +251,7 @@ impl<'a> Parser<'a> {
     }
 
     /// Whether nothing is left, or what closes a group is in front.
-    #[tactic(auto, using(crate::proofs::Steps::paren_steps, wat_lexer::specs::Laws::VisibleFrom::visible_some, wat_lexer::specs::Laws::VisibleFrom::visible_none))]
+    #[tactic(auto, using(crate::proofs::Steps::paren_steps, crate::proofs::Steps::visible_steps))]
     pub fn is_empty(&self) -> bool
         ensures { result ≡ ends self.now.left }
     {
@@ -301,7 +301,7 @@ impl<'a> Parser<'a> {
 
     /// The token in front.
     #[inline(always)]
-    #[tactic(auto, using(wat_lexer::specs::Laws::VisibleFrom::visible_some, wat_lexer::specs::Laws::VisibleFrom::visible_none))]
+    #[tactic(auto, using(crate::proofs::Steps::visible_steps))]
     fn first(&self) -> Option<Token<'a>>
         ensures { FirstIs result self.now.left }
     {
@@ -321,7 +321,7 @@ impl<'a> Parser<'a> {
     }
 
     /// The same, as a call that takes it needs it.
-    #[tactic(auto, using(crate::proofs::Steps::paren_steps, wat_lexer::specs::Laws::VisibleFrom::visible_some, wat_lexer::specs::Laws::VisibleFrom::visible_none))]
+    #[tactic(auto, using(crate::proofs::Steps::paren_steps, crate::proofs::Steps::visible_steps))]
     fn at_lparen(&self) -> bool
         ensures { MatchBool result (self.now.left ≡ LParen ∷ drop 1 self.now.left)
             (one_reads as_lparen self.now.left ≡ None) }
@@ -330,7 +330,7 @@ impl<'a> Parser<'a> {
     }
 
     /// Whether a `)` is in front. No more is read of the token than its kind.
-    #[tactic(auto, using(crate::proofs::Steps::paren_steps, wat_lexer::specs::Laws::VisibleFrom::visible_some, wat_lexer::specs::Laws::VisibleFrom::visible_none))]
+    #[tactic(auto, using(crate::proofs::Steps::paren_steps, crate::proofs::Steps::visible_steps))]
     fn at_rparen(&self) -> bool
         ensures { MatchBool result (self.now.left ≡ RParen ∷ drop 1 self.now.left)
             (one_reads as_rparen self.now.left ≡ None) }
@@ -339,7 +339,7 @@ impl<'a> Parser<'a> {
     }
 
     /// Takes the token in front.
-    #[tactic(auto, using(crate::proofs::Steps::stands_before, crate::proofs::Steps::steps_to, crate::proofs::Steps::rest_behind))]
+    #[tactic(auto, using(crate::proofs::Steps::advance_steps))]
     fn advance(&mut self)
         requires { self.old.left ≢ [] }
         ensures left { self.new.left ≡ drop 1 self.old.left }

@@ -1,17 +1,15 @@
 //! What can be parsed, and what can be looked for.
 
-ghost use Rattle.std.specs.Prelude.{◌≡◌, ◌≤◌, ◌+◌, max, length, List, ℕ, Bool, IfOk, IfErr};
-ghost use Rattle.std.specs.Prelude.{◌++◌, ◌≢◌, true};
+ghost use Rattle.std.specs.Prelude.{◌≡◌, List, Bool, IfErr, true};
 ghost use Rattle.wat_lexer.specs.Token.{Tok};
 ghost use Rattle.wat_tokens.specs.Cost.{Cost, tokens_alone, Costs};
-ghost use Rattle.wat_tokens.specs.Counts.{Counted, Turned, Grows, SameSettings};
+ghost use Rattle.wat_tokens.specs.Counts.{Counted, Turned, SameSettings};
 ghost use Rattle.wat_tokens.specs.Error.{Memory};
 ghost use Rattle.wat_tokens.specs.Lookup.{in_front};
-ghost use Rattle.wat_tokens.specs.Parens.{nest};
-ghost use Rattle.wat_tokens.specs.Parses.{Gives, Accepts};
-ghost use Rattle.wat_tokens.specs.Production.{Production, Front};
+ghost use Rattle.wat_tokens.specs.Outcome.{ReadsPrefix, TakesPrefix};
+ghost use Rattle.wat_tokens.specs.Parses.{Gives};
+ghost use Rattle.wat_tokens.specs.Production.{Production};
 ghost use Rattle.wat_tokens.specs.Reads.{ReadsAt};
-ghost use Rattle.wat_tokens.specs.State.{behind};
 ghost use Rattle.wat_tokens.specs.Tests.{second};
 ghost use Rattle.wat_tokens.specs.Views.{ViewOf};
 
@@ -35,7 +33,7 @@ pub trait Parse<'a>: Sized {
 
     /// Takes the tokens of a value that is in front.
     ///
-    /// Where none does, it is refused with the first fault that is met, and the parser then has
+    /// Where none is, it is refused with the first fault that is met, and the parser then has
     /// some end of its tokens left. Memory may be answered where the value isn't bare.
     fn parse(parser: &mut Parser<'a>) -> Result<Self, Error>
         ensures reads { ReadsAt cost view grammar result parser.old parser.new };
@@ -68,38 +66,19 @@ pub trait Peek {
 impl<'a> Parser<'a> {
     /// Takes the value that is in front.
     ///
-    /// Where none does, it is refused with the first fault that is met, and the parser then has
+    /// Where none is, it is refused with the first fault that is met, and the parser then has
     /// some end of its tokens left.
     pub fn parse<T: Parse<'a>>(&mut self) -> Result<T, Error>
-        // The tokens that were taken spell the value.
-        ensures sound { IfOk result (λ v. Front T.grammar.spells self.old.left
-            (T.view.of v, self.new.left)) }
-        // Where tokens in front spell a value, it is that one, or memory ran out.
-        ensures accepts { (v : T.View) (c r : List Tok) → self.old.left ≡ c ++ r
-            → T.grammar.spells v c r → Accepts T.view result v self.new.left r }
-        // A fault other than Memory means that no tokens in front spell a value.
-        ensures refused { IfErr result (λ e. e.fault ≢ Memory → (v : T.View) (c r : List Tok)
-            → self.old.left ≡ c ++ r → T.grammar.spells v c r → ⊥) }
+        // The tokens that were taken spell the value. Where tokens in front spell one, it is that
+        // one, or memory ran out: `sound`, `accepts`, `refused`.
+        ensures reads { ReadsPrefix T.view T.grammar result self.old self.new }
         // Memory comes only of a type that can hold a vector or a box.
         ensures memory { IfErr result (λ e. e.fault ≡ Memory → T.view.may_own ≡ true) }
-        // `taken` rises by the number of tokens that were taken, and never by more than stood in
-        // front.
-        ensures taken { (c : List Tok) → self.old.left ≡ c ++ self.new.left
-            → self.new.taken ≡ self.old.taken + length c }
-        ensures within { self.new.taken + length self.new.left
-            ≡ self.old.taken + length self.old.left }
+        // What is left is an end of the tokens in front, also on a refusal, and what was taken is
+        // counted: `end`, `position`, `taken`, `within`, `peak`, `grows`.
+        ensures takes { TakesPrefix self.old self.new }
         // `turns` rises at most as much as `taken`, and on a refusal at most one more.
         ensures turned { Turned result self.old self.new }
-        // `peak` is at most the greater of what it was and how the tokens that were taken nest.
-        ensures peak { (c : List Tok) → self.old.left ≡ c ++ self.new.left
-            → self.new.peak ≤ max self.old.peak (nest c) }
-        // What is left is an end of the tokens in front, also on a refusal.
-        ensures end { (c : List Tok) × (self.old.left ≡ c ++ self.new.left) }
-        // No count fell.
-        ensures grows { Grows self.old self.new }
-        // The parser is directly behind the last token that was taken.
-        ensures position { (c : List Tok) → self.old.left ≡ c ++ self.new.left
-            → self.new.rest ≡ behind self.old.known (length c) self.old.rest }
         ensures exact { Gives T.view result (T.grammar.reads self.old.left) self.new.left }
         ensures counts { Counted result self.old self.new }
         ensures cost { Costs T.cost self.old self.new }
@@ -124,9 +103,3 @@ impl<'a> Parser<'a> {
         T::peek2(self.cursor())
     }
 }
-
-/// No two prefixes of one token list spell values, unless they are one prefix and one value.
-pub fn one_reading<'a, T: Parse<'a>>()
-    ensures { (v w : T.View) (c d r s : List Tok) → c ++ r ≡ d ++ s → T.grammar.spells v c r
-        → T.grammar.spells w d s → (v ≡ w) × (r ≡ s) × (c ≡ d) }
-{}

@@ -22,7 +22,7 @@ pub trait NamedByKeyword: Copy {
 
 /// Takes the keyword in front and answers the value that it names. A keyword that names none, and
 /// what is no keyword, is refused with Unexpected, at the token in front.
-#[tactic(auto, using(crate::specs::Laws::Begin::reads_table, crate::specs::Laws::Begin::reads_no_table))]
+#[tactic(auto, using(crate::specs::Laws::Begin::table_reads))]
 pub fn take_named<'a, T: NamedByKeyword>(parser: &mut Parser<'a>) -> Result<T, Error>
     ensures reads { Takes (λ v. v) (word_in T.words) result parser.old parser.new }
 {
@@ -33,7 +33,7 @@ pub fn take_named<'a, T: NamedByKeyword>(parser: &mut Parser<'a>) -> Result<T, E
 }
 
 /// Whether a keyword that names a value is at the place.
-#[tactic(auto, using(crate::specs::Laws::Begin::begins_table, crate::specs::Laws::Begin::begins_no_table))]
+#[tactic(auto, using(crate::specs::Laws::Begin::table_begins))]
 pub fn begins_named<T: NamedByKeyword>(cursor: Cursor<'_>) -> bool
     ensures { result ≡ begins_one_of (word_in T.words) (in_front cursor.entry) }
 {

@@ -14,6 +14,24 @@ use Rattle.wat_types.specs.declared.heap.HeapType.TheVariants as code
 
 -- ---- abstract heap types
 
+-- the word of a type
+abbrev pub abstract_word : AbstractHeapType → List ℕ
+abstract_word word.Func = codes "func"
+abstract_word word.Extern = codes "extern"
+abstract_word word.Exn = codes "exn"
+abstract_word word.Cont = codes "cont"
+abstract_word word.Any = codes "any"
+abstract_word word.Eq = codes "eq"
+abstract_word word.Struct = codes "struct"
+abstract_word word.Array = codes "array"
+abstract_word word.I31 = codes "i31"
+abstract_word word.NoFunc = codes "nofunc"
+abstract_word word.NoExtern = codes "noextern"
+abstract_word word.NoExn = codes "noexn"
+abstract_word word.NoCont = codes "nocont"
+abstract_word word.None = codes "none"
+
+-- each word, and the type that it names
 abbrev pub abstract_words : List (List ℕ × AbstractHeapType)
 abstract_words =
     (codes "func", word.Func) ∷ (codes "extern", word.Extern) ∷ (codes "exn", word.Exn)

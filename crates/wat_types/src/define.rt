@@ -237,10 +237,7 @@ impl<'p> Peek for Type<'p> {
     fn peek(cursor: Cursor<'_>) -> bool
         ensures { result ≡ begins_type (in_front cursor.entry) }
     {
-        match cursor.keyword() {
-            Some((word, _)) => word == "type",
-            None => false,
-        }
+        cursor.keyword_is("type")
     }
 
     fn display() -> &'static str {

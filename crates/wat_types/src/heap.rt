@@ -3,7 +3,8 @@
 ghost use Rattle.std.specs.Prelude.{◌≡◌};
 ghost use Rattle.wat_tokens.specs.Lookup.{in_front};
 ghost use Rattle.wat_tokens.specs.Views.{plain};
-ghost use Rattle.wat_types.specs.Heap.{abstract_words, abstract_heap_type, begins_abstract};
+ghost use Rattle.wat_types.specs.Heap.{abstract_word, abstract_words};
+ghost use Rattle.wat_types.specs.Heap.{abstract_heap_type, begins_abstract};
 ghost use Rattle.wat_types.specs.Heap.{heap_type, HeapTy, heap_view, begins_heap};
 
 use wat_tokens::enclosed::in_word_group;
@@ -57,6 +58,30 @@ pub enum HeapType<'a> {
     Concrete(Index<'a>),
     /// A defined type and none below it: `(exact $t)`.
     Exact(Index<'a>),
+}
+
+impl AbstractHeapType {
+    /// Its word.
+    pub fn word(self) -> &'static str
+        ensures { result.now ≡ abstract_word self }
+    {
+        match self {
+            AbstractHeapType::Func => "func",
+            AbstractHeapType::Extern => "extern",
+            AbstractHeapType::Exn => "exn",
+            AbstractHeapType::Cont => "cont",
+            AbstractHeapType::Any => "any",
+            AbstractHeapType::Eq => "eq",
+            AbstractHeapType::Struct => "struct",
+            AbstractHeapType::Array => "array",
+            AbstractHeapType::I31 => "i31",
+            AbstractHeapType::NoFunc => "nofunc",
+            AbstractHeapType::NoExtern => "noextern",
+            AbstractHeapType::NoExn => "noexn",
+            AbstractHeapType::NoCont => "nocont",
+            AbstractHeapType::None => "none",
+        }
+    }
 }
 
 /// The type that a word names.

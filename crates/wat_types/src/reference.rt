@@ -58,7 +58,7 @@ impl<'a> Parse<'a> for Shorthand {
 
     ghost grammar = { shorthand };
 
-    #[tactic(auto, using(wat_tokens::specs::Laws::Begin::reads_table, wat_tokens::specs::Laws::Begin::reads_no_table), unfolding(crate::specs::Reference::shorthand))]
+    #[tactic(auto, using(wat_tokens::specs::Laws::Begin::table_reads), unfolding(crate::specs::Reference::shorthand))]
     fn parse(parser: &mut Parser<'a>) -> Result<Self> {
         let span = parser.cur_span();
         match shorthand_of(parser.take_keyword()?) {
@@ -94,7 +94,7 @@ impl<'a> Parse<'a> for LongRef<'a> {
 }
 
 /// Whether a shorthand is there.
-#[tactic(auto, using(wat_tokens::specs::Laws::Begin::begins_table, wat_tokens::specs::Laws::Begin::begins_no_table), unfolding(crate::specs::Reference::begins_shorthand))]
+#[tactic(auto, using(wat_tokens::specs::Laws::Begin::table_begins), unfolding(crate::specs::Reference::begins_shorthand))]
 pub(crate) fn shorthand_at(cursor: Cursor<'_>) -> bool
     ensures { result ≡ begins_shorthand (in_front cursor.entry) }
 {

@@ -66,7 +66,7 @@ impl<'a> Parse<'a> for ValType<'a> {
 }
 
 /// Whether one of the five words is there.
-#[tactic(auto, using(wat_tokens::specs::Laws::Begin::begins_table, wat_tokens::specs::Laws::Begin::begins_no_table), unfolding(crate::specs::Value::begins_plain))]
+#[tactic(auto, using(wat_tokens::specs::Laws::Begin::table_begins), unfolding(crate::specs::Value::begins_plain))]
 fn plain_at(cursor: Cursor<'_>) -> bool
     ensures { result ≡ begins_plain (in_front cursor.entry) }
 {

@@ -2,6 +2,7 @@
 use Rattle.std.specs.Prelude.{◌≡◌, ◌≤◌, ℕ, Bool, true, false, List, [], ◌∷◌, ◌++◌, codes, map}
 use Rattle.std.specs.Prelude.{flat_map, ⊤, refl}
 use Rattle.std.specs.Cmp.Lexicographic.{bytes_decides}
+use Rattle.std.specs.Str.{bytes_eq}
 use Rattle.std.proofs.Common.{ap, subst, sym, ◌∙◌, append_assoc, inl, inr}
 use Rattle.wat_tokens.specs.Token.{Tok, LParen, Keyword}
 use Rattle.wat_tokens.specs.Tests.{begins_group, more}
@@ -24,11 +25,16 @@ group_more w [] e = absurd cc
 group_more w (LParen ∷ t) e = refl
 group_more w (_ ∷ t) e = absurd cc
 
+-- a group begins with one word
+no_other_group : (w v : List ℕ) → bytes_eq w v ≡ false → (t : List Tok) → begins_group w t ≡ true
+    → begins_group v t ≡ false
+no_other_group w v n (LParen ∷ Keyword k ∷ t) e =
+    let q : k ≡ w = (bytes_decides k w).0 e in rw q n
+no_other_group w v n [] e = absurd cc
+no_other_group w v n (_ ∷ t) e = absurd cc
+
 import_no_export : (t : List Tok) → begins_import t ≡ true → begins_export t ≡ false
-import_no_export (LParen ∷ Keyword k ∷ t) e =
-    let q : k ≡ codes "import-info" = (bytes_decides k (codes "import-info")).0 e in rw q refl
-import_no_export [] e = absurd cc
-import_no_export (_ ∷ t) e = absurd cc
+import_no_export = no_other_group (codes "import-info") (codes "export-info") refl
 
 many_ends : {A : Type 0} (begins : List Tok → Bool) (g : Production A) (vs : List A)
     (c r : List Tok) → many_spells begins g vs c r → begins r ≡ false
@@ -147,10 +153,7 @@ import_is x d t (inr (b, inr s)) = absurd (let h = s.1.3 in cc)
 -- ---- what the first subsection tells of the tokens in front
 
 export_no_import : (t : List Tok) → begins_export t ≡ true → begins_import t ≡ false
-export_no_import (LParen ∷ Keyword k ∷ t) e =
-    let q : k ≡ codes "export-info" = (bytes_decides k (codes "export-info")).0 e in rw q refl
-export_no_import [] e = absurd cc
-export_no_import (_ ∷ t) e = absurd cc
+export_no_import = no_other_group (codes "export-info") (codes "import-info") refl
 
 abbrev IsLone : SubsectionTy → Type 0
 IsLone (export_info xs) = ⊥

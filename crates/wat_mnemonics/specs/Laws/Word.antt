@@ -17,8 +17,8 @@ use Rattle.wat_mnemonics.specs.Table.{all_ops}
 use Rattle.wat_mnemonics.specs.Word.{first_with, mnemonic_of, mnemonic_spells, mnemonic_reads}
 use Rattle.wat_mnemonics.specs.Laws.Places.{there, place_below, one_word, table_length}
 
-some_mnemonic : (x y : Op) → Some x ≡ Some y → x ≡ y
-some_mnemonic x y e = cc
+some_op : (x y : Op) → Some x ≡ Some y → x ≡ y
+some_op x y e = cc
 
 first_is : (w : List ℕ) (xs : List Op) (x : Op) → first_with w xs ≡ Some x
     → op_word x ≡ w
@@ -26,7 +26,7 @@ first_is w [] x e = absurd cc
 first_is w (y ∷ ys) x e =
     by_test (bytes_eq (op_word y) w)
     (λ k. (let e2 : Some y ≡ Some x = rw k at e in subst (λ (u : Op). op_word u ≡ w)
-    (some_mnemonic y x e2) ((bytes_decides (op_word y) w).0 k)))
+    (some_op y x e2) ((bytes_decides (op_word y) w).0 k)))
     (λ k. first_is w ys x (rw k at e))
 
 first_there : (w : List ℕ) (xs : List Op) (k : ℕ) → k < length xs

@@ -9,7 +9,7 @@ use Rattle.std.proofs.Math.Utf8.{scalar, scalars, scalar_cases, encode}
 use Rattle.std.proofs.lemmas.Bool.{and_parts, cond_both}
 use Rattle.std.proofs.lemmas.Bool.Decides.{nat_tests}
 use Rattle.wat_print.specs.Text.{all_are}
-use Rattle.wat_print.specs.Neat.{is_byte}
+use Rattle.wat_print.specs.WellFormed.{is_byte}
 
 pub both_are : (test : ℕ → Bool) (x y : List ℕ) → all_are test x ≡ true → all_are test y ≡ true
     → all_are test (x ++ y) ≡ true

@@ -12,7 +12,7 @@ use Rattle.wat_lexer.specs.Token.{Tok, Placed, LParen, RParen, Keyword, Id, Anno
 use Rattle.wat_lexer.specs.Token.{String, Reserved, tokens_of, is_open}
 use Rattle.wat_print.specs.Layout.{LayoutPart, one, line, blanks, lay, tokens_in, Writes}
 use Rattle.wat_print.specs.Text.{all_are, quoted, token_text, gap, Page, blank_page}
-use Rattle.wat_print.specs.Neat.{is_keyword, is_name, is_fit}
+use Rattle.wat_print.specs.WellFormed.{is_keyword, is_name, is_printable}
 use Rattle.wat_print.specs.Laws.Quoted.{quoted_is, idchars_are, idchars_run, string_run, name_is}
 
 -- ---- the text from the left
@@ -41,15 +41,15 @@ lay_laid (line n ∷ r) x false tight = lay_laid r x false tight
 
 -- ---- what may follow
 
-abbrev pub Fit : Bool → Tok → Type 0
-Fit behind LParen = Unit {0}
-Fit behind RParen = Unit {0}
-Fit behind (Annotation n) = (behind ≡ true) × (is_name n ≡ true)
-Fit behind t = is_fit t ≡ true
+abbrev pub Printable : Bool → Tok → Type 0
+Printable behind LParen = Unit {0}
+Printable behind RParen = Unit {0}
+Printable behind (Annotation n) = (behind ≡ true) × (is_name n ≡ true)
+Printable behind t = is_printable t ≡ true
 
-abbrev pub AllFit : Bool → List Tok → Type 0
-AllFit behind [] = Unit {0}
-AllFit behind (t ∷ r) = Fit behind t × AllFit (is_open t) r
+abbrev pub AllPrintable : Bool → List Tok → Type 0
+AllPrintable behind [] = Unit {0}
+AllPrintable behind (t ∷ r) = Printable behind t × AllPrintable (is_open t) r
 
 -- behind a token that isn't `(`
 run_ends : (lines : Bool) (r : List LayoutPart) → Begins in_no_run (laid lines false r)
@@ -83,24 +83,24 @@ integer_plain (b ∷ k) r h =
     let q = and_parts (is_idchar b) (all_are is_idchar k) p.0 in
     idchar_plain b q.0
 
-pub fit_plain : (behind : Bool) (t : Tok) (r : List ℕ) → Fit behind t
+pub printable_plain : (behind : Bool) (t : Tok) (r : List ℕ) → Printable behind t
     → no_semicolon (token_text t ++ r)
-fit_plain behind LParen r h = refl
-fit_plain behind RParen r h = refl
-fit_plain behind (Keyword k) r h = word_plain k r h
-fit_plain behind (Id n) r h = refl
-fit_plain behind (Annotation n) r h = refl
-fit_plain behind (Integer k) r h = integer_plain k r h
-fit_plain behind (String s) r h = refl
-fit_plain behind (Reserved k) r h = absurd cc
+printable_plain behind LParen r h = refl
+printable_plain behind RParen r h = refl
+printable_plain behind (Keyword k) r h = word_plain k r h
+printable_plain behind (Id n) r h = refl
+printable_plain behind (Annotation n) r h = refl
+printable_plain behind (Integer k) r h = integer_plain k r h
+printable_plain behind (String s) r h = refl
+printable_plain behind (Reserved k) r h = absurd cc
 
 -- behind `(`
-open_ends : (lines : Bool) (r : List LayoutPart) → AllFit true (tokens_in r)
+open_ends : (lines : Bool) (r : List LayoutPart) → AllPrintable true (tokens_in r)
     → no_semicolon (laid lines true r)
 open_ends lines [] h = tt
 open_ends true (line n ∷ r) h = open_ends true r h
 open_ends false (line n ∷ r) h = open_ends false r h
-open_ends lines (one t ∷ r) h = fit_plain true t (laid lines (is_open t) r) h.0
+open_ends lines (one t ∷ r) h = printable_plain true t (laid lines (is_open t) r) h.0
 
 -- ---- one token
 
@@ -109,7 +109,7 @@ Ends LParen x = no_semicolon x
 Ends RParen x = Unit {0}
 Ends _ x = Begins in_no_run x
 
-piece_ends : (lines : Bool) (t : Tok) (r : List LayoutPart) → AllFit (is_open t) (tokens_in r)
+piece_ends : (lines : Bool) (t : Tok) (r : List LayoutPart) → AllPrintable (is_open t) (tokens_in r)
     → Ends t (laid lines (is_open t) r)
 piece_ends lines LParen r f = open_ends lines r f
 piece_ends lines RParen r f = tt
@@ -122,7 +122,7 @@ word_is behind (b ∷ k) h =
     let i = idchars_are (b ∷ k) p.1 in
     (idchars_run (b ∷ k) i, (refl, i, b, k, refl, p.0))
 
-token_is : (behind : Bool) (t : Tok) (x : List ℕ) → Fit behind t → Ends t x
+token_is : (behind : Bool) (t : Tok) (x : List ℕ) → Printable behind t → Ends t x
     → Token behind (token_text t) x t
 token_is behind LParen x h e = (refl, e)
 token_is behind RParen x h e = refl
@@ -176,7 +176,7 @@ cut_gap n false false LParen y us h c = cut_space n 32 false y us refl c
 cut_gap n false false RParen y us h c = c
 cut_gap n false false _ y us h c = cut_space n 32 false y us refl c
 
-cut_laid : (n : ℕ) (lines behind tight : Bool) (ps : List LayoutPart) → AllFit behind (tokens_in ps)
+cut_laid : (n : ℕ) (lines behind tight : Bool) (ps : List LayoutPart) → AllPrintable behind (tokens_in ps)
     → (behind ≡ true → tight ≡ true) → CutInto n behind (laid lines tight ps) (tokens_in ps)
 cut_laid n lines behind tight [] f h = ([], done n behind, refl)
 cut_laid n lines behind tight (one t ∷ r) f h =
@@ -192,12 +192,12 @@ cut_laid n true false false (line k ∷ r) f h =
     (cut_blanks n k (laid true true r) (tokens_in r) (cut_laid n true false true r f (λ e. refl)))
 cut_laid n false behind tight (line k ∷ r) f h = cut_laid n false behind tight r f h
 
-pub page_cuts : (n : ℕ) (ts : List Tok) (lines : Bool) (q : Page) → AllFit false ts
+pub page_cuts : (n : ℕ) (ts : List Tok) (lines : Bool) (q : Page) → AllPrintable false ts
     → Writes ts (blank_page lines) q → CutInto n false q.bytes ts
 page_cuts n ts lines q f w =
     let x : q.bytes ≡ laid lines true w.pieces =
     ap (λ (p : Page). p.bytes) w.page ∙ lay_laid w.pieces [] lines true in
-    let g = subst (λ (l : List Tok). AllFit false l) (sym w.tokens) f in
+    let g = subst (λ (l : List Tok). AllPrintable false l) (sym w.tokens) f in
     subst (λ (l : List Tok). CutInto n false q.bytes l) w.tokens
     (subst (λ (y : List ℕ). CutInto n false y (tokens_in w.pieces)) (sym x)
     (cut_laid n lines false true w.pieces g (λ e. refl)))

@@ -23,27 +23,27 @@ use Rattle.wat_types.specs.Label.{label}
 use Rattle.wat_types.specs.Laws.Define.{grouped_type_consumes}
 use Rattle.wat_types.specs.Recursion.{types, rec}
 use Rattle.wat_types.specs.StructType.{struct_type}
-use Rattle.wat_print.specs.Define.{spell_kind, fit_kind, spell_describes, spell_descriptor}
-use Rattle.wat_print.specs.Define.{spell_described, spell_shared, spell_sub, spell_def, fit_parents}
-use Rattle.wat_print.specs.Define.{fit_described, fit_def, spell_type, fit_type, spell_grouped_type}
-use Rattle.wat_print.specs.Define.{spell_rec, fit_rec}
+use Rattle.wat_print.specs.Define.{spell_kind, printable_kind, spell_describes, spell_descriptor}
+use Rattle.wat_print.specs.Define.{spell_described, spell_shared, spell_sub, spell_def, printable_parents}
+use Rattle.wat_print.specs.Define.{printable_described, printable_def, spell_type, printable_type, spell_grouped_type}
+use Rattle.wat_print.specs.Define.{spell_rec, printable_rec}
 use Rattle.wat_print.specs.Function.{spell_function}
-use Rattle.wat_print.specs.Index.{spell_index, fit_index}
-use Rattle.wat_print.specs.Label.{spell_label, fit_label}
-use Rattle.wat_print.specs.Neat.{Neat}
+use Rattle.wat_print.specs.Index.{spell_index, printable_index}
+use Rattle.wat_print.specs.Label.{spell_label, printable_label}
+use Rattle.wat_print.specs.WellFormed.{WellFormed}
 use Rattle.wat_print.specs.Parts.{grouped, spell_flag, spell_option, if_some, each}
 use Rattle.wat_print.specs.Storage.{spell_field}
 use Rattle.wat_print.specs.Struct.{spell_struct}
-use Rattle.wat_print.specs.Laws.Function.{function_here, function_neat, function_only}
-use Rattle.wat_print.specs.Laws.Label.{label_here, label_neat, label_only}
-use Rattle.wat_print.specs.Laws.Only.{OnlyFit, only_any, only_where, only_seq, only_made, only_opt}
+use Rattle.wat_print.specs.Laws.Function.{function_here, function_well_formed, function_only}
+use Rattle.wat_print.specs.Laws.Label.{label_here, label_well_formed, label_only}
+use Rattle.wat_print.specs.Laws.Only.{OnlyPrintable, only_any, only_where, only_seq, only_made, only_opt}
 use Rattle.wat_print.specs.Laws.Only.{only_many, only_paren, only_after, only_weaker}
 use Rattle.wat_print.specs.Laws.Parts.{Spells, paren_here, word_here, flag_here, many_here}
-use Rattle.wat_print.specs.Laws.Parts.{neat_word, neat_paren, neat_group, neat_both, neat_each}
-use Rattle.wat_print.specs.Laws.Parts.{neat_option, neat_flag}
-use Rattle.wat_print.specs.Laws.Reference.{index_here, index_neat, index_only}
-use Rattle.wat_print.specs.Laws.Storage.{field_here, field_neat, field_only}
-use Rattle.wat_print.specs.Laws.Struct.{struct_here, struct_neat, struct_only}
+use Rattle.wat_print.specs.Laws.Parts.{well_formed_word, well_formed_paren, well_formed_group, well_formed_both, well_formed_each}
+use Rattle.wat_print.specs.Laws.Parts.{well_formed_option, well_formed_flag}
+use Rattle.wat_print.specs.Laws.Reference.{index_here, index_well_formed, index_only}
+use Rattle.wat_print.specs.Laws.Storage.{field_here, field_well_formed, field_only}
+use Rattle.wat_print.specs.Laws.Struct.{struct_here, struct_well_formed, struct_only}
 
 -- a word, and what follows it
 pub after_here : {A : Type 0} (w : List ℕ) (g : Production A) (v : A) (d r : List Tok)
@@ -58,7 +58,7 @@ abbrev pub EndsKind : List Tok → Type 0
 EndsKind r =
     (group_follows r ≡ false) × (more r ≡ false) × (begins_word (codes "mut") r ≡ false)
 
-pub kind_here : (k : InnerKindTy) (r : List Tok) → fit_kind k ≡ true → EndsKind r
+pub kind_here : (k : InnerKindTy) (r : List Tok) → printable_kind k ≡ true → EndsKind r
     → kind.spells k (spell_kind k) r
 unfolding kind
 kind_here (func f) r h e =
@@ -121,22 +121,22 @@ kind_here (cont i) r h e =
       ),
     )
 
-pub kind_neat : (k : InnerKindTy) → fit_kind k ≡ true → Neat (spell_kind k)
-kind_neat (func f) h = neat_word (codes "func") (spell_function f) refl (function_neat f h)
-kind_neat (struct_ ms) h = neat_word (codes "struct") (spell_struct ms) refl (struct_neat ms h)
-kind_neat (array f) h = neat_word (codes "array") (spell_field f) refl (field_neat f h)
-kind_neat (cont i) h = neat_word (codes "cont") (spell_index i) refl (index_neat i h)
+pub kind_well_formed : (k : InnerKindTy) → printable_kind k ≡ true → WellFormed (spell_kind k)
+kind_well_formed (func f) h = well_formed_word (codes "func") (spell_function f) refl (function_well_formed f h)
+kind_well_formed (struct_ ms) h = well_formed_word (codes "struct") (spell_struct ms) refl (struct_well_formed ms h)
+kind_well_formed (array f) h = well_formed_word (codes "array") (spell_field f) refl (field_well_formed f h)
+kind_well_formed (cont i) h = well_formed_word (codes "cont") (spell_index i) refl (index_well_formed i h)
 
-pub kind_only : OnlyFit kind fit_kind
+pub kind_only : OnlyPrintable kind printable_kind
 unfolding kind
 kind_only =
     only_where (begins_word (codes "func"))
-    (only_made (λ _. true) func fit_kind (only_after (codes "func") function_only))
+    (only_made (λ _. true) func printable_kind (only_after (codes "func") function_only))
     (only_where (begins_word (codes "struct"))
-    (only_made (λ _. true) struct_ fit_kind (only_after (codes "struct") struct_only))
+    (only_made (λ _. true) struct_ printable_kind (only_after (codes "struct") struct_only))
     (only_where (begins_word (codes "array"))
-    (only_made (λ _. true) array fit_kind (only_after (codes "array") field_only))
-    (only_made (λ _. true) cont fit_kind (only_after (codes "cont") index_only))))
+    (only_made (λ _. true) array printable_kind (only_after (codes "array") field_only))
+    (only_made (λ _. true) cont printable_kind (only_after (codes "cont") index_only))))
 
 -- ---- indices in front of it
 
@@ -158,7 +158,7 @@ led_in w (Some i) x =
     ∙ sym (append_assoc (spell_index i ++ (RParen ∷ LParen ∷ [])) x (RParen ∷ [])))
 
 link_here : (w : List ℕ) (o : Option Idx) (r : List Tok) → bytes_eq w w ≡ true
-    → if_some fit_index o ≡ true → begins_word w r ≡ false → (linked w).spells o (lead w o) r
+    → if_some printable_index o ≡ true → begins_word w r ≡ false → (linked w).spells o (lead w o) r
 unfolding linked
 link_here w (Some i) r e f h = (
   e,
@@ -212,10 +212,10 @@ inner_front w k o (Some i) x f e a b c d = f
 inner_front w k o None x f e a b c d = descriptor_front w k o x e a b c d
 
 -- the tests of what is in the parentheses
-abbrev FitCore : InnerKindTy → Option Idx → Option Idx → Type 0
-FitCore k o p = (if_some fit_index p ≡ true) × (if_some fit_index o ≡ true) × (fit_kind k ≡ true)
+abbrev PrintableCore : InnerKindTy → Option Idx → Option Idx → Type 0
+PrintableCore k o p = (if_some printable_index p ≡ true) × (if_some printable_index o ≡ true) × (printable_kind k ≡ true)
 
-inner_here : (k : InnerKindTy) (o p : Option Idx) (r : List Tok) → FitCore k o p
+inner_here : (k : InnerKindTy) (o p : Option Idx) (r : List Tok) → PrintableCore k o p
     → group_follows (RParen ∷ r) ≡ false
     → described.spells (core k o p) (inner k o p) (RParen ∷ r)
 unfolding described
@@ -257,7 +257,7 @@ paren_by : {A : Type 0} (g : Production A) (v : A) (d c r : List Tok) → c ≡ 
 paren_by g v d c r e s =
     subst (λ (l : List Tok). (paren g).spells v l r) (sym e) (paren_here g v d r s)
 
-core_here : (k : InnerKindTy) (o p : Option Idx) (r : List Tok) → FitCore k o p
+core_here : (k : InnerKindTy) (o p : Option Idx) (r : List Tok) → PrintableCore k o p
     → group_follows (RParen ∷ r) ≡ false → (paren described).spells (core k o p) (outer k o p) r
 core_here k o p r f e =
     paren_by described (core k o p) (inner k o p) (outer k o p) r (outer_in k o p)
@@ -276,7 +276,7 @@ shared_inner false k o p = inner k o p
 abbrev shared_outer : Bool → InnerKindTy → Option Idx → Option Idx → List Tok
 shared_outer b k o p = if b then grouped (codes "shared") (outer k o p) else outer k o p
 
-maybe_here : (b : Bool) (k : InnerKindTy) (o p : Option Idx) (r : List Tok) → FitCore k o p
+maybe_here : (b : Bool) (k : InnerKindTy) (o p : Option Idx) (r : List Tok) → PrintableCore k o p
     → group_follows (RParen ∷ r) ≡ false
     → maybe_shared.spells (shared_core b k o p) (shared_inner b k o p) (RParen ∷ r)
 unfolding maybe_shared
@@ -302,7 +302,7 @@ shared_in : (b : Bool) (k : InnerKindTy) (o p : Option Idx)
 shared_in true k o p = refl
 shared_in false k o p = outer_in k o p
 
-shared_here : (b : Bool) (k : InnerKindTy) (o p : Option Idx) (r : List Tok) → FitCore k o p
+shared_here : (b : Bool) (k : InnerKindTy) (o p : Option Idx) (r : List Tok) → PrintableCore k o p
     → group_follows (RParen ∷ r) ≡ false
     → (paren maybe_shared).spells (shared_core b k o p) (shared_outer b k o p) r
 shared_here b k o p r f e =
@@ -359,7 +359,7 @@ parents_front [] b k o p x = shared_opens (begins_word (codes "final")) b k o p 
 parents_front (number n ∷ is) b k o p x = refl
 parents_front (name n ∷ is) b k o p x = refl
 
-index_front : (i : Idx) (x : List Tok) → fit_index i ≡ true
+index_front : (i : Idx) (x : List Tok) → printable_index i ≡ true
     → begins_index (spell_index i ++ x) ≡ true
 index_front (number n) x f = refl
 index_front (name n) x f = refl
@@ -368,7 +368,7 @@ abbrev parents : Production (List Idx)
 parents = many begins_index index (lit≤ tt)
 
 sub_here : (b final : Bool) (k : InnerKindTy) (o p : Option Idx) (is : List Idx) (r : List Tok)
-    → each fit_index is ≡ true → FitCore k o p
+    → each printable_index is ≡ true → PrintableCore k o p
     → (seq (flag (codes "final")) (seq parents (paren maybe_shared))).spells
     (final, (is, shared_core b k o p)) (behind_sub b k o p final is) (RParen ∷ r)
 sub_here b final k o p is r h f =
@@ -383,14 +383,14 @@ sub_here b final k o p is r h f =
         flat_map spell_index is,
         s,
         refl,
-        many_here begins_index index spell_index fit_index index_here index_front is (s ++ x) h
+        many_here begins_index index spell_index printable_index index_here index_front is (s ++ x) h
             (shared_opens begins_index b k o p x (λ y. refl)),
         shared_here b k o p x f refl,
       ),
     )
 
 def_parts : (b : Bool) (k : InnerKindTy) (o p : Option Idx) (final : Option Bool) (is : List Idx)
-    (r : List Tok) → fit_parents final is ≡ true → FitCore k o p
+    (r : List Tok) → printable_parents final is ≡ true → PrintableCore k o p
     → group_follows (RParen ∷ r) ≡ false
     → type_def.spells (def_of b k o p final is) (def_inner b k o p final is) (RParen ∷ r)
 unfolding type_def
@@ -420,17 +420,17 @@ def_in : (d : DefTy) (final : Option Bool)
 def_in d (Some final) = refl
 def_in d None = shared_in d.shared d.kind d.descriptor d.describes
 
-core_parts : (d : DefTy) → fit_described d ≡ true → FitCore d.kind d.descriptor d.describes
+core_parts : (d : DefTy) → printable_described d ≡ true → PrintableCore d.kind d.descriptor d.describes
 core_parts d h =
-    let a = and_parts (if_some fit_index d.describes) _ h in
-    let b = and_parts (if_some fit_index d.descriptor) (fit_kind d.kind) a.1 in
+    let a = and_parts (if_some printable_index d.describes) _ h in
+    let b = and_parts (if_some printable_index d.descriptor) (printable_kind d.kind) a.1 in
     (a.0, b.0, b.1)
 
 -- a definition in its parentheses
-pub def_here : (d : DefTy) (r : List Tok) → fit_def d ≡ true → group_follows (RParen ∷ r) ≡ false
+pub def_here : (d : DefTy) (r : List Tok) → printable_def d ≡ true → group_follows (RParen ∷ r) ≡ false
     → (paren type_def).spells d (spell_def d) r
 def_here d r h e =
-    let a = and_parts (fit_parents d.final_type d.parents) (fit_described d) h in
+    let a = and_parts (printable_parents d.final_type d.parents) (printable_described d) h in
     paren_by type_def d (def_inner d.shared d.kind d.descriptor d.describes d.final_type d.parents)
     (spell_def d) r (def_in d d.final_type)
     (def_parts d.shared d.kind d.descriptor d.describes d.final_type d.parents r a.0
@@ -457,7 +457,7 @@ def_no_name b k o p (Some final) is x = refl
 def_no_name true k o p None is x = refl
 def_no_name false k o p None is x = inner_no_name k o p x
 
-label_part : (t : TypeTy) (r : List Tok) → fit_label t.label ≡ true
+label_part : (t : TypeTy) (r : List Tok) → printable_label t.label ≡ true
     → label.spells t.label (spell_label t.label) (spell_def t.def ++ r)
 label_part t r f =
     let d = t.def in
@@ -469,11 +469,11 @@ label_part t r f =
     (sym (append_assoc x (RParen ∷ []) r))
     (def_no_name d.shared d.kind d.descriptor d.describes d.final_type d.parents (RParen ∷ r))))
 
-pub type_here : (t : TypeTy) (r : List Tok) → fit_type t ≡ true → group_follows (RParen ∷ r) ≡ false
+pub type_here : (t : TypeTy) (r : List Tok) → printable_type t ≡ true → group_follows (RParen ∷ r) ≡ false
     → type_.spells t (spell_type t) r
 unfolding type_
 type_here t r f e =
-    let a = and_parts (fit_label t.label) (fit_def t.def) f in (
+    let a = and_parts (printable_label t.label) (printable_def t.def) f in (
       (t.label, t.def),
       after_here (codes "type") (seq label (paren type_def)) (t.label, t.def)
           (spell_label t.label ++ spell_def t.def) r refl
@@ -482,68 +482,68 @@ type_here t r f e =
       refl,
     )
 
-grouped_here : (t : TypeTy) → fit_type t ≡ true → Spells grouped_type t (spell_grouped_type t)
+grouped_here : (t : TypeTy) → printable_type t ≡ true → Spells grouped_type t (spell_grouped_type t)
 grouped_here t f r = paren_here type_ t (spell_type t) r (type_here t (RParen ∷ r) f refl)
 
 -- where the second token that follows isn't `type`
-pub rec_here : (ts : List TypeTy) (r : List Tok) → fit_rec ts ≡ true → second begins_type r ≡ false
+pub rec_here : (ts : List TypeTy) (r : List Tok) → printable_rec ts ≡ true → second begins_type r ≡ false
     → rec.spells ts (spell_rec ts) r
 unfolding rec types
 rec_here ts r f e =
     after_here (codes "rec") types ts (flat_map spell_grouped_type ts) r refl
-    (many_here (second begins_type) grouped_type spell_grouped_type fit_type grouped_here
+    (many_here (second begins_type) grouped_type spell_grouped_type printable_type grouped_here
     (λ t x o. refl) ts r f e)
 
 -- ---- they can be written
 
-described_neat : (d : DefTy) → fit_described d ≡ true → Neat (spell_described d)
-described_neat d h =
+described_well_formed : (d : DefTy) → printable_described d ≡ true → WellFormed (spell_described d)
+described_well_formed d h =
     let a = core_parts d h in
     let k = in_parens (spell_kind d.kind) in
-    neat_both (spell_option spell_describes d.describes)
+    well_formed_both (spell_option spell_describes d.describes)
     (spell_option spell_descriptor d.descriptor ++ k)
-    (neat_option spell_describes fit_index d.describes
-    (λ i f. (neat_group (codes "describes") (spell_index i) refl (index_neat i f))) a.0)
-    (neat_both (spell_option spell_descriptor d.descriptor) k
-    (neat_option spell_descriptor fit_index d.descriptor
-    (λ i f. (neat_group (codes "descriptor") (spell_index i) refl (index_neat i f))) a.1)
-    (neat_paren (spell_kind d.kind) (kind_neat d.kind a.2)))
+    (well_formed_option spell_describes printable_index d.describes
+    (λ i f. (well_formed_group (codes "describes") (spell_index i) refl (index_well_formed i f))) a.0)
+    (well_formed_both (spell_option spell_descriptor d.descriptor) k
+    (well_formed_option spell_descriptor printable_index d.descriptor
+    (λ i f. (well_formed_group (codes "descriptor") (spell_index i) refl (index_well_formed i f))) a.1)
+    (well_formed_paren (spell_kind d.kind) (kind_well_formed d.kind a.2)))
 
-neat_shared : (b : Bool) (x : List Tok) → Neat x
-    → Neat (if b then grouped (codes "shared") x else x)
-neat_shared true x n = neat_group (codes "shared") x refl n
-neat_shared false x n = n
+well_formed_shared : (b : Bool) (x : List Tok) → WellFormed x
+    → WellFormed (if b then grouped (codes "shared") x else x)
+well_formed_shared true x n = well_formed_group (codes "shared") x refl n
+well_formed_shared false x n = n
 
-shared_neat : (d : DefTy) → fit_described d ≡ true → Neat (spell_shared d)
-shared_neat d h = neat_shared d.shared (spell_described d) (described_neat d h)
+shared_well_formed : (d : DefTy) → printable_described d ≡ true → WellFormed (spell_shared d)
+shared_well_formed d h = well_formed_shared d.shared (spell_described d) (described_well_formed d h)
 
-sub_neat : (d : DefTy) (final : Option Bool) → fit_parents final d.parents ≡ true
-    → fit_described d ≡ true → Neat (spell_sub d final)
-sub_neat d (Some final) f h =
+sub_well_formed : (d : DefTy) (final : Option Bool) → printable_parents final d.parents ≡ true
+    → printable_described d ≡ true → WellFormed (spell_sub d final)
+sub_well_formed d (Some final) f h =
     let i = flat_map spell_index d.parents in
-    neat_group (codes "sub") (spell_flag (codes "final") final ++ (i ++ spell_shared d)) refl
-    (neat_both (spell_flag (codes "final") final) (i ++ spell_shared d)
-    (neat_flag (codes "final") final refl)
-    (neat_both i (spell_shared d) (neat_each spell_index fit_index index_neat d.parents f)
-    (shared_neat d h)))
-sub_neat d None f h = shared_neat d h
+    well_formed_group (codes "sub") (spell_flag (codes "final") final ++ (i ++ spell_shared d)) refl
+    (well_formed_both (spell_flag (codes "final") final) (i ++ spell_shared d)
+    (well_formed_flag (codes "final") final refl)
+    (well_formed_both i (spell_shared d) (well_formed_each spell_index printable_index index_well_formed d.parents f)
+    (shared_well_formed d h)))
+sub_well_formed d None f h = shared_well_formed d h
 
-pub def_neat : (d : DefTy) → fit_def d ≡ true → Neat (spell_def d)
-def_neat d h =
-    let a = and_parts (fit_parents d.final_type d.parents) (fit_described d) h in
-    sub_neat d d.final_type a.0 a.1
+pub def_well_formed : (d : DefTy) → printable_def d ≡ true → WellFormed (spell_def d)
+def_well_formed d h =
+    let a = and_parts (printable_parents d.final_type d.parents) (printable_described d) h in
+    sub_well_formed d d.final_type a.0 a.1
 
-pub type_neat : (t : TypeTy) → fit_type t ≡ true → Neat (spell_type t)
-type_neat t f =
-    let a = and_parts (fit_label t.label) (fit_def t.def) f in
-    neat_word (codes "type") (spell_label t.label ++ spell_def t.def) refl
-    (neat_both (spell_label t.label) (spell_def t.def) (label_neat t.label a.0)
-    (def_neat t.def a.1))
+pub type_well_formed : (t : TypeTy) → printable_type t ≡ true → WellFormed (spell_type t)
+type_well_formed t f =
+    let a = and_parts (printable_label t.label) (printable_def t.def) f in
+    well_formed_word (codes "type") (spell_label t.label ++ spell_def t.def) refl
+    (well_formed_both (spell_label t.label) (spell_def t.def) (label_well_formed t.label a.0)
+    (def_well_formed t.def a.1))
 
-pub rec_neat : (ts : List TypeTy) → fit_rec ts ≡ true → Neat (spell_rec ts)
-rec_neat ts f =
-    neat_word (codes "rec") (flat_map spell_grouped_type ts) refl
-    (neat_each spell_grouped_type fit_type (λ t h. (neat_paren (spell_type t) (type_neat t h))) ts
+pub rec_well_formed : (ts : List TypeTy) → printable_rec ts ≡ true → WellFormed (spell_rec ts)
+rec_well_formed ts f =
+    well_formed_word (codes "rec") (flat_map spell_grouped_type ts) refl
+    (well_formed_each spell_grouped_type printable_type (λ t h. (well_formed_paren (spell_type t) (type_well_formed t h))) ts
     f)
 
 -- ---- what a text spells can be written
@@ -551,49 +551,49 @@ rec_neat ts f =
 first_of : (a b : Bool) → a && b ≡ true → a ≡ true
 first_of a b h = (and_parts a b h).0
 
-link_only : (w : List ℕ) → OnlyFit (linked w) (if_some fit_index)
+link_only : (w : List ℕ) → OnlyPrintable (linked w) (if_some printable_index)
 unfolding linked
 link_only w =
-    only_opt (begins_word w) (only_after w (only_made (λ _. true) (λ v. v.0) fit_index
-    (only_weaker (λ v. fit_index v.0) (λ v h. (first_of (fit_index v.0) true h))
+    only_opt (begins_word w) (only_after w (only_made (λ _. true) (λ v. v.0) printable_index
+    (only_weaker (λ v. printable_index v.0) (λ v h. (first_of (printable_index v.0) true h))
     (only_seq index_only (only_any turn)))))
 
-described_only : OnlyFit described fit_def
+described_only : OnlyPrintable described printable_def
 unfolding described
 described_only =
-    only_made (λ _. true) plain_def fit_def
+    only_made (λ _. true) plain_def printable_def
     (only_seq (link_only (codes "describes")) (only_seq (link_only (codes "descriptor")) kind_only))
 
-maybe_only : OnlyFit maybe_shared fit_def
+maybe_only : OnlyPrintable maybe_shared printable_def
 unfolding maybe_shared
 maybe_only =
     only_where (begins_word (codes "shared"))
-    (only_made (λ _. true) shared_def fit_def
+    (only_made (λ _. true) shared_def printable_def
     (only_after (codes "shared") (only_paren described_only))) described_only
 
-sub_fit : (is : List Idx) (d : DefTy) → each fit_index is && fit_def d ≡ true
-    → each fit_index is && fit_described d ≡ true
-sub_fit is d h =
-    let a = and_parts (each fit_index is) (fit_def d) h in
-    rw (a.0) (and_parts (fit_parents d.final_type d.parents) (fit_described d) a.1).1
+sub_printable : (is : List Idx) (d : DefTy) → each printable_index is && printable_def d ≡ true
+    → each printable_index is && printable_described d ≡ true
+sub_printable is d h =
+    let a = and_parts (each printable_index is) (printable_def d) h in
+    rw (a.0) (and_parts (printable_parents d.final_type d.parents) (printable_described d) a.1).1
 
-pub def_only : OnlyFit type_def fit_def
+pub def_only : OnlyPrintable type_def printable_def
 unfolding type_def
 def_only =
     only_where (begins_word (codes "sub"))
-    (only_made (λ _. true) sub_def fit_def
-    (only_weaker (λ v. fit_def (sub_def v)) (λ v h. (sub_fit v.1.0 v.1.1 h))
+    (only_made (λ _. true) sub_def printable_def
+    (only_weaker (λ v. printable_def (sub_def v)) (λ v h. (sub_printable v.1.0 v.1.1 h))
     (only_after (codes "sub") (only_seq (only_any (flag (codes "final")))
     (only_seq (only_many begins_index (lit≤ tt) index_only) (only_paren maybe_only))))))
     maybe_only
 
-pub type_only : OnlyFit type_ fit_type
+pub type_only : OnlyPrintable type_ printable_type
 unfolding type_
 type_only =
-    only_made (λ _. true) (λ v. record { label = v.0; def = v.1 }) fit_type
+    only_made (λ _. true) (λ v. record { label = v.0; def = v.1 }) printable_type
     (only_after (codes "type") (only_seq label_only (only_paren def_only)))
 
-pub rec_only : OnlyFit rec fit_rec
+pub rec_only : OnlyPrintable rec printable_rec
 unfolding rec types
 rec_only =
     only_after (codes "rec")

@@ -18,21 +18,21 @@ use Rattle.wat_types.specs.Laws.Order.{in_order-holds}
 use Rattle.wat_types.specs.Laws.Value.{val_type_consumes}
 use Rattle.wat_types.specs.Order.{in_order}
 use Rattle.wat_types.specs.Value.{ValTy, val_type}
-use Rattle.wat_print.specs.Function.{param_label, spell_param, fit_param, spell_group, param_groups}
-use Rattle.wat_print.specs.Function.{result_groups, groups_of, spell_function, fit_function}
-use Rattle.wat_print.specs.Label.{spell_label, fit_label, none_labelled, in_groups}
-use Rattle.wat_print.specs.Neat.{is_given, Neat}
+use Rattle.wat_print.specs.Function.{param_label, spell_param, printable_param, spell_group, param_groups}
+use Rattle.wat_print.specs.Function.{result_groups, groups_of, spell_function, printable_function}
+use Rattle.wat_print.specs.Label.{spell_label, printable_label, none_labelled, in_groups}
+use Rattle.wat_print.specs.WellFormed.{is_given, WellFormed}
 use Rattle.wat_print.specs.Parts.{each}
-use Rattle.wat_print.specs.Reference.{spell_val, fit_val}
-use Rattle.wat_print.specs.Use.{fit_unnamed}
-use Rattle.wat_print.specs.Laws.Label.{label_neat, fit_parts, parts_here, in_groups_fit}
+use Rattle.wat_print.specs.Reference.{spell_val, printable_val}
+use Rattle.wat_print.specs.Use.{printable_unnamed}
+use Rattle.wat_print.specs.Laws.Label.{label_well_formed, printable_parts, parts_here, in_groups_printable}
 use Rattle.wat_print.specs.Laws.Label.{in_groups_all, label_only}
-use Rattle.wat_print.specs.Laws.Only.{OnlyFit, only_where, only_seq, only_made, only_many}
+use Rattle.wat_print.specs.Laws.Only.{OnlyPrintable, only_where, only_seq, only_made, only_many}
 use Rattle.wat_print.specs.Laws.Only.{only_group}
 use Rattle.wat_print.specs.Laws.Only.{only_weaker}
 use Rattle.wat_print.specs.Laws.Parts.{and_also, each_both, Spells, group_here, many_here}
-use Rattle.wat_print.specs.Laws.Parts.{neat_group, neat_both, neat_each}
-use Rattle.wat_print.specs.Laws.Reference.{val_here, val_neat, val_more, val_no_id, val_no_name}
+use Rattle.wat_print.specs.Laws.Parts.{well_formed_group, well_formed_both, well_formed_each}
+use Rattle.wat_print.specs.Laws.Reference.{val_here, val_well_formed, val_more, val_no_id, val_no_name}
 use Rattle.wat_print.specs.Laws.Reference.{val_only}
 
 -- ---- one group
@@ -43,35 +43,35 @@ param_of l t = record { label = l; ty = t }
 abbrev param_type : ParamTy → ValTy
 param_type p = p.ty
 
-pub val_any : (t : ValTy) (r : List Tok) → fit_val t ≡ true → true ≡ true
+pub val_any : (t : ValTy) (r : List Tok) → printable_val t ≡ true → true ≡ true
     → val_type.spells t (spell_val t) r
 val_any t r f e = val_here t f r
 
-abbrev fit_params : List ParamTy → Bool
-fit_params ps =
-    fit_parts val_type spell_val fit_val (λ _. true) val_any (λ r. refl)
+abbrev printable_params : List ParamTy → Bool
+printable_params ps =
+    printable_parts val_type spell_val printable_val (λ _. true) val_any (λ r. refl)
     (λ t x. refl) val_more val_no_id
     val_no_name param_of param_label param_type (λ p. refl) ps
 
-params_here : (ps : List ParamTy) (r : List Tok) → fit_params ps ≡ true
+params_here : (ps : List ParamTy) (r : List Tok) → printable_params ps ≡ true
     → (params true).spells ps (flat_map spell_param ps) (RParen ∷ r)
 unfolding params plain_params
 params_here ps r f =
-    parts_here val_type spell_val fit_val (λ _. true) val_any (λ r. refl) (λ t x. refl) val_more
+    parts_here val_type spell_val printable_val (λ _. true) val_any (λ r. refl) (λ t x. refl) val_more
     val_no_id val_no_name param_of param_label param_type (λ p. refl) ps r f
 
-abbrev pub fit_group : Group → Bool
-fit_group (param ps) = fit_params ps
-fit_group (result ts) = each fit_val ts
+abbrev pub printable_group : Group → Bool
+printable_group (param ps) = printable_params ps
+printable_group (result ts) = each printable_val ts
 
-results_here : (ts : List ValTy) (r : List Tok) → each fit_val ts ≡ true
+results_here : (ts : List ValTy) (r : List Tok) → each printable_val ts ≡ true
     → val_types.spells ts (flat_map spell_val ts) (RParen ∷ r)
 unfolding val_types
 results_here ts r f =
-    many_here more val_type spell_val fit_val val_here (λ t x h. (val_more t x)) ts (RParen ∷ r) f
+    many_here more val_type spell_val printable_val val_here (λ t x h. (val_more t x)) ts (RParen ∷ r) f
     refl
 
-pub func_group_here : (g : Group) → fit_group g ≡ true → Spells (func_group true) g (spell_group g)
+pub func_group_here : (g : Group) → printable_group g ≡ true → Spells (func_group true) g (spell_group g)
 unfolding func_group
 func_group_here (param ps) f r =
     let d = flat_map spell_param ps in
@@ -102,31 +102,31 @@ group_front (result ts) x = refl
 
 -- ---- the groups of a type
 
-each_param : (gs : List (List ParamTy)) → each fit_params gs ≡ true
-    → each fit_group (map param gs) ≡ true
+each_param : (gs : List (List ParamTy)) → each printable_params gs ≡ true
+    → each printable_group (map param gs) ≡ true
 each_param [] f = refl
 each_param (g ∷ gs) f =
-    let p = and_parts (fit_params g) (each fit_params gs) f in
+    let p = and_parts (printable_params g) (each printable_params gs) f in
     rw (p.0) (each_param gs p.1)
 
-param_groups_fit : (ps : List ParamTy) → each fit_param ps ≡ true
-    → each fit_group (param_groups ps) ≡ true
-param_groups_fit ps f =
+param_groups_printable : (ps : List ParamTy) → each printable_param ps ≡ true
+    → each printable_group (param_groups ps) ≡ true
+param_groups_printable ps f =
     each_param (in_groups param_label ps)
-    (in_groups_fit val_type spell_val fit_val (λ _. true) val_any (λ r. refl) (λ t x. refl) val_more
+    (in_groups_printable val_type spell_val printable_val (λ _. true) val_any (λ r. refl) (λ t x. refl) val_more
     val_no_id val_no_name param_of param_label param_type (λ p. refl) ps f)
 
-result_groups_fit : (ts : List ValTy) → each fit_val ts ≡ true
-    → each fit_group (result_groups ts) ≡ true
-result_groups_fit [] f = refl
-result_groups_fit (t ∷ ts) f = rw f refl
+result_groups_printable : (ts : List ValTy) → each printable_val ts ≡ true
+    → each printable_group (result_groups ts) ≡ true
+result_groups_printable [] f = refl
+result_groups_printable (t ∷ ts) f = rw f refl
 
 -- the groups that are written can be
-pub groups_fit : (f : FuncTy) → fit_function f ≡ true → each fit_group (groups_of f) ≡ true
-groups_fit f h =
-    let a = and_parts (each fit_param f.params) (each fit_val f.results) h in
-    each_both fit_group (param_groups f.params) (result_groups f.results)
-    (param_groups_fit f.params a.0) (result_groups_fit f.results a.1)
+pub groups_printable : (f : FuncTy) → printable_function f ≡ true → each printable_group (groups_of f) ≡ true
+groups_printable f h =
+    let a = and_parts (each printable_param f.params) (each printable_val f.results) h in
+    each_both printable_group (param_groups f.params) (result_groups f.results)
+    (param_groups_printable f.params a.0) (result_groups_printable f.results a.1)
 
 -- what groups of parameters are, in front of others
 abbrev ParamsInFront : List (List ParamTy) → List Group → Type 0
@@ -175,74 +175,74 @@ groups_are f =
 
 -- groups of the type spell it, where no further group follows
 pub function_by : (f : FuncTy) (gs : List Group) (r : List Tok) → AreGroupsOf f gs
-    → each fit_group gs ≡ true → group_follows r ≡ false
+    → each printable_group gs ≡ true → group_follows r ≡ false
     → function_type.spells f (flat_map spell_group gs) r
 unfolding function_groups func_groups
 function_by f gs r a h e = (
   gs,
-  many_here group_follows (func_group true) spell_group fit_group func_group_here
+  many_here group_follows (func_group true) spell_group printable_group func_group_here
       (λ k x o. (group_front k x)) gs r h e,
   in_order-holds gs a.2,
   a.0,
   a.1,
 )
 
-pub function_here : (f : FuncTy) (r : List Tok) → fit_function f ≡ true → group_follows r ≡ false
+pub function_here : (f : FuncTy) (r : List Tok) → printable_function f ≡ true → group_follows r ≡ false
     → function_type.spells f (spell_function f) r
-function_here f r h e = function_by f (groups_of f) r (groups_are f) (groups_fit f h) e
+function_here f r h e = function_by f (groups_of f) r (groups_are f) (groups_printable f h) e
 
 pub labels_none : (ps : List ParamTy) → none_labelled param_label ps ≡ unlabelled ps
 labels_none [] = refl
 labels_none (p ∷ ps) = ap (λ (b : Bool). not (labelled p.label) && b) (labels_none ps)
 
-pub unnamed_here : (f : FuncTy) (r : List Tok) → fit_unnamed f ≡ true → group_follows r ≡ false
+pub unnamed_here : (f : FuncTy) (r : List Tok) → printable_unnamed f ≡ true → group_follows r ≡ false
     → function_type_no_names.spells f (spell_function f) r
 unfolding function_groups
 unnamed_here f r h e =
-    let a = and_parts (none_labelled param_label f.params) (fit_function f) h in
+    let a = and_parts (none_labelled param_label f.params) (printable_function f) h in
     (function_here f r a.1 e, sym (labels_none f.params) ∙ a.0)
 
 -- ---- they can be written
 
-param_neat : (p : ParamTy) → fit_param p ≡ true → Neat (spell_param p)
-param_neat p f =
-    let a = and_parts (fit_label p.label) (fit_val p.ty) f in
-    neat_both (spell_label p.label) (spell_val p.ty) (label_neat p.label a.0) (val_neat p.ty a.1)
+param_well_formed : (p : ParamTy) → printable_param p ≡ true → WellFormed (spell_param p)
+param_well_formed p f =
+    let a = and_parts (printable_label p.label) (printable_val p.ty) f in
+    well_formed_both (spell_label p.label) (spell_val p.ty) (label_well_formed p.label a.0) (val_well_formed p.ty a.1)
 
-group_neat : (g : Group) → fit_group g ≡ true → Neat (spell_group g)
-group_neat (param ps) f =
-    neat_group (codes "param") (flat_map spell_param ps) refl
-    (neat_each spell_param fit_param param_neat ps (and_parts _ (each fit_param ps) f).1)
-group_neat (result ts) f =
-    neat_group (codes "result") (flat_map spell_val ts) refl
-    (neat_each spell_val fit_val val_neat ts f)
+group_well_formed : (g : Group) → printable_group g ≡ true → WellFormed (spell_group g)
+group_well_formed (param ps) f =
+    well_formed_group (codes "param") (flat_map spell_param ps) refl
+    (well_formed_each spell_param printable_param param_well_formed ps (and_parts _ (each printable_param ps) f).1)
+group_well_formed (result ts) f =
+    well_formed_group (codes "result") (flat_map spell_val ts) refl
+    (well_formed_each spell_val printable_val val_well_formed ts f)
 
-pub groups_neat : (gs : List Group) → each fit_group gs ≡ true → Neat (flat_map spell_group gs)
-groups_neat gs f = neat_each spell_group fit_group group_neat gs f
+pub groups_well_formed : (gs : List Group) → each printable_group gs ≡ true → WellFormed (flat_map spell_group gs)
+groups_well_formed gs f = well_formed_each spell_group printable_group group_well_formed gs f
 
-pub function_neat : (f : FuncTy) → fit_function f ≡ true → Neat (spell_function f)
-function_neat f h = groups_neat (groups_of f) (groups_fit f h)
+pub function_well_formed : (f : FuncTy) → printable_function f ≡ true → WellFormed (spell_function f)
+function_well_formed f h = groups_well_formed (groups_of f) (groups_printable f h)
 
-pub unnamed_neat : (f : FuncTy) → fit_unnamed f ≡ true → Neat (spell_function f)
-unnamed_neat f h =
-    function_neat f (and_parts (none_labelled param_label f.params) (fit_function f) h).1
+pub unnamed_well_formed : (f : FuncTy) → printable_unnamed f ≡ true → WellFormed (spell_function f)
+unnamed_well_formed f h =
+    function_well_formed f (and_parts (none_labelled param_label f.params) (printable_function f) h).1
 
 -- ---- what a text spells can be written
 
 abbrev group_given : Group → Bool
-group_given (param ps) = each fit_param ps
-group_given (result ts) = each fit_val ts
+group_given (param ps) = each printable_param ps
+group_given (result ts) = each printable_val ts
 
-params_only : OnlyFit (params true) (each fit_param)
+params_only : OnlyPrintable (params true) (each printable_param)
 unfolding params plain_params
 params_only =
     only_where begins_label
-    (only_made (λ _. true) labelled_param (each fit_param)
-    (only_weaker (λ v. (fit_label v.0 && fit_val v.1) && true)
-    (λ v h. (and_also (fit_label v.0 && fit_val v.1) h)) (only_seq label_only val_only)))
-    (only_many more val_type_consumes (only_made (λ _. true) plain_param fit_param val_only))
+    (only_made (λ _. true) labelled_param (each printable_param)
+    (only_weaker (λ v. (printable_label v.0 && printable_val v.1) && true)
+    (λ v h. (and_also (printable_label v.0 && printable_val v.1) h)) (only_seq label_only val_only)))
+    (only_many more val_type_consumes (only_made (λ _. true) plain_param printable_param val_only))
 
-group_only : OnlyFit (func_group true) group_given
+group_only : OnlyPrintable (func_group true) group_given
 unfolding func_group val_types
 group_only =
     only_where (begins_group (codes "param"))
@@ -250,34 +250,34 @@ group_only =
     (only_made (λ _. true) result group_given
     (only_group (codes "result") (only_many more val_type_consumes val_only)))
 
-groups_only : OnlyFit (func_groups true) (each group_given)
+groups_only : OnlyPrintable (func_groups true) (each group_given)
 unfolding func_groups
 groups_only = only_many group_follows (func_group_consumes true) group_only
 
 params_given : (gs : List Group) → each group_given gs ≡ true
-    → (each fit_param (flat_map params_in gs) ≡ true)
-    × (each fit_val (flat_map results_in gs) ≡ true)
+    → (each printable_param (flat_map params_in gs) ≡ true)
+    × (each printable_val (flat_map results_in gs) ≡ true)
 params_given [] h = (refl, refl)
 params_given (param ps ∷ gs) h =
-    let a = and_parts (each fit_param ps) (each group_given gs) h in
+    let a = and_parts (each printable_param ps) (each group_given gs) h in
     let b = params_given gs a.1 in
-    (each_both fit_param ps (flat_map params_in gs) a.0 b.0, b.1)
+    (each_both printable_param ps (flat_map params_in gs) a.0 b.0, b.1)
 params_given (result ts ∷ gs) h =
-    let a = and_parts (each fit_val ts) (each group_given gs) h in
+    let a = and_parts (each printable_val ts) (each group_given gs) h in
     let b = params_given gs a.1 in
-    (b.0, each_both fit_val ts (flat_map results_in gs) a.0 b.1)
+    (b.0, each_both printable_val ts (flat_map results_in gs) a.0 b.1)
 
 function_holds : (f : FuncTy) (c r : List Tok) → each is_given c ≡ true
-    → FunctionSpells true f c r → fit_function f ≡ true
+    → FunctionSpells true f c r → printable_function f ≡ true
 function_holds f c r a s =
     let g = params_given s.0 (groups_only.holds s.0 c r a s.1) in
     rw (s.3, s.4, g.0, g.1) refl
 
-pub function_only : OnlyFit function_type fit_function
+pub function_only : OnlyPrintable function_type printable_function
 unfolding function_groups
 function_only = record { holds = function_holds }
 
-pub unnamed_only : OnlyFit function_type_no_names fit_unnamed
+pub unnamed_only : OnlyPrintable function_type_no_names printable_unnamed
 unnamed_only =
     record {
       holds = λ f c r a s. (rw (labels_none f.params ∙ s.1, function_holds f c r a s.0) refl);

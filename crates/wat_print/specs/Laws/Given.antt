@@ -15,7 +15,7 @@ use Rattle.wat_lexer.specs.Number.{is_integer}
 use Rattle.wat_lexer.specs.Sight.{visible, visible_tokens, begins_hidden_group, shuts, deeper}
 use Rattle.wat_lexer.specs.Token.{Tok, Placed, LParen, RParen, Keyword, Id, Annotation, Integer}
 use Rattle.wat_lexer.specs.Token.{String, Reserved, tokens_of, is_open}
-use Rattle.wat_print.specs.Neat.{is_byte, is_name, is_given}
+use Rattle.wat_print.specs.WellFormed.{is_byte, is_name, is_given}
 use Rattle.wat_print.specs.Text.{all_are}
 use Rattle.wat_print.specs.Parts.{each}
 use Rattle.wat_print.specs.Laws.Bytes.{front_are, both_are, byte_is, character_bytes, utf8_bytes}

@@ -12,10 +12,10 @@ use Rattle.wat_lexer.specs.Token.{Tok, Integer}
 use Rattle.wat_tokens.specs.Integers.{integer}
 use Rattle.wat_tokens.specs.Tests.{as_integer}
 use Rattle.wat_print.specs.Integer.{spell_integer}
-use Rattle.wat_print.specs.Neat.{Neat, is_given}
+use Rattle.wat_print.specs.WellFormed.{WellFormed, is_given}
 use Rattle.wat_print.specs.Text.{all_are}
-use Rattle.wat_print.specs.Laws.Only.{OnlyFit, only_one}
-use Rattle.wat_print.specs.Laws.Parts.{Spells, neat_one}
+use Rattle.wat_print.specs.Laws.Only.{OnlyPrintable, only_one}
+use Rattle.wat_print.specs.Laws.Parts.{Spells, well_formed_one}
 
 -- ---- an integer has idchars alone
 
@@ -82,8 +82,8 @@ integer_idchars x e = sign_front x (magnitude_idchars (without_sign x) e)
 pub integer_here : (x : List ℕ) → Spells integer x (spell_integer x)
 integer_here x r = (Integer x, refl, refl)
 
-pub integer_neat : (x : List ℕ) → is_integer x ≡ true → Neat (spell_integer x)
-integer_neat x e = neat_one (Integer x) (rw (integer_idchars x e, e) refl)
+pub integer_well_formed : (x : List ℕ) → is_integer x ≡ true → WellFormed (spell_integer x)
+integer_well_formed x e = well_formed_one (Integer x) (rw (integer_idchars x e, e) refl)
 
 given_integer : (t : Tok) (x : List ℕ) → is_given t ≡ true → as_integer t ≡ Some x
     → is_integer x ≡ true
@@ -91,5 +91,5 @@ given_integer (Integer k) x a e =
     let same : k ≡ x = cc in subst (λ (y : List ℕ). is_integer y ≡ true) same a
 given_integer _ x a e = absurd cc
 
-pub integer_only : OnlyFit integer is_integer
+pub integer_only : OnlyPrintable integer is_integer
 integer_only = only_one as_integer (refl, refl) is_integer given_integer

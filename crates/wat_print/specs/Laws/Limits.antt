@@ -17,18 +17,18 @@ use Rattle.wat_types.specs.PageSize.{ExponentSpells}
 use Rattle.wat_types.specs.Reference.{RefTy}
 use Rattle.wat_types.specs.declared.limits.Limits.{Limits}
 use Rattle.wat_types.specs.declared.limits.MemoryType.{MemoryType}
-use Rattle.wat_print.specs.Limits.{spell_number, is_u64, spell_limits, fit_limits, spell_page_size}
-use Rattle.wat_print.specs.Limits.{is_exponent, spell_memory_type, fit_memory_type}
-use Rattle.wat_print.specs.Limits.{spell_table_type, fit_table_type}
-use Rattle.wat_print.specs.Neat.{is_given, Neat}
+use Rattle.wat_print.specs.Limits.{spell_number, is_u64, spell_limits, printable_limits, spell_page_size}
+use Rattle.wat_print.specs.Limits.{is_exponent, spell_memory_type, printable_memory_type}
+use Rattle.wat_print.specs.Limits.{spell_table_type, printable_table_type}
+use Rattle.wat_print.specs.WellFormed.{is_given, WellFormed}
 use Rattle.wat_print.specs.Parts.{each, spell_flag, spell_option, if_some}
-use Rattle.wat_print.specs.Reference.{spell_ref, fit_ref}
-use Rattle.wat_print.specs.Laws.Numbers.{decimal_fit, unsigned_decimal, unsigned_fits}
-use Rattle.wat_print.specs.Laws.Only.{OnlyFit, only_any, only_one, only_opt, only_seq, only_made}
+use Rattle.wat_print.specs.Reference.{spell_ref, printable_ref}
+use Rattle.wat_print.specs.Laws.Numbers.{decimal_printable, unsigned_decimal, unsigned_fits}
+use Rattle.wat_print.specs.Laws.Only.{OnlyPrintable, only_any, only_one, only_opt, only_seq, only_made}
 use Rattle.wat_print.specs.Laws.Only.{only_group}
-use Rattle.wat_print.specs.Laws.Parts.{Spells, word_here, group_here, flag_here, neat_one}
-use Rattle.wat_print.specs.Laws.Parts.{neat_group, neat_both, neat_option, neat_flag}
-use Rattle.wat_print.specs.Laws.Reference.{ref_here, ref_neat, ref_only, of_refs}
+use Rattle.wat_print.specs.Laws.Parts.{Spells, word_here, group_here, flag_here, well_formed_one}
+use Rattle.wat_print.specs.Laws.Parts.{well_formed_group, well_formed_both, well_formed_option, well_formed_flag}
+use Rattle.wat_print.specs.Laws.Reference.{ref_here, ref_well_formed, ref_only, of_refs}
 
 -- ---- numbers
 
@@ -45,15 +45,15 @@ number_here bits n lt le r = (Integer (decimal n), refl, unsigned_decimal bits n
 u64_here : (n : ℕ) → is_u64 n ≡ true → Spells (unsigned 64) n (spell_number n)
 u64_here n h = let lt = below n (2 ^ 64) h in number_here 64 n lt (omega arith)
 
-u64_neat : (n : ℕ) → is_u64 n ≡ true → Neat (spell_number n)
-u64_neat n h = neat_one (Integer (decimal n)) (decimal_fit n (below n (2 ^ 64) h))
+u64_well_formed : (n : ℕ) → is_u64 n ≡ true → WellFormed (spell_number n)
+u64_well_formed n h = well_formed_one (Integer (decimal n)) (decimal_printable n (below n (2 ^ 64) h))
 
 u64_given : (t : Tok) (n : ℕ) → is_given t ≡ true → unsigned_of 64 t ≡ Some n → is_u64 n ≡ true
 u64_given (Integer x) n a e = let le = unsigned_fits 64 x n e in is_below n (2 ^ 64) (omega arith)
 u64_given LParen n a e = absurd cc
 u64_given _ n a e = absurd cc
 
-u64_only : OnlyFit (unsigned 64) is_u64
+u64_only : OnlyPrintable (unsigned 64) is_u64
 u64_only = only_one (unsigned_of 64) (refl, refl) is_u64 u64_given
 
 -- ---- limits
@@ -70,7 +70,7 @@ max_here (Some n) r f e = (refl, u64_here n f r)
 max_here None r f e = (refl, e)
 
 -- where no integer follows
-pub limits_here : (l : Limits) (r : List Tok) → fit_limits l ≡ true → begins_integer r ≡ false
+pub limits_here : (l : Limits) (r : List Tok) → printable_limits l ≡ true → begins_integer r ≡ false
     → limits_type.spells l (spell_limits l) r
 unfolding limits_type
 limits_here l r f e =
@@ -88,19 +88,19 @@ limits_here l r f e =
       refl,
     )
 
-pub limits_neat : (l : Limits) → fit_limits l ≡ true → Neat (spell_limits l)
-limits_neat l f =
+pub limits_well_formed : (l : Limits) → printable_limits l ≡ true → WellFormed (spell_limits l)
+limits_well_formed l f =
     let a = and_parts (is_u64 l.min) (if_some is_u64 l.max) f in
     let m = spell_option spell_number l.max in
-    neat_both (spell_flag (codes "i64") l.is64) (spell_number l.min ++ m)
-    (neat_flag (codes "i64") l.is64 refl)
-    (neat_both (spell_number l.min) m (u64_neat l.min a.0)
-    (neat_option spell_number is_u64 l.max u64_neat a.1))
+    well_formed_both (spell_flag (codes "i64") l.is64) (spell_number l.min ++ m)
+    (well_formed_flag (codes "i64") l.is64 refl)
+    (well_formed_both (spell_number l.min) m (u64_well_formed l.min a.0)
+    (well_formed_option spell_number is_u64 l.max u64_well_formed a.1))
 
-pub limits_only : OnlyFit limits_type fit_limits
+pub limits_only : OnlyPrintable limits_type printable_limits
 unfolding limits_type
 limits_only =
-    only_made (λ _. true) limits_of fit_limits
+    only_made (λ _. true) limits_of printable_limits
     (only_seq (only_any is_64) (only_seq u64_only (only_opt begins_integer u64_only)))
 
 -- ---- page sizes
@@ -115,11 +115,11 @@ page_here k h r =
     group_here (codes "pagesize") page_exponent k (spell_number (2 ^ k)) r refl
     (2 ^ k, number_here 32 (2 ^ k) (omega arith) (omega arith) (RParen ∷ r), refl)
 
-pub page_neat : (k : ℕ) → is_exponent k ≡ true → Neat (spell_page_size k)
-page_neat k h =
+pub page_well_formed : (k : ℕ) → is_exponent k ≡ true → WellFormed (spell_page_size k)
+page_well_formed k h =
     let le = power_below k (below k 32 h) in
-    neat_group (codes "pagesize") (spell_number (2 ^ k)) refl
-    (neat_one (Integer (decimal (2 ^ k))) (decimal_fit (2 ^ k) (omega arith)))
+    well_formed_group (codes "pagesize") (spell_number (2 ^ k)) refl
+    (well_formed_one (Integer (decimal (2 ^ k))) (decimal_printable (2 ^ k) (omega arith)))
 
 below_by : (k : ℕ) (b : Bool) → nat_lt k 32 ≡ b → 2 ^ k ≤ 2 ^ 32 - 1 → k < 32
 below_by k true e h = below k 32 e
@@ -141,11 +141,11 @@ exponent_holds k c r a s =
     let le = u32_given s.1.0 s.0 s.1.2 in
     is_below k 32 (not_above k (subst (λ (n : ℕ). n ≤ 2 ^ 32 - 1) s.2 le))
 
-exponent_only : OnlyFit page_exponent is_exponent
+exponent_only : OnlyPrintable page_exponent is_exponent
 unfolding page_exponent
 exponent_only = record { holds = exponent_holds }
 
-pub page_only : OnlyFit pagesize_or_none (if_some is_exponent)
+pub page_only : OnlyPrintable pagesize_or_none (if_some is_exponent)
 unfolding pagesize_or_none pagesize
 page_only = only_opt (begins_group (codes "pagesize")) (only_group (codes "pagesize") exponent_only)
 
@@ -176,11 +176,11 @@ memory_rest : (b : Bool) (o : Option ℕ) (r : List Tok) → EndsMemory r
 memory_rest true o r e = refl
 memory_rest false o r e = (page_front o r e).0
 
-pub memory_type_here : (m : MemoryType) (r : List Tok) → fit_memory_type m ≡ true → EndsMemory r
+pub memory_type_here : (m : MemoryType) (r : List Tok) → printable_memory_type m ≡ true → EndsMemory r
     → memory_type.spells m (spell_memory_type m) r
 unfolding memory_type
 memory_type_here m r f e =
-    let a = and_parts (fit_limits m.limits) (if_some is_exponent m.page_size_log2) f in
+    let a = and_parts (printable_limits m.limits) (if_some is_exponent m.page_size_log2) f in
     let p = spell_option spell_page_size m.page_size_log2 in
     let s = spell_flag (codes "shared") m.shared in (
       (m.limits, (m.shared, m.page_size_log2)),
@@ -201,19 +201,19 @@ memory_type_here m r f e =
       refl,
     )
 
-pub memory_type_neat : (m : MemoryType) → fit_memory_type m ≡ true → Neat (spell_memory_type m)
-memory_type_neat m f =
-    let a = and_parts (fit_limits m.limits) (if_some is_exponent m.page_size_log2) f in
+pub memory_type_well_formed : (m : MemoryType) → printable_memory_type m ≡ true → WellFormed (spell_memory_type m)
+memory_type_well_formed m f =
+    let a = and_parts (printable_limits m.limits) (if_some is_exponent m.page_size_log2) f in
     let p = spell_option spell_page_size m.page_size_log2 in
     let s = spell_flag (codes "shared") m.shared in
-    neat_both (spell_limits m.limits) (s ++ p) (limits_neat m.limits a.0)
-    (neat_both s p (neat_flag (codes "shared") m.shared refl)
-    (neat_option spell_page_size is_exponent m.page_size_log2 page_neat a.1))
+    well_formed_both (spell_limits m.limits) (s ++ p) (limits_well_formed m.limits a.0)
+    (well_formed_both s p (well_formed_flag (codes "shared") m.shared refl)
+    (well_formed_option spell_page_size is_exponent m.page_size_log2 page_well_formed a.1))
 
-pub memory_type_only : OnlyFit memory_type fit_memory_type
+pub memory_type_only : OnlyPrintable memory_type printable_memory_type
 unfolding memory_type
 memory_type_only =
-    only_made (λ _. true) memory_type_of fit_memory_type
+    only_made (λ _. true) memory_type_of printable_memory_type
     (only_seq limits_only (only_seq (only_any (flag (codes "shared"))) page_only))
 
 -- ---- table types
@@ -232,11 +232,11 @@ limits_front : (l : Limits) (e r : List Tok)
     → begins_word (codes "shared") ((spell_limits l ++ e) ++ r) ≡ false
 limits_front l e r = limits_parts l.is64 l.min (spell_option spell_number l.max) e r
 
-pub table_type_here : (t : TableTy) → fit_table_type t ≡ true
+pub table_type_here : (t : TableTy) → printable_table_type t ≡ true
     → Spells table_type t (spell_table_type t)
 unfolding table_type
 table_type_here t f r =
-    let a = and_parts (fit_limits t.limits) (fit_ref t.elem) f in
+    let a = and_parts (printable_limits t.limits) (printable_ref t.elem) f in
     let s = spell_flag (codes "shared") t.shared in
     let l = spell_limits t.limits in
     let e = spell_ref t.elem in (
@@ -260,16 +260,16 @@ table_type_here t f r =
       refl,
     )
 
-pub table_type_neat : (t : TableTy) → fit_table_type t ≡ true → Neat (spell_table_type t)
-table_type_neat t f =
-    let a = and_parts (fit_limits t.limits) (fit_ref t.elem) f in
-    neat_both (spell_flag (codes "shared") t.shared) (spell_limits t.limits ++ spell_ref t.elem)
-    (neat_flag (codes "shared") t.shared refl)
-    (neat_both (spell_limits t.limits) (spell_ref t.elem) (limits_neat t.limits a.0)
-    (ref_neat t.elem a.1))
+pub table_type_well_formed : (t : TableTy) → printable_table_type t ≡ true → WellFormed (spell_table_type t)
+table_type_well_formed t f =
+    let a = and_parts (printable_limits t.limits) (printable_ref t.elem) f in
+    well_formed_both (spell_flag (codes "shared") t.shared) (spell_limits t.limits ++ spell_ref t.elem)
+    (well_formed_flag (codes "shared") t.shared refl)
+    (well_formed_both (spell_limits t.limits) (spell_ref t.elem) (limits_well_formed t.limits a.0)
+    (ref_well_formed t.elem a.1))
 
-pub table_type_only : OnlyFit table_type fit_table_type
+pub table_type_only : OnlyPrintable table_type printable_table_type
 unfolding table_type
 table_type_only =
-    only_made (λ _. true) table_type_of fit_table_type
+    only_made (λ _. true) table_type_of printable_table_type
     (only_seq (only_any (flag (codes "shared"))) (only_seq limits_only ref_only))

@@ -8,19 +8,19 @@ use Rattle.wat_lexer.specs.Sight.{behind_group, is_standard, begins_annotation_g
 use Rattle.wat_lexer.specs.Sight.{visible_tokens}
 use Rattle.wat_lexer.specs.Token.{Tok, Placed, LParen, RParen, Keyword, Id, Annotation, Integer}
 use Rattle.wat_lexer.specs.Token.{String, Reserved, tokens_of, is_open}
-use Rattle.wat_print.specs.Neat.{is_fit, Neat, nothing, token, group, noted}
+use Rattle.wat_print.specs.WellFormed.{is_printable, WellFormed, nothing, token, group, noted}
 use Rattle.wat_print.specs.Layout.{Writes}
 use Rattle.wat_print.specs.Text.{Page, blank_page}
-use Rattle.wat_print.specs.Laws.Cutting.{Fit, AllFit, page_cuts}
+use Rattle.wat_print.specs.Laws.Cutting.{Printable, AllPrintable, page_cuts}
 
 -- ---- each stands where it may
 
 -- a token that isn't a parenthesis or an annotation
-not_open : (t : Tok) → is_fit t ≡ true → is_open t ≡ false
+not_open : (t : Tok) → is_printable t ≡ true → is_open t ≡ false
 not_open LParen h = absurd cc
 not_open _ h = refl
 
-fits : (behind : Bool) (t : Tok) → is_fit t ≡ true → Fit behind t
+fits : (behind : Bool) (t : Tok) → is_printable t ≡ true → Printable behind t
 fits behind LParen h = tt
 fits behind RParen h = tt
 fits behind (Annotation n) h = absurd cc
@@ -31,41 +31,41 @@ fits behind (String k) h = h
 fits behind (Reserved k) h = h
 
 -- what may stand behind anything may stand behind `(`
-fit_more : (behind : Bool) (t : Tok) → Fit false t → Fit behind t
-fit_more behind LParen h = tt
-fit_more behind RParen h = tt
-fit_more behind (Annotation n) h = absurd (let e = h.0 in cc)
-fit_more behind (Keyword k) h = h
-fit_more behind (Id k) h = h
-fit_more behind (Integer k) h = h
-fit_more behind (String k) h = h
-fit_more behind (Reserved k) h = h
+printable_more : (behind : Bool) (t : Tok) → Printable false t → Printable behind t
+printable_more behind LParen h = tt
+printable_more behind RParen h = tt
+printable_more behind (Annotation n) h = absurd (let e = h.0 in cc)
+printable_more behind (Keyword k) h = h
+printable_more behind (Id k) h = h
+printable_more behind (Integer k) h = h
+printable_more behind (String k) h = h
+printable_more behind (Reserved k) h = h
 
-all_more : (behind : Bool) (r : List Tok) → AllFit false r → AllFit behind r
+all_more : (behind : Bool) (r : List Tok) → AllPrintable false r → AllPrintable behind r
 all_more behind [] h = tt
-all_more behind (t ∷ r) h = (fit_more behind t h.0, h.1)
+all_more behind (t ∷ r) h = (printable_more behind t h.0, h.1)
 
-neat_fit : (ts s : List Tok) → Neat ts → AllFit false s → AllFit false (ts ++ s)
-neat_fit ts s nothing f = f
-neat_fit ts s (token t r h n) f = (fits false t h, all_more (is_open t) (r ++ s) (neat_fit r s n f))
-neat_fit ts s (group a r n m) f = (
+well_formed_printable : (ts s : List Tok) → WellFormed ts → AllPrintable false s → AllPrintable false (ts ++ s)
+well_formed_printable ts s nothing f = f
+well_formed_printable ts s (token t r h n) f = (fits false t h, all_more (is_open t) (r ++ s) (well_formed_printable r s n f))
+well_formed_printable ts s (group a r n m) f = (
   tt,
-  all_more true ((a ++ RParen ∷ r) ++ s) (subst (λ (l : List Tok). AllFit false l)
+  all_more true ((a ++ RParen ∷ r) ++ s) (subst (λ (l : List Tok). AllPrintable false l)
       (sym (append_assoc a (RParen ∷ r) s))
-      (neat_fit a (RParen ∷ (r ++ s)) n (tt, neat_fit r s m f))),
+      (well_formed_printable a (RParen ∷ (r ++ s)) n (tt, well_formed_printable r s m f))),
 )
-neat_fit ts s (noted k a r h e n m) f = (
+well_formed_printable ts s (noted k a r h e n m) f = (
   tt,
   (
     (refl, h),
-    subst (λ (l : List Tok). AllFit false l) (sym (append_assoc a (RParen ∷ r) s))
-        (neat_fit a (RParen ∷ (r ++ s)) n (tt, neat_fit r s m f)),
+    subst (λ (l : List Tok). AllPrintable false l) (sym (append_assoc a (RParen ∷ r) s))
+        (well_formed_printable a (RParen ∷ (r ++ s)) n (tt, well_formed_printable r s m f)),
   ),
 )
 
 -- ---- groups are closed
 
-plain_deep : (t : Tok) (depth : ℕ) (r : List Tok) → is_fit t ≡ true
+plain_deep : (t : Tok) (depth : ℕ) (r : List Tok) → is_printable t ≡ true
     → behind_group depth (t ∷ r) ≡ behind_group depth r
 unfolding behind_group
 plain_deep LParen depth r h = absurd cc
@@ -93,21 +93,21 @@ note_deep : (n : List ℕ) (depth : ℕ) (r : List Tok)
 unfolding behind_group
 note_deep n depth r = refl
 
-neat_deep : (ts s : List Tok) (depth : ℕ) → Neat ts
+well_formed_deep : (ts s : List Tok) (depth : ℕ) → WellFormed ts
     → behind_group depth (ts ++ s) ≡ behind_group depth s
-neat_deep ts s depth nothing = refl
-neat_deep ts s depth (token t r h n) = plain_deep t depth (r ++ s) h ∙ neat_deep r s depth n
-neat_deep ts s depth (group a r n m) =
+well_formed_deep ts s depth nothing = refl
+well_formed_deep ts s depth (token t r h n) = plain_deep t depth (r ++ s) h ∙ well_formed_deep r s depth n
+well_formed_deep ts s depth (group a r n m) =
     open_deep depth ((a ++ RParen ∷ r) ++ s) ∙ ap (λ (l : List Tok). behind_group (depth + 1) l)
     (append_assoc a (RParen ∷ r) s)
-    ∙ neat_deep a (RParen ∷ (r ++ s)) (depth + 1) n ∙ shut_deep depth (r ++ s)
-    ∙ neat_deep r s depth m
-neat_deep ts s depth (noted k a r h e n m) =
+    ∙ well_formed_deep a (RParen ∷ (r ++ s)) (depth + 1) n ∙ shut_deep depth (r ++ s)
+    ∙ well_formed_deep r s depth m
+well_formed_deep ts s depth (noted k a r h e n m) =
     open_deep depth (Annotation k ∷ ((a ++ RParen ∷ r) ++ s))
     ∙ note_deep k (depth + 1) ((a ++ RParen ∷ r) ++ s)
     ∙ ap (λ (l : List Tok). behind_group (depth + 1) l) (append_assoc a (RParen ∷ r) s)
-    ∙ neat_deep a (RParen ∷ (r ++ s)) (depth + 1) n ∙ shut_deep depth (r ++ s)
-    ∙ neat_deep r s depth m
+    ∙ well_formed_deep a (RParen ∷ (r ++ s)) (depth + 1) n ∙ shut_deep depth (r ++ s)
+    ∙ well_formed_deep r s depth m
 
 -- an annotation in front stands in a group that is closed
 abbrev pub ShutHere : List Tok → Type 0
@@ -124,11 +124,11 @@ all_closed [] a (suc i) u = absurd (let e = u.2 in cc)
 all_closed (t ∷ r) a zero u = subst ShutHere u.2 a.0 u.3
 all_closed (t ∷ r) a (suc i) u = all_closed r a.1 i u
 
-plain_shut : (t : Tok) (r : List Tok) → is_fit t ≡ true → ShutHere (t ∷ r)
+plain_shut : (t : Tok) (r : List Tok) → is_printable t ≡ true → ShutHere (t ∷ r)
 plain_shut LParen r h = absurd cc
 plain_shut _ r h = tt
 
-inner_shut : (a s : List Tok) → Neat a → ShutHere (LParen ∷ (a ++ RParen ∷ s))
+inner_shut : (a s : List Tok) → WellFormed a → ShutHere (LParen ∷ (a ++ RParen ∷ s))
 inner_shut a s nothing = tt
 inner_shut a s (token (Annotation n) r h m) = absurd cc
 inner_shut a s (token _ r h m) = tt
@@ -139,26 +139,26 @@ shut_zero : (r : List Tok) → behind_group 0 (RParen ∷ r) ≡ Some r
 unfolding behind_group
 shut_zero r = refl
 
-neat_shut : (ts s : List Tok) → Neat ts → AllShut s → AllShut (ts ++ s)
-neat_shut ts s nothing f = f
-neat_shut ts s (token t r h n) f = (plain_shut t (r ++ s) h, neat_shut r s n f)
-neat_shut ts s (group a r n m) f =
-    let inner : AllShut (RParen ∷ (r ++ s)) = (tt, neat_shut r s m f) in
+well_formed_shut : (ts s : List Tok) → WellFormed ts → AllShut s → AllShut (ts ++ s)
+well_formed_shut ts s nothing f = f
+well_formed_shut ts s (token t r h n) f = (plain_shut t (r ++ s) h, well_formed_shut r s n f)
+well_formed_shut ts s (group a r n m) f =
+    let inner : AllShut (RParen ∷ (r ++ s)) = (tt, well_formed_shut r s m f) in
     subst (λ (l : List Tok). AllShut (LParen ∷ l)) (sym (append_assoc a (RParen ∷ r) s))
-    (inner_shut a (r ++ s) n, neat_shut a (RParen ∷ (r ++ s)) n inner)
-neat_shut ts s (noted k a r h e n m) f =
-    let inner : AllShut (RParen ∷ (r ++ s)) = (tt, neat_shut r s m f) in
+    (inner_shut a (r ++ s) n, well_formed_shut a (RParen ∷ (r ++ s)) n inner)
+well_formed_shut ts s (noted k a r h e n m) f =
+    let inner : AllShut (RParen ∷ (r ++ s)) = (tt, well_formed_shut r s m f) in
     let found : behind_group 0 (a ++ RParen ∷ (r ++ s))
-    ≡ Some (r ++ s) = neat_deep a (RParen ∷ (r ++ s)) 0 n ∙ shut_zero (r ++ s) in
+    ≡ Some (r ++ s) = well_formed_deep a (RParen ∷ (r ++ s)) 0 n ∙ shut_zero (r ++ s) in
     subst (λ (l : List Tok). AllShut (LParen ∷ (Annotation k ∷ l)))
     (sym (append_assoc a (RParen ∷ r) s)) (
       (λ (x : behind_group 0 (a ++ RParen ∷ (r ++ s)) ≡ None). (absurd cc)),
-      (tt, neat_shut a (RParen ∷ (r ++ s)) n inner),
+      (tt, well_formed_shut a (RParen ∷ (r ++ s)) n inner),
     )
 
 -- ---- all are visible
 
-plain_seen : (t : Tok) (r : List Tok) → is_fit t ≡ true
+plain_seen : (t : Tok) (r : List Tok) → is_printable t ≡ true
     → visible true None (t ∷ r) ≡ t ∷ visible true None r
 unfolding visible
 plain_seen LParen r h = absurd cc
@@ -173,7 +173,7 @@ note_seen : (k : List ℕ) (r : List Tok) → visible true None (Annotation k �
 unfolding visible
 note_seen k r = refl
 
-inner_plain : (a s : List Tok) → Neat a → begins_annotation_group (LParen ∷ (a ++ RParen ∷ s))
+inner_plain : (a s : List Tok) → WellFormed a → begins_annotation_group (LParen ∷ (a ++ RParen ∷ s))
     ≡ false
 inner_plain a s nothing = refl
 inner_plain a s (token (Annotation n) r h m) = absurd cc
@@ -192,24 +192,24 @@ noted_seen : (k : List ℕ) (r : List Tok) → is_standard k ≡ true
 unfolding visible
 noted_seen k r h = rw h refl
 
-neat_seen : (ts s : List Tok) → Neat ts → visible true None (ts ++ s) ≡ ts ++ visible true None s
-neat_seen ts s nothing = refl
-neat_seen ts s (token t r h n) = plain_seen t (r ++ s) h
-    ∙ ap (λ (l : List Tok). t ∷ l) (neat_seen r s n)
-neat_seen ts s (group a r n m) =
+well_formed_seen : (ts s : List Tok) → WellFormed ts → visible true None (ts ++ s) ≡ ts ++ visible true None s
+well_formed_seen ts s nothing = refl
+well_formed_seen ts s (token t r h n) = plain_seen t (r ++ s) h
+    ∙ ap (λ (l : List Tok). t ∷ l) (well_formed_seen r s n)
+well_formed_seen ts s (group a r n m) =
     rw (append_assoc a (RParen ∷ r) s) (
     open_seen (a ++ RParen ∷ (r ++ s)) (inner_plain a (r ++ s) n)
-    ∙ ap (λ (l : List Tok). LParen ∷ l) (neat_seen a (RParen ∷ (r ++ s)) n
+    ∙ ap (λ (l : List Tok). LParen ∷ l) (well_formed_seen a (RParen ∷ (r ++ s)) n
     ∙ ap (λ (l : List Tok). a ++ l) (shut_seen (r ++ s)
-    ∙ ap (λ (l : List Tok). RParen ∷ l) (neat_seen r s m))
+    ∙ ap (λ (l : List Tok). RParen ∷ l) (well_formed_seen r s m))
     ∙ sym (append_assoc a (RParen ∷ r) (visible true None s))))
-neat_seen ts s (noted k a r h e n m) =
+well_formed_seen ts s (noted k a r h e n m) =
     rw (append_assoc a (RParen ∷ r) s) (
     noted_seen k (a ++ RParen ∷ (r ++ s)) e
     ∙ ap (λ (l : List Tok). LParen ∷ l) (note_seen k (a ++ RParen ∷ (r ++ s))
-    ∙ ap (λ (l : List Tok). Annotation k ∷ l) (neat_seen a (RParen ∷ (r ++ s)) n
+    ∙ ap (λ (l : List Tok). Annotation k ∷ l) (well_formed_seen a (RParen ∷ (r ++ s)) n
     ∙ ap (λ (l : List Tok). a ++ l) (shut_seen (r ++ s)
-    ∙ ap (λ (l : List Tok). RParen ∷ l) (neat_seen r s m))
+    ∙ ap (λ (l : List Tok). RParen ∷ l) (well_formed_seen r s m))
     ∙ sym (append_assoc a (RParen ∷ r) (visible true None s)))))
 
 -- ---- together
@@ -218,20 +218,20 @@ seen_end : visible true None [] ≡ []
 unfolding visible
 seen_end = refl
 
-pub neat_visible : (ts : List Tok) → Neat ts → visible_tokens true ts ≡ ts
+pub well_formed_visible : (ts : List Tok) → WellFormed ts → visible_tokens true ts ≡ ts
 unfolding visible_tokens
-neat_visible ts n =
-    ap (λ (l : List Tok). visible true None l) (sym (append-nil ts)) ∙ neat_seen ts [] n
+well_formed_visible ts n =
+    ap (λ (l : List Tok). visible true None l) (sym (append-nil ts)) ∙ well_formed_seen ts [] n
     ∙ ap (λ (l : List Tok). ts ++ l) seen_end ∙ append-nil ts
 
-pub neat_closed : (ts : List Tok) → Neat ts → Closed ts
-neat_closed ts n =
-    all_closed ts (subst (λ (l : List Tok). AllShut l) (append-nil ts) (neat_shut ts [] n tt))
+pub well_formed_closed : (ts : List Tok) → WellFormed ts → Closed ts
+well_formed_closed ts n =
+    all_closed ts (subst (λ (l : List Tok). AllShut l) (append-nil ts) (well_formed_shut ts [] n tt))
 
 -- what is laid out of such tokens is cut into them
-pub neat_cut : (ts : List Tok) (lines : Bool) (q : Page) → Neat ts → Writes ts (blank_page lines) q
+pub well_formed_cut : (ts : List Tok) (lines : Bool) (q : Page) → WellFormed ts → Writes ts (blank_page lines) q
     → (ps : List Placed) × IsCut q.bytes ps × (tokens_of ps ≡ ts)
-neat_cut ts lines q n w =
-    let f = subst (λ (l : List Tok). AllFit false l) (append-nil ts) (neat_fit ts [] n tt) in
+well_formed_cut ts lines q n w =
+    let f = subst (λ (l : List Tok). AllPrintable false l) (append-nil ts) (well_formed_printable ts [] n tt) in
     let c = page_cuts (length q.bytes) ts lines q f w in
-    (c.0, (c.1, subst (λ (l : List Tok). Closed l) (sym c.2) (neat_closed ts n)), c.2)
+    (c.0, (c.1, subst (λ (l : List Tok). Closed l) (sym c.2) (well_formed_closed ts n)), c.2)

@@ -15,7 +15,7 @@ use Rattle.wat_lexer.specs.declared.number.Sign.{Sign}
 use Rattle.wat_lexer.specs.declared.number.Sign.TheVariants.{Plus, Minus}
 use Rattle.wat_lexer.specs.Token.{Integer}
 use Rattle.wat_print.specs.Text.{all_are}
-use Rattle.wat_print.specs.Neat.{is_fit}
+use Rattle.wat_print.specs.WellFormed.{is_printable}
 
 read_digits : (x : List ℕ) (n : ℕ) → AllDigits 10 x
     → read 10 true n x ≡ Some (digits_value_after 10 n x)
@@ -63,8 +63,8 @@ magnitude_decimal n lt =
     let e = number_digits (decimal n) d.0 in
     rw (no_hex (decimal n) d.0.1, e, d.1) refl
 
-pub decimal_fit : (n : ℕ) → n < 2 ^ 64 → is_fit (Integer (decimal n)) ≡ true
-decimal_fit n lt =
+pub decimal_printable : (n : ℕ) → n < 2 ^ 64 → is_printable (Integer (decimal n)) ≡ true
+decimal_printable n lt =
     let d = decimal_is_IsNumeral n lt in
     rw (digits_idchars (decimal n) d.0.1, (no_sign (decimal n) d.0.1).1, magnitude_decimal n lt)
     refl

@@ -10,12 +10,12 @@ use Rattle.wat_tokens.specs.ManySpells.{many_spells}
 use Rattle.wat_tokens.specs.Parens.{NoParens}
 use Rattle.wat_tokens.specs.Parts.{one, seq, where_else, made_where, opt, word, after_word}
 use Rattle.wat_tokens.specs.Production.{Production}
-use Rattle.wat_print.specs.Neat.{is_given}
+use Rattle.wat_print.specs.WellFormed.{is_given}
 use Rattle.wat_print.specs.Parts.{each, if_some}
 
 -- each value that tokens of a text spell passes the test
-pub record OnlyFit {A : Type 0} (g : Production A) (fit : A → Bool) : Type 0 where
-  pub holds : (v : A) (c r : List Tok) → each is_given c ≡ true → g.spells v c r → fit v ≡ true
+pub record OnlyPrintable {A : Type 0} (g : Production A) (printable : A → Bool) : Type 0 where
+  pub holds : (v : A) (c r : List Tok) → each is_given c ≡ true → g.spells v c r → printable v ≡ true
 
 given_both : (d e : List Tok) → each is_given (d ++ e) ≡ true
     → (each is_given d ≡ true) × (each is_given e ≡ true)
@@ -29,82 +29,82 @@ given_parts : (c d e : List Tok) → c ≡ d ++ e → each is_given c ≡ true
     → (each is_given d ≡ true) × (each is_given e ≡ true)
 given_parts c d e s a = given_both d e (subst (λ (l : List Tok). each is_given l ≡ true) s a)
 
-pub only_any : {A : Type 0} (g : Production A) → OnlyFit g (λ _. true)
+pub only_any : {A : Type 0} (g : Production A) → OnlyPrintable g (λ _. true)
 only_any g = record { holds = λ v c r a s. refl }
 
-pub only_one : {A : Type 0} (value_of : Tok → Option A) (flat : NoParens value_of) (fit : A → Bool)
-    → ((t : Tok) (v : A) → is_given t ≡ true → value_of t ≡ Some v → fit v ≡ true)
-    → OnlyFit (one value_of flat) fit
-only_one value_of flat fit h =
+pub only_one : {A : Type 0} (value_of : Tok → Option A) (flat : NoParens value_of) (printable : A → Bool)
+    → ((t : Tok) (v : A) → is_given t ≡ true → value_of t ≡ Some v → printable v ≡ true)
+    → OnlyPrintable (one value_of flat) printable
+only_one value_of flat printable h =
     record {
       holds = λ v c r a s. (let k = subst (λ (l : List Tok). each is_given l ≡ true) s.1 a in
           h s.0 v (and_parts (is_given s.0) true k).0 s.2);
     }
 
-where_holds : {A : Type 0} {g h : Production A} {fit : A → Bool} (test : List Tok → Bool)
-    → OnlyFit g fit → OnlyFit h fit → (v : A) (c r : List Tok) → each is_given c ≡ true
-    → (where_else test g h).spells v c r → fit v ≡ true
+where_holds : {A : Type 0} {g h : Production A} {printable : A → Bool} (test : List Tok → Bool)
+    → OnlyPrintable g printable → OnlyPrintable h printable → (v : A) (c r : List Tok) → each is_given c ≡ true
+    → (where_else test g h).spells v c r → printable v ≡ true
 where_holds test m n v c r a s =
     elim s [ inl k ↦ m.holds v c r a k.1 | inr k ↦ n.holds v c r a k.1 ]
 
-pub only_where : {A : Type 0} {g h : Production A} {fit : A → Bool} (test : List Tok → Bool)
-    → OnlyFit g fit → OnlyFit h fit → OnlyFit (where_else test g h) fit
+pub only_where : {A : Type 0} {g h : Production A} {printable : A → Bool} (test : List Tok → Bool)
+    → OnlyPrintable g printable → OnlyPrintable h printable → OnlyPrintable (where_else test g h) printable
 only_where test m n = record { holds = where_holds test m n }
 
-opt_holds : {A : Type 0} {g : Production A} {fit : A → Bool} (begins : List Tok → Bool)
-    → OnlyFit g fit → (o : Option A) (c r : List Tok) → each is_given c ≡ true
-    → (opt begins g).spells o c r → if_some fit o ≡ true
+opt_holds : {A : Type 0} {g : Production A} {printable : A → Bool} (begins : List Tok → Bool)
+    → OnlyPrintable g printable → (o : Option A) (c r : List Tok) → each is_given c ≡ true
+    → (opt begins g).spells o c r → if_some printable o ≡ true
 opt_holds begins m (Some v) c r a s = m.holds v c r a s.1
 opt_holds begins m None c r a s = refl
 
-pub only_opt : {A : Type 0} {g : Production A} {fit : A → Bool} (begins : List Tok → Bool)
-    → OnlyFit g fit → OnlyFit (opt begins g) (if_some fit)
+pub only_opt : {A : Type 0} {g : Production A} {printable : A → Bool} (begins : List Tok → Bool)
+    → OnlyPrintable g printable → OnlyPrintable (opt begins g) (if_some printable)
 only_opt begins m = record { holds = opt_holds begins m }
 
-pub only_paren : {A : Type 0} {g : Production A} {fit : A → Bool} → OnlyFit g fit
-    → OnlyFit (paren g) fit
+pub only_paren : {A : Type 0} {g : Production A} {printable : A → Bool} → OnlyPrintable g printable
+    → OnlyPrintable (paren g) printable
 only_paren m =
     record {
       holds = λ v c r a s. (let p = given_parts c (LParen ∷ s.0) (RParen ∷ []) s.1 a in
           m.holds v s.0 (RParen ∷ r) p.0 s.2);
     }
 
-many_holds : {A : Type 0} {g : Production A} {fit : A → Bool} (begins : List Tok → Bool)
-    → OnlyFit g fit → (vs : List A) (c r : List Tok) → each is_given c ≡ true
-    → many_spells begins g vs c r → each fit vs ≡ true
+many_holds : {A : Type 0} {g : Production A} {printable : A → Bool} (begins : List Tok → Bool)
+    → OnlyPrintable g printable → (vs : List A) (c r : List Tok) → each is_given c ≡ true
+    → many_spells begins g vs c r → each printable vs ≡ true
 many_holds begins m [] c r a s = refl
 many_holds begins m (v ∷ vs) c r a s =
     let p = given_parts c s.0 s.1 s.2 a in
     rw (m.holds v s.0 (s.1 ++ r) p.0 s.4) (many_holds begins m vs s.1 r p.1 s.5)
 
-pub only_many : {A : Type 0} {g : Production A} {fit : A → Bool} (begins : List Tok → Bool)
-    (consumes : 1 ≤ g.least) → OnlyFit g fit → OnlyFit (many begins g consumes) (each fit)
+pub only_many : {A : Type 0} {g : Production A} {printable : A → Bool} (begins : List Tok → Bool)
+    (consumes : 1 ≤ g.least) → OnlyPrintable g printable → OnlyPrintable (many begins g consumes) (each printable)
 only_many begins consumes m = record { holds = many_holds begins m }
 
 pub only_seq : {A B : Type 0} {g : Production A} {h : Production B} {f : A → Bool} {k : B → Bool}
-    → OnlyFit g f → OnlyFit h k → OnlyFit (seq g h) (λ v. f v.0 && k v.1)
+    → OnlyPrintable g f → OnlyPrintable h k → OnlyPrintable (seq g h) (λ v. f v.0 && k v.1)
 only_seq m n =
     record {
       holds = λ v c r a s. (let p = given_parts c s.0 s.1 s.2 a in
           rw (m.holds v.0 s.0 (s.1 ++ r) p.0 s.3, n.holds v.1 s.1 r p.1 s.4) refl);
     }
 
-pub only_made : {A B : Type 0} {g : Production A} (ok : A → Bool) (make : A → B) (fit : B → Bool)
-    → OnlyFit g (λ v. fit (make v)) → OnlyFit (made_where ok make g) fit
-only_made {B = B} ok make fit m =
+pub only_made : {A B : Type 0} {g : Production A} (ok : A → Bool) (make : A → B) (printable : B → Bool)
+    → OnlyPrintable g (λ v. printable (make v)) → OnlyPrintable (made_where ok make g) printable
+only_made {B = B} ok make printable m =
     record {
-      holds = λ v c r a s. (subst (λ (w : B). fit w ≡ true) s.3 (m.holds s.0 c r a s.1));
+      holds = λ v c r a s. (subst (λ (w : B). printable w ≡ true) s.3 (m.holds s.0 c r a s.1));
     }
 
 -- a weaker test
 pub only_weaker : {A : Type 0} {g : Production A} {f : A → Bool} (k : A → Bool)
-    → ((v : A) → f v ≡ true → k v ≡ true) → OnlyFit g f → OnlyFit g k
+    → ((v : A) → f v ≡ true → k v ≡ true) → OnlyPrintable g f → OnlyPrintable g k
 only_weaker k h m = record { holds = λ v c r a s. h v (m.holds v c r a s) }
 
-pub only_after : {A : Type 0} {g : Production A} {fit : A → Bool} (w : List ℕ) → OnlyFit g fit
-    → OnlyFit (after_word w g) fit
-only_after {fit = fit} w m = only_made (λ _. true) (λ v. v.1) fit (only_seq (only_any (word w)) m)
+pub only_after : {A : Type 0} {g : Production A} {printable : A → Bool} (w : List ℕ) → OnlyPrintable g printable
+    → OnlyPrintable (after_word w g) printable
+only_after {printable = printable} w m = only_made (λ _. true) (λ v. v.1) printable (only_seq (only_any (word w)) m)
 
-pub only_group : {A : Type 0} {g : Production A} {fit : A → Bool} (w : List ℕ) → OnlyFit g fit
-    → OnlyFit (group w g) fit
+pub only_group : {A : Type 0} {g : Production A} {printable : A → Bool} (w : List ℕ) → OnlyPrintable g printable
+    → OnlyPrintable (group w g) printable
 only_group w m = only_paren (only_after w m)

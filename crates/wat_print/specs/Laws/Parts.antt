@@ -13,8 +13,8 @@ use Rattle.wat_tokens.specs.ManySpells.{many_spells}
 use Rattle.wat_tokens.specs.PartSpells.{opt_spells}
 use Rattle.wat_tokens.specs.Groups.{paren, group}
 use Rattle.wat_tokens.specs.Spelled.{in_parens}
-use Rattle.wat_print.specs.Neat.{is_fit, is_keyword, Neat, nothing, token}
-use Rattle.wat_print.specs.Neat as neat
+use Rattle.wat_print.specs.WellFormed.{is_printable, is_keyword, WellFormed, nothing, token}
+use Rattle.wat_print.specs.WellFormed as well_formed
 use Rattle.wat_print.specs.Parts.{grouped, spell_flag, spell_option, if_some, each}
 
 -- in front of any rest the tokens spell the value
@@ -97,45 +97,45 @@ option_here begins g spell None r b s n = (refl, n refl)
 
 -- ---- tokens that can be written
 
-pub neat_both : (a b : List Tok) → Neat a → Neat b → Neat (a ++ b)
-neat_both a b nothing n = n
-neat_both a b (token t r h m) n = token t (r ++ b) h (neat_both r b m n)
-neat_both a b (neat.group c r m k) n =
-    subst (λ (l : List Tok). Neat (LParen ∷ l)) (sym (append_assoc c (RParen ∷ r) b))
-    (neat.group c (r ++ b) m (neat_both r b k n))
-neat_both a b (neat.noted x c r h e m k) n =
-    subst (λ (l : List Tok). Neat (LParen ∷ (Annotation x ∷ l)))
-    (sym (append_assoc c (RParen ∷ r) b)) (neat.noted x c (r ++ b) h e m (neat_both r b k n))
+pub well_formed_both : (a b : List Tok) → WellFormed a → WellFormed b → WellFormed (a ++ b)
+well_formed_both a b nothing n = n
+well_formed_both a b (token t r h m) n = token t (r ++ b) h (well_formed_both r b m n)
+well_formed_both a b (well_formed.group c r m k) n =
+    subst (λ (l : List Tok). WellFormed (LParen ∷ l)) (sym (append_assoc c (RParen ∷ r) b))
+    (well_formed.group c (r ++ b) m (well_formed_both r b k n))
+well_formed_both a b (well_formed.noted x c r h e m k) n =
+    subst (λ (l : List Tok). WellFormed (LParen ∷ (Annotation x ∷ l)))
+    (sym (append_assoc c (RParen ∷ r) b)) (well_formed.noted x c (r ++ b) h e m (well_formed_both r b k n))
 
-pub neat_one : (t : Tok) → is_fit t ≡ true → Neat (t ∷ [])
-neat_one t h = token t [] h nothing
+pub well_formed_one : (t : Tok) → is_printable t ≡ true → WellFormed (t ∷ [])
+well_formed_one t h = token t [] h nothing
 
-pub neat_word : (w : List ℕ) (d : List Tok) → is_keyword w ≡ true → Neat d → Neat (Keyword w ∷ d)
-neat_word w d h n = token (Keyword w) d h n
+pub well_formed_word : (w : List ℕ) (d : List Tok) → is_keyword w ≡ true → WellFormed d → WellFormed (Keyword w ∷ d)
+well_formed_word w d h n = token (Keyword w) d h n
 
-pub neat_group : (w : List ℕ) (d : List Tok) → is_keyword w ≡ true → Neat d → Neat (grouped w d)
-neat_group w d h n = neat.group (Keyword w ∷ d) [] (token (Keyword w) d h n) nothing
+pub well_formed_group : (w : List ℕ) (d : List Tok) → is_keyword w ≡ true → WellFormed d → WellFormed (grouped w d)
+well_formed_group w d h n = well_formed.group (Keyword w ∷ d) [] (token (Keyword w) d h n) nothing
 
-pub neat_paren : (d : List Tok) → Neat d → Neat (in_parens d)
-neat_paren d n = neat.group d [] n nothing
+pub well_formed_paren : (d : List Tok) → WellFormed d → WellFormed (in_parens d)
+well_formed_paren d n = well_formed.group d [] n nothing
 
-pub neat_each : {A : Type 0} (spell : A → List Tok) (ok : A → Bool)
-    → ((v : A) → ok v ≡ true → Neat (spell v))
-    → (vs : List A) → each ok vs ≡ true → Neat (flat_map spell vs)
-neat_each spell ok n [] o = nothing
-neat_each spell ok n (v ∷ vs) o =
+pub well_formed_each : {A : Type 0} (spell : A → List Tok) (ok : A → Bool)
+    → ((v : A) → ok v ≡ true → WellFormed (spell v))
+    → (vs : List A) → each ok vs ≡ true → WellFormed (flat_map spell vs)
+well_formed_each spell ok n [] o = nothing
+well_formed_each spell ok n (v ∷ vs) o =
     let p = and_parts (ok v) (each ok vs) o in
-    neat_both (spell v) (flat_map spell vs) (n v p.0) (neat_each spell ok n vs p.1)
+    well_formed_both (spell v) (flat_map spell vs) (n v p.0) (well_formed_each spell ok n vs p.1)
 
-pub neat_option : {A : Type 0} (spell : A → List Tok) (fit : A → Bool) (o : Option A)
-    → ((v : A) → fit v ≡ true → Neat (spell v)) → if_some fit o ≡ true
-    → Neat (spell_option spell o)
-neat_option spell fit (Some v) n f = n v f
-neat_option spell fit None n f = nothing
+pub well_formed_option : {A : Type 0} (spell : A → List Tok) (printable : A → Bool) (o : Option A)
+    → ((v : A) → printable v ≡ true → WellFormed (spell v)) → if_some printable o ≡ true
+    → WellFormed (spell_option spell o)
+well_formed_option spell printable (Some v) n f = n v f
+well_formed_option spell printable None n f = nothing
 
-pub neat_flag : (w : List ℕ) (b : Bool) → is_keyword w ≡ true → Neat (spell_flag w b)
-neat_flag w true h = neat_one (Keyword w) h
-neat_flag w false h = nothing
+pub well_formed_flag : (w : List ℕ) (b : Bool) → is_keyword w ≡ true → WellFormed (spell_flag w b)
+well_formed_flag w true h = well_formed_one (Keyword w) h
+well_formed_flag w false h = nothing
 
 -- ---- lists
 

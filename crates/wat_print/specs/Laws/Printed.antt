@@ -7,14 +7,14 @@ use Rattle.wat_lexer.specs.Token.{Tok, Placed, tokens_of}
 use Rattle.wat_tokens.specs.Production.{Production}
 use Rattle.wat_tokens.specs.Whole.{TextSpells}
 use Rattle.wat_print.specs.Layout.{Writes}
-use Rattle.wat_print.specs.Neat.{is_given, Neat}
+use Rattle.wat_print.specs.WellFormed.{is_given, WellFormed}
 use Rattle.wat_print.specs.Parts.{each}
 use Rattle.wat_print.specs.Printed.{may_break, NoneSpells}
 use Rattle.wat_print.specs.Text.{Page, put, printed_text, blank_page}
 use Rattle.wat_print.specs.declared.output.Layout.{Layout}
 use Rattle.wat_print.specs.declared.output.Layout.TheVariants.{Line}
 use Rattle.wat_print.specs.Laws.Given.{text_given, part_given}
-use Rattle.wat_print.specs.Laws.Nesting.{neat_cut, neat_visible}
+use Rattle.wat_print.specs.Laws.Nesting.{well_formed_cut, well_formed_visible}
 use Rattle.wat_print.specs.Laws.Written.{put_puts}
 
 -- the text of what was written on a new page
@@ -27,28 +27,28 @@ on_one_line layout ts p q x l e w b =
     ∙ ap (λ (k : Page). (put k ts).bytes) start
 
 -- it is cut into these tokens
-pub cut_back : (ts : List Tok) (lines : Bool) (p q : Page) (x : List ℕ) → Neat ts
+pub cut_back : (ts : List Tok) (lines : Bool) (p q : Page) (x : List ℕ) → WellFormed ts
     → p ≡ blank_page lines → Writes ts p q → x ≡ q.bytes
     → (ps : List Placed) × IsCut x ps × (tokens_of ps ≡ ts)
 cut_back ts lines p q x n e w b =
     subst (λ (y : List ℕ). (ps : List Placed) × IsCut y ps × (tokens_of ps ≡ ts)) (sym b)
-    (neat_cut ts lines q n (subst (λ (k : Page). Writes ts k q) e w))
+    (well_formed_cut ts lines q n (subst (λ (k : Page). Writes ts k q) e w))
 
 module _ {A : Type 0} (g : Production A) (v : A) where
-  pub reads_back : (ts : List Tok) (lines : Bool) (p q : Page) (x : List ℕ) → Neat ts
+  pub reads_back : (ts : List Tok) (lines : Bool) (p q : Page) (x : List ℕ) → WellFormed ts
       → g.spells v ts [] → p ≡ blank_page lines → Writes ts p q → x ≡ q.bytes
       → TextSpells true g x v
   reads_back ts lines p q x n s e w b =
       let c = cut_back ts lines p q x n e w b in
       let seen : visible_tokens true _ ≡ ts =
-      ap (λ (l : List Tok). visible_tokens true l) c.2 ∙ neat_visible ts n in
+      ap (λ (l : List Tok). visible_tokens true l) c.2 ∙ well_formed_visible ts n in
       (c.0, c.1, subst (λ (l : List Tok). g.spells v l []) (sym seen) s)
 
   -- where what a text spells can be written, and the value can't be, no text spells it
-  pub unspelled : (fit : Bool) → fit ≡ false
-      → ((c r : List Tok) → each is_given c ≡ true → g.spells v c r → fit ≡ true)
+  pub unspelled : (printable : Bool) → printable ≡ false
+      → ((c r : List Tok) → each is_given c ≡ true → g.spells v c r → printable ≡ true)
       → NoneSpells g v
-  unspelled fit e only x ps known b c r u k s h =
+  unspelled printable e only x ps known b c r u k s h =
       let a = text_given x ps known u k in
       let f = only c r (part_given b c r (subst (λ (l : List Tok). each is_given l ≡ true) s a)) h
       in

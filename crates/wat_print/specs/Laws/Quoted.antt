@@ -11,7 +11,7 @@ use Rattle.wat_lexer.specs.Bytes.{is_idchar}
 use Rattle.wat_lexer.specs.Cut.{is_raw, is_hex, Element, raw_byte, hex_byte, Str, close, more, Run}
 use Rattle.wat_lexer.specs.Cut.{none, idchar, string, Idchars, IsString, Name}
 use Rattle.wat_print.specs.Text.{escape, quoted_as, quoted, all_are, name_text}
-use Rattle.wat_print.specs.Neat.{is_byte, is_name}
+use Rattle.wat_print.specs.WellFormed.{is_byte, is_name}
 use Rattle.wat_print.specs.Laws.Bytes.{utf8_bytes}
 
 pub if_cases : {A : Type 0} (P : A → Type 0) (b : Bool) (x y : A) → (b ≡ true → P x)

@@ -19,35 +19,35 @@ use Rattle.wat_types.specs.Value.{ValTy, i32, i64, f32, f64, v128, ref, val_type
 use Rattle.wat_types.specs.Value.{plain_words}
 use Rattle.wat_types.specs.declared.heap.AbstractHeapType.{AbstractHeapType}
 use Rattle.wat_types.specs.declared.heap.AbstractHeapType.TheVariants as word
-use Rattle.wat_print.specs.Neat.{is_keyword, is_given, Neat}
-use Rattle.wat_print.specs.Index.{spell_index, fit_index}
+use Rattle.wat_print.specs.WellFormed.{is_keyword, is_given, WellFormed}
+use Rattle.wat_print.specs.Index.{spell_index, printable_index}
 use Rattle.wat_print.specs.Parts.{spell_flag, each}
-use Rattle.wat_print.specs.Reference.{abstract_word, spell_abstract, spell_heap, fit_heap}
-use Rattle.wat_print.specs.Reference.{short_word, spell_long, spell_reference, spell_ref, fit_ref}
-use Rattle.wat_print.specs.Reference.{spell_val, fit_val}
-use Rattle.wat_print.specs.Laws.Numbers.{decimal_fit, unsigned_decimal, unsigned_fits}
-use Rattle.wat_print.specs.Laws.Only.{OnlyFit, only_any, only_one, only_where, only_made}
+use Rattle.wat_print.specs.Reference.{abstract_word, spell_abstract, spell_heap, printable_heap}
+use Rattle.wat_print.specs.Reference.{short_word, spell_long, spell_reference, spell_ref, printable_ref}
+use Rattle.wat_print.specs.Reference.{spell_val, printable_val}
+use Rattle.wat_print.specs.Laws.Numbers.{decimal_printable, unsigned_decimal, unsigned_fits}
+use Rattle.wat_print.specs.Laws.Only.{OnlyPrintable, only_any, only_one, only_where, only_made}
 use Rattle.wat_print.specs.Laws.Only.{only_group}
 use Rattle.wat_print.specs.Laws.Only.{only_seq}
-use Rattle.wat_print.specs.Laws.Parts.{Spells, group_here, flag_here, neat_one, neat_group}
-use Rattle.wat_print.specs.Laws.Parts.{neat_both, neat_flag}
+use Rattle.wat_print.specs.Laws.Parts.{Spells, group_here, flag_here, well_formed_one, well_formed_group}
+use Rattle.wat_print.specs.Laws.Parts.{well_formed_both, well_formed_flag}
 
 -- ---- indices
 
 number_small : (n : ℕ) → nat_lt n (2 ^ 32) ≡ true → n < 2 ^ 32
 number_small n h = grind (arith, nat_tests)
 
-pub index_here : (i : Idx) → fit_index i ≡ true → Spells index i (spell_index i)
+pub index_here : (i : Idx) → printable_index i ≡ true → Spells index i (spell_index i)
 index_here (number n) h r =
     let lt = number_small n h in
     (Integer (decimal n), refl, rw (unsigned_decimal 32 n (omega arith) (omega arith)) refl)
 index_here (name x) h r = (Id x, refl, refl)
 
-pub index_neat : (i : Idx) → fit_index i ≡ true → Neat (spell_index i)
-index_neat (number n) h =
+pub index_well_formed : (i : Idx) → printable_index i ≡ true → WellFormed (spell_index i)
+index_well_formed (number n) h =
     let lt = number_small n h in
-    neat_one (Integer (decimal n)) (decimal_fit n (omega arith))
-index_neat (name x) h = neat_one (Id x) h
+    well_formed_one (Integer (decimal n)) (decimal_printable n (omega arith))
+index_well_formed (name x) h = well_formed_one (Id x) h
 
 -- ---- heap types
 
@@ -68,14 +68,14 @@ abstract_here word.NoExn r = (Keyword (codes "noexn"), refl, refl)
 abstract_here word.NoCont r = (Keyword (codes "nocont"), refl, refl)
 abstract_here word.None r = (Keyword (codes "none"), refl, refl)
 
-abstract_fit : (t : AbstractHeapType) → is_keyword (abstract_word t) ≡ true
-abstract_fit word.Func = refl
-abstract_fit _ = refl
+abstract_printable : (t : AbstractHeapType) → is_keyword (abstract_word t) ≡ true
+abstract_printable word.Func = refl
+abstract_printable _ = refl
 
-pub abstract_neat : (t : AbstractHeapType) → Neat (spell_abstract t)
-abstract_neat t = neat_one (Keyword (abstract_word t)) (abstract_fit t)
+pub abstract_well_formed : (t : AbstractHeapType) → WellFormed (spell_abstract t)
+abstract_well_formed t = well_formed_one (Keyword (abstract_word t)) (abstract_printable t)
 
-pub heap_here : (h : HeapTy) → fit_heap h ≡ true → Spells heap_type h (spell_heap h)
+pub heap_here : (h : HeapTy) → printable_heap h ≡ true → Spells heap_type h (spell_heap h)
 unfolding heap_type
 heap_here (concrete (number n)) f r = inl (refl, (number n, index_here (number n) f r, refl, refl))
 heap_here (concrete (name x)) f r = inl (refl, (name x, index_here (name x) f r, refl, refl))
@@ -116,12 +116,12 @@ heap_here (abstract_ false t) f r = inr (
       (refl, inr (refl, (t, abstract_here t r, refl, refl))),
 )
 
-pub heap_neat : (h : HeapTy) → fit_heap h ≡ true → Neat (spell_heap h)
-heap_neat (concrete i) f = index_neat i f
-heap_neat (exact i) f = neat_group (codes "exact") (spell_index i) refl (index_neat i f)
-heap_neat (abstract_ true t) f =
-    neat_group (codes "shared") (spell_abstract t) refl (abstract_neat t)
-heap_neat (abstract_ false t) f = abstract_neat t
+pub heap_well_formed : (h : HeapTy) → printable_heap h ≡ true → WellFormed (spell_heap h)
+heap_well_formed (concrete i) f = index_well_formed i f
+heap_well_formed (exact i) f = well_formed_group (codes "exact") (spell_index i) refl (index_well_formed i f)
+heap_well_formed (abstract_ true t) f =
+    well_formed_group (codes "shared") (spell_abstract t) refl (abstract_well_formed t)
+heap_well_formed (abstract_ false t) f = abstract_well_formed t
 
 -- ---- reference types
 
@@ -142,9 +142,9 @@ short_here word.NoExn r = (Keyword (codes "nullexnref"), refl, refl)
 short_here word.NoCont r = (Keyword (codes "nullcontref"), refl, refl)
 short_here word.None r = (Keyword (codes "nullref"), refl, refl)
 
-short_fit : (t : AbstractHeapType) → is_keyword (short_word t) ≡ true
-short_fit word.Func = refl
-short_fit _ = refl
+short_printable : (t : AbstractHeapType) → is_keyword (short_word t) ≡ true
+short_printable word.Func = refl
+short_printable _ = refl
 
 -- none of the heap types begins with `null`
 heap_not_null : (h : HeapTy) (r : List Tok) → begins_word (codes "null") (spell_heap h ++ r) ≡ false
@@ -155,7 +155,7 @@ heap_not_null (abstract_ true t) r = refl
 heap_not_null (abstract_ false word.Func) r = refl
 heap_not_null (abstract_ false _) r = refl
 
-long_here : (b : Bool) (h : HeapTy) → fit_heap h ≡ true
+long_here : (b : Bool) (h : HeapTy) → printable_heap h ≡ true
     → Spells ref_type (record { nullable = b; heap = h }) (spell_long b h)
 unfolding ref_type
 long_here b h f r =
@@ -178,7 +178,7 @@ long_here b h f r =
       ),
     )
 
-ref_parts : (b : Bool) (h : HeapTy) → fit_heap h ≡ true
+ref_parts : (b : Bool) (h : HeapTy) → printable_heap h ≡ true
     → Spells ref_type (record { nullable = b; heap = h }) (spell_reference b h)
 unfolding ref_type
 ref_parts true (abstract_ false word.Func) f r =
@@ -190,24 +190,24 @@ ref_parts true (concrete i) f r = long_here true (concrete i) f r
 ref_parts true (exact i) f r = long_here true (exact i) f r
 ref_parts false h f r = long_here false h f r
 
-pub ref_here : (t : RefTy) → fit_ref t ≡ true → Spells ref_type t (spell_ref t)
+pub ref_here : (t : RefTy) → printable_ref t ≡ true → Spells ref_type t (spell_ref t)
 ref_here t f = ref_parts t.nullable t.heap f
 
-long_neat : (b : Bool) (h : HeapTy) → fit_heap h ≡ true → Neat (spell_long b h)
-long_neat b h f =
+long_well_formed : (b : Bool) (h : HeapTy) → printable_heap h ≡ true → WellFormed (spell_long b h)
+long_well_formed b h f =
     let n = spell_flag (codes "null") b in
-    neat_group (codes "ref") (n ++ spell_heap h) refl
-    (neat_both n (spell_heap h) (neat_flag (codes "null") b refl) (heap_neat h f))
+    well_formed_group (codes "ref") (n ++ spell_heap h) refl
+    (well_formed_both n (spell_heap h) (well_formed_flag (codes "null") b refl) (heap_well_formed h f))
 
-neat_parts : (b : Bool) (h : HeapTy) → fit_heap h ≡ true → Neat (spell_reference b h)
-neat_parts true (abstract_ false t) f = neat_one (Keyword (short_word t)) (short_fit t)
-neat_parts true (abstract_ true t) f = long_neat true (abstract_ true t) f
-neat_parts true (concrete i) f = long_neat true (concrete i) f
-neat_parts true (exact i) f = long_neat true (exact i) f
-neat_parts false h f = long_neat false h f
+well_formed_parts : (b : Bool) (h : HeapTy) → printable_heap h ≡ true → WellFormed (spell_reference b h)
+well_formed_parts true (abstract_ false t) f = well_formed_one (Keyword (short_word t)) (short_printable t)
+well_formed_parts true (abstract_ true t) f = long_well_formed true (abstract_ true t) f
+well_formed_parts true (concrete i) f = long_well_formed true (concrete i) f
+well_formed_parts true (exact i) f = long_well_formed true (exact i) f
+well_formed_parts false h f = long_well_formed false h f
 
-pub ref_neat : (t : RefTy) → fit_ref t ≡ true → Neat (spell_ref t)
-ref_neat t f = neat_parts t.nullable t.heap f
+pub ref_well_formed : (t : RefTy) → printable_ref t ≡ true → WellFormed (spell_ref t)
+ref_well_formed t f = well_formed_parts t.nullable t.heap f
 
 -- ---- what a value type begins with
 
@@ -251,7 +251,7 @@ val_no_name _ x = refl
 
 -- ---- value types
 
-pub val_here : (t : ValTy) → fit_val t ≡ true → Spells val_type t (spell_val t)
+pub val_here : (t : ValTy) → printable_val t ≡ true → Spells val_type t (spell_val t)
 unfolding val_type begins_plain
 val_here i32 f r = inl (refl, (Keyword (codes "i32"), refl, refl))
 val_here i64 f r = inl (refl, (Keyword (codes "i64"), refl, refl))
@@ -260,77 +260,77 @@ val_here f64 f r = inl (refl, (Keyword (codes "f64"), refl, refl))
 val_here v128 f r = inl (refl, (Keyword (codes "v128"), refl, refl))
 val_here (ref t) f r = inr (refs_not_plain t.nullable t.heap r, (t, ref_here t f r, refl, refl))
 
-pub val_neat : (t : ValTy) → fit_val t ≡ true → Neat (spell_val t)
-val_neat (ref t) f = ref_neat t f
-val_neat i32 f = neat_one (Keyword (codes "i32")) refl
-val_neat i64 f = neat_one (Keyword (codes "i64")) refl
-val_neat f32 f = neat_one (Keyword (codes "f32")) refl
-val_neat f64 f = neat_one (Keyword (codes "f64")) refl
-val_neat v128 f = neat_one (Keyword (codes "v128")) refl
+pub val_well_formed : (t : ValTy) → printable_val t ≡ true → WellFormed (spell_val t)
+val_well_formed (ref t) f = ref_well_formed t f
+val_well_formed i32 f = well_formed_one (Keyword (codes "i32")) refl
+val_well_formed i64 f = well_formed_one (Keyword (codes "i64")) refl
+val_well_formed f32 f = well_formed_one (Keyword (codes "f32")) refl
+val_well_formed f64 f = well_formed_one (Keyword (codes "f64")) refl
+val_well_formed v128 f = well_formed_one (Keyword (codes "v128")) refl
 
 -- ---- what a text spells can be written
 
 number_given : (o : Option ℕ) (i : Idx) → ((n : ℕ) → o ≡ Some n → n ≤ 2 ^ 32 - 1)
-    → option_map number o ≡ Some i → fit_index i ≡ true
+    → option_map number o ≡ Some i → printable_index i ≡ true
 number_given None i h e = absurd cc
 number_given (Some n) i h e =
     let k : number n ≡ i = cc in
     let le = h n refl in
     let f : nat_lt n (2 ^ 32) ≡ true = grind (arith, nat_tests) in
-    subst (λ (j : Idx). fit_index j ≡ true) k f
+    subst (λ (j : Idx). printable_index j ≡ true) k f
 
-index_given : (t : Tok) (i : Idx) → is_given t ≡ true → index_of t ≡ Some i → fit_index i ≡ true
+index_given : (t : Tok) (i : Idx) → is_given t ≡ true → index_of t ≡ Some i → printable_index i ≡ true
 index_given (Integer x) i a e = number_given (unsigned_value 32 x) i (unsigned_fits 32 x) e
-index_given (Id n) i a e = let k : name n ≡ i = cc in subst (λ (j : Idx). fit_index j ≡ true) k a
+index_given (Id n) i a e = let k : name n ≡ i = cc in subst (λ (j : Idx). printable_index j ≡ true) k a
 index_given LParen i a e = absurd cc
 index_given _ i a e = absurd cc
 
-pub index_only : OnlyFit index fit_index
-index_only = only_one index_of (refl, refl) fit_index index_given
+pub index_only : OnlyPrintable index printable_index
+index_only = only_one index_of (refl, refl) printable_index index_given
 
-pub heap_only : OnlyFit heap_type fit_heap
+pub heap_only : OnlyPrintable heap_type printable_heap
 unfolding heap_type
 heap_only =
-    only_where begins_index (only_made (λ _. true) concrete fit_heap index_only)
+    only_where begins_index (only_made (λ _. true) concrete printable_heap index_only)
     (only_where (begins_group (codes "exact"))
-    (only_made (λ _. true) exact fit_heap (only_group (codes "exact") index_only))
+    (only_made (λ _. true) exact printable_heap (only_group (codes "exact") index_only))
     (only_where (begins_group (codes "shared"))
-    (only_made (λ _. true) (λ t. abstract_ true t) fit_heap
+    (only_made (λ _. true) (λ t. abstract_ true t) printable_heap
     (only_any (group (codes "shared") abstract_heap_type)))
-    (only_made (λ _. true) (λ t. abstract_ false t) fit_heap (only_any abstract_heap_type))))
+    (only_made (λ _. true) (λ t. abstract_ false t) printable_heap (only_any abstract_heap_type))))
 
 abbrev ref_of : Bool × HeapTy → RefTy
 ref_of v = record { nullable = v.0; heap = v.1 }
 
-pub ref_only : OnlyFit ref_type fit_ref
+pub ref_only : OnlyPrintable ref_type printable_ref
 unfolding ref_type
 ref_only =
     only_where (begins_group (codes "ref"))
-    (only_made (λ _. true) ref_of fit_ref
+    (only_made (λ _. true) ref_of printable_ref
     (only_group (codes "ref") (only_seq (only_any (flag (codes "null"))) heap_only)))
     (only_where (begins_group (codes "shared"))
-    (only_made (λ _. true) (short true) fit_ref (only_any (group (codes "shared") shorthand)))
-    (only_made (λ _. true) (short false) fit_ref (only_any shorthand)))
+    (only_made (λ _. true) (short true) printable_ref (only_any (group (codes "shared") shorthand)))
+    (only_made (λ _. true) (short false) printable_ref (only_any shorthand)))
 
-look_up_fit : {A : Type 0} (fit : A → Bool) (table : List (List ℕ × A)) (w : List ℕ) (v : A)
-    → each (λ e. fit e.1) table ≡ true → look_up table w ≡ Some v → fit v ≡ true
-look_up_fit fit [] w v a e = absurd cc
-look_up_fit {A = A} fit (x ∷ table) w v a e =
-    let p = and_parts (fit x.1) (each (λ e. fit e.1) table) a in
+look_up_printable : {A : Type 0} (printable : A → Bool) (table : List (List ℕ × A)) (w : List ℕ) (v : A)
+    → each (λ e. printable e.1) table ≡ true → look_up table w ≡ Some v → printable v ≡ true
+look_up_printable printable [] w v a e = absurd cc
+look_up_printable {A = A} printable (x ∷ table) w v a e =
+    let p = and_parts (printable x.1) (each (λ e. printable e.1) table) a in
     cond_both (bytes_eq w x.0) (Some x.1) (look_up table w)
-    (λ (o : Option A). o ≡ Some v → fit v ≡ true)
-    (λ k f. (let same : x.1 ≡ v = cc in subst (λ (u : A). fit u ≡ true) same (p.0)))
-    (λ k f. (look_up_fit fit table w v p.1 f)) e
+    (λ (o : Option A). o ≡ Some v → printable v ≡ true)
+    (λ k f. (let same : x.1 ≡ v = cc in subst (λ (u : A). printable u ≡ true) same (p.0)))
+    (λ k f. (look_up_printable printable table w v p.1 f)) e
 
 plain_given : (t : Tok) (v : ValTy) → is_given t ≡ true → word_in plain_words t ≡ Some v
-    → fit_val v ≡ true
-plain_given (Keyword w) v a e = look_up_fit fit_val plain_words w v refl e
+    → printable_val v ≡ true
+plain_given (Keyword w) v a e = look_up_printable printable_val plain_words w v refl e
 plain_given LParen v a e = absurd cc
 plain_given _ v a e = absurd cc
 
-pub val_only : OnlyFit val_type fit_val
+pub val_only : OnlyPrintable val_type printable_val
 unfolding val_type
 val_only =
     only_where (begins_one_of (word_in plain_words))
-    (only_one (word_in plain_words) (refl, refl) fit_val plain_given)
-    (only_made (λ _. true) ref fit_val ref_only)
+    (only_one (word_in plain_words) (refl, refl) printable_val plain_given)
+    (only_made (λ _. true) ref printable_val ref_only)

@@ -13,17 +13,17 @@ use Rattle.wat_types.specs.Storage.{global_type_of, plain_global, global_type}
 use Rattle.wat_types.specs.Value.{ValTy, i32, i64, f32, f64, v128, ref, val_type}
 use Rattle.wat_types.specs.declared.heap.AbstractHeapType.{AbstractHeapType}
 use Rattle.wat_types.specs.declared.heap.AbstractHeapType.TheVariants as words
-use Rattle.wat_print.specs.Neat.{Neat}
+use Rattle.wat_print.specs.WellFormed.{WellFormed}
 use Rattle.wat_print.specs.Parts.{spell_flag}
-use Rattle.wat_print.specs.Reference.{short_word, spell_reference, spell_val, fit_val}
-use Rattle.wat_print.specs.Storage.{spell_storage, fit_storage, spell_field_of, spell_field}
-use Rattle.wat_print.specs.Storage.{fit_field, spell_global_of, spell_global, fit_global}
-use Rattle.wat_print.specs.Laws.Only.{OnlyFit, only_any, only_where, only_paren, only_seq}
+use Rattle.wat_print.specs.Reference.{short_word, spell_reference, spell_val, printable_val}
+use Rattle.wat_print.specs.Storage.{spell_storage, printable_storage, spell_field_of, spell_field}
+use Rattle.wat_print.specs.Storage.{printable_field, spell_global_of, spell_global, printable_global}
+use Rattle.wat_print.specs.Laws.Only.{OnlyPrintable, only_any, only_where, only_paren, only_seq}
 use Rattle.wat_print.specs.Laws.Only.{only_made}
 use Rattle.wat_print.specs.Laws.Only.{only_group}
 use Rattle.wat_print.specs.Laws.Parts.{Spells, paren_here, word_here, group_here, flag_here}
-use Rattle.wat_print.specs.Laws.Parts.{neat_one, neat_group, neat_paren, neat_both, neat_flag}
-use Rattle.wat_print.specs.Laws.Reference.{of_refs, val_here, val_neat, val_only}
+use Rattle.wat_print.specs.Laws.Parts.{well_formed_one, well_formed_group, well_formed_paren, well_formed_both, well_formed_flag}
+use Rattle.wat_print.specs.Laws.Reference.{of_refs, val_here, val_well_formed, val_only}
 
 -- ---- words that no value type begins with
 
@@ -108,26 +108,26 @@ val_no_i16 t x =
 
 -- ---- storage types
 
-pub storage_here : (t : StorageTy) → fit_storage t ≡ true → Spells storage_type t (spell_storage t)
+pub storage_here : (t : StorageTy) → printable_storage t ≡ true → Spells storage_type t (spell_storage t)
 unfolding storage_type
 storage_here i8 f r = inl (refl, (tt, word_here (codes "i8") refl r, refl, refl))
 storage_here i16 f r = inr (refl, inl (refl, (tt, word_here (codes "i16") refl r, refl, refl)))
 storage_here (val t) f r =
     inr (val_no_i8 t r, inr (val_no_i16 t r, (t, val_here t f r, refl, refl)))
 
-pub storage_neat : (t : StorageTy) → fit_storage t ≡ true → Neat (spell_storage t)
-storage_neat i8 f = neat_one (Keyword (codes "i8")) refl
-storage_neat i16 f = neat_one (Keyword (codes "i16")) refl
-storage_neat (val t) f = val_neat t f
+pub storage_well_formed : (t : StorageTy) → printable_storage t ≡ true → WellFormed (spell_storage t)
+storage_well_formed i8 f = well_formed_one (Keyword (codes "i8")) refl
+storage_well_formed i16 f = well_formed_one (Keyword (codes "i16")) refl
+storage_well_formed (val t) f = val_well_formed t f
 
-pub storage_only : OnlyFit storage_type fit_storage
+pub storage_only : OnlyPrintable storage_type printable_storage
 unfolding storage_type
 storage_only =
     only_where (begins_word (codes "i8"))
-    (only_made (λ _. true) (λ _. i8) fit_storage (only_any (word (codes "i8"))))
+    (only_made (λ _. true) (λ _. i8) printable_storage (only_any (word (codes "i8"))))
     (only_where (begins_word (codes "i16"))
-    (only_made (λ _. true) (λ _. i16) fit_storage (only_any (word (codes "i16"))))
-    (only_made (λ _. true) val fit_storage val_only))
+    (only_made (λ _. true) (λ _. i16) printable_storage (only_any (word (codes "i16"))))
+    (only_made (λ _. true) val printable_storage val_only))
 
 -- a word stands alone; behind `(` stands `ref`
 second_refs : (w : List ℕ) (b : Bool) (t : HeapTy) (r : List Tok) → begins_word w r ≡ false
@@ -154,7 +154,7 @@ storage_second w i8 r h k = h
 storage_second w i16 r h k = h
 storage_second w (val t) r h k = val_second w t r h k
 
-field_parts : (b : Bool) (t : StorageTy) (r : List Tok) → fit_storage t ≡ true
+field_parts : (b : Bool) (t : StorageTy) (r : List Tok) → printable_storage t ≡ true
     → begins_word (codes "mut") r ≡ false
     → field_type.spells (field_of b t) (spell_field_of b t) r
 unfolding field_type
@@ -173,23 +173,23 @@ field_parts false t r h e =
     inr (storage_second (codes "mut") t r e refl, (t, storage_here t h r, refl, refl))
 
 -- where no `mut` follows
-pub field_here : (f : FieldTy) (r : List Tok) → fit_field f ≡ true
+pub field_here : (f : FieldTy) (r : List Tok) → printable_field f ≡ true
     → begins_word (codes "mut") r ≡ false → field_type.spells f (spell_field f) r
 field_here f r h e = field_parts f.mutable f.ty r h e
 
-field_of_neat : (b : Bool) (t : StorageTy) → fit_storage t ≡ true → Neat (spell_field_of b t)
-field_of_neat true t h = neat_group (codes "mut") (spell_storage t) refl (storage_neat t h)
-field_of_neat false t h = storage_neat t h
+field_of_well_formed : (b : Bool) (t : StorageTy) → printable_storage t ≡ true → WellFormed (spell_field_of b t)
+field_of_well_formed true t h = well_formed_group (codes "mut") (spell_storage t) refl (storage_well_formed t h)
+field_of_well_formed false t h = storage_well_formed t h
 
-pub field_neat : (f : FieldTy) → fit_field f ≡ true → Neat (spell_field f)
-field_neat f h = field_of_neat f.mutable f.ty h
+pub field_well_formed : (f : FieldTy) → printable_field f ≡ true → WellFormed (spell_field f)
+field_well_formed f h = field_of_well_formed f.mutable f.ty h
 
-pub field_only : OnlyFit field_type fit_field
+pub field_only : OnlyPrintable field_type printable_field
 unfolding field_type
 field_only =
     only_where (second (begins_word (codes "mut")))
-    (only_made (λ _. true) (field_of true) fit_field (only_group (codes "mut") storage_only))
-    (only_made (λ _. true) (field_of false) fit_field storage_only)
+    (only_made (λ _. true) (field_of true) printable_field (only_group (codes "mut") storage_only))
+    (only_made (λ _. true) (field_of false) printable_field storage_only)
 
 -- ---- global types
 
@@ -203,7 +203,7 @@ mut_front : (b : Bool) (t : ValTy) (x : List Tok)
 mut_front true t x = refl
 mut_front false t x = val_no_shared t x
 
-long_here : (shared mutable : Bool) (t : ValTy) (r : List Tok) → fit_val t ≡ true
+long_here : (shared mutable : Bool) (t : ValTy) (r : List Tok) → printable_val t ≡ true
     → long_global (in_parens (spell_flag (codes "shared") shared
     ++ (spell_flag (codes "mut") mutable ++ spell_val t)) ++ r) ≡ true
     → global_type.spells (record { ty = t; mutable = mutable; shared = shared })
@@ -238,7 +238,7 @@ long_here shared mutable t r f l =
       ),
     )
 
-global_parts : (shared mutable : Bool) (t : ValTy) (r : List Tok) → fit_val t ≡ true
+global_parts : (shared mutable : Bool) (t : ValTy) (r : List Tok) → printable_val t ≡ true
     → EndsGlobal r
     → global_type.spells (record { ty = t; mutable = mutable; shared = shared })
     (spell_global_of shared mutable t) r
@@ -251,34 +251,34 @@ global_parts false false t r f e =
 global_parts true m t r f e = long_here true m t r f refl
 global_parts false true t r f e = long_here false true t r f refl
 
-pub global_here : (g : GlobalTy) (r : List Tok) → fit_global g ≡ true → EndsGlobal r
+pub global_here : (g : GlobalTy) (r : List Tok) → printable_global g ≡ true → EndsGlobal r
     → global_type.spells g (spell_global g) r
 global_here g r f e = global_parts g.shared g.mutable g.ty r f e
 
-long_neat : (shared mutable : Bool) (t : ValTy) → fit_val t ≡ true
-    → Neat (in_parens (spell_flag (codes "shared") shared
+long_well_formed : (shared mutable : Bool) (t : ValTy) → printable_val t ≡ true
+    → WellFormed (in_parens (spell_flag (codes "shared") shared
     ++ (spell_flag (codes "mut") mutable ++ spell_val t)))
-long_neat shared mutable t f =
+long_well_formed shared mutable t f =
     let s = spell_flag (codes "shared") shared in
     let m = spell_flag (codes "mut") mutable in
-    neat_paren (s ++ (m ++ spell_val t))
-    (neat_both s (m ++ spell_val t) (neat_flag (codes "shared") shared refl)
-    (neat_both m (spell_val t) (neat_flag (codes "mut") mutable refl) (val_neat t f)))
+    well_formed_paren (s ++ (m ++ spell_val t))
+    (well_formed_both s (m ++ spell_val t) (well_formed_flag (codes "shared") shared refl)
+    (well_formed_both m (spell_val t) (well_formed_flag (codes "mut") mutable refl) (val_well_formed t f)))
 
-global_of_neat : (shared mutable : Bool) (t : ValTy) → fit_val t ≡ true
-    → Neat (spell_global_of shared mutable t)
-global_of_neat false false t f = val_neat t f
-global_of_neat true m t f = long_neat true m t f
-global_of_neat false true t f = long_neat false true t f
+global_of_well_formed : (shared mutable : Bool) (t : ValTy) → printable_val t ≡ true
+    → WellFormed (spell_global_of shared mutable t)
+global_of_well_formed false false t f = val_well_formed t f
+global_of_well_formed true m t f = long_well_formed true m t f
+global_of_well_formed false true t f = long_well_formed false true t f
 
-pub global_neat : (g : GlobalTy) → fit_global g ≡ true → Neat (spell_global g)
-global_neat g f = global_of_neat g.shared g.mutable g.ty f
+pub global_well_formed : (g : GlobalTy) → printable_global g ≡ true → WellFormed (spell_global g)
+global_well_formed g f = global_of_well_formed g.shared g.mutable g.ty f
 
-pub global_only : OnlyFit global_type fit_global
+pub global_only : OnlyPrintable global_type printable_global
 unfolding global_type
 global_only =
     only_where long_global
-    (only_made (λ _. true) global_type_of fit_global
+    (only_made (λ _. true) global_type_of printable_global
     (only_paren (only_seq (only_any (flag (codes "shared")))
     (only_seq (only_any (flag (codes "mut"))) val_only))))
-    (only_made (λ _. true) plain_global fit_global val_only)
+    (only_made (λ _. true) plain_global printable_global val_only)

@@ -15,21 +15,21 @@ use Rattle.wat_types.specs.Value.{ValTy}
 use Rattle.wat_tokens.specs.Views.{no_items}
 use Rattle.wat_types.specs.Use.{UseTy, use_of, type_follows, type_index, type_use}
 use Rattle.wat_print.specs.Function.{param_label, param_groups, result_groups, spell_group}
-use Rattle.wat_print.specs.Function.{groups_of, spell_function, fit_function}
-use Rattle.wat_print.specs.Index.{spell_index, fit_index}
+use Rattle.wat_print.specs.Function.{groups_of, spell_function, printable_function}
+use Rattle.wat_print.specs.Index.{spell_index, printable_index}
 use Rattle.wat_print.specs.Label.{none_labelled, by_itself}
-use Rattle.wat_print.specs.Neat.{Neat}
+use Rattle.wat_print.specs.WellFormed.{WellFormed}
 use Rattle.wat_print.specs.Parts.{each, spell_option, if_some}
-use Rattle.wat_print.specs.Use.{spell_type_index, or_empty, spell_inline, spell_use, fit_use}
-use Rattle.wat_print.specs.Use.{fit_unnamed, fit_unnamed_use}
-use Rattle.wat_print.specs.Laws.Function.{fit_group, AreGroupsOf, groups_fit, groups_are}
-use Rattle.wat_print.specs.Laws.Function.{function_by, groups_neat, labels_none, function_only}
+use Rattle.wat_print.specs.Use.{spell_type_index, or_empty, spell_inline, spell_use, printable_use}
+use Rattle.wat_print.specs.Use.{printable_unnamed, printable_unnamed_use}
+use Rattle.wat_print.specs.Laws.Function.{printable_group, AreGroupsOf, groups_printable, groups_are}
+use Rattle.wat_print.specs.Laws.Function.{function_by, groups_well_formed, labels_none, function_only}
 use Rattle.wat_print.specs.Laws.Function.{unnamed_only}
-use Rattle.wat_print.specs.Laws.Only.{OnlyFit, only_opt, only_seq, only_made, only_group}
+use Rattle.wat_print.specs.Laws.Only.{OnlyPrintable, only_opt, only_seq, only_made, only_group}
 use Rattle.wat_print.specs.Laws.Only.{only_weaker}
-use Rattle.wat_print.specs.Laws.Parts.{group_here, neat_group, neat_both, neat_option}
+use Rattle.wat_print.specs.Laws.Parts.{group_here, well_formed_group, well_formed_both, well_formed_option}
 use Rattle.wat_print.specs.Laws.Quoted.{if_cases}
-use Rattle.wat_print.specs.Laws.Reference.{index_here, index_neat, index_only}
+use Rattle.wat_print.specs.Laws.Reference.{index_here, index_well_formed, index_only}
 
 -- ---- inline types
 
@@ -56,22 +56,22 @@ empty_groups : (f : FuncTy) (gs : List Group) → AreGroupsOf f gs → AreGroups
 empty_groups f [] a = a
 empty_groups f (g ∷ gs) a = a
 
-empty_fit : (gs : List Group) → each fit_group gs ≡ true → each fit_group (or_empty gs) ≡ true
-empty_fit [] h = refl
-empty_fit (g ∷ gs) h = h
+empty_printable : (gs : List Group) → each printable_group gs ≡ true → each printable_group (or_empty gs) ≡ true
+empty_printable [] h = refl
+empty_printable (g ∷ gs) h = h
 
-inline_here : (f : FuncTy) (r : List Tok) → fit_function f ≡ true → group_follows r ≡ false
+inline_here : (f : FuncTy) (r : List Tok) → printable_function f ≡ true → group_follows r ≡ false
     → function_type.spells f (spell_inline f) r
 inline_here f r h e =
     let gs = groups_of f in
     function_by f (or_empty gs) r (empty_groups f gs (groups_are f))
-    (empty_fit gs (groups_fit f h)) e
+    (empty_printable gs (groups_printable f h)) e
 
-unnamed_inline_here : (f : FuncTy) (r : List Tok) → fit_unnamed f ≡ true → group_follows r ≡ false
+unnamed_inline_here : (f : FuncTy) (r : List Tok) → printable_unnamed f ≡ true → group_follows r ≡ false
     → function_type_no_names.spells f (spell_inline f) r
 unfolding function_groups
 unnamed_inline_here f r h e =
-    let a = and_parts (none_labelled param_label f.params) (fit_function f) h in
+    let a = and_parts (none_labelled param_label f.params) (printable_function f) h in
     (inline_here f r a.1 e, sym (labels_none f.params) ∙ a.0)
 
 -- ---- uses
@@ -80,17 +80,17 @@ unnamed_inline_here f r h e =
 abbrev pub EndsUse : List Tok → Type 0
 EndsUse r = (type_follows r ≡ false) × (begins_func r ≡ false) × (group_follows r ≡ false)
 
-module _ (g : Production FuncTy) (fit : FuncTy → Bool)
-    (here : (f : FuncTy) (r : List Tok) → fit f ≡ true → group_follows r ≡ false
+module _ (g : Production FuncTy) (printable : FuncTy → Bool)
+    (here : (f : FuncTy) (r : List Tok) → printable f ≡ true → group_follows r ≡ false
     → g.spells f (spell_inline f) r)
   where
-    inline_part : (o : Option FuncTy) (r : List Tok) → if_some fit o ≡ true → EndsUse r
+    inline_part : (o : Option FuncTy) (r : List Tok) → if_some printable o ≡ true → EndsUse r
         → opt_spells begins_func g o (spell_option spell_inline o) r
     inline_part (Some f) r h e =
         (inline_front begins_func true group_func (groups_of f) r, here f r h e.2)
     inline_part None r h e = (refl, e.1)
 
-    index_part : (i : Option Idx) (o : Option FuncTy) (r : List Tok) → if_some fit_index i ≡ true
+    index_part : (i : Option Idx) (o : Option FuncTy) (r : List Tok) → if_some printable_index i ≡ true
         → EndsUse r
         → opt_spells type_follows type_index i (spell_option spell_type_index i)
         (spell_option spell_inline o ++ r)
@@ -104,8 +104,8 @@ module _ (g : Production FuncTy) (fit : FuncTy → Bool)
         (refl, inline_front type_follows false group_no_type (groups_of f) r)
     index_part None None r h e = (refl, e.0)
 
-    pub use_of_here : (u : UseTy FuncTy) (r : List Tok) → if_some fit_index u.index ≡ true
-        → if_some fit u.inline ≡ true → EndsUse r
+    pub use_of_here : (u : UseTy FuncTy) (r : List Tok) → if_some printable_index u.index ≡ true
+        → if_some printable u.inline ≡ true → EndsUse r
         → (type_use begins_func g).spells u (spell_use u) r
     unfolding type_use
     use_of_here u r h k e = (
@@ -121,64 +121,64 @@ module _ (g : Production FuncTy) (fit : FuncTy → Bool)
       refl,
     )
 
-pub use_here : (u : UseTy FuncTy) (r : List Tok) → fit_use u ≡ true → EndsUse r
+pub use_here : (u : UseTy FuncTy) (r : List Tok) → printable_use u ≡ true → EndsUse r
     → (type_use begins_func function_type).spells u (spell_use u) r
 use_here u r f e =
-    let a = and_parts (if_some fit_index u.index) (if_some fit_function u.inline) f in
-    use_of_here function_type fit_function inline_here u r a.0 a.1 e
+    let a = and_parts (if_some printable_index u.index) (if_some printable_function u.inline) f in
+    use_of_here function_type printable_function inline_here u r a.0 a.1 e
 
-pub unnamed_use_here : (u : UseTy FuncTy) (r : List Tok) → fit_unnamed_use u ≡ true → EndsUse r
+pub unnamed_use_here : (u : UseTy FuncTy) (r : List Tok) → printable_unnamed_use u ≡ true → EndsUse r
     → (type_use begins_func function_type_no_names).spells u (spell_use u) r
 unnamed_use_here u r f e =
-    let a = and_parts (if_some fit_index u.index) (if_some fit_unnamed u.inline) f in
-    use_of_here function_type_no_names fit_unnamed unnamed_inline_here u r a.0 a.1 e
+    let a = and_parts (if_some printable_index u.index) (if_some printable_unnamed u.inline) f in
+    use_of_here function_type_no_names printable_unnamed unnamed_inline_here u r a.0 a.1 e
 
 -- ---- they can be written
 
-inline_neat : (f : FuncTy) → fit_function f ≡ true → Neat (spell_inline f)
-inline_neat f h = groups_neat (or_empty (groups_of f)) (empty_fit (groups_of f) (groups_fit f h))
+inline_well_formed : (f : FuncTy) → printable_function f ≡ true → WellFormed (spell_inline f)
+inline_well_formed f h = groups_well_formed (or_empty (groups_of f)) (empty_printable (groups_of f) (groups_printable f h))
 
-type_index_neat : (i : Idx) → fit_index i ≡ true → Neat (spell_type_index i)
-type_index_neat i h = neat_group (codes "type") (spell_index i) refl (index_neat i h)
+type_index_well_formed : (i : Idx) → printable_index i ≡ true → WellFormed (spell_type_index i)
+type_index_well_formed i h = well_formed_group (codes "type") (spell_index i) refl (index_well_formed i h)
 
-pub use_neat : (u : UseTy FuncTy) → fit_use u ≡ true → Neat (spell_use u)
-use_neat u f =
-    let a = and_parts (if_some fit_index u.index) (if_some fit_function u.inline) f in
-    neat_both (spell_option spell_type_index u.index) (spell_option spell_inline u.inline)
-    (neat_option spell_type_index fit_index u.index type_index_neat a.0)
-    (neat_option spell_inline fit_function u.inline inline_neat a.1)
+pub use_well_formed : (u : UseTy FuncTy) → printable_use u ≡ true → WellFormed (spell_use u)
+use_well_formed u f =
+    let a = and_parts (if_some printable_index u.index) (if_some printable_function u.inline) f in
+    well_formed_both (spell_option spell_type_index u.index) (spell_option spell_inline u.inline)
+    (well_formed_option spell_type_index printable_index u.index type_index_well_formed a.0)
+    (well_formed_option spell_inline printable_function u.inline inline_well_formed a.1)
 
-unnamed_parts : (o : Option FuncTy) → if_some fit_unnamed o ≡ true
-    → if_some fit_function o ≡ true
-unnamed_parts (Some f) h = (and_parts (none_labelled param_label f.params) (fit_function f) h).1
+unnamed_parts : (o : Option FuncTy) → if_some printable_unnamed o ≡ true
+    → if_some printable_function o ≡ true
+unnamed_parts (Some f) h = (and_parts (none_labelled param_label f.params) (printable_function f) h).1
 unnamed_parts None h = refl
 
-unnamed_use_fit : (u : UseTy FuncTy) → fit_unnamed_use u ≡ true → fit_use u ≡ true
-unnamed_use_fit u f =
-    let a = and_parts (if_some fit_index u.index) (if_some fit_unnamed u.inline) f in
+unnamed_use_printable : (u : UseTy FuncTy) → printable_unnamed_use u ≡ true → printable_use u ≡ true
+unnamed_use_printable u f =
+    let a = and_parts (if_some printable_index u.index) (if_some printable_unnamed u.inline) f in
     rw (a.0) (unnamed_parts u.inline a.1)
 
-pub unnamed_use_neat : (u : UseTy FuncTy) → fit_unnamed_use u ≡ true → Neat (spell_use u)
-unnamed_use_neat u f = use_neat u (unnamed_use_fit u f)
+pub unnamed_use_well_formed : (u : UseTy FuncTy) → printable_unnamed_use u ≡ true → WellFormed (spell_use u)
+unnamed_use_well_formed u f = use_well_formed u (unnamed_use_printable u f)
 
 -- ---- what a text spells can be written
 
-use_only_of : {g : Production FuncTy} {fit : FuncTy → Bool} (fits : UseTy FuncTy → Bool)
+use_only_of : {g : Production FuncTy} {printable : FuncTy → Bool} (fits : UseTy FuncTy → Bool)
     → ((i : Option Idx) (o : Option FuncTy)
-    → fits (use_of i o) ≡ if_some fit_index i && if_some fit o)
-    → OnlyFit g fit → OnlyFit (type_use begins_func g) fits
+    → fits (use_of i o) ≡ if_some printable_index i && if_some printable o)
+    → OnlyPrintable g printable → OnlyPrintable (type_use begins_func g) fits
 unfolding type_use
-use_only_of {fit = fit} fits same m =
+use_only_of {printable = printable} fits same m =
     only_made (λ _. true) (λ v. use_of v.0 v.1) fits
     (only_weaker (λ v. fits (use_of v.0 v.1)) (λ v h. (same v.0 v.1 ∙ h))
     (only_seq (only_opt type_follows (only_group (codes "type") index_only))
     (only_opt begins_func m)))
 
-pub use_only : OnlyFit (type_use begins_func function_type) fit_use
-use_only = use_only_of fit_use (λ i o. refl) function_only
+pub use_only : OnlyPrintable (type_use begins_func function_type) printable_use
+use_only = use_only_of printable_use (λ i o. refl) function_only
 
-pub unnamed_use_only : OnlyFit (type_use begins_func function_type_no_names) fit_unnamed_use
-unnamed_use_only = use_only_of fit_unnamed_use (λ i o. refl) unnamed_only
+pub unnamed_use_only : OnlyPrintable (type_use begins_func function_type_no_names) printable_unnamed_use
+unnamed_use_only = use_only_of printable_unnamed_use (λ i o. refl) unnamed_only
 
 -- ---- a type with no parameter and no result
 

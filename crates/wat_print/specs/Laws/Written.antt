@@ -82,7 +82,7 @@ pub put_both : (a b : List Tok) (p : Page) → put p (a ++ b) ≡ put (put p a) 
 put_both [] b p = refl
 put_both (t ∷ a) b p = put_both a b (put_one p t)
 
-module _ {X A : Type 0} (view : X → A) (spell : A → List Tok) (fit : A → Bool) where
+module _ {X A : Type 0} (view : X → A) (spell : A → List Tok) (printable : A → Bool) where
   spell_last : (xs : List X) (x : X) → flat_map spell (map view (xs ++ x ∷ []))
       ≡ flat_map spell (map view xs) ++ spell (view x)
   spell_last [] x = append-nil (spell (view x))
@@ -90,39 +90,39 @@ module _ {X A : Type 0} (view : X → A) (spell : A → List Tok) (fit : A → B
       ap (λ (l : List Tok). spell (view y) ++ l) (spell_last xs x)
       ∙ sym (append_assoc (spell (view y)) (flat_map spell (map view xs)) (spell (view x)))
 
-  fit_last : (xs : List X) (x : X) → each fit (map view xs) ≡ true → fit (view x) ≡ true
-      → each fit (map view (xs ++ x ∷ [])) ≡ true
-  fit_last [] x e f = rw f refl
-  fit_last (y ∷ xs) x e f =
-      let p = and_parts (fit (view y)) (each fit (map view xs)) e in
-      rw (p.0) (fit_last xs x p.1 f)
+  printable_last : (xs : List X) (x : X) → each printable (map view xs) ≡ true → printable (view x) ≡ true
+      → each printable (map view (xs ++ x ∷ [])) ≡ true
+  printable_last [] x e f = rw f refl
+  printable_last (y ∷ xs) x e f =
+      let p = and_parts (printable (view y)) (each printable (map view xs)) e in
+      rw (p.0) (printable_last xs x p.1 f)
 
   -- one value more
   pub wrote_more : (xs : List X) (i : ℕ) (d : X) (a b c : Page) → i < length xs
-      → Wrote view spell fit (take i xs) a b → c ≡ put b (spell (view (get_or xs i d)))
-      → fit (view (get_or xs i d)) ≡ true
-      → Wrote view spell fit (take (i + 1) xs) a c
+      → Wrote view spell printable (take i xs) a b → c ≡ put b (spell (view (get_or xs i d)))
+      → printable (view (get_or xs i d)) ≡ true
+      → Wrote view spell printable (take (i + 1) xs) a c
   wrote_more xs i d a b c lt w e f =
       let x = get_or xs i d in
-      subst (λ (l : List X). Wrote view spell fit l a c) (sym (take_more xs i d lt)) (record {
+      subst (λ (l : List X). Wrote view spell printable l a c) (sym (take_more xs i d lt)) (record {
         written = e ∙ ap (λ (q : Page). put q (spell (view x))) w.written
             ∙ sym (put_both (flat_map spell (map view (take i xs))) (spell (view x)) a)
             ∙ ap (λ (l : List Tok). put a l) (sym (spell_last (take i xs) x));
-        fits = fit_last (take i xs) x w.fits f;
+        fits = printable_last (take i xs) x w.fits f;
       })
 
   -- one value more, on further lines
   pub lines_more : (xs : List X) (i : ℕ) (x : X) (a b c : Page) → i < length xs
-      → x ≡ get_or xs i x → WroteLines view spell fit (take i xs) a b → Writes (spell (view x)) b c
-      → fit (view x) ≡ true → WroteLines view spell fit (take (i + 1) xs) a c
+      → x ≡ get_or xs i x → WroteLines view spell printable (take i xs) a b → Writes (spell (view x)) b c
+      → printable (view x) ≡ true → WroteLines view spell printable (take (i + 1) xs) a c
   lines_more xs i x a b c lt s w e f =
       let ys = take i xs in
       let same : take (i + 1) xs ≡ ys ++ x ∷ [] =
       take_more xs i x lt ∙ ap (λ (y : X). ys ++ y ∷ []) (sym s) in
-      subst (λ (l : List X). WroteLines view spell fit l a c) (sym same) (record {
+      subst (λ (l : List X). WroteLines view spell printable l a c) (sym same) (record {
         written = subst (λ (l : List Tok). Writes l a c) (sym (spell_last ys x))
             (puts_both (flat_map spell (map view ys)) (spell (view x)) a b c w.written e);
-        fits = fit_last ys x w.fits f;
+        fits = printable_last ys x w.fits f;
       })
 
 -- a word and more in parentheses
@@ -231,13 +231,13 @@ after true b e = e
 after false b e = refl
 
 -- where one value can't be written, not all can
-module _ {X A : Type 0} (view : X → A) (fit : A → Bool) where
-  pub not_each : (xs : List X) (i : ℕ) (d : X) → i < length xs → fit (view (get_or xs i d)) ≡ false
-      → each fit (map view xs) ≡ false
+module _ {X A : Type 0} (view : X → A) (printable : A → Bool) where
+  pub not_each : (xs : List X) (i : ℕ) (d : X) → i < length xs → printable (view (get_or xs i d)) ≡ false
+      → each printable (map view xs) ≡ false
   not_each [] i d lt f = absurd (omega arith)
   not_each (x ∷ xs) zero d lt f = rw f refl
   not_each (x ∷ xs) (suc i) d lt f =
-      after (fit (view x)) (each fit (map view xs)) (not_each xs i d (omega arith) f)
+      after (printable (view x)) (each printable (map view xs)) (not_each xs i d (omega arith) f)
 
 -- two blanks for each turn of a loop
 blanks_step : (times i : ℕ) → i < times
@@ -291,10 +291,10 @@ pub puts_behind : (n : ℕ) (ts : List Tok) (a b c : Page) → b ≡ broken n a 
 puts_behind n ts a b c e f = puts_both [] ts a b c (puts_line n a b e) (puts_put ts b c f)
 
 -- where one value can't be, not all can
-pub not_each_item : {X A : Type 0} (view : X → A) (fit : A → Bool) (xs : List X) (i : ℕ) (x : X)
-    → i < length xs → x ≡ get_or xs i x → fit (view x) ≡ false → each fit (map view xs) ≡ false
-not_each_item {X = X} view fit xs i x lt s f =
-    not_each view fit xs i x lt (subst (λ (y : X). fit (view y) ≡ false) s f)
+pub not_each_item : {X A : Type 0} (view : X → A) (printable : A → Bool) (xs : List X) (i : ℕ) (x : X)
+    → i < length xs → x ≡ get_or xs i x → printable (view x) ≡ false → each printable (map view xs) ≡ false
+not_each_item {X = X} view printable xs i x lt s f =
+    not_each view printable xs i x lt (subst (λ (y : X). printable (view y) ≡ false) s f)
 
 -- what stands where the flag says so
 pub put_where : (b : Bool) (x y : List Tok) (a q : Page) → b ≡ true → q ≡ put a x

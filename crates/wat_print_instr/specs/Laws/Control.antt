@@ -38,31 +38,37 @@ use Rattle.wat_operands.specs.declared.catches.CatchKind.{CatchKind}
 use Rattle.wat_operands.specs.declared.catches.CatchKind.TheVariants.{Catch, CatchRef, CatchAll}
 use Rattle.wat_operands.specs.declared.catches.CatchKind.TheVariants.{CatchAllRef}
 use Rattle.wat_print.specs.Function.{spell_group, groups_of}
-use Rattle.wat_print.specs.Index.{spell_index, fit_index}
-use Rattle.wat_print.specs.Label.{spell_label, fit_label, spell_id}
-use Rattle.wat_print.specs.Neat.{Neat, is_name}
+use Rattle.wat_print.specs.Index.{spell_index, printable_index}
+use Rattle.wat_print.specs.Label.{spell_label, printable_label, spell_id}
+use Rattle.wat_print.specs.WellFormed.{WellFormed, is_name}
 use Rattle.wat_print.specs.Parts.{grouped, spell_option, if_some, each}
-use Rattle.wat_print.specs.Reference.{spell_ref, fit_ref, spell_val, fit_val}
-use Rattle.wat_print.specs.Use.{or_empty, spell_use, fit_unnamed_use}
-use Rattle.wat_print.specs.Laws.Label.{label_here, label_neat, label_only, id_here, id_neat}
-use Rattle.wat_print.specs.Laws.Label.{id_only}
+use Rattle.wat_print.specs.Reference.{spell_ref, printable_ref, spell_val, printable_val}
+use Rattle.wat_print.specs.Use.{or_empty, spell_use, printable_unnamed_use}
+use Rattle.wat_print.specs.Laws.Label.{label_here, label_well_formed, label_only, id_here}
+use Rattle.wat_print.specs.Laws.Label.{id_well_formed, id_only}
 use Rattle.wat_tokens.specs.Index.{identifier}
-use Rattle.wat_print.specs.Laws.Only.{OnlyFit, only_any, only_where, only_opt, only_many, only_seq}
-use Rattle.wat_print.specs.Laws.Only.{only_made, only_weaker, only_after, only_group, only_paren}
+use Rattle.wat_print.specs.Laws.Only.{OnlyPrintable, only_any, only_where, only_opt, only_many}
+use Rattle.wat_print.specs.Laws.Only.{only_seq, only_made, only_weaker, only_after, only_group}
+use Rattle.wat_print.specs.Laws.Only.{only_paren}
 use Rattle.wat_print.specs.Laws.Parts.{Spells, paren_here, word_here, group_here, many_here}
-use Rattle.wat_print.specs.Laws.Parts.{neat_both, neat_one, neat_word, neat_group, neat_paren}
-use Rattle.wat_print.specs.Laws.Parts.{neat_each, neat_option, each_all}
-use Rattle.wat_print.specs.Laws.Reference.{index_here, index_neat, index_only, ref_here, ref_neat}
-use Rattle.wat_print.specs.Laws.Reference.{ref_only, val_here, val_neat, val_only, val_more}
-use Rattle.wat_print.specs.Laws.Use.{EndsUse, unnamed_use_here, unnamed_use_neat, unnamed_use_only}
-use Rattle.wat_print_instr.specs.Control.{spell_block, fit_block, spell_call, fit_call}
-use Rattle.wat_print_instr.specs.Control.{spell_result, spell_select, fit_select, spell_branch}
-use Rattle.wat_print_instr.specs.Control.{fit_branch, spell_catch_kind, fit_catch_kind, spell_catch}
-use Rattle.wat_print_instr.specs.Control.{fit_catch, spell_try, fit_try, spell_handler, fit_handler}
-use Rattle.wat_print_instr.specs.Control.{spell_resume_table, fit_resume_table, spell_resume}
-use Rattle.wat_print_instr.specs.Control.{fit_resume, spell_throw, fit_throw}
+use Rattle.wat_print.specs.Laws.Parts.{well_formed_both, well_formed_one, well_formed_word}
+use Rattle.wat_print.specs.Laws.Parts.{well_formed_group, well_formed_paren, well_formed_each}
+use Rattle.wat_print.specs.Laws.Parts.{well_formed_option, each_all}
+use Rattle.wat_print.specs.Laws.Reference.{index_here, index_well_formed, index_only, ref_here}
+use Rattle.wat_print.specs.Laws.Reference.{ref_well_formed, ref_only, val_here, val_well_formed}
+use Rattle.wat_print.specs.Laws.Reference.{val_only, val_more}
+use Rattle.wat_print.specs.Laws.Use.{EndsUse, unnamed_use_here, unnamed_use_well_formed}
+use Rattle.wat_print.specs.Laws.Use.{unnamed_use_only}
+use Rattle.wat_print_instr.specs.Control.{spell_block, printable_block, spell_call, printable_call}
+use Rattle.wat_print_instr.specs.Control.{spell_result, spell_select, printable_select}
+use Rattle.wat_print_instr.specs.Control.{spell_branch, printable_branch, spell_catch_kind}
+use Rattle.wat_print_instr.specs.Control.{printable_catch_kind, spell_catch, printable_catch}
+use Rattle.wat_print_instr.specs.Control.{spell_try, printable_try, spell_handler}
+use Rattle.wat_print_instr.specs.Control.{printable_handler, spell_resume_table}
+use Rattle.wat_print_instr.specs.Control.{printable_resume_table, spell_resume, printable_resume}
+use Rattle.wat_print_instr.specs.Control.{spell_throw, printable_throw}
 use Rattle.wat_print_instr.specs.Places.{spell_index_or_0}
-use Rattle.wat_print_instr.specs.Laws.Places.{both_here, index_or_0_neat}
+use Rattle.wat_print_instr.specs.Laws.Places.{both_here, index_or_0_well_formed}
 
 -- ---- what a type use begins with
 
@@ -94,11 +100,11 @@ pub end_label_here : (o : Option (List ℕ)) (r : List Tok) → if_some is_name 
 end_label_here (Some n) r f e = (refl, id_here n f r)
 end_label_here None r f e = (refl, e)
 
-pub end_label_neat : (o : Option (List ℕ)) → if_some is_name o ≡ true
-    → Neat (spell_option spell_id o)
-end_label_neat o f = neat_option spell_id is_name o id_neat f
+pub end_label_well_formed : (o : Option (List ℕ)) → if_some is_name o ≡ true
+    → WellFormed (spell_option spell_id o)
+end_label_well_formed o f = well_formed_option spell_id is_name o id_well_formed f
 
-pub end_label_only : OnlyFit (opt begins_id identifier) (if_some is_name)
+pub end_label_only : OnlyPrintable (opt begins_id identifier) (if_some is_name)
 end_label_only = only_opt begins_id id_only
 
 -- ---- blocks and calls
@@ -107,11 +113,11 @@ end_label_only = only_opt begins_id id_only
 abbrev pub EndsBlock : List Tok → Type 0
 EndsBlock r = EndsUse r × (begins_id r ≡ false) × (begins_name r ≡ false)
 
-pub block_here : (b : BlockTy) (r : List Tok) → fit_block b ≡ true → EndsBlock r
+pub block_here : (b : BlockTy) (r : List Tok) → printable_block b ≡ true → EndsBlock r
     → block_type.spells b (spell_block b) r
 unfolding block_type
 block_here b r f e =
-    let a = and_parts (fit_label b.label) (fit_unnamed_use b.ty) f in
+    let a = and_parts (printable_label b.label) (printable_unnamed_use b.ty) f in
     let x = spell_use b.ty in (
       (b.label, b.ty),
       both_here label signature b.label b.ty (spell_label b.label) x r
@@ -122,17 +128,17 @@ block_here b r f e =
       refl,
     )
 
-pub block_neat : (b : BlockTy) → fit_block b ≡ true → Neat (spell_block b)
-block_neat b f =
-    let a = and_parts (fit_label b.label) (fit_unnamed_use b.ty) f in
-    neat_both (spell_label b.label) (spell_use b.ty) (label_neat b.label a.0)
-    (unnamed_use_neat b.ty a.1)
+pub block_well_formed : (b : BlockTy) → printable_block b ≡ true → WellFormed (spell_block b)
+block_well_formed b f =
+    let a = and_parts (printable_label b.label) (printable_unnamed_use b.ty) f in
+    well_formed_both (spell_label b.label) (spell_use b.ty) (label_well_formed b.label a.0)
+    (unnamed_use_well_formed b.ty a.1)
 
-pub block_only : OnlyFit block_type fit_block
+pub block_only : OnlyPrintable block_type printable_block
 unfolding block_type
 block_only =
-    only_made (λ _. true) (λ v. block_of v.0 v.1) fit_block
-    (only_weaker (λ v. fit_block (block_of v.0 v.1)) (λ v h. h)
+    only_made (λ _. true) (λ v. block_of v.0 v.1) printable_block
+    (only_weaker (λ v. printable_block (block_of v.0 v.1)) (λ v h. h)
     (only_seq label_only unnamed_use_only))
 
 -- what may follow a call without taking part in it
@@ -140,7 +146,8 @@ abbrev pub EndsCall : List Tok → Type 0
 EndsCall r = EndsUse r × (begins_index r ≡ false)
 
 call_by : (o : Option Idx) (c : List Tok) (u : UseTy FuncTy) (r : List Tok)
-    → opt_spells begins_index index o c (spell_use u ++ r) → fit_unnamed_use u ≡ true → EndsUse r
+    → opt_spells begins_index index o c (spell_use u ++ r) → printable_unnamed_use u ≡ true
+    → EndsUse r
     → call_indirect.spells (call_of (or_zero o) u) (c ++ spell_use u) r
 unfolding call_indirect
 call_by o c u r s f e = (
@@ -150,13 +157,13 @@ call_by o c u r s f e = (
   refl,
 )
 
-index_begins_here : (i : Idx) (r : List Tok) → fit_index i ≡ true
+index_begins_here : (i : Idx) (r : List Tok) → printable_index i ≡ true
     → opt_spells begins_index index (Some i) (spell_index i) r
 index_begins_here (number n) r f = (refl, index_here (number n) f r)
 index_begins_here (name x) r f = (refl, index_here (name x) f r)
 
-call_parts : (i : Idx) (u : UseTy FuncTy) (r : List Tok) → fit_index i ≡ true
-    → fit_unnamed_use u ≡ true → EndsCall r
+call_parts : (i : Idx) (u : UseTy FuncTy) (r : List Tok) → printable_index i ≡ true
+    → printable_unnamed_use u ≡ true → EndsCall r
     → call_indirect.spells (call_of i u) (spell_index_or_0 i ++ spell_use u) r
 call_parts (number zero) u r f g e =
     call_by None [] u r (refl, use_front begins_index false (λ w y. refl) u r e.1) g e.0
@@ -167,85 +174,90 @@ call_parts (name x) u r f g e =
     call_by (Some (name x)) (spell_index (name x)) u r
     (index_begins_here (name x) (spell_use u ++ r) f) g e.0
 
-pub call_here : (c : CallTy) (r : List Tok) → fit_call c ≡ true → EndsCall r
+pub call_here : (c : CallTy) (r : List Tok) → printable_call c ≡ true → EndsCall r
     → call_indirect.spells c (spell_call c) r
 call_here c r f e =
-    let a = and_parts (fit_index c.table) (fit_unnamed_use c.ty) f in
+    let a = and_parts (printable_index c.table) (printable_unnamed_use c.ty) f in
     call_parts c.table c.ty r a.0 a.1 e
 
-pub call_neat : (c : CallTy) → fit_call c ≡ true → Neat (spell_call c)
-call_neat c f =
-    let a = and_parts (fit_index c.table) (fit_unnamed_use c.ty) f in
-    neat_both (spell_index_or_0 c.table) (spell_use c.ty) (index_or_0_neat c.table a.0)
-    (unnamed_use_neat c.ty a.1)
+pub call_well_formed : (c : CallTy) → printable_call c ≡ true → WellFormed (spell_call c)
+call_well_formed c f =
+    let a = and_parts (printable_index c.table) (printable_unnamed_use c.ty) f in
+    well_formed_both (spell_index_or_0 c.table) (spell_use c.ty)
+    (index_or_0_well_formed c.table a.0)
+    (unnamed_use_well_formed c.ty a.1)
 
-zero_fit : (o : Option Idx) → if_some fit_index o ≡ true → fit_index (or_zero o) ≡ true
-zero_fit (Some i) h = h
-zero_fit None h = refl
+zero_printable : (o : Option Idx) → if_some printable_index o ≡ true
+    → printable_index (or_zero o) ≡ true
+zero_printable (Some i) h = h
+zero_printable None h = refl
 
-call_fit : (v : Option Idx × UseTy FuncTy)
-    → if_some fit_index v.0 && fit_unnamed_use v.1 ≡ true
-    → fit_call (call_of (or_zero v.0) v.1) ≡ true
-call_fit v h =
-    let a = and_parts (if_some fit_index v.0) (fit_unnamed_use v.1) h in
-    rw (zero_fit v.0 a.0) (a.1)
+call_printable : (v : Option Idx × UseTy FuncTy)
+    → if_some printable_index v.0 && printable_unnamed_use v.1 ≡ true
+    → printable_call (call_of (or_zero v.0) v.1) ≡ true
+call_printable v h =
+    let a = and_parts (if_some printable_index v.0) (printable_unnamed_use v.1) h in
+    rw (zero_printable v.0 a.0) (a.1)
 
-pub call_only : OnlyFit call_indirect fit_call
+pub call_only : OnlyPrintable call_indirect printable_call
 unfolding call_indirect
 call_only =
-    only_made (λ _. true) (λ v. call_of (or_zero v.0) v.1) fit_call
-    (only_weaker (λ v. fit_call (call_of (or_zero v.0) v.1)) call_fit
+    only_made (λ _. true) (λ v. call_of (or_zero v.0) v.1) printable_call
+    (only_weaker (λ v. printable_call (call_of (or_zero v.0) v.1)) call_printable
     (only_seq (only_opt begins_index index_only) unnamed_use_only))
 
 -- ---- the types of a select
 
-result_here : (ts : List ValTy) → each fit_val ts ≡ true
+result_here : (ts : List ValTy) → each printable_val ts ≡ true
     → Spells result_group ts (spell_result ts)
 unfolding val_types
 result_here ts f r =
     group_here (codes "result") val_types ts (flat_map spell_val ts) r refl
-    (many_here more val_type spell_val fit_val val_here (λ t x o. (val_more t x)) ts
+    (many_here more val_type spell_val printable_val val_here (λ t x o. (val_more t x)) ts
     (RParen ∷ r) f refl)
 
-one_group : (ts : List ValTy) (r : List Tok) → each fit_val ts ≡ true → result_follows r ≡ false
+one_group : (ts : List ValTy) (r : List Tok) → each printable_val ts ≡ true
+    → result_follows r ≡ false
     → many_spells result_follows result_group (ts ∷ []) (spell_result ts) r
 one_group ts r f e =
     (spell_result ts, [], sym (append-nil (spell_result ts)), refl, result_here ts f r, (refl, e))
 
 -- where no group of results follows
-pub select_here : (o : Option (List ValTy)) (r : List Tok) → fit_select o ≡ true
+pub select_here : (o : Option (List ValTy)) (r : List Tok) → printable_select o ≡ true
     → result_follows r ≡ false → select_types.spells o (spell_select o) r
 unfolding select_types
 select_here None r f e = (refl, e)
 select_here (Some ts) r f e = (refl, (ts ∷ [], one_group ts r f e, refl, append-nil ts))
 
-result_neat : (ts : List ValTy) → each fit_val ts ≡ true → Neat (spell_result ts)
-result_neat ts f =
-    neat_group (codes "result") (flat_map spell_val ts) refl
-    (neat_each spell_val fit_val val_neat ts f)
+result_well_formed : (ts : List ValTy) → each printable_val ts ≡ true → WellFormed (spell_result ts)
+result_well_formed ts f =
+    well_formed_group (codes "result") (flat_map spell_val ts) refl
+    (well_formed_each spell_val printable_val val_well_formed ts f)
 
-pub select_neat : (o : Option (List ValTy)) → fit_select o ≡ true → Neat (spell_select o)
-select_neat o f = neat_option spell_result (each fit_val) o result_neat f
+pub select_well_formed : (o : Option (List ValTy)) → printable_select o ≡ true
+    → WellFormed (spell_select o)
+select_well_formed o f = well_formed_option spell_result (each printable_val) o result_well_formed f
 
-result_only : OnlyFit result_group (each fit_val)
+result_only : OnlyPrintable result_group (each printable_val)
 unfolding val_types
 result_only = only_group (codes "result") (only_many more val_type_consumes val_only)
 
-pub select_only : OnlyFit select_types fit_select
+pub select_only : OnlyPrintable select_types printable_select
 unfolding select_types
 select_only =
     only_opt result_follows
-    (only_made (λ _. true) (λ gs. all_of gs) (each fit_val)
-    (only_weaker (λ gs. each fit_val (all_of gs)) (λ gs h. (each_all fit_val gs h))
+    (only_made (λ _. true) (λ gs. all_of gs) (each printable_val)
+    (only_weaker (λ gs. each printable_val (all_of gs)) (λ gs h. (each_all printable_val gs h))
     (only_many result_follows result_group_consumes result_only)))
 
 -- ---- casts
 
-pub branch_here : (b : BranchTy) → fit_branch b ≡ true → Spells cast_branch b (spell_branch b)
+pub branch_here : (b : BranchTy) → printable_branch b ≡ true → Spells cast_branch b (spell_branch b)
 unfolding cast_branch
 branch_here b f r =
-    let a = and_parts (fit_index b.label) (fit_ref b.from_type && fit_ref b.to_type) f in
-    let c = and_parts (fit_ref b.from_type) (fit_ref b.to_type) a.1 in
+    let a =
+    and_parts (printable_index b.label) (printable_ref b.from_type && printable_ref b.to_type) f in
+    let c = and_parts (printable_ref b.from_type) (printable_ref b.to_type) a.1 in
     let s = spell_ref b.from_type in
     let t = spell_ref b.to_type in (
       (b.label, (b.from_type, b.to_type)),
@@ -257,20 +269,22 @@ branch_here b f r =
       refl,
     )
 
-pub branch_neat : (b : BranchTy) → fit_branch b ≡ true → Neat (spell_branch b)
-branch_neat b f =
-    let a = and_parts (fit_index b.label) (fit_ref b.from_type && fit_ref b.to_type) f in
-    let c = and_parts (fit_ref b.from_type) (fit_ref b.to_type) a.1 in
-    neat_both (spell_index b.label) (spell_ref b.from_type ++ spell_ref b.to_type)
-    (index_neat b.label a.0)
-    (neat_both (spell_ref b.from_type) (spell_ref b.to_type) (ref_neat b.from_type c.0)
-    (ref_neat b.to_type c.1))
+pub branch_well_formed : (b : BranchTy) → printable_branch b ≡ true → WellFormed (spell_branch b)
+branch_well_formed b f =
+    let a =
+    and_parts (printable_index b.label) (printable_ref b.from_type && printable_ref b.to_type) f in
+    let c = and_parts (printable_ref b.from_type) (printable_ref b.to_type) a.1 in
+    well_formed_both (spell_index b.label) (spell_ref b.from_type ++ spell_ref b.to_type)
+    (index_well_formed b.label a.0)
+    (well_formed_both (spell_ref b.from_type) (spell_ref b.to_type)
+    (ref_well_formed b.from_type c.0)
+    (ref_well_formed b.to_type c.1))
 
-pub branch_only : OnlyFit cast_branch fit_branch
+pub branch_only : OnlyPrintable cast_branch printable_branch
 unfolding cast_branch
 branch_only =
-    only_made (λ _. true) (λ v. branch_of v.0 v.1.0 v.1.1) fit_branch
-    (only_weaker (λ v. fit_branch (branch_of v.0 v.1.0 v.1.1)) (λ v h. h)
+    only_made (λ _. true) (λ v. branch_of v.0 v.1.0 v.1.1) printable_branch
+    (only_weaker (λ v. printable_branch (branch_of v.0 v.1.0 v.1.1)) (λ v h. h)
     (only_seq index_only (only_seq ref_only ref_only)))
 
 -- ---- what a try_table catches
@@ -284,7 +298,7 @@ after_here w g v d r e s = (
   refl,
 )
 
-kind_here : (k : CatchKind Idx) → fit_catch_kind k ≡ true
+kind_here : (k : CatchKind Idx) → printable_catch_kind k ≡ true
     → Spells catch_kind k (spell_catch_kind k)
 unfolding catch_kind
 kind_here (Catch i) f r =
@@ -316,12 +330,13 @@ kind_here CatchAllRef f r =
       inr (refl, inr (refl, (tt, word_here (codes "catch_all_ref") refl r, refl, refl))),
     )
 
-pub catch_here : (c : CatchTy) → fit_catch c ≡ true → Spells catch_clause c (spell_catch c)
+pub catch_here : (c : CatchTy) → printable_catch c ≡ true → Spells catch_clause c (spell_catch c)
 unfolding catch_clause
 catch_here c f r =
-    let a = and_parts (fit_catch_kind c.kind) (fit_index c.label) f in
+    let a = and_parts (printable_catch_kind c.kind) (printable_index c.label) f in
     let k = spell_catch_kind c.kind in
-    paren_here (made (λ v. catch_of v.0 v.1) (seq catch_kind index)) c (k ++ spell_index c.label) r (
+    paren_here (made (λ v. catch_of v.0 v.1) (seq catch_kind index)) c
+    (k ++ spell_index c.label) r (
       (c.kind, c.label),
       both_here catch_kind index c.kind c.label k (spell_index c.label) (RParen ∷ r)
           (kind_here c.kind a.0 (spell_index c.label ++ RParen ∷ r))
@@ -330,36 +345,42 @@ catch_here c f r =
       refl,
     )
 
-kind_neat : (k : CatchKind Idx) → fit_catch_kind k ≡ true → Neat (spell_catch_kind k)
-kind_neat (Catch i) f = neat_word (codes "catch") (spell_index i) refl (index_neat i f)
-kind_neat (CatchRef i) f = neat_word (codes "catch_ref") (spell_index i) refl (index_neat i f)
-kind_neat CatchAll f = neat_one (Keyword (codes "catch_all")) refl
-kind_neat CatchAllRef f = neat_one (Keyword (codes "catch_all_ref")) refl
+kind_well_formed : (k : CatchKind Idx) → printable_catch_kind k ≡ true
+    → WellFormed (spell_catch_kind k)
+kind_well_formed (Catch i) f =
+    well_formed_word (codes "catch") (spell_index i) refl (index_well_formed i f)
+kind_well_formed (CatchRef i) f =
+    well_formed_word (codes "catch_ref") (spell_index i) refl (index_well_formed i f)
+kind_well_formed CatchAll f = well_formed_one (Keyword (codes "catch_all")) refl
+kind_well_formed CatchAllRef f = well_formed_one (Keyword (codes "catch_all_ref")) refl
 
-pub catch_neat : (c : CatchTy) → fit_catch c ≡ true → Neat (spell_catch c)
-catch_neat c f =
-    let a = and_parts (fit_catch_kind c.kind) (fit_index c.label) f in
-    neat_paren (spell_catch_kind c.kind ++ spell_index c.label)
-    (neat_both (spell_catch_kind c.kind) (spell_index c.label) (kind_neat c.kind a.0)
-    (index_neat c.label a.1))
+pub catch_well_formed : (c : CatchTy) → printable_catch c ≡ true → WellFormed (spell_catch c)
+catch_well_formed c f =
+    let a = and_parts (printable_catch_kind c.kind) (printable_index c.label) f in
+    well_formed_paren (spell_catch_kind c.kind ++ spell_index c.label)
+    (well_formed_both (spell_catch_kind c.kind) (spell_index c.label) (kind_well_formed c.kind a.0)
+    (index_well_formed c.label a.1))
 
-kind_only : OnlyFit catch_kind fit_catch_kind
+kind_only : OnlyPrintable catch_kind printable_catch_kind
 unfolding catch_kind
 kind_only =
     only_where (begins_word (codes "catch"))
-    (only_made (λ _. true) Catch fit_catch_kind (only_after (codes "catch") index_only))
+    (only_made (λ _. true) Catch printable_catch_kind (only_after (codes "catch") index_only))
     (only_where (begins_word (codes "catch_ref"))
-    (only_made (λ _. true) CatchRef fit_catch_kind (only_after (codes "catch_ref") index_only))
+    (only_made (λ _. true) CatchRef printable_catch_kind
+    (only_after (codes "catch_ref") index_only))
     (only_where (begins_word (codes "catch_all"))
-    (only_made (λ _. true) (λ _. CatchAll) fit_catch_kind (only_any (word (codes "catch_all"))))
-    (only_made (λ _. true) (λ _. CatchAllRef) fit_catch_kind
+    (only_made (λ _. true) (λ _. CatchAll) printable_catch_kind
+    (only_any (word (codes "catch_all"))))
+    (only_made (λ _. true) (λ _. CatchAllRef) printable_catch_kind
     (only_any (word (codes "catch_all_ref"))))))
 
-pub catch_only : OnlyFit catch_clause fit_catch
+pub catch_only : OnlyPrintable catch_clause printable_catch
 unfolding catch_clause
 catch_only =
-    only_paren (only_made (λ _. true) (λ v. catch_of v.0 v.1) fit_catch
-    (only_weaker (λ v. fit_catch (catch_of v.0 v.1)) (λ v h. h) (only_seq kind_only index_only)))
+    only_paren (only_made (λ _. true) (λ v. catch_of v.0 v.1) printable_catch
+    (only_weaker (λ v. printable_catch (catch_of v.0 v.1)) (λ v h. h)
+    (only_seq kind_only index_only)))
 
 kind_begins : (k : CatchKind Idx) (l : Idx) (x : List Tok)
     → begins_catch (spell_catch (catch_of k l) ++ x) ≡ true
@@ -384,37 +405,38 @@ catches_end [] r e = e
 catches_end (c ∷ cs) r e = clause_ends c.kind c.label (flat_map spell_catch cs) r
 
 -- in front of what begins neither a part of a block nor a clause
-pub try_here : (t : TryTy) (r : List Tok) → fit_try t ≡ true → EndsBlock r
+pub try_here : (t : TryTy) (r : List Tok) → printable_try t ≡ true → EndsBlock r
     → begins_catch r ≡ false → try_table.spells t (spell_try t) r
 unfolding try_table
 try_here t r f e k =
-    let a = and_parts (fit_block t.block) (each fit_catch t.catches) f in
+    let a = and_parts (printable_block t.block) (each printable_catch t.catches) f in
     let cs = flat_map spell_catch t.catches in (
       (t.block, t.catches),
       both_here block_type (many begins_catch catch_clause catch_clause_consumes) t.block t.catches
           (spell_block t.block) cs r (block_here t.block (cs ++ r) a.0 (catches_end t.catches r e))
-          (many_here begins_catch catch_clause spell_catch fit_catch catch_here
+          (many_here begins_catch catch_clause spell_catch printable_catch catch_here
           (λ c x o. (catch_begins c x)) t.catches r a.1 k),
       refl,
       refl,
     )
 
-pub try_neat : (t : TryTy) → fit_try t ≡ true → Neat (spell_try t)
-try_neat t f =
-    let a = and_parts (fit_block t.block) (each fit_catch t.catches) f in
-    neat_both (spell_block t.block) (flat_map spell_catch t.catches) (block_neat t.block a.0)
-    (neat_each spell_catch fit_catch catch_neat t.catches a.1)
+pub try_well_formed : (t : TryTy) → printable_try t ≡ true → WellFormed (spell_try t)
+try_well_formed t f =
+    let a = and_parts (printable_block t.block) (each printable_catch t.catches) f in
+    well_formed_both (spell_block t.block) (flat_map spell_catch t.catches)
+    (block_well_formed t.block a.0)
+    (well_formed_each spell_catch printable_catch catch_well_formed t.catches a.1)
 
-pub try_only : OnlyFit try_table fit_try
+pub try_only : OnlyPrintable try_table printable_try
 unfolding try_table
 try_only =
-    only_made (λ _. true) (λ v. try_of v.0 v.1) fit_try
-    (only_weaker (λ v. fit_try (try_of v.0 v.1)) (λ v h. h)
+    only_made (λ _. true) (λ v. try_of v.0 v.1) printable_try
+    (only_weaker (λ v. printable_try (try_of v.0 v.1)) (λ v h. h)
     (only_seq block_only (only_many begins_catch catch_clause_consumes catch_only)))
 
 -- ---- handlers
 
-label_aim : (l : Idx) (r : List Tok) → fit_index l ≡ true
+label_aim : (l : Idx) (r : List Tok) → printable_index l ≡ true
     → aim.spells (Some l) (spell_index l) r
 unfolding aim
 label_aim (number n) r f = inr (refl, (number n, index_here (number n) f r, refl, refl))
@@ -424,7 +446,7 @@ switch_aim : (r : List Tok) → aim.spells None (Keyword (codes "switch") ∷ []
 unfolding aim
 switch_aim r = inl (refl, (tt, word_here (codes "switch") refl r, refl, refl))
 
-handler_by : (t : Idx) (o : Option Idx) (c r : List Tok) → fit_index t ≡ true
+handler_by : (t : Idx) (o : Option Idx) (c r : List Tok) → printable_index t ≡ true
     → aim.spells o c (RParen ∷ r)
     → handler.spells (handler_to t o) (grouped (codes "on") (spell_index t ++ c)) r
 unfolding handler
@@ -437,40 +459,43 @@ handler_by t o c r f s =
       refl,
     )
 
-pub handler_here : (h : HandleTy) → fit_handler h ≡ true → Spells handler h (spell_handler h)
+pub handler_here : (h : HandleTy) → printable_handler h ≡ true → Spells handler h (spell_handler h)
 handler_here (on_label t l) f r =
-    let a = and_parts (fit_index t) (fit_index l) f in
+    let a = and_parts (printable_index t) (printable_index l) f in
     handler_by t (Some l) (spell_index l) r a.0 (label_aim l (RParen ∷ r) a.1)
 handler_here (on_switch t) f r =
     handler_by t None (Keyword (codes "switch") ∷ []) r f (switch_aim (RParen ∷ r))
 
-pub handler_neat : (h : HandleTy) → fit_handler h ≡ true → Neat (spell_handler h)
-handler_neat (on_label t l) f =
-    let a = and_parts (fit_index t) (fit_index l) f in
-    neat_group (codes "on") (spell_index t ++ spell_index l) refl
-    (neat_both (spell_index t) (spell_index l) (index_neat t a.0) (index_neat l a.1))
-handler_neat (on_switch t) f =
-    neat_group (codes "on") (spell_index t ++ Keyword (codes "switch") ∷ []) refl
-    (neat_both (spell_index t) (Keyword (codes "switch") ∷ []) (index_neat t f)
-    (neat_one (Keyword (codes "switch")) refl))
+pub handler_well_formed : (h : HandleTy) → printable_handler h ≡ true → WellFormed (spell_handler h)
+handler_well_formed (on_label t l) f =
+    let a = and_parts (printable_index t) (printable_index l) f in
+    well_formed_group (codes "on") (spell_index t ++ spell_index l) refl
+    (well_formed_both (spell_index t) (spell_index l) (index_well_formed t a.0)
+    (index_well_formed l a.1))
+handler_well_formed (on_switch t) f =
+    well_formed_group (codes "on") (spell_index t ++ Keyword (codes "switch") ∷ []) refl
+    (well_formed_both (spell_index t) (Keyword (codes "switch") ∷ []) (index_well_formed t f)
+    (well_formed_one (Keyword (codes "switch")) refl))
 
-aim_only : OnlyFit aim (if_some fit_index)
+aim_only : OnlyPrintable aim (if_some printable_index)
 unfolding aim
 aim_only =
     only_where (begins_word (codes "switch"))
-    (only_made (λ _. true) (λ _. None) (if_some fit_index) (only_any (word (codes "switch"))))
-    (only_made (λ _. true) Some (if_some fit_index) index_only)
+    (only_made (λ _. true) (λ _. None) (if_some printable_index) (only_any (word (codes "switch"))))
+    (only_made (λ _. true) Some (if_some printable_index) index_only)
 
-handler_fit : (t : Idx) (o : Option Idx) → fit_index t && if_some fit_index o ≡ true
-    → fit_handler (handler_to t o) ≡ true
-handler_fit t (Some l) h = h
-handler_fit t None h = (and_parts (fit_index t) true h).0
+handler_printable : (t : Idx) (o : Option Idx)
+    → printable_index t && if_some printable_index o ≡ true
+    → printable_handler (handler_to t o) ≡ true
+handler_printable t (Some l) h = h
+handler_printable t None h = (and_parts (printable_index t) true h).0
 
-pub handler_only : OnlyFit handler fit_handler
+pub handler_only : OnlyPrintable handler printable_handler
 unfolding handler
 handler_only =
-    only_group (codes "on") (only_made (λ _. true) (λ v. handler_to v.0 v.1) fit_handler
-    (only_weaker (λ v. fit_handler (handler_to v.0 v.1)) (λ v h. (handler_fit v.0 v.1 h))
+    only_group (codes "on") (only_made (λ _. true) (λ v. handler_to v.0 v.1) printable_handler
+    (only_weaker (λ v. printable_handler (handler_to v.0 v.1))
+    (λ v h. (handler_printable v.0 v.1 h))
     (only_seq index_only aim_only)))
 
 handler_begins : (h : HandleTy) (x : List Tok) → begins_handler (spell_handler h ++ x) ≡ true
@@ -478,26 +503,27 @@ handler_begins (on_label t l) x = refl
 handler_begins (on_switch t) x = refl
 
 -- in front of what begins no handler
-pub resume_table_here : (hs : List HandleTy) (r : List Tok) → fit_resume_table hs ≡ true
+pub resume_table_here : (hs : List HandleTy) (r : List Tok) → printable_resume_table hs ≡ true
     → begins_handler r ≡ false → resume_table.spells hs (spell_resume_table hs) r
 unfolding resume_table
 resume_table_here hs r f e =
-    many_here begins_handler handler spell_handler fit_handler handler_here
+    many_here begins_handler handler spell_handler printable_handler handler_here
     (λ h x o. (handler_begins h x)) hs r f e
 
-pub resume_table_neat : (hs : List HandleTy) → fit_resume_table hs ≡ true
-    → Neat (spell_resume_table hs)
-resume_table_neat hs f = neat_each spell_handler fit_handler handler_neat hs f
+pub resume_table_well_formed : (hs : List HandleTy) → printable_resume_table hs ≡ true
+    → WellFormed (spell_resume_table hs)
+resume_table_well_formed hs f =
+    well_formed_each spell_handler printable_handler handler_well_formed hs f
 
-pub resume_table_only : OnlyFit resume_table fit_resume_table
+pub resume_table_only : OnlyPrintable resume_table printable_resume_table
 unfolding resume_table
 resume_table_only = only_many begins_handler handler_consumes handler_only
 
-pub resume_here : (v : ResumeTy) (r : List Tok) → fit_resume v ≡ true
+pub resume_here : (v : ResumeTy) (r : List Tok) → printable_resume v ≡ true
     → begins_handler r ≡ false → resume.spells v (spell_resume v) r
 unfolding resume
 resume_here v r f e =
-    let a = and_parts (fit_index v.type_index) (fit_resume_table v.table) f in
+    let a = and_parts (printable_index v.type_index) (printable_resume_table v.table) f in
     let t = spell_resume_table v.table in (
       (v.type_index, v.table),
       both_here index resume_table v.type_index v.table (spell_index v.type_index) t r
@@ -506,26 +532,26 @@ resume_here v r f e =
       refl,
     )
 
-pub resume_neat : (v : ResumeTy) → fit_resume v ≡ true → Neat (spell_resume v)
-resume_neat v f =
-    let a = and_parts (fit_index v.type_index) (fit_resume_table v.table) f in
-    neat_both (spell_index v.type_index) (spell_resume_table v.table)
-    (index_neat v.type_index a.0) (resume_table_neat v.table a.1)
+pub resume_well_formed : (v : ResumeTy) → printable_resume v ≡ true → WellFormed (spell_resume v)
+resume_well_formed v f =
+    let a = and_parts (printable_index v.type_index) (printable_resume_table v.table) f in
+    well_formed_both (spell_index v.type_index) (spell_resume_table v.table)
+    (index_well_formed v.type_index a.0) (resume_table_well_formed v.table a.1)
 
-pub resume_only : OnlyFit resume fit_resume
+pub resume_only : OnlyPrintable resume printable_resume
 unfolding resume
 resume_only =
-    only_made (λ _. true) (λ v. resume_of v.0 v.1) fit_resume
-    (only_weaker (λ v. fit_resume (resume_of v.0 v.1)) (λ v h. h)
+    only_made (λ _. true) (λ v. resume_of v.0 v.1) printable_resume
+    (only_weaker (λ v. printable_resume (resume_of v.0 v.1)) (λ v h. h)
     (only_seq index_only resume_table_only))
 
-pub throw_here : (v : ThrowTy) (r : List Tok) → fit_throw v ≡ true
+pub throw_here : (v : ThrowTy) (r : List Tok) → printable_throw v ≡ true
     → begins_handler r ≡ false → resume_throw.spells v (spell_throw v) r
 unfolding resume_throw
 throw_here v r f e =
-    let a = and_parts (fit_index v.type_index)
-    (fit_index v.tag_index && fit_resume_table v.table) f in
-    let b = and_parts (fit_index v.tag_index) (fit_resume_table v.table) a.1 in
+    let a = and_parts (printable_index v.type_index)
+    (printable_index v.tag_index && printable_resume_table v.table) f in
+    let b = and_parts (printable_index v.tag_index) (printable_resume_table v.table) a.1 in
     let i = spell_index v.tag_index in
     let t = spell_resume_table v.table in (
       (v.type_index, (v.tag_index, v.table)),
@@ -537,19 +563,19 @@ throw_here v r f e =
       refl,
     )
 
-pub throw_neat : (v : ThrowTy) → fit_throw v ≡ true → Neat (spell_throw v)
-throw_neat v f =
-    let a = and_parts (fit_index v.type_index)
-    (fit_index v.tag_index && fit_resume_table v.table) f in
-    let b = and_parts (fit_index v.tag_index) (fit_resume_table v.table) a.1 in
-    neat_both (spell_index v.type_index)
-    (spell_index v.tag_index ++ spell_resume_table v.table) (index_neat v.type_index a.0)
-    (neat_both (spell_index v.tag_index) (spell_resume_table v.table)
-    (index_neat v.tag_index b.0) (resume_table_neat v.table b.1))
+pub throw_well_formed : (v : ThrowTy) → printable_throw v ≡ true → WellFormed (spell_throw v)
+throw_well_formed v f =
+    let a = and_parts (printable_index v.type_index)
+    (printable_index v.tag_index && printable_resume_table v.table) f in
+    let b = and_parts (printable_index v.tag_index) (printable_resume_table v.table) a.1 in
+    well_formed_both (spell_index v.type_index)
+    (spell_index v.tag_index ++ spell_resume_table v.table) (index_well_formed v.type_index a.0)
+    (well_formed_both (spell_index v.tag_index) (spell_resume_table v.table)
+    (index_well_formed v.tag_index b.0) (resume_table_well_formed v.table b.1))
 
-pub throw_only : OnlyFit resume_throw fit_throw
+pub throw_only : OnlyPrintable resume_throw printable_throw
 unfolding resume_throw
 throw_only =
-    only_made (λ _. true) (λ v. throw_of v.0 v.1.0 v.1.1) fit_throw
-    (only_weaker (λ v. fit_throw (throw_of v.0 v.1.0 v.1.1)) (λ v h. h)
+    only_made (λ _. true) (λ v. throw_of v.0 v.1.0 v.1.1) printable_throw
+    (only_weaker (λ v. printable_throw (throw_of v.0 v.1.0 v.1.1)) (λ v h. h)
     (only_seq index_only (only_seq index_only resume_table_only)))

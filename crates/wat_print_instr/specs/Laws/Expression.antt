@@ -2,10 +2,10 @@
 -- written.
 use Rattle.std.specs.Prelude.{◌≡◌, ℕ, zero, suc, ◌+◌, ◌<◌, Bool, true, false, ◌&&◌, ◌||◌, ◌==◌}
 use Rattle.std.specs.Prelude.{nat_lt, List, [], ◌∷◌, ◌++◌, flat_map, length, slice_index, Option}
-use Rattle.std.specs.Prelude.{Some, None, codes, option_map, is_some}
+use Rattle.std.specs.Prelude.{Some, None, codes, option_map, is_some, if◌then◌else◌}
 use Rattle.std.specs.Str.{bytes_eq}
 use Rattle.std.proofs.Common.{refl, ap, subst, sym, ◌∙◌, append_assoc, get_or, arith, rules}
-use Rattle.std.proofs.lemmas.Bool.{and_parts, or_parts, cond_both}
+use Rattle.std.proofs.lemmas.Bool.{and_parts, or_parts, cond_both, eqb-true, ltb-true}
 use Rattle.std.proofs.lemmas.Bool.Decides.{nat_tests}
 use Rattle.std.proofs.lemmas.Str.{is_utf8-from_IsUtf8, IsUtf8-from_ascii}
 use Rattle.wat_lexer.specs.Token.{Tok, LParen, RParen, Keyword, String}
@@ -24,20 +24,19 @@ use Rattle.wat_expr.specs.Expression.{Expr}
 use Rattle.wat_expr.specs.ExpressionProduction.{expression}
 use Rattle.wat_expr.specs.Items.{Items, Nil, Plain, Hinted, lists, unfolded, hints_behind}
 use Rattle.wat_expr.specs.Items.{is_branch, hint_name, mark}
-use Rattle.wat_print.specs.Neat.{Neat, nothing, noted, is_name, is_fit, is_byte}
+use Rattle.wat_print.specs.WellFormed.{WellFormed, nothing, noted, is_name, is_printable, is_byte}
 use Rattle.wat_print.specs.Parts.{each, if_some, spell_option}
 use Rattle.wat_print.specs.Text.{all_are}
-use Rattle.wat_print.specs.Laws.Parts.{neat_both, neat_each, neat_one}
-use Rattle.wat_print_instr.specs.ExpressionForm.{HintedInstr, step_of, spell_hint, fit_hint}
-use Rattle.wat_print_instr.specs.ExpressionForm.{spell_step, fit_step, steps_from}
-use Rattle.wat_print_instr.specs.ExpressionForm.{spell_expression, fit_expression}
+use Rattle.wat_print.specs.Laws.Parts.{well_formed_both, well_formed_each, well_formed_one}
+use Rattle.wat_print_instr.specs.ExpressionForm.{HintedInstr, step_of, spell_hint, printable_hint}
+use Rattle.wat_print_instr.specs.ExpressionForm.{spell_step, printable_step, steps_from}
+use Rattle.wat_print_instr.specs.ExpressionForm.{spell_expression, printable_expression, hint_for}
+use Rattle.wat_print_instr.specs.ExpressionForm.{hints_after}
 use Rattle.wat_print_instr.specs.InstructionForm.{passes, operand_form, spell_instruction}
-use Rattle.wat_print_instr.specs.InstructionForm.{fit_instruction}
+use Rattle.wat_print_instr.specs.InstructionForm.{printable_instruction}
 use Rattle.wat_print_instr.specs.Laws.Instruction.{EndsOperand, ends_nothing, ends_annotation}
-use Rattle.wat_print_instr.specs.Laws.Instruction.{instruction_here, instruction_neat}
-use Rattle.wat_print_instr.specs.Laws.Numbers.{equal_by, less_by}
+use Rattle.wat_print_instr.specs.Laws.Instruction.{instruction_here, instruction_well_formed}
 use Rattle.wat_print_instr.specs.Laws.OperandFront.{NoOperandWord, clear_both, operand_clear}
-use Rattle.wat_print_instr.specs.Laws.OperandFront.{type_apart, param_apart, result_apart}
 
 -- ---- no instruction's word is looked for
 
@@ -154,7 +153,8 @@ step_second w a None i s t e f =
 pub no_word_at_end : (w : List ℕ) (r : List Tok) → ends r ≡ true → begins_word w r ≡ false
 no_word_at_end w r e = fails_at_end (begins_word w) refl (λ x. refl) r e
 
-steps_second : (w : List ℕ) → NoOperandWord w → NoMnemonic w → (xs : List HintedInstr) (r : List Tok)
+steps_second : (w : List ℕ) → NoOperandWord w → NoMnemonic w
+    → (xs : List HintedInstr) (r : List Tok)
     → ends r ≡ true → second (begins_word w) r ≡ false
     → second (begins_word w) (flat_map spell_step xs ++ r) ≡ false
 steps_second w a n [] r e f = f
@@ -201,9 +201,9 @@ EndsExpression r = (ends r ≡ true) × NoTypeSecond r
 pub expression_no_type : (e : Expr) (r : List Tok) → EndsExpression r
     → NoTypeSecond (spell_expression e ++ r)
 expression_no_type e r k = (
-  expression_second (codes "type") type_apart no_type e r k.0 k.1.0,
-  expression_second (codes "param") param_apart no_param e r k.0 k.1.1,
-  expression_second (codes "result") result_apart no_result e r k.0 k.1.2,
+  expression_second (codes "type") refl no_type e r k.0 k.1.0,
+  expression_second (codes "param") refl no_param e r k.0 k.1.1,
+  expression_second (codes "result") refl no_result e r k.0 k.1.2,
 )
 
 -- ---- what may follow an instruction
@@ -249,9 +249,9 @@ steps_ends : {w : Op} (xs : List HintedInstr) (r : List Tok) → EndsExpression 
 steps_ends [] r e = end_ends r e
 steps_ends (x ∷ xs) r e =
     step_ends x.hint x.instr (flat_map spell_step xs) r (
-      steps_second (codes "type") type_apart no_type (x ∷ xs) r e.0 e.1.0,
-      steps_second (codes "param") param_apart no_param (x ∷ xs) r e.0 e.1.1,
-      steps_second (codes "result") result_apart no_result (x ∷ xs) r e.0 e.1.2,
+      steps_second (codes "type") refl no_type (x ∷ xs) r e.0 e.1.0,
+      steps_second (codes "param") refl no_param (x ∷ xs) r e.0 e.1.1,
+      steps_second (codes "result") refl no_result (x ∷ xs) r e.0 e.1.2,
     )
 
 -- ---- steps are items
@@ -265,26 +265,27 @@ items_of [] = Nil
 items_of (x ∷ xs) = item x.hint x.instr (items_of xs)
 
 one_listed : (h : Option ℕ) (i : Instr) (xs : List HintedInstr) (t s : List Tok)
-    → if_some (fit_hint i) h && fit_instruction i ≡ true → lists (items_of xs) t s
-    → EndsOperand (op_of_row i.row) t → lists (items_of (step_of h i ∷ xs)) (spell_step (step_of h i) ++ t) s
+    → if_some (printable_hint i) h && printable_instruction i ≡ true → lists (items_of xs) t s
+    → EndsOperand (op_of_row i.row) t
+    → lists (items_of (step_of h i ∷ xs)) (spell_step (step_of h i) ++ t) s
 one_listed None i xs t s f l e =
     (t, (spell_instruction i, refl, instruction_here i t f e), l)
 one_listed (Some v) i xs t s f l e =
-    let a = and_parts (fit_hint i v) (fit_instruction i) f in
+    let a = and_parts (printable_hint i v) (printable_instruction i) f in
     let b = and_parts (is_branch i) (nat_lt v 2) a.0 in
     let c = spell_instruction i in (
       c ++ t,
       refl,
-      less_by v 2 b.1,
+      ltb-true v 2 b.1,
       b.0,
       (t, (c, refl, instruction_here i t a.1 e), l),
     )
 
-steps_listed : (xs : List HintedInstr) (s : List Tok) → each fit_step xs ≡ true
+steps_listed : (xs : List HintedInstr) (s : List Tok) → each printable_step xs ≡ true
     → EndsExpression s → lists (items_of xs) (flat_map spell_step xs ++ s) s
 steps_listed [] s f e = refl
 steps_listed (x ∷ xs) s f e =
-    let a = and_parts (fit_step x) (each fit_step xs) f in
+    let a = and_parts (printable_step x) (each printable_step xs) f in
     subst (λ (u : List Tok). lists (items_of (x ∷ xs)) u s)
     (sym (append_assoc (spell_step x) (flat_map spell_step xs) s))
     (one_listed x.hint x.instr xs (flat_map spell_step xs ++ s) s a.0 (steps_listed xs s a.1 e)
@@ -323,7 +324,7 @@ steps_unfold b (i ∷ is) (h ∷ hs) =
     (λ t.
     (subst (λ (n : ℕ). Unfolds b (i ∷ is) ((n, h.1) ∷ hs)
     (option_map (λ xs. step_of (Some h.1) i ∷ xs) (steps_from (b + 1) is hs)))
-    (sym (equal_by h.0 b t))
+    (sym (eqb-true h.0 b t))
     (unfolds_more b i is (Some h.1) hs (steps_from (b + 1) is hs)
     (steps_unfold (b + 1) is hs))))
     (λ t.
@@ -331,7 +332,7 @@ steps_unfold b (i ∷ is) (h ∷ hs) =
     (steps_unfold (b + 1) is (h ∷ hs))))
 
 steps_closed : (e : Expr) (o : Option (List HintedInstr)) (r : List Tok)
-    → Unfolds 0 e.instrs e.hints o → passes (each fit_step) o ≡ true → EndsExpression r
+    → Unfolds 0 e.instrs e.hints o → passes (each printable_step) o ≡ true → EndsExpression r
     → expression.spells e (spell_option (flat_map spell_step) o) r
 unfolding expression
 steps_closed e None r b f k = absurd cc
@@ -344,7 +345,7 @@ steps_closed e (Some xs) r b f k = (
 )
 
 -- where its group ends
-pub expression_closed : (e : Expr) (r : List Tok) → fit_expression e ≡ true → EndsExpression r
+pub expression_closed : (e : Expr) (r : List Tok) → printable_expression e ≡ true → EndsExpression r
     → expression.spells e (spell_expression e) r
 expression_closed e r f k =
     steps_closed e (steps_from 0 e.instrs e.hints) r (steps_unfold 0 e.instrs e.hints) f k
@@ -354,37 +355,57 @@ expression_closed e r f k =
 low_at : (x : List ℕ) → all_are (λ b. nat_lt b 128) x ≡ true → (i : ℕ) → slice_index x i < 128
 low_at [] h i = search (rules)
 low_at (b ∷ x) h zero =
-    less_by b 128 (and_parts (nat_lt b 128) (all_are (λ b. nat_lt b 128) x) h).0
+    ltb-true b 128 (and_parts (nat_lt b 128) (all_are (λ b. nat_lt b 128) x) h).0
 low_at (b ∷ x) h (suc i) =
     low_at x (and_parts (nat_lt b 128) (all_are (λ b. nat_lt b 128) x) h).1 i
 
-hint_name_fit : is_name (codes "metadata.code.branch_hint") ≡ true
-hint_name_fit =
+hint_name_printable : is_name (codes "metadata.code.branch_hint") ≡ true
+hint_name_printable =
     is_utf8-from_IsUtf8 (codes "metadata.code.branch_hint")
     (IsUtf8-from_ascii (codes "metadata.code.branch_hint")
     (λ i. (low_at (codes "metadata.code.branch_hint") refl i)))
 
-byte_neat : (v : ℕ) → v < 2 → is_fit (String (v ∷ [])) ≡ true
-byte_neat v lt = let e : is_byte v ≡ true = grind (arith, nat_tests) in rw e refl
+byte_well_formed : (v : ℕ) → v < 2 → is_printable (String (v ∷ [])) ≡ true
+byte_well_formed v lt = let e : is_byte v ≡ true = grind (arith, nat_tests) in rw e refl
 
-hint_neat : (i : Instr) (v : ℕ) → fit_hint i v ≡ true → Neat (spell_hint v)
-hint_neat i v f =
+hint_well_formed : (i : Instr) (v : ℕ) → printable_hint i v ≡ true → WellFormed (spell_hint v)
+hint_well_formed i v f =
     let b = and_parts (is_branch i) (nat_lt v 2) f in
-    noted (codes "metadata.code.branch_hint") (String (v ∷ []) ∷ []) [] hint_name_fit refl
-    (neat_one (String (v ∷ [])) (byte_neat v (less_by v 2 b.1))) nothing
+    noted (codes "metadata.code.branch_hint") (String (v ∷ []) ∷ []) [] hint_name_printable refl
+    (well_formed_one (String (v ∷ [])) (byte_well_formed v (ltb-true v 2 b.1))) nothing
 
-step_neat : (h : Option ℕ) (i : Instr) → if_some (fit_hint i) h && fit_instruction i ≡ true
-    → Neat (spell_step (step_of h i))
-step_neat None i f = instruction_neat i f
-step_neat (Some v) i f =
-    let a = and_parts (fit_hint i v) (fit_instruction i) f in
-    neat_both (spell_hint v) (spell_instruction i) (hint_neat i v a.0) (instruction_neat i a.1)
+step_well_formed : (h : Option ℕ) (i : Instr)
+    → if_some (printable_hint i) h && printable_instruction i ≡ true
+    → WellFormed (spell_step (step_of h i))
+step_well_formed None i f = instruction_well_formed i f
+step_well_formed (Some v) i f =
+    let a = and_parts (printable_hint i v) (printable_instruction i) f in
+    well_formed_both (spell_hint v) (spell_instruction i) (hint_well_formed i v a.0)
+    (instruction_well_formed i a.1)
 
-steps_neat : (o : Option (List HintedInstr)) → passes (each fit_step) o ≡ true
-    → Neat (spell_option (flat_map spell_step) o)
-steps_neat (Some xs) f =
-    neat_each spell_step fit_step (λ x h. (step_neat x.hint x.instr h)) xs f
-steps_neat None f = absurd cc
+steps_well_formed : (o : Option (List HintedInstr)) → passes (each printable_step) o ≡ true
+    → WellFormed (spell_option (flat_map spell_step) o)
+steps_well_formed (Some xs) f =
+    well_formed_each spell_step printable_step (λ x h. (step_well_formed x.hint x.instr h)) xs f
+steps_well_formed None f = absurd cc
 
-pub expression_neat : (e : Expr) → fit_expression e ≡ true → Neat (spell_expression e)
-expression_neat e f = steps_neat (steps_from 0 e.instrs e.hints) f
+pub expression_well_formed : (e : Expr) → printable_expression e ≡ true
+    → WellFormed (spell_expression e)
+expression_well_formed e f = steps_well_formed (steps_from 0 e.instrs e.hints) f
+
+-- ---- one step more
+
+step_by : (t : Bool) (b : ℕ) (i : Instr) (is : List Instr) (h : ℕ × ℕ) (hs : List (ℕ × ℕ))
+    → (if t then option_map (λ xs. step_of (Some h.1) i ∷ xs) (steps_from (b + 1) is hs)
+    else option_map (λ xs. step_of None i ∷ xs) (steps_from (b + 1) is (h ∷ hs)))
+    ≡ option_map (λ xs. step_of (if t then Some h.1 else None) i ∷ xs)
+    (steps_from (b + 1) is (if t then hs else h ∷ hs))
+step_by true b i is h hs = refl
+step_by false b i is h hs = refl
+
+-- the first step has the first hint, where that is its
+pub next_step : (b : ℕ) (i : Instr) (is : List Instr) (hs : List (ℕ × ℕ))
+    → steps_from b (i ∷ is) hs
+    ≡ option_map (λ xs. step_of (hint_for b hs) i ∷ xs) (steps_from (b + 1) is (hints_after b hs))
+next_step b i is [] = refl
+next_step b i is (h ∷ hs) = step_by (h.0 == b) b i is h hs

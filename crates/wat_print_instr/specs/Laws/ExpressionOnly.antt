@@ -1,9 +1,8 @@
 -- Laws: each expression that tokens of a text spell can be written.
-use Rattle.std.specs.Prelude.{◌≡◌, ℕ, suc, ◌+◌, ◌<◌, ◌≤◌, Bool, true, false, ◌==◌}
-use Rattle.std.specs.Prelude.{List, [], ◌∷◌, ◌++◌, map, length, Option, Some, None, codes}
-use Rattle.std.specs.Prelude.{option_map}
+use Rattle.std.specs.Prelude.{◌≡◌, ℕ, suc, ◌+◌, ◌<◌, ◌≤◌, Bool, true, false, ◌==◌, List, [], ◌∷◌}
+use Rattle.std.specs.Prelude.{◌++◌, map, length, Option, Some, None, codes, option_map}
 use Rattle.std.proofs.Common.{refl, ap, subst, sym, ◌∙◌, append_assoc, append-nil, arith}
-use Rattle.std.proofs.lemmas.Bool.{and_parts, cond_both, or_right, or_left}
+use Rattle.std.proofs.lemmas.Bool.{cond_both, or_right, or_left, eqb-true, lt-ltb}
 use Rattle.std.proofs.lemmas.List.{append_cancel_right, map-append, length-append, length-map}
 use Rattle.wat_lexer.specs.Token.{Tok, LParen, RParen, String}
 use Rattle.wat_instr.specs.Instruction.{Instr, instruction, is_if, is_br_if, else_instr, end_instr}
@@ -14,16 +13,15 @@ use Rattle.wat_expr.specs.Items.{Items, Nil, Plain, Folded, Block, IfThen, IfEls
 use Rattle.wat_expr.specs.Items.{unfolded, hints_behind, is_branch, mark, BeginsWithBranch, reads}
 use Rattle.wat_expr.specs.Items.{keyword, IsIf, sort, sort_of, hint_name}
 use Rattle.wat_expr.specs.Laws.Facts.{lists_between}
-use Rattle.wat_print.specs.Neat.{is_given}
+use Rattle.wat_print.specs.WellFormed.{is_given}
 use Rattle.wat_print.specs.Parts.{each}
-use Rattle.wat_print.specs.Laws.Only.{OnlyFit}
-use Rattle.wat_print.specs.Laws.Parts.{each_both}
-use Rattle.wat_print_instr.specs.ExpressionForm.{HintedInstr, step_of, fit_step}
-use Rattle.wat_print_instr.specs.ExpressionForm.{steps_from}
-use Rattle.wat_print_instr.specs.ExpressionForm.{fit_expression}
-use Rattle.wat_print_instr.specs.InstructionForm.{passes, fit_instruction}
+use Rattle.wat_print.specs.Laws.Only.{OnlyPrintable}
+use Rattle.wat_print.specs.Laws.Parts.{each_both, each_front}
+use Rattle.wat_print_instr.specs.ExpressionForm.{HintedInstr, step_of, printable_step, steps_from}
+use Rattle.wat_print_instr.specs.ExpressionForm.{printable_expression}
+use Rattle.wat_print_instr.specs.InstructionForm.{passes, printable_instruction}
 use Rattle.wat_print_instr.specs.Laws.Instruction.{instruction_only}
-use Rattle.wat_print_instr.specs.Laws.Numbers.{same_number, less_tested, equal_by}
+use Rattle.wat_print_instr.specs.Laws.Numbers.{same_number}
 
 -- ---- tokens that a text can give, up to a rest
 
@@ -33,21 +31,13 @@ GivenTo ts r = (c : List Tok) × (ts ≡ c ++ r) × (each is_given c ≡ true)
 abbrev FrontOf : List Tok → List Tok → Type 0
 FrontOf ts r = (c : List Tok) × (ts ≡ c ++ r)
 
-given_both : (d e : List Tok) → each is_given (d ++ e) ≡ true
-    → (each is_given d ≡ true) × (each is_given e ≡ true)
-given_both [] e a = (refl, a)
-given_both (t ∷ d) e a =
-    let p = and_parts (is_given t) (each is_given (d ++ e)) a in
-    let q = given_both d e p.1 in
-    (rw (p.0) (q.0), q.1)
-
 given_split : (ts r x y : List Tok) → GivenTo ts r → ts ≡ x ++ y → FrontOf y r
     → (each is_given x ≡ true) × GivenTo y r
 given_split ts r x y g e f =
     let whole : g.0 ++ r ≡ (x ++ f.0) ++ r =
     sym g.1 ∙ e ∙ ap (λ (l : List Tok). x ++ l) f.1 ∙ sym (append_assoc x f.0 r) in
     let same : g.0 ≡ x ++ f.0 = append_cancel_right g.0 (x ++ f.0) r whole in
-    let p = given_both x f.0 (subst (λ (l : List Tok). each is_given l ≡ true) same g.2) in
+    let p = each_front is_given x f.0 (subst (λ (l : List Tok). each is_given l ≡ true) same g.2) in
     (p.0, (f.0, f.1, p.1))
 
 -- what is inside, up to the tokens k and a rest
@@ -55,7 +45,7 @@ given_inside : (b k d r : List Tok) → GivenTo b r → FrontOf b (k ++ d) → F
     → GivenTo b (k ++ d) × GivenTo d r
 given_inside b k d r g f h =
     let p = given_split b r (f.0 ++ k) d g (f.1 ∙ sym (append_assoc f.0 k d)) h in
-    let q = given_both f.0 k p.0 in
+    let q = each_front is_given f.0 k p.0 in
     ((f.0, f.1, q.0), p.1)
 
 front_through : (b k d r : List Tok) → FrontOf b (k ++ d) → FrontOf d r → FrontOf b r
@@ -148,25 +138,25 @@ abbrev HintAt : Option ℕ → Instr → Type 0
 HintAt (Some v) i = (v < 2) × (is_branch i ≡ true)
 HintAt None i = Unit {0}
 
-one_fits : (p : Option ℕ) (i : Instr) → fit_instruction i ≡ true → HintAt p i
-    → fit_step (step_of p i) ≡ true
-one_fits (Some v) i f h = rw (h.1, less_tested v 2 h.0, f) refl
+one_fits : (p : Option ℕ) (i : Instr) → printable_instruction i ≡ true → HintAt p i
+    → printable_step (step_of p i) ≡ true
+one_fits (Some v) i f h = rw (h.1, lt-ltb v 2 h.0, f) refl
 one_fits None i f h = f
 
 own_fits : (i : Instr) (c m : List Tok) → each is_given c ≡ true → instruction.spells i c m
-    → fit_instruction i ≡ true
+    → printable_instruction i ≡ true
 own_fits i c m a s = instruction_only.holds i c m a s
 
 -- an instruction in front, and then what is given up to the rest
 read_fits : (i : Instr) (ts m r : List Tok) → GivenTo ts r → reads i ts m → FrontOf m r
-    → (fit_instruction i ≡ true) × GivenTo m r
+    → (printable_instruction i ≡ true) × GivenTo m r
 read_fits i ts m r g s f =
     let p = given_split ts r s.0 m g s.1 f in
     (own_fits i s.0 m p.0 s.2, p.1)
 
 -- the same behind a `(`
 opened_fits : (i : Instr) (ts a m r : List Tok) → GivenTo ts r → ts ≡ LParen ∷ a → reads i a m
-    → FrontOf m r → (fit_instruction i ≡ true) × GivenTo m r
+    → FrontOf m r → (printable_instruction i ≡ true) × GivenTo m r
 opened_fits i ts a m r g e s f =
     let p = given_split ts r (LParen ∷ []) a g e
     (s.0 ++ f.0, s.1 ∙ ap (λ (l : List Tok). s.0 ++ l) f.1 ∙ sym (append_assoc s.0 f.0 r)) in
@@ -202,19 +192,21 @@ before_if : (p : Option ℕ) (i : Instr) (b : (v : ℕ) → p ≡ Some v → v <
 before_if (Some v) i b h = (b v refl, h)
 before_if None i b h = tt
 
-end_fits : fit_step (step_of None end_instr) ≡ true
+end_fits : printable_step (step_of None end_instr) ≡ true
 end_fits = refl
 
-else_fits : fit_step (step_of None else_instr) ≡ true
+else_fits : printable_step (step_of None else_instr) ≡ true
 else_fits = refl
 
-all_fit : (xs ys : List HintedInstr) → each fit_step xs ≡ true → each fit_step ys ≡ true
-    → each fit_step (xs ++ ys) ≡ true
-all_fit xs ys f g = each_both fit_step xs ys f g
+all_printable : (xs ys : List HintedInstr) → each printable_step xs ≡ true
+    → each printable_step ys ≡ true
+    → each printable_step (xs ++ ys) ≡ true
+all_printable xs ys f g = each_both printable_step xs ys f g
 
-and_fit : (x : HintedInstr) (xs : List HintedInstr) → fit_step x ≡ true → each fit_step xs ≡ true
-    → each fit_step (x ∷ xs) ≡ true
-and_fit x xs f g = rw (f, g) refl
+and_printable : (x : HintedInstr) (xs : List HintedInstr) → printable_step x ≡ true
+    → each printable_step xs ≡ true
+    → each printable_step (x ∷ xs) ≡ true
+and_printable x xs f g = rw (f, g) refl
 
 pub value_before : (p : Option ℕ) (xs : Items) → HintBefore p xs → (v : ℕ) → p ≡ Some v → v < 2
 value_before (Some w) xs h v e = let same : w ≡ v = cc in subst (λ (n : ℕ). n < 2) same h.0
@@ -223,33 +215,35 @@ value_before None xs h v e = absurd cc
 abbrev group_end : List HintedInstr
 group_end = step_of None end_instr ∷ []
 
-marked_fit : (p : Option ℕ) (xs : Items) (ts r : List Tok) → lists xs ts r → GivenTo ts r
-    → HintBefore p xs → each fit_step (marked p xs) ≡ true
-marked_fit p Nil ts r l g h = refl
-marked_fit p (Plain i xs) ts r l g h =
+marked_printable : (p : Option ℕ) (xs : Items) (ts r : List Tok) → lists xs ts r → GivenTo ts r
+    → HintBefore p xs → each printable_step (marked p xs) ≡ true
+marked_printable p Nil ts r l g h = refl
+marked_printable p (Plain i xs) ts r l g h =
     let a = read_fits i ts l.0 r g l.1 (front_of xs l.0 r l.2) in
-    and_fit (step_of p i) (marked None xs)
-    (one_fits p i a.0 (before_plain p i xs h)) (marked_fit None xs l.0 r l.2 a.1 tt)
-marked_fit p (Folded i ys xs) ts r (a, b, d, e, s, k, ly, lx) g h =
+    and_printable (step_of p i) (marked None xs)
+    (one_fits p i a.0 (before_plain p i xs h)) (marked_printable None xs l.0 r l.2 a.1 tt)
+marked_printable p (Folded i ys xs) ts r (a, b, d, e, s, k, ly, lx) g h =
     let fy = front_of ys b (RParen ∷ d) ly in
     let fx = front_of xs d r lx in
     let o = opened_fits i ts a b r g e k (front_through b (RParen ∷ []) d r fy fx) in
     let n = given_inside b (RParen ∷ []) d r o.1 fy fx in
-    all_fit (marked None ys ++ step_of p i ∷ []) (marked None xs)
-    (all_fit (marked None ys) (step_of p i ∷ []) (marked_fit None ys b (RParen ∷ d) ly n.0 tt)
-    (and_fit (step_of p i) [] (one_fits p i o.0 (before_folded p i ys xs h)) refl))
-    (marked_fit None xs d r lx n.1 tt)
-marked_fit p (Block i ys xs) ts r (a, b, d, e, s, k, ly, lx) g h =
+    all_printable (marked None ys ++ step_of p i ∷ []) (marked None xs)
+    (all_printable (marked None ys) (step_of p i ∷ [])
+    (marked_printable None ys b (RParen ∷ d) ly n.0 tt)
+    (and_printable (step_of p i) [] (one_fits p i o.0 (before_folded p i ys xs h)) refl))
+    (marked_printable None xs d r lx n.1 tt)
+marked_printable p (Block i ys xs) ts r (a, b, d, e, s, k, ly, lx) g h =
     let fy = front_of ys b (RParen ∷ d) ly in
     let fx = front_of xs d r lx in
     let o = opened_fits i ts a b r g e k (front_through b (RParen ∷ []) d r fy fx) in
     let n = given_inside b (RParen ∷ []) d r o.1 fy fx in
-    all_fit (step_of p i ∷ (marked None ys ++ group_end)) (marked None xs)
-    (and_fit (step_of p i) (marked None ys ++ group_end)
+    all_printable (step_of p i ∷ (marked None ys ++ group_end)) (marked None xs)
+    (and_printable (step_of p i) (marked None ys ++ group_end)
     (one_fits p i o.0 (before_block p i ys xs h))
-    (all_fit (marked None ys) group_end (marked_fit None ys b (RParen ∷ d) ly n.0 tt) refl))
-    (marked_fit None xs d r lx n.1 tt)
-marked_fit p (IfThen i ops th xs) ts r (a, b, d, e, q, s, k, u, lo, lt, lx) g h =
+    (all_printable (marked None ys) group_end
+    (marked_printable None ys b (RParen ∷ d) ly n.0 tt) refl))
+    (marked_printable None xs d r lx n.1 tt)
+marked_printable p (IfThen i ops th xs) ts r (a, b, d, e, q, s, k, u, lo, lt, lx) g h =
     let j = LParen ∷ keyword (codes "then") ∷ [] in
     let m = RParen ∷ RParen ∷ [] in
     let fo = front_of ops b (j ++ d) lo in
@@ -260,13 +254,15 @@ marked_fit p (IfThen i ops th xs) ts r (a, b, d, e, q, s, k, u, lo, lt, lx) g h 
     let n = given_inside b j d r o.1 fo fd in
     let w = given_inside d m e r n.1 ft fx in
     let c = marked None th ++ group_end in
-    all_fit (marked None ops ++ (step_of p i ∷ c)) (marked None xs)
-    (all_fit (marked None ops) (step_of p i ∷ c) (marked_fit None ops b (j ++ d) lo n.0 tt)
-    (and_fit (step_of p i) c
+    all_printable (marked None ops ++ (step_of p i ∷ c)) (marked None xs)
+    (all_printable (marked None ops) (step_of p i ∷ c)
+    (marked_printable None ops b (j ++ d) lo n.0 tt)
+    (and_printable (step_of p i) c
     (one_fits p i o.0 (before_if p i (value_before p (IfThen i ops th xs) h) (is_branch_if i s)))
-    (all_fit (marked None th) group_end (marked_fit None th d (m ++ e) lt w.0 tt) refl)))
-    (marked_fit None xs e r lx w.1 tt)
-marked_fit p (IfElse i ops th el xs) ts r (a, b, d, e, f, q, s, k, u, lo, lt, le, lx) g h =
+    (all_printable (marked None th) group_end
+    (marked_printable None th d (m ++ e) lt w.0 tt) refl)))
+    (marked_printable None xs e r lx w.1 tt)
+marked_printable p (IfElse i ops th el xs) ts r (a, b, d, e, f, q, s, k, u, lo, lt, le, lx) g h =
     let j = LParen ∷ keyword (codes "then") ∷ [] in
     let y = RParen ∷ LParen ∷ keyword (codes "else") ∷ [] in
     let m = RParen ∷ RParen ∷ [] in
@@ -282,20 +278,22 @@ marked_fit p (IfElse i ops th el xs) ts r (a, b, d, e, f, q, s, k, u, lo, lt, le
     let z = given_inside e m f r w.1 fl fx in
     let c = marked None el ++ group_end in
     let t = marked None th ++ (step_of None else_instr ∷ c) in
-    all_fit (marked None ops ++ (step_of p i ∷ t)) (marked None xs)
-    (all_fit (marked None ops) (step_of p i ∷ t) (marked_fit None ops b (j ++ d) lo n.0 tt)
-    (and_fit (step_of p i) t
+    all_printable (marked None ops ++ (step_of p i ∷ t)) (marked None xs)
+    (all_printable (marked None ops) (step_of p i ∷ t)
+    (marked_printable None ops b (j ++ d) lo n.0 tt)
+    (and_printable (step_of p i) t
     (one_fits p i o.0
     (before_if p i (value_before p (IfElse i ops th el xs) h) (is_branch_if i s)))
-    (all_fit (marked None th) (step_of None else_instr ∷ c)
-    (marked_fit None th d (y ++ e) lt w.0 tt)
-    (and_fit (step_of None else_instr) c refl
-    (all_fit (marked None el) group_end (marked_fit None el e (m ++ f) le z.0 tt) refl)))))
-    (marked_fit None xs f r lx z.1 tt)
-marked_fit p (Hinted v xs) ts r (d, e, lt, k, l) g h =
+    (all_printable (marked None th) (step_of None else_instr ∷ c)
+    (marked_printable None th d (y ++ e) lt w.0 tt)
+    (and_printable (step_of None else_instr) c refl
+    (all_printable (marked None el) group_end
+    (marked_printable None el e (m ++ f) le z.0 tt) refl)))))
+    (marked_printable None xs f r lx z.1 tt)
+marked_printable p (Hinted v xs) ts r (d, e, lt, k, l) g h =
     let c = LParen ∷ hint_name ∷ String (v ∷ []) ∷ RParen ∷ [] in
     let q = given_split ts r c d g e (front_of xs d r l) in
-    marked_fit (Some v) xs d r l q.1 (lt, k)
+    marked_printable (Some v) xs d r l q.1 (lt, k)
 
 -- ---- the hints of items are those of their steps
 
@@ -430,7 +428,7 @@ low_hints b [] = tt
 low_hints b (x ∷ xs) = low_mark b x.hint (hints_from (b + 1) xs) (low_hints (b + 1) xs)
 
 not_here : (b n : ℕ) → b + 1 ≤ n → (n == b) ≡ true → ⊥
-not_here b n l e = omega (arith, equal_by n b e, l)
+not_here b n l e = omega (arith, eqb-true n b e, l)
 
 again_none : (b : ℕ) (i : Instr) (is : List Instr) (hs : List (ℕ × ℕ)) (xs : List HintedInstr)
     → steps_from (b + 1) is hs ≡ Some xs → LowAt (b + 1) hs
@@ -478,18 +476,18 @@ items_steps xs =
     (subst (λ (hs : List (ℕ × ℕ)). steps_from 0 (map instr_in m) hs ≡ Some m)
     (hints_marked None xs 0) (steps_again 0 m))
 
-items_fit : (xs : Items) (c r : List Tok) → each is_given c ≡ true → lists xs (c ++ r) r
-    → fit_expression (value_of xs) ≡ true
-items_fit xs c r a l =
-    subst (λ (o : Option (List HintedInstr)). passes (each fit_step) o ≡ true)
+items_printable : (xs : Items) (c r : List Tok) → each is_given c ≡ true → lists xs (c ++ r) r
+    → printable_expression (value_of xs) ≡ true
+items_printable xs c r a l =
+    subst (λ (o : Option (List HintedInstr)). passes (each printable_step) o ≡ true)
     (sym (items_steps xs))
-    (marked_fit None xs (c ++ r) r l (c, refl, a) tt)
+    (marked_printable None xs (c ++ r) r l (c, refl, a) tt)
 
 expression_holds : (e : Expr) (c r : List Tok) → each is_given c ≡ true
-    → expression.spells e c r → fit_expression e ≡ true
+    → expression.spells e c r → printable_expression e ≡ true
 unfolding expression
 expression_holds e c r a s =
-    subst (λ (v : Expr). fit_expression v ≡ true) (sym s.3) (items_fit s.0 c r a s.1)
+    subst (λ (v : Expr). printable_expression v ≡ true) (sym s.3) (items_printable s.0 c r a s.1)
 
-pub expression_only : OnlyFit expression fit_expression
+pub expression_only : OnlyPrintable expression printable_expression
 expression_only = record { holds = expression_holds }

@@ -1,7 +1,6 @@
 -- Laws: folded instructions are read again, and each that tokens of a text spell can be written.
-use Rattle.std.specs.Prelude.{◌≡◌, ℕ, zero, suc, ◌<◌, Bool, true, false, not, ◌&&◌}
-use Rattle.std.specs.Prelude.{List, [], ◌∷◌, ◌++◌, length, Option, Some, None, codes}
-use Rattle.std.specs.Prelude.{option_map, is_some}
+use Rattle.std.specs.Prelude.{◌≡◌, ℕ, zero, suc, ◌<◌, Bool, true, false, not, ◌&&◌, List, [], ◌∷◌}
+use Rattle.std.specs.Prelude.{◌++◌, length, Option, Some, None, codes, option_map, is_some}
 use Rattle.std.specs.Str.{bytes_eq}
 use Rattle.std.proofs.Common.{refl, ap, subst, sym, ◌∙◌, append_assoc, append-nil, get_or, arith}
 use Rattle.std.proofs.lemmas.Bool.{and_parts, cond_both, not-true}
@@ -16,19 +15,19 @@ use Rattle.wat_mnemonics.specs.Table.{all_ops}
 use Rattle.wat_mnemonics.specs.declared.op.Op.{Op}
 use Rattle.wat_instr.specs.Instruction.{Instr}
 use Rattle.wat_expr.specs.Expression.{Expr}
-use Rattle.wat_expr.specs.Folded.{Groups, NoGroup, Group, groups, unfolded_groups}
-use Rattle.wat_expr.specs.Folded.{folded_spells}
+use Rattle.wat_expr.specs.Folded.{Groups, NoGroup, Group, groups, unfolded_groups, folded_spells}
 use Rattle.wat_expr.specs.FoldedProduction.{folded_instruction}
-use Rattle.wat_print.specs.Neat.{Neat, nothing}
+use Rattle.wat_print.specs.WellFormed.{WellFormed, nothing}
 use Rattle.wat_print.specs.Parts.{each, spell_option}
-use Rattle.wat_print.specs.Laws.Parts.{neat_both, neat_paren, each_both}
+use Rattle.wat_print.specs.Laws.Parts.{well_formed_both, well_formed_paren, each_both, each_front}
 use Rattle.wat_print_instr.specs.FoldedForm.{takes_catches, is_catch, op_of, keeps_apart}
 use Rattle.wat_print_instr.specs.FoldedForm.{own_groups, first_apart, catch_first, groups_behind}
-use Rattle.wat_print_instr.specs.FoldedForm.{group_from, spell_groups, spell_folded, no_hints, fit_folded}
-use Rattle.wat_print_instr.specs.InstructionForm.{spell_instruction, fit_instruction}
+use Rattle.wat_print_instr.specs.FoldedForm.{group_from, spell_groups, spell_folded, no_hints}
+use Rattle.wat_print_instr.specs.FoldedForm.{printable_folded}
+use Rattle.wat_print_instr.specs.InstructionForm.{spell_instruction, printable_instruction}
 use Rattle.wat_print_instr.specs.Laws.Expression.{EndsExpression, end_ends, word_unsought}
-use Rattle.wat_print_instr.specs.Laws.Instruction.{EndsOperand, instruction_here, instruction_neat}
-use Rattle.wat_print_instr.specs.Laws.Places.{each_front}
+use Rattle.wat_print_instr.specs.Laws.Instruction.{EndsOperand, instruction_here}
+use Rattle.wat_print_instr.specs.Laws.Instruction.{instruction_well_formed}
 
 -- ---- what a group begins with
 
@@ -117,19 +116,22 @@ group_text : (s g h t : List Tok)
 group_text s g h t = simp append_assoc
 
 -- that of the group's instruction, and those of the groups in it
-own_fits : (gs : Groups) (i : Instr) → each fit_instruction (unfolded_groups gs ++ i ∷ []) ≡ true
-    → (each fit_instruction (unfolded_groups gs) ≡ true) × (fit_instruction i ≡ true)
+own_fits : (gs : Groups) (i : Instr)
+    → each printable_instruction (unfolded_groups gs ++ i ∷ []) ≡ true
+    → (each printable_instruction (unfolded_groups gs) ≡ true) × (printable_instruction i ≡ true)
 own_fits gs i f =
-    let u = each_front fit_instruction (unfolded_groups gs) (i ∷ []) f in
-    (u.0, (and_parts (fit_instruction i) true u.1).0)
+    let u = each_front printable_instruction (unfolded_groups gs) (i ∷ []) f in
+    (u.0, (and_parts (printable_instruction i) true u.1).0)
 
-groups_listed : (gs : Groups) (r : List Tok) → each fit_instruction (unfolded_groups gs) ≡ true
+groups_listed : (gs : Groups) (r : List Tok)
+    → each printable_instruction (unfolded_groups gs) ≡ true
     → Readable gs → groups gs (spell_groups gs ++ RParen ∷ r) (RParen ∷ r)
 groups_listed NoGroup r f k = refl
 groups_listed (Group i gs hs) r f k =
     let d = spell_groups hs ++ RParen ∷ r in
     let b = spell_groups gs ++ RParen ∷ d in
-    let u = each_front fit_instruction (unfolded_groups gs ++ i ∷ []) (unfolded_groups hs) f in
+    let u =
+    each_front printable_instruction (unfolded_groups gs ++ i ∷ []) (unfolded_groups hs) f in
     let v = own_fits gs i u.0 in (
       spell_instruction i ++ b,
       b,
@@ -144,17 +146,18 @@ groups_listed (Group i gs hs) r f k =
       groups_listed hs r u.1 k.2,
     )
 
-groups_neat : (gs : Groups) → each fit_instruction (unfolded_groups gs) ≡ true
-    → Neat (spell_groups gs)
-groups_neat NoGroup f = nothing
-groups_neat (Group i gs hs) f =
-    let u = each_front fit_instruction (unfolded_groups gs ++ i ∷ []) (unfolded_groups hs) f in
+groups_well_formed : (gs : Groups) → each printable_instruction (unfolded_groups gs) ≡ true
+    → WellFormed (spell_groups gs)
+groups_well_formed NoGroup f = nothing
+groups_well_formed (Group i gs hs) f =
+    let u =
+    each_front printable_instruction (unfolded_groups gs ++ i ∷ []) (unfolded_groups hs) f in
     let v = own_fits gs i u.0 in
-    neat_both (in_parens (spell_instruction i ++ spell_groups gs)) (spell_groups hs)
-    (neat_paren (spell_instruction i ++ spell_groups gs)
-    (neat_both (spell_instruction i) (spell_groups gs) (instruction_neat i v.1)
-    (groups_neat gs v.0)))
-    (groups_neat hs u.1)
+    well_formed_both (in_parens (spell_instruction i ++ spell_groups gs)) (spell_groups hs)
+    (well_formed_paren (spell_instruction i ++ spell_groups gs)
+    (well_formed_both (spell_instruction i) (spell_groups gs) (instruction_well_formed i v.1)
+    (groups_well_formed gs v.0)))
+    (groups_well_formed hs u.1)
 
 -- ---- which groups are written
 
@@ -257,14 +260,14 @@ unhinted [] e = refl
 unhinted (h ∷ hs) e = absurd cc
 
 whole_spells : (e : Expr) (o : Option Groups) (r : List Tok) → Whole e.instrs o → e.hints ≡ []
-    → each fit_instruction e.instrs ≡ true → is_some o ≡ true → EndsExpression (RParen ∷ r)
+    → each printable_instruction e.instrs ≡ true → is_some o ≡ true → EndsExpression (RParen ∷ r)
     → folded_spells e (spell_option spell_groups o) r
 whole_spells e None r w n f s k = absurd cc
 whole_spells e (Some NoGroup) r w n f s k = absurd w
 whole_spells e (Some (Group i gs NoGroup)) r w n f s k =
     let b = spell_groups gs ++ RParen ∷ r in
     let v = own_fits gs i
-    (subst (λ (l : List Instr). each fit_instruction l ≡ true) (sym w.0) f) in (
+    (subst (λ (l : List Instr). each printable_instruction l ≡ true) (sym w.0) f) in (
       i,
       gs,
       (
@@ -279,24 +282,26 @@ whole_spells e (Some (Group i gs NoGroup)) r w n f s k =
         groups_listed gs r v.0 w.2,
       ),
       ap (λ (l : List Instr). record { instrs = l; hints = e.hints }) (sym w.0)
-          ∙ ap (λ (l : List (ℕ × ℕ)). record { instrs = unfolded_groups gs ++ i ∷ []; hints = l }) n,
+          ∙ ap (λ (l : List (ℕ × ℕ)). record { instrs = unfolded_groups gs ++ i ∷ []; hints = l })
+          n,
     )
 whole_spells e (Some (Group i gs (Group j ks hs))) r w n f s k = absurd w
 
 abbrev Fits : Expr → Type 0
 Fits e =
-    (no_hints e.hints ≡ true) × (each fit_instruction e.instrs ≡ true)
+    (no_hints e.hints ≡ true) × (each printable_instruction e.instrs ≡ true)
     × (is_some (group_from [] e.instrs) ≡ true)
 
-fits_of : (e : Expr) → fit_folded e ≡ true → Fits e
+fits_of : (e : Expr) → printable_folded e ≡ true → Fits e
 fits_of e f =
     let some = is_some (group_from [] e.instrs) in
-    let p = and_parts (no_hints e.hints) (each fit_instruction e.instrs && some) f in
-    let q = and_parts (each fit_instruction e.instrs) some p.1 in
+    let p = and_parts (no_hints e.hints) (each printable_instruction e.instrs && some) f in
+    let q = and_parts (each printable_instruction e.instrs) some p.1 in
     (p.0, q.0, q.1)
 
 -- where no word that tells of a type is behind it
-pub folded_here : (e : Expr) (r : List Tok) → fit_folded e ≡ true → EndsExpression (RParen ∷ r)
+pub folded_here : (e : Expr) (r : List Tok) → printable_folded e ≡ true
+    → EndsExpression (RParen ∷ r)
     → folded_instruction.spells e (spell_folded e) r
 unfolding folded_instruction
 folded_here e r f k =
@@ -304,17 +309,18 @@ folded_here e r f k =
     whole_spells e (group_from [] e.instrs) r (from_whole [] e.instrs) (unhinted e.hints p.0) p.1
     p.2 k
 
-whole_neat : (is : List Instr) (o : Option Groups) → Whole is o → each fit_instruction is ≡ true
-    → Neat (spell_option spell_groups o)
-whole_neat is None w f = nothing
-whole_neat is (Some NoGroup) w f = absurd w
-whole_neat is (Some (Group i gs NoGroup)) w f =
-    groups_neat (Group i gs NoGroup)
-    (each_both fit_instruction (unfolded_groups gs ++ i ∷ []) []
-    (subst (λ (l : List Instr). each fit_instruction l ≡ true) (sym w.0) f) refl)
-whole_neat is (Some (Group i gs (Group j ks hs))) w f = absurd w
+whole_well_formed : (is : List Instr) (o : Option Groups) → Whole is o
+    → each printable_instruction is ≡ true
+    → WellFormed (spell_option spell_groups o)
+whole_well_formed is None w f = nothing
+whole_well_formed is (Some NoGroup) w f = absurd w
+whole_well_formed is (Some (Group i gs NoGroup)) w f =
+    groups_well_formed (Group i gs NoGroup)
+    (each_both printable_instruction (unfolded_groups gs ++ i ∷ []) []
+    (subst (λ (l : List Instr). each printable_instruction l ≡ true) (sym w.0) f) refl)
+whole_well_formed is (Some (Group i gs (Group j ks hs))) w f = absurd w
 
-pub folded_neat : (e : Expr) → fit_folded e ≡ true → Neat (spell_folded e)
-folded_neat e f =
+pub folded_well_formed : (e : Expr) → printable_folded e ≡ true → WellFormed (spell_folded e)
+folded_well_formed e f =
     let p = fits_of e f in
-    whole_neat e.instrs (group_from [] e.instrs) (from_whole [] e.instrs) p.1
+    whole_well_formed e.instrs (group_from [] e.instrs) (from_whole [] e.instrs) p.1

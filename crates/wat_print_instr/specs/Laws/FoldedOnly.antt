@@ -23,31 +23,24 @@ use Rattle.wat_expr.specs.FoldedProduction.{folded_instruction}
 use Rattle.wat_expr.specs.Items.{reads}
 use Rattle.wat_expr.specs.Laws.Facts.{group_is}
 use Rattle.wat_expr.specs.Laws.Folded.{groups_between}
-use Rattle.wat_print.specs.Neat.{is_given}
+use Rattle.wat_print.specs.WellFormed.{is_given}
 use Rattle.wat_print.specs.Parts.{each}
-use Rattle.wat_print.specs.Laws.Only.{OnlyFit}
-use Rattle.wat_print.specs.Laws.Parts.{each_both}
+use Rattle.wat_print.specs.Laws.Only.{OnlyPrintable, given_group}
+use Rattle.wat_print.specs.Laws.Parts.{each_both, each_front}
 use Rattle.wat_print_instr.specs.FoldedForm.{takes_catches, is_catch, op_of, keeps_apart}
 use Rattle.wat_print_instr.specs.FoldedForm.{first_apart, catch_first, groups_behind, group_from}
-use Rattle.wat_print_instr.specs.FoldedForm.{own_groups, fit_folded}
-use Rattle.wat_print_instr.specs.InstructionForm.{fit_instruction}
+use Rattle.wat_print_instr.specs.FoldedForm.{own_groups, printable_folded}
+use Rattle.wat_print_instr.specs.InstructionForm.{printable_instruction}
 use Rattle.wat_print_instr.specs.Laws.Folded.{catch_told, group_last}
 use Rattle.wat_print_instr.specs.Laws.Instruction.{instruction_only}
-use Rattle.wat_print_instr.specs.Laws.Places.{each_front}
 
 -- ---- its instructions can be written
 
-given_group : (f y x : List Tok) → each is_given (LParen ∷ (f ++ (y ++ (RParen ∷ x)))) ≡ true
-    → (each is_given f ≡ true) × (each is_given y ≡ true) × (each is_given x ≡ true)
-given_group f y x g =
-    let a = each_front is_given f (y ++ (RParen ∷ x)) g in
-    let b = each_front is_given y (RParen ∷ x) a.1 in
-    (a.0, b.0, b.1)
-
-groups_fit : (gs : Groups) (c r : List Tok) → groups gs (c ++ r) r → each is_given c ≡ true
-    → each fit_instruction (unfolded_groups gs) ≡ true
-groups_fit NoGroup c r l g = refl
-groups_fit (Group i gs hs) c r (a, b, d, e, h, ly, lx) g =
+pub groups_printable : (gs : Groups) (c r : List Tok) → groups gs (c ++ r) r
+    → each is_given c ≡ true
+    → each printable_instruction (unfolded_groups gs) ≡ true
+groups_printable NoGroup c r l g = refl
+groups_printable (Group i gs hs) c r (a, b, d, e, h, ly, lx) g =
     let y = groups_between gs b (RParen ∷ d) ly in
     let x = groups_between hs d r lx in
     let k = LParen ∷ (h.0 ++ (y.front ++ (RParen ∷ x.front))) in
@@ -55,13 +48,13 @@ groups_fit (Group i gs hs) c r (a, b, d, e, h, ly, lx) g =
     append_cancel_right c k r (e ∙ group_is a h.0 y.front x.front d b r h.1 y.is x.is) in
     let v = given_group h.0 y.front x.front
     (subst (λ (l : List Tok). each is_given l ≡ true) same g) in
-    let own : each fit_instruction (i ∷ []) ≡ true =
+    let own : each printable_instruction (i ∷ []) ≡ true =
     rw (instruction_only.holds i h.0 b v.0 h.2) refl in
-    each_both fit_instruction (unfolded_groups gs ++ i ∷ []) (unfolded_groups hs)
-    (each_both fit_instruction (unfolded_groups gs) (i ∷ [])
-    (groups_fit gs y.front (RParen ∷ d)
+    each_both printable_instruction (unfolded_groups gs ++ i ∷ []) (unfolded_groups hs)
+    (each_both printable_instruction (unfolded_groups gs) (i ∷ [])
+    (groups_printable gs y.front (RParen ∷ d)
     (subst (λ (t : List Tok). groups gs t (RParen ∷ d)) y.is ly) v.1) own)
-    (groups_fit hs x.front r (subst (λ (t : List Tok). groups hs t r) x.is lx) v.2)
+    (groups_printable hs x.front r (subst (λ (t : List Tok). groups hs t r) x.is lx) v.2)
 
 -- ---- what a `try_table` leaves
 
@@ -175,24 +168,24 @@ some_group i (Some gs) e = refl
 some_group i None e = absurd cc
 
 value_fits : (i : Instr) (gs : Groups)
-    → each fit_instruction (unfolded_groups (Group i gs NoGroup)) ≡ true
+    → each printable_instruction (unfolded_groups (Group i gs NoGroup)) ≡ true
     → is_some (groups_behind i (unfolded_groups gs)) ≡ true
-    → fit_folded (folded_value i gs) ≡ true
+    → printable_folded (folded_value i gs) ≡ true
 value_fits i gs f s =
-    let a = (each_front fit_instruction (unfolded_groups gs ++ i ∷ []) [] f).0 in
+    let a = (each_front printable_instruction (unfolded_groups gs ++ i ∷ []) [] f).0 in
     let b : is_some (group_from [] (unfolded_groups gs ++ i ∷ [])) ≡ true =
     ap is_some (group_last [] (unfolded_groups gs) i)
     ∙ some_group i (groups_behind i (unfolded_groups gs)) s in
     rw (a, b) refl
 
 folded_holds : (e : Expr) (c r : List Tok) → each is_given c ≡ true → folded_spells e c r
-    → fit_folded e ≡ true
+    → printable_folded e ≡ true
 folded_holds e c r g (i, gs, (a, b, q, h, l), k) =
-    subst (λ (v : Expr). fit_folded v ≡ true) (sym k)
-    (value_fits i gs (groups_fit (Group i gs NoGroup) c r (a, b, r, q, h, l, refl) g)
+    subst (λ (v : Expr). printable_folded v ≡ true) (sym k)
+    (value_fits i gs (groups_printable (Group i gs NoGroup) c r (a, b, r, q, h, l, refl) g)
     (behind_some i (unfolded_groups gs)
     (λ t. (apart_in gs b (RParen ∷ r) l (behind_try i a b h t)))))
 
-pub folded_fits : OnlyFit folded_instruction fit_folded
+pub folded_fits : OnlyPrintable folded_instruction printable_folded
 unfolding folded_instruction
 folded_fits = record { holds = folded_holds }

@@ -1,9 +1,8 @@
 -- Laws: instructions are read again.
 use Rattle.std.specs.Prelude.{◌≡◌, ℕ, ℤ, suc, zero, ◌<◌, Bool, true, false, ◌&&◌, ◌==◌, List, []}
-use Rattle.std.specs.Prelude.{◌∷◌}
-use Rattle.std.specs.Prelude.{◌++◌, Option, Some, None, length}
+use Rattle.std.specs.Prelude.{◌∷◌, ◌++◌, Option, Some, None, length}
 use Rattle.std.proofs.Common.{refl, ap, subst, sym, ◌∙◌, get_or, arith}
-use Rattle.std.proofs.lemmas.Bool.{and_parts}
+use Rattle.std.proofs.lemmas.Bool.{and_parts, eqb-true}
 use Rattle.wat_lexer.specs.Token.{Tok, Keyword}
 use Rattle.wat_tokens.specs.Index.{Idx}
 use Rattle.wat_types.specs.Heap.{HeapTy}
@@ -39,30 +38,27 @@ use Rattle.wat_instr.specs.Operand.{lane_access, lane, heap, sized, reference, c
 use Rattle.wat_instr.specs.Operand.{fence, vector, shuffled, caught, resumed, thrown}
 use Rattle.wat_operands.specs.Tables.{index_or_0, index_pair}
 use Rattle.wat_tokens.specs.Index.{index}
-use Rattle.wat_print.specs.Neat.{Neat, is_given, is_keyword}
+use Rattle.wat_print.specs.WellFormed.{WellFormed, is_given, is_keyword}
 use Rattle.wat_print.specs.Parts.{each, spell_option}
 use Rattle.wat_print.specs.Printed.{Printing}
 use Rattle.wat_print.specs.Printings.{index_printing, heap_printing, ref_printing}
-use Rattle.wat_print.specs.Laws.Parts.{neat_word}
-use Rattle.wat_print.specs.Laws.Only.{OnlyFit}
-use Rattle.wat_print.specs.Neat as neat
+use Rattle.wat_print.specs.Laws.Parts.{well_formed_word}
+use Rattle.wat_print.specs.Laws.Only.{OnlyPrintable}
+use Rattle.wat_print.specs.WellFormed as well_formed
 use Rattle.wat_tokens.specs.Followed.{blank}
 use Rattle.wat_print_instr.specs.FoldedForm.{takes_catches}
 use Rattle.wat_print_instr.specs.InstructionForm.{found_nothing, found_block, found_label}
-use Rattle.wat_print_instr.specs.InstructionForm.{found_one_index}
-use Rattle.wat_print_instr.specs.InstructionForm.{found_two_indices, found_branches, found_call}
-use Rattle.wat_print_instr.specs.InstructionForm.{found_chosen}
+use Rattle.wat_print_instr.specs.InstructionForm.{found_one_index, found_two_indices}
+use Rattle.wat_print_instr.specs.InstructionForm.{found_branches, found_call, found_chosen}
 use Rattle.wat_print_instr.specs.InstructionForm.{found_access, found_ordered_index}
-use Rattle.wat_print_instr.specs.InstructionForm.{found_ordered_indices}
-use Rattle.wat_print_instr.specs.InstructionForm.{found_lane_access, found_lane, found_heap}
-use Rattle.wat_print_instr.specs.InstructionForm.{found_sized}
+use Rattle.wat_print_instr.specs.InstructionForm.{found_ordered_indices, found_lane_access}
+use Rattle.wat_print_instr.specs.InstructionForm.{found_lane, found_heap, found_sized}
 use Rattle.wat_print_instr.specs.InstructionForm.{found_reference, found_cast, found_integer}
-use Rattle.wat_print_instr.specs.InstructionForm.{found_float, found_fence}
-use Rattle.wat_print_instr.specs.InstructionForm.{found_vector, found_shuffled, found_caught}
-use Rattle.wat_print_instr.specs.InstructionForm.{found_resumed}
+use Rattle.wat_print_instr.specs.InstructionForm.{found_float, found_fence, found_vector}
+use Rattle.wat_print_instr.specs.InstructionForm.{found_shuffled, found_caught, found_resumed}
 use Rattle.wat_print_instr.specs.InstructionForm.{found_thrown, passes, OperandForm, form}
-use Rattle.wat_print_instr.specs.InstructionForm.{operand_form}
-use Rattle.wat_print_instr.specs.InstructionForm.{spell_instruction, fit_instruction}
+use Rattle.wat_print_instr.specs.InstructionForm.{operand_form, spell_instruction}
+use Rattle.wat_print_instr.specs.InstructionForm.{printable_instruction}
 use Rattle.wat_print_instr.specs.Printings.{i32_printing, i64_printing, index_or_0_printing}
 use Rattle.wat_print_instr.specs.Printings.{pair_printing, init_printing, copy_printing}
 use Rattle.wat_print_instr.specs.Printings.{sized_printing, br_table_printing, access_printing}
@@ -72,7 +68,7 @@ use Rattle.wat_print_instr.specs.Printings.{shuffle_printing, block_printing, ca
 use Rattle.wat_print_instr.specs.Printings.{select_printing, branch_printing, try_printing}
 use Rattle.wat_print_instr.specs.Printings.{resume_printing, throw_printing, end_label_printing}
 use Rattle.wat_print_instr.specs.Printings.{fence_printing, number_printing, nothing_printing}
-use Rattle.wat_print_instr.specs.Laws.Numbers.{equal_by, same_number}
+use Rattle.wat_print_instr.specs.Laws.Numbers.{same_number}
 use Rattle.std.specs.Prelude.{codes}
 use Rattle.std.specs.Str.{bytes_eq}
 use Rattle.wat_lexer.specs.Token.{LParen, Annotation}
@@ -82,9 +78,9 @@ use Rattle.wat_operands.specs.Handlers.{begins_handler}
 use Rattle.wat_operands.specs.Lanes.{goes_on}
 use Rattle.wat_operands.specs.Ordering.{begins_ordering}
 use Rattle.wat_operands.specs.Select.{result_follows}
-use Rattle.wat_print.specs.Index.{spell_index, fit_index}
+use Rattle.wat_print.specs.Index.{spell_index, printable_index}
 use Rattle.wat_print.specs.Laws.Reference.{index_here, heap_here, ref_here}
-use Rattle.wat_print_instr.specs.Places.{spell_index_or_0, spell_pair, fit_pair}
+use Rattle.wat_print_instr.specs.Places.{spell_index_or_0, spell_pair, printable_pair}
 use Rattle.wat_print_instr.specs.Laws.Access.{EndsAccess, access_here, atomic_here, ordered_here}
 use Rattle.wat_print_instr.specs.Laws.Access.{fence_here, lane_here, lane_access_here}
 use Rattle.wat_print_instr.specs.Laws.Control.{EndsBlock, block_here, call_here, select_here}
@@ -93,7 +89,7 @@ use Rattle.wat_print_instr.specs.Laws.Control.{end_label_here}
 use Rattle.wat_print_instr.specs.Laws.Numbers.{halves_32, halves_64, signed_here}
 use Rattle.wat_print_instr.specs.Laws.Places.{index_or_0_here, pair_here, init_here, copy_here}
 use Rattle.wat_print_instr.specs.Laws.Places.{sized_here, br_table_here}
-use Rattle.wat_print_instr.specs.Laws.Vectors.{vector_here, shuffle_here, unfit}
+use Rattle.wat_print_instr.specs.Laws.Vectors.{vector_here, shuffle_here, unprintable}
 
 -- ---- what is found in an operand is what it was made of
 
@@ -238,59 +234,65 @@ ends_annotation n x e = record {
 
 -- an operand of the word is printed so
 pub record Forms (h : Op) (g : Production Operand) (f : OperandForm) : Type 0 where
-  pub neat : (o : Operand) → f.fit o ≡ true → Neat (f.spell o)
-  pub spells : (o : Operand) (r : List Tok) → f.fit o ≡ true → EndsOperand h r
+  pub well_formed : (o : Operand) → f.printable o ≡ true → WellFormed (f.spell o)
+  pub spells : (o : Operand) (r : List Tok) → f.printable o ≡ true → EndsOperand h r
       → g.spells o (f.spell o) r
   pub only : (o : Operand) (c r : List Tok) → each is_given c ≡ true → g.spells o c r
-      → f.fit o ≡ true
+      → f.printable o ≡ true
 
 -- what is made of a value that is printed
 module _ {w : Op} {A : Type 0} {g : Production A} (make : A → Operand)
     (from : Operand → Option A) (back : (v : A) → from (make v) ≡ Some v)
     (made_of : (o : Operand) (v : A) → from o ≡ Some v → make v ≡ o) (p : Printing g)
-    (here : (v : A) (r : List Tok) → p.fit v ≡ true → EndsOperand w r → g.spells v (p.spell v) r)
+    (here : (v : A) (r : List Tok) → p.printable v ≡ true → EndsOperand w r
+    → g.spells v (p.spell v) r)
   where
-    neat_by : (o : Option A) → passes p.fit o ≡ true → Neat (spell_option p.spell o)
-    neat_by (Some v) h = p.neat v h
-    neat_by None h = absurd cc
+    well_formed_by : (o : Option A) → passes p.printable o ≡ true
+        → WellFormed (spell_option p.spell o)
+    well_formed_by (Some v) h = p.well_formed v h
+    well_formed_by None h = absurd cc
 
-    spells_by : (o : Operand) (x : Option A) (r : List Tok) → from o ≡ x → passes p.fit x ≡ true
+    spells_by : (o : Operand) (x : Option A) (r : List Tok) → from o ≡ x
+        → passes p.printable x ≡ true
         → EndsOperand w r → (made make g).spells o (spell_option p.spell x) r
     spells_by o (Some v) r e h k = (v, here v r h k, refl, made_of o v e)
     spells_by o None r e h k = absurd cc
 
     only_by : (o : Operand) (c r : List Tok) → each is_given c ≡ true
-        → (made make g).spells o c r → passes p.fit (from o) ≡ true
+        → (made make g).spells o c r → passes p.printable (from o) ≡ true
     only_by o c r a s =
-        subst (λ (u : Operand). passes p.fit (from u) ≡ true) s.3
-        (subst (λ (x : Option A). passes p.fit x ≡ true) (sym (back s.0)) (p.only s.0 c r a s.1))
+        subst (λ (u : Operand). passes p.printable (from u) ≡ true) s.3
+        (subst (λ (x : Option A). passes p.printable x ≡ true) (sym (back s.0))
+        (p.only s.0 c r a s.1))
 
     forms_made : Forms w (made make g) (form from p)
     forms_made = record {
-      neat = λ o h. neat_by (from o) h;
+      well_formed = λ o h. well_formed_by (from o) h;
       spells = λ o r h k. spells_by o (from o) r refl h k;
       only = only_by;
     }
 
-nothing_neat : (o : Operand) → passes nothing_printing.fit (found_nothing o) ≡ true
-    → Neat (spell_option nothing_printing.spell (found_nothing o))
-nothing_neat nothing h = neat.nothing
-nothing_neat _ h = absurd cc
+nothing_well_formed : (o : Operand) → passes nothing_printing.printable (found_nothing o) ≡ true
+    → WellFormed (spell_option nothing_printing.spell (found_nothing o))
+nothing_well_formed nothing h = well_formed.nothing
+nothing_well_formed _ h = absurd cc
 
 nothing_spells : {h : Op} (o : Operand) (r : List Tok)
-    → passes nothing_printing.fit (found_nothing o) ≡ true → EndsOperand h r
+    → passes nothing_printing.printable (found_nothing o) ≡ true → EndsOperand h r
     → (blank nothing).spells o (spell_option nothing_printing.spell (found_nothing o)) r
 nothing_spells nothing r h k = (refl, refl)
 nothing_spells _ r h k = absurd cc
 
 nothing_only : (o : Operand) (c r : List Tok) → each is_given c ≡ true
-    → (blank nothing).spells o c r → passes nothing_printing.fit (found_nothing o) ≡ true
+    → (blank nothing).spells o c r → passes nothing_printing.printable (found_nothing o) ≡ true
 nothing_only o c r a s =
-    subst (λ (u : Operand). passes nothing_printing.fit (found_nothing u) ≡ true) (sym s.1) refl
+    subst (λ (u : Operand). passes nothing_printing.printable (found_nothing u) ≡ true)
+    (sym s.1) refl
 
 -- an instruction without an operand
 forms_nothing : {h : Op} → Forms h (blank nothing) (form found_nothing nothing_printing)
-forms_nothing = record { neat = nothing_neat; spells = nothing_spells; only = nothing_only }
+forms_nothing =
+    record { well_formed = nothing_well_formed; spells = nothing_spells; only = nothing_only }
 
 operand_forms : (h : Op) → Forms h (operand h) (operand_form h)
 unfolding operand
@@ -334,17 +336,17 @@ operand_forms (ops.RmwAccess op) =
 operand_forms (ops.OrderedIndex op) =
     forms_made ordered_index found_ordered_index (λ v. refl) ordered_index_from
     (ordered_printing index index_printing)
-    (λ v r f e. (ordered_here index spell_index fit_index v r (index_here v.1 f r)))
+    (λ v r f e. (ordered_here index spell_index printable_index v r (index_here v.1 f r)))
 operand_forms (ops.OrderedTable op) =
     forms_made ordered_index found_ordered_index (λ v. refl) ordered_index_from
     (ordered_printing index_or_0 index_or_0_printing)
     (λ v r f e.
-    (ordered_here index_or_0 spell_index_or_0 fit_index v r
+    (ordered_here index_or_0 spell_index_or_0 printable_index v r
     (index_or_0_here v.1 r f (λ k. e.no_index))))
 operand_forms (ops.OrderedStruct op) =
     forms_made ordered_indices found_ordered_indices (λ v. refl) ordered_indices_from
     (ordered_printing index_pair pair_printing)
-    (λ v r f e. (ordered_here index_pair spell_pair fit_pair v r (pair_here v.1 f r)))
+    (λ v r f e. (ordered_here index_pair spell_pair printable_pair v r (pair_here v.1 f r)))
 operand_forms (ops.LaneAccess op) =
     forms_made lane_access found_lane_access (λ v. refl) lane_access_from
     (lane_access_printing (lane_access_align op))
@@ -409,10 +411,10 @@ operand_forms ops.i64_const =
     (λ v r f e. (signed_here 64 v halves_64 f r))
 operand_forms ops.f32_const =
     forms_made float found_float (λ v. refl) float_from number_printing
-    (λ v r f e. (unfit f))
+    (λ v r f e. (unprintable f))
 operand_forms ops.f64_const =
     forms_made float found_float (λ v. refl) float_from number_printing
-    (λ v r f e. (unfit f))
+    (λ v r f e. (unprintable f))
 operand_forms ops.atomic_fence =
     forms_made fence found_fence (λ v. refl) fence_from fence_printing
     (λ v r f e. (fence_here v r e.no_ordering))
@@ -452,22 +454,22 @@ operand_forms ops.br_on_cast_desc_eq_fail =
 
 -- ---- words
 
-words_fit : each (λ h. is_keyword (op_word h)) all_ops ≡ true
-words_fit = refl
+words_printable : each (λ h. is_keyword (op_word h)) all_ops ≡ true
+words_printable = refl
 
-fit_at : (xs : List Op) (k : ℕ) → each (λ h. is_keyword (op_word h)) xs ≡ true
+printable_at : (xs : List Op) (k : ℕ) → each (λ h. is_keyword (op_word h)) xs ≡ true
     → k < length xs → is_keyword (op_word (get_or xs k first)) ≡ true
-fit_at [] k e l = absurd (omega (arith, l))
-fit_at (x ∷ xs) zero e l =
+printable_at [] k e l = absurd (omega (arith, l))
+printable_at (x ∷ xs) zero e l =
     (and_parts (is_keyword (op_word x)) (each (λ h. is_keyword (op_word h)) xs) e).0
-fit_at (x ∷ xs) (suc k) e l =
+printable_at (x ∷ xs) (suc k) e l =
     let a = and_parts (is_keyword (op_word x))
     (each (λ h. is_keyword (op_word h)) xs) e in
-    fit_at xs k a.1 (omega (arith, l))
+    printable_at xs k a.1 (omega (arith, l))
 
-pub word_fit : (h : Op) → is_keyword (op_word h) ≡ true
-word_fit h =
-    let e = fit_at all_ops (place h) words_fit
+pub word_printable : (h : Op) → is_keyword (op_word h) ≡ true
+word_printable h =
+    let e = printable_at all_ops (place h) words_printable
     (let l = table_length in let b = place_below h in omega arith) in
     subst (λ (x : Op). is_keyword (op_word x) ≡ true) (there h) e
 
@@ -479,13 +481,13 @@ pub spell_of : (h : Op) (o : Operand)
 spell_of h o =
     ap (λ (x : Op). Keyword (op_word x) ∷ (operand_form x).spell o) (there h)
 
-pub fit_of : (h : Op) (o : Operand)
-    → fit_instruction (instr_of h o) ≡ (operand_form h).fit o
-fit_of h o =
-    ap (λ (x : Op). (op_row x == op_row h) && (operand_form x).fit o) (there h)
-    ∙ ap (λ (b : Bool). b && (operand_form h).fit o) (same_number (op_row h))
+pub printable_of : (h : Op) (o : Operand)
+    → printable_instruction (instr_of h o) ≡ (operand_form h).printable o
+printable_of h o =
+    ap (λ (x : Op). (op_row x == op_row h) && (operand_form x).printable o) (there h)
+    ∙ ap (λ (b : Bool). b && (operand_form h).printable o) (same_number (op_row h))
 
-spells_of : (h : Op) (o : Operand) (r : List Tok) → (operand_form h).fit o ≡ true
+spells_of : (h : Op) (o : Operand) (r : List Tok) → (operand_form h).printable o ≡ true
     → EndsOperand h r
     → instruction.spells (instr_of h o) (Keyword (op_word h) ∷ (operand_form h).spell o) r
 unfolding instruction
@@ -499,28 +501,29 @@ spells_of h o r f e = (
 )
 
 -- the instruction of the row
-of_row : (i : Instr) → fit_instruction i ≡ true → instr_of (op_of_row i.row) i.operand ≡ i
+of_row : (i : Instr) → printable_instruction i ≡ true → instr_of (op_of_row i.row) i.operand ≡ i
 of_row i f =
     let h = op_of_row i.row in
-    let a = and_parts (op_row h == i.row) ((operand_form h).fit i.operand) f in
+    let a = and_parts (op_row h == i.row) ((operand_form h).printable i.operand) f in
     ap (λ (n : ℕ). record { row = n; operand = i.operand })
-    (equal_by (op_row h) i.row a.0)
+    (eqb-true (op_row h) i.row a.0)
 
 -- in front of what doesn't take part in it
-pub instruction_here : (i : Instr) (r : List Tok) → fit_instruction i ≡ true
+pub instruction_here : (i : Instr) (r : List Tok) → printable_instruction i ≡ true
     → EndsOperand (op_of_row i.row) r → instruction.spells i (spell_instruction i) r
 instruction_here i r f e =
     let h = op_of_row i.row in
-    let a = and_parts (op_row h == i.row) ((operand_form h).fit i.operand) f in
+    let a = and_parts (op_row h == i.row) ((operand_form h).printable i.operand) f in
     subst (λ (x : Instr). instruction.spells x (spell_instruction i) r) (of_row i f)
     (spells_of h i.operand r a.1 e)
 
-pub instruction_neat : (i : Instr) → fit_instruction i ≡ true → Neat (spell_instruction i)
-instruction_neat i f =
+pub instruction_well_formed : (i : Instr) → printable_instruction i ≡ true
+    → WellFormed (spell_instruction i)
+instruction_well_formed i f =
     let h = op_of_row i.row in
-    let a = and_parts (op_row h == i.row) ((operand_form h).fit i.operand) f in
-    neat_word (op_word h) ((operand_form h).spell i.operand) (word_fit h)
-    ((operand_forms h).neat i.operand a.1)
+    let a = and_parts (op_row h == i.row) ((operand_form h).printable i.operand) f in
+    well_formed_word (op_word h) ((operand_form h).spell i.operand) (word_printable h)
+    ((operand_forms h).well_formed i.operand a.1)
 
 part_given_back : (d e : List Tok) → each is_given (d ++ e) ≡ true → each is_given e ≡ true
 part_given_back [] e a = a
@@ -528,14 +531,14 @@ part_given_back (t ∷ d) e a =
     part_given_back d e (and_parts (is_given t) (each is_given (d ++ e)) a).1
 
 instruction_holds : (i : Instr) (c r : List Tok) → each is_given c ≡ true
-    → instruction.spells i c r → fit_instruction i ≡ true
+    → instruction.spells i c r → printable_instruction i ≡ true
 unfolding instruction
 instruction_holds i c r a s =
     let h = s.0 in
     let o = s.5.0 in
     let g = part_given_back s.1 s.2 (subst (λ (l : List Tok). each is_given l ≡ true) s.3 a) in
-    subst (λ (x : Instr). fit_instruction x ≡ true) s.5.3
-    (fit_of h o ∙ (operand_forms h).only o s.2 r g s.5.1)
+    subst (λ (x : Instr). printable_instruction x ≡ true) s.5.3
+    (printable_of h o ∙ (operand_forms h).only o s.2 r g s.5.1)
 
-pub instruction_only : OnlyFit instruction fit_instruction
+pub instruction_only : OnlyPrintable instruction printable_instruction
 instruction_only = record { holds = instruction_holds }

@@ -1,10 +1,10 @@
 -- Laws: numbers with a sign, and words that end in a number, are read again.
 use Rattle.std.specs.Prelude.{List, ◌≡◌, ℕ, ℤ, zero, suc, pos, negsuc, ◌^◌, ◌-◌, ◌<◌, ◌≤◌, ◌==◌}
-use Rattle.std.specs.Prelude.{◌-ℤ◌, neg_ℤ, true, false, nat_lt, nat_le}
+use Rattle.std.specs.Prelude.{◌-ℤ◌, neg_ℤ, true, nat_lt, nat_le}
 use Rattle.std.specs.Prelude.{Option, Some, None, option_map, decimal}
 use Rattle.std.specs.Fmt.{signed_decimal}
 use Rattle.std.proofs.Common.{refl, lit≤, arith, subst, sym}
-use Rattle.std.proofs.lemmas.Bool.{cond_both}
+use Rattle.std.proofs.lemmas.Bool.{cond_both, leb-true, lt-ltb, ltb-false, ltb-true}
 use Rattle.std.proofs.lemmas.Bool.Decides.{nat_tests}
 use Rattle.std.proofs.lemmas.Fmt.{decimal_is_IsNumeral}
 use Rattle.std.proofs.lemmas.Int.{ints}
@@ -17,27 +17,12 @@ use Rattle.wat_lexer.specs.declared.number.Sign.TheVariants.{Plus, Minus}
 use Rattle.wat_tokens.specs.Integers.{signed, signed_of, unsigned, unsigned_of}
 use Rattle.wat_print.specs.Limits.{spell_number}
 use Rattle.wat_print.specs.Text.{all_are}
-use Rattle.wat_print.specs.Neat.{is_fit, is_given, Neat}
-use Rattle.wat_print.specs.Laws.Numbers.{magnitude_decimal, decimal_fit, no_sign, digits_idchars}
-use Rattle.wat_print.specs.Laws.Numbers.{unsigned_decimal, unsigned_fits}
-use Rattle.wat_print.specs.Laws.Only.{OnlyFit, only_one}
-use Rattle.wat_print.specs.Laws.Parts.{Spells, neat_one}
+use Rattle.wat_print.specs.WellFormed.{is_printable, is_given, WellFormed}
+use Rattle.wat_print.specs.Laws.Numbers.{magnitude_decimal, decimal_printable, no_sign}
+use Rattle.wat_print.specs.Laws.Numbers.{digits_idchars, unsigned_decimal, unsigned_fits}
+use Rattle.wat_print.specs.Laws.Only.{OnlyPrintable, only_one}
+use Rattle.wat_print.specs.Laws.Parts.{Spells, well_formed_one}
 use Rattle.wat_print_instr.specs.Numbers.{Halves, spell_signed, is_signed, is_unsigned}
-
-pub less_by : (n m : ℕ) → nat_lt n m ≡ true → n < m
-less_by n m h = grind (arith, nat_tests)
-
-pub less_tested : (n m : ℕ) → n < m → nat_lt n m ≡ true
-less_tested n m h = grind (arith, nat_tests)
-
-at_most : (n m : ℕ) → nat_le n m ≡ true → n ≤ m
-at_most n m h = grind (arith, nat_tests)
-
-not_below : (n m : ℕ) → nat_lt n m ≡ false → m ≤ n
-not_below n m h = grind (arith, nat_tests)
-
-pub equal_by : (n m : ℕ) → (n == m) ≡ true → n ≡ m
-equal_by n m h = grind (arith, nat_tests)
 
 pub same_number : (n : ℕ) → (n == n) ≡ true
 same_number n = grind (arith, nat_tests)
@@ -47,14 +32,14 @@ same_number n = grind (arith, nat_tests)
 signed_text : (bits : ℕ) (z : ℤ) → Halves bits → is_signed bits z ≡ true
     → signed_value bits (signed_decimal z) ≡ Some z
 signed_text bits (pos n) k h =
-    let low : n < 2 ^ (bits - 1) = less_by n (2 ^ (bits - 1)) h in
+    let low : n < 2 ^ (bits - 1) = ltb-true n (2 ^ (bits - 1)) h in
     let lt : n < 2 ^ 64 = omega (arith, k.whole, k.fits) in
     let d = decimal_is_IsNumeral n lt in
     let s = no_sign (decimal n) d.0.1 in
     let e : nat_le n (2 ^ bits - 1) ≡ true = grind (arith, nat_tests, k.whole) in
     rw (s.0, s.1, magnitude_decimal n lt, e, h) refl
 signed_text bits (negsuc n) k h =
-    let low : n < 2 ^ (bits - 1) = less_by n (2 ^ (bits - 1)) h in
+    let low : n < 2 ^ (bits - 1) = ltb-true n (2 ^ (bits - 1)) h in
     let lt : suc n < 2 ^ 64 = omega (arith, k.whole, k.fits, k.some) in
     let e : nat_le (suc n) (2 ^ (bits - 1)) ≡ true = grind (arith, nat_tests) in
     rw (magnitude_decimal (suc n) lt, e) refl
@@ -63,20 +48,21 @@ pub signed_here : (bits : ℕ) (z : ℤ) → Halves bits → is_signed bits z �
     → Spells (signed bits) z (spell_signed z)
 signed_here bits z k h r = (Integer (signed_decimal z), refl, signed_text bits z k h)
 
-signed_fit : (bits : ℕ) (z : ℤ) → Halves bits → is_signed bits z ≡ true
-    → is_fit (Integer (signed_decimal z)) ≡ true
-signed_fit bits (pos n) k h =
-    let low : n < 2 ^ (bits - 1) = less_by n (2 ^ (bits - 1)) h in
-    decimal_fit n (omega (arith, k.whole, k.fits))
-signed_fit bits (negsuc n) k h =
-    let low : n < 2 ^ (bits - 1) = less_by n (2 ^ (bits - 1)) h in
+signed_printable : (bits : ℕ) (z : ℤ) → Halves bits → is_signed bits z ≡ true
+    → is_printable (Integer (signed_decimal z)) ≡ true
+signed_printable bits (pos n) k h =
+    let low : n < 2 ^ (bits - 1) = ltb-true n (2 ^ (bits - 1)) h in
+    decimal_printable n (omega (arith, k.whole, k.fits))
+signed_printable bits (negsuc n) k h =
+    let low : n < 2 ^ (bits - 1) = ltb-true n (2 ^ (bits - 1)) h in
     let lt : suc n < 2 ^ 64 = omega (arith, k.whole, k.fits, k.some) in
     let d = decimal_is_IsNumeral (suc n) lt in
     rw (digits_idchars (decimal (suc n)) d.0.1, magnitude_decimal (suc n) lt) refl
 
-pub signed_neat : (bits : ℕ) (z : ℤ) → Halves bits → is_signed bits z ≡ true
-    → Neat (spell_signed z)
-signed_neat bits z k h = neat_one (Integer (signed_decimal z)) (signed_fit bits z k h)
+pub signed_well_formed : (bits : ℕ) (z : ℤ) → Halves bits → is_signed bits z ≡ true
+    → WellFormed (spell_signed z)
+signed_well_formed bits z k h =
+    well_formed_one (Integer (signed_decimal z)) (signed_printable bits z k h)
 
 -- the number with the bits of n
 complement_is : (bits n : ℕ) → Halves bits → nat_le n (2 ^ bits - 1) ≡ true
@@ -85,16 +71,16 @@ complement_is bits n k h =
     cond_both (nat_lt n (2 ^ (bits - 1))) (pos n) (pos n -ℤ pos (2 ^ bits))
     (λ (z : ℤ). is_signed bits z ≡ true) (λ e. e)
     (λ e.
-    (let le = at_most n (2 ^ bits - 1) h in
-    let ge = not_below n (2 ^ (bits - 1)) e in
+    (let le = leb-true n (2 ^ bits - 1) h in
+    let ge = ltb-false n (2 ^ (bits - 1)) e in
     let gap : pos n -ℤ pos (2 ^ bits) ≡ negsuc (2 ^ bits - suc n) =
     omega (arith, ints, k.whole, k.some) in
     subst (λ (z : ℤ). is_signed bits z ≡ true) (sym gap)
-    (less_tested (2 ^ bits - suc n) (2 ^ (bits - 1)) (omega (arith, k.whole, k.some)))))
+    (lt-ltb (2 ^ bits - suc n) (2 ^ (bits - 1)) (omega (arith, k.whole, k.some)))))
 
 negative_is : (bits n : ℕ) → Halves bits → nat_le n (2 ^ (bits - 1)) ≡ true
     → is_signed bits (neg_ℤ (pos n)) ≡ true
-negative_is bits zero k h = less_tested 0 (2 ^ (bits - 1)) (omega (arith, k.some))
+negative_is bits zero k h = lt-ltb 0 (2 ^ (bits - 1)) (omega (arith, k.some))
 negative_is bits (suc n) k h = grind (arith, nat_tests)
 
 some_signed : (bits n : ℕ) (z : ℤ) (o : Option ℕ) (f : ℕ → ℤ) (limit : ℕ)
@@ -126,7 +112,7 @@ signed_given bits k (Integer x) z a e =
 signed_given bits k LParen z a e = absurd cc
 signed_given bits k _ z a e = absurd cc
 
-pub signed_only : (bits : ℕ) → Halves bits → OnlyFit (signed bits) (is_signed bits)
+pub signed_only : (bits : ℕ) → Halves bits → OnlyPrintable (signed bits) (is_signed bits)
 signed_only bits k = only_one (signed_of bits) (refl, refl) (is_signed bits) (signed_given bits k)
 
 -- the four widths
@@ -147,19 +133,19 @@ halves_64 = record { whole = refl; some = lit≤ tt; fits = lit≤ tt }
 pub unsigned_here : (bits n : ℕ) → 2 ^ bits ≤ 2 ^ 64 → is_unsigned bits n ≡ true
     → Spells (unsigned bits) n (spell_number n)
 unsigned_here bits n le h r =
-    let lt : n < 2 ^ bits = less_by n (2 ^ bits) h in
+    let lt : n < 2 ^ bits = ltb-true n (2 ^ bits) h in
     (Integer (decimal n), refl, unsigned_decimal bits n (omega arith) (omega arith))
 
-pub unsigned_neat : (bits n : ℕ) → 2 ^ bits ≤ 2 ^ 64 → is_unsigned bits n ≡ true
-    → Neat (spell_number n)
-unsigned_neat bits n le h =
-    let lt : n < 2 ^ bits = less_by n (2 ^ bits) h in
-    neat_one (Integer (decimal n)) (decimal_fit n (omega arith))
+pub unsigned_well_formed : (bits n : ℕ) → 2 ^ bits ≤ 2 ^ 64 → is_unsigned bits n ≡ true
+    → WellFormed (spell_number n)
+unsigned_well_formed bits n le h =
+    let lt : n < 2 ^ bits = ltb-true n (2 ^ bits) h in
+    well_formed_one (Integer (decimal n)) (decimal_printable n (omega arith))
 
 pub unsigned_found : (bits : ℕ) → 1 ≤ 2 ^ bits → (x : List ℕ) (n : ℕ)
     → unsigned_value bits x ≡ Some n → is_unsigned bits n ≡ true
 unsigned_found bits p x n e =
-    let le = unsigned_fits bits x n e in less_tested n (2 ^ bits) (omega arith)
+    let le = unsigned_fits bits x n e in lt-ltb n (2 ^ bits) (omega arith)
 
 pub unsigned_given : (bits : ℕ) → 1 ≤ 2 ^ bits → (t : Tok) (n : ℕ) → is_given t ≡ true
     → unsigned_of bits t ≡ Some n → is_unsigned bits n ≡ true
@@ -167,7 +153,7 @@ unsigned_given bits p (Integer x) n a e = unsigned_found bits p x n e
 unsigned_given bits p LParen n a e = absurd cc
 unsigned_given bits p _ n a e = absurd cc
 
-pub unsigned_only : (bits : ℕ) → 1 ≤ 2 ^ bits → OnlyFit (unsigned bits) (is_unsigned bits)
+pub unsigned_only : (bits : ℕ) → 1 ≤ 2 ^ bits → OnlyPrintable (unsigned bits) (is_unsigned bits)
 unsigned_only bits p =
     only_one (unsigned_of bits) (refl, refl) (is_unsigned bits) (unsigned_given bits p)
 

@@ -2,8 +2,11 @@
 -- word of an instruction.
 use Rattle.std.specs.Prelude.{◌≡◌, ℕ, zero, suc, ◌==◌, Bool, true, false, List, [], ◌∷◌, ◌++◌}
 use Rattle.std.specs.Prelude.{codes, Option, Some, None, flat_map, decimal}
+use Rattle.std.specs.List.{list_any}
 use Rattle.std.specs.Str.{bytes_eq}
-use Rattle.std.proofs.Common.{refl}
+use Rattle.std.proofs.Common.{refl, inl, inr}
+use Rattle.std.proofs.lemmas.Bool.{cases_Bool}
+use Rattle.std.proofs.lemmas.Slice.Eq.{bytes_eq-Decides}
 use Rattle.wat_lexer.specs.Token.{Tok, Keyword}
 use Rattle.wat_tokens.specs.Index.{Idx, number, name}
 use Rattle.wat_tokens.specs.Production.{Production}
@@ -65,17 +68,28 @@ use Rattle.wat_print_instr.specs.Printings.{resume_printing, throw_printing, end
 use Rattle.wat_print_instr.specs.Printings.{fence_printing, number_printing, nothing_printing}
 use Rattle.wat_print_instr.specs.Vectors.{spell_vector}
 
--- the word is none of those that are written in operands
-pub record NoOperandWord (w : List ℕ) : Type 0 where
-  pub no_offset : (n : ℕ) → bytes_eq (codes "offset=" ++ decimal n) w ≡ false
-  pub no_align : (n : ℕ) → bytes_eq (codes "align=" ++ decimal n) w ≡ false
-  pub no_heap : (t : AbstractHeapType) → bytes_eq (abstract_word t) w ≡ false
-  pub no_short : (t : AbstractHeapType) → bytes_eq (short_word t) w ≡ false
-  pub no_ordering : (o : Ordering) → bytes_eq (ordering_word o) w ≡ false
-  pub no_i8x16 : bytes_eq (codes "i8x16") w ≡ false
-  pub no_i16x8 : bytes_eq (codes "i16x8") w ≡ false
-  pub no_i32x4 : bytes_eq (codes "i32x4") w ≡ false
-  pub no_i64x2 : bytes_eq (codes "i64x2") w ≡ false
+-- ---- the words that are written in operands
+
+-- it begins with a letter with which a word in an operand begins
+abbrev pub begins_operand : List ℕ → Bool
+begins_operand [] = false
+begins_operand (c ∷ w) = list_any (λ x. x == c) (codes "acefinos")
+
+-- the word begins with another letter, so it is none of them
+abbrev pub NoOperandWord : List ℕ → Type 0
+NoOperandWord w = begins_operand w ≡ false
+
+heap_begins : (t : AbstractHeapType) → begins_operand (abstract_word t) ≡ true
+heap_begins words.Func = refl
+heap_begins _ = refl
+
+short_begins : (t : AbstractHeapType) → begins_operand (short_word t) ≡ true
+short_begins words.Func = refl
+short_begins _ = refl
+
+ordering_begins : (o : Ordering) → begins_operand (ordering_word o) ≡ true
+ordering_begins AcqRel = refl
+ordering_begins SeqCst = refl
 
 -- ---- one behind another
 
@@ -89,6 +103,19 @@ module _ (w : List ℕ) (a : NoOperandWord w) where
   -- the word isn't in front
   abbrev Clear : List Tok → Type 0
   Clear c = begins_word w c ≡ false
+
+  word_apart : (v : List ℕ) → begins_operand v ≡ true → bytes_eq v w ≡ false
+  word_apart v e =
+      elim (cases_Bool (bytes_eq v w)) [
+        | inl h ↦ let f = rw ((bytes_eq-Decides v w).0 h) at e in absurd cc
+        | inr h ↦ h
+      ]
+
+  pub short_apart : (t : AbstractHeapType) → bytes_eq (short_word t) w ≡ false
+  short_apart t = word_apart (short_word t) (short_begins t)
+
+  ordering_apart : (o : Ordering) → bytes_eq (ordering_word o) w ≡ false
+  ordering_apart o = word_apart (ordering_word o) (ordering_begins o)
 
   -- ---- indices and names
 
@@ -135,10 +162,10 @@ module _ (w : List ℕ) (a : NoOperandWord w) where
   heap_clear (concrete i) = index_clear i
   heap_clear (exact i) = refl
   heap_clear (abstract_ true t) = refl
-  heap_clear (abstract_ false t) = a.no_heap t
+  heap_clear (abstract_ false t) = word_apart (abstract_word t) (heap_begins t)
 
   reference_clear : (n : Bool) (h : HeapTy) → Clear (spell_reference n h)
-  reference_clear true (abstract_ false t) = a.no_short t
+  reference_clear true (abstract_ false t) = short_apart t
   reference_clear true (abstract_ true t) = refl
   reference_clear true (concrete i) = refl
   reference_clear true (exact i) = refl
@@ -178,11 +205,11 @@ module _ (w : List ℕ) (a : NoOperandWord w) where
 
   offset_clear : (b : Bool) (n : ℕ) → Clear (spell_unless b (codes "offset=") n)
   offset_clear true n = refl
-  offset_clear false n = a.no_offset n
+  offset_clear false n = word_apart (codes "offset=" ++ decimal n) refl
 
   align_clear : (b : Bool) (n : ℕ) → Clear (spell_unless b (codes "align=") n)
   align_clear true n = refl
-  align_clear false n = a.no_align n
+  align_clear false n = word_apart (codes "align=" ++ decimal n) refl
 
   fields_clear : (b c : Bool) (n k : ℕ)
       → Clear (spell_unless b (codes "offset=") n ++ spell_unless c (codes "align=") k)
@@ -197,18 +224,18 @@ module _ (w : List ℕ) (a : NoOperandWord w) where
 
   ordering_part : (o : Option MemArgOrdering)
       → Clear (spell_option (λ o. spell_ordering (ordering_in o)) o)
-  ordering_part (Some o) = a.no_ordering (ordering_in o)
+  ordering_part (Some o) = ordering_apart (ordering_in o)
   ordering_part None = refl
 
   fence_clear : (o : Option Ordering) → Clear (spell_option spell_ordering o)
-  fence_clear (Some o) = a.no_ordering o
+  fence_clear (Some o) = ordering_apart o
   fence_clear None = refl
 
   vector_clear : (v : V128Const) → Clear (spell_vector v)
-  vector_clear (I8x16 zs) = a.no_i8x16
-  vector_clear (I16x8 zs) = a.no_i16x8
-  vector_clear (I32x4 zs) = a.no_i32x4
-  vector_clear (I64x2 zs) = a.no_i64x2
+  vector_clear (I8x16 zs) = word_apart (codes "i8x16") refl
+  vector_clear (I16x8 zs) = word_apart (codes "i16x8") refl
+  vector_clear (I32x4 zs) = word_apart (codes "i32x4") refl
+  vector_clear (I64x2 zs) = word_apart (codes "i64x2") refl
   vector_clear (F32x4 xs) = refl
   vector_clear (F64x2 xs) = refl
 
@@ -279,13 +306,13 @@ module _ (w : List ℕ) (a : NoOperandWord w) where
   operand_clear (ops.AtomicAccess op) o = atomic_clear (atomic_access_align op) false o
   operand_clear (ops.RmwAccess op) o = atomic_clear (rmw_access_align op) true o
   operand_clear (ops.OrderedIndex op) o =
-      found_clear (ordered_printing index index_printing) (λ v. (a.no_ordering v.0))
+      found_clear (ordered_printing index index_printing) (λ v. (ordering_apart v.0))
       (found_ordered_index o)
   operand_clear (ops.OrderedTable op) o =
-      found_clear (ordered_printing index_or_0 index_or_0_printing) (λ v. (a.no_ordering v.0))
+      found_clear (ordered_printing index_or_0 index_or_0_printing) (λ v. (ordering_apart v.0))
       (found_ordered_index o)
   operand_clear (ops.OrderedStruct op) o =
-      found_clear (ordered_printing index_pair pair_printing) (λ v. (a.no_ordering v.0))
+      found_clear (ordered_printing index_pair pair_printing) (λ v. (ordering_apart v.0))
       (found_ordered_indices o)
   operand_clear (ops.LaneAccess op) o =
       found_clear (lane_access_printing (lane_access_align op))
@@ -337,105 +364,3 @@ module _ (w : List ℕ) (a : NoOperandWord w) where
   operand_clear ops.ref_cast_desc_eq o = ref_clear o
   operand_clear ops.br_on_cast_desc_eq o = cast_clear o
   operand_clear ops.br_on_cast_desc_eq_fail o = cast_clear o
-
--- ---- the words that are looked for
-
-heap_no_type : (t : AbstractHeapType) → bytes_eq (abstract_word t) (codes "type") ≡ false
-heap_no_type words.Func = refl
-heap_no_type _ = refl
-
-short_no_type : (t : AbstractHeapType) → bytes_eq (short_word t) (codes "type") ≡ false
-short_no_type words.Func = refl
-short_no_type _ = refl
-
-order_no_type : (o : Ordering) → bytes_eq (ordering_word o) (codes "type") ≡ false
-order_no_type AcqRel = refl
-order_no_type SeqCst = refl
-
-pub type_apart : NoOperandWord (codes "type")
-type_apart = record {
-  no_offset = λ n. refl;
-  no_align = λ n. refl;
-  no_heap = heap_no_type;
-  no_short = short_no_type;
-  no_ordering = order_no_type;
-  no_i8x16 = refl;
-  no_i16x8 = refl;
-  no_i32x4 = refl;
-  no_i64x2 = refl;
-}
-
-heap_no_param : (t : AbstractHeapType) → bytes_eq (abstract_word t) (codes "param") ≡ false
-heap_no_param words.Func = refl
-heap_no_param _ = refl
-
-short_no_param : (t : AbstractHeapType) → bytes_eq (short_word t) (codes "param") ≡ false
-short_no_param words.Func = refl
-short_no_param _ = refl
-
-order_no_param : (o : Ordering) → bytes_eq (ordering_word o) (codes "param") ≡ false
-order_no_param AcqRel = refl
-order_no_param SeqCst = refl
-
-pub param_apart : NoOperandWord (codes "param")
-param_apart = record {
-  no_offset = λ n. refl;
-  no_align = λ n. refl;
-  no_heap = heap_no_param;
-  no_short = short_no_param;
-  no_ordering = order_no_param;
-  no_i8x16 = refl;
-  no_i16x8 = refl;
-  no_i32x4 = refl;
-  no_i64x2 = refl;
-}
-
-heap_no_result : (t : AbstractHeapType) → bytes_eq (abstract_word t) (codes "result") ≡ false
-heap_no_result words.Func = refl
-heap_no_result _ = refl
-
-short_no_result : (t : AbstractHeapType) → bytes_eq (short_word t) (codes "result") ≡ false
-short_no_result words.Func = refl
-short_no_result _ = refl
-
-order_no_result : (o : Ordering) → bytes_eq (ordering_word o) (codes "result") ≡ false
-order_no_result AcqRel = refl
-order_no_result SeqCst = refl
-
-pub result_apart : NoOperandWord (codes "result")
-result_apart = record {
-  no_offset = λ n. refl;
-  no_align = λ n. refl;
-  no_heap = heap_no_result;
-  no_short = short_no_result;
-  no_ordering = order_no_result;
-  no_i8x16 = refl;
-  no_i16x8 = refl;
-  no_i32x4 = refl;
-  no_i64x2 = refl;
-}
-
-heap_no_local : (t : AbstractHeapType) → bytes_eq (abstract_word t) (codes "local") ≡ false
-heap_no_local words.Func = refl
-heap_no_local _ = refl
-
-short_no_local : (t : AbstractHeapType) → bytes_eq (short_word t) (codes "local") ≡ false
-short_no_local words.Func = refl
-short_no_local _ = refl
-
-order_no_local : (o : Ordering) → bytes_eq (ordering_word o) (codes "local") ≡ false
-order_no_local AcqRel = refl
-order_no_local SeqCst = refl
-
-pub local_apart : NoOperandWord (codes "local")
-local_apart = record {
-  no_offset = λ n. refl;
-  no_align = λ n. refl;
-  no_heap = heap_no_local;
-  no_short = short_no_local;
-  no_ordering = order_no_local;
-  no_i8x16 = refl;
-  no_i16x8 = refl;
-  no_i32x4 = refl;
-  no_i64x2 = refl;
-}

@@ -1,10 +1,9 @@
 -- Laws: constants of 128 bits, and lanes that are shuffled, are read again.
 use Rattle.std.specs.Prelude.{◌≡◌, ℕ, ℤ, ◌+◌, Bool, true, false, ◌&&◌, ◌==◌, List, [], ◌∷◌}
 use Rattle.std.specs.Prelude.{◌++◌, codes, flat_map, length, take, drop}
-use Rattle.std.proofs.Common.{refl, subst, sym, append-nil, inl, inr, lit≤}
-use Rattle.std.proofs.Common.{arith}
+use Rattle.std.proofs.Common.{refl, subst, sym, append-nil, inl, inr, lit≤, arith}
 use Rattle.std.specs.Str.{bytes_eq}
-use Rattle.std.proofs.lemmas.Bool.{and_parts}
+use Rattle.std.proofs.lemmas.Bool.{and_parts, eqb-true}
 use Rattle.std.proofs.lemmas.Grind.{flat_map-append}
 use Rattle.std.proofs.lemmas.List.{length-append, take-append-drop, length-take, length-drop}
 use Rattle.wat_lexer.specs.Token.{Tok, Keyword}
@@ -20,20 +19,21 @@ use Rattle.wat_operands.specs.declared.vector.V128Const.{V128Const}
 use Rattle.wat_operands.specs.declared.vector.V128Const.TheVariants.{I8x16, I16x8, I32x4, I64x2}
 use Rattle.wat_operands.specs.declared.vector.V128Const.TheVariants.{F32x4, F64x2}
 use Rattle.wat_print.specs.Limits.{spell_number}
-use Rattle.wat_print.specs.Neat.{Neat, is_keyword}
+use Rattle.wat_print.specs.WellFormed.{WellFormed, is_keyword}
 use Rattle.wat_print.specs.Parts.{each}
-use Rattle.wat_print.specs.Laws.Only.{OnlyFit, only_any, only_where, only_seq, only_made}
+use Rattle.wat_print.specs.Laws.Only.{OnlyPrintable, only_any, only_where, only_seq, only_made}
 use Rattle.wat_print.specs.Laws.Only.{only_weaker}
-use Rattle.wat_print.specs.Laws.Parts.{Spells, word_here, neat_word, neat_each, each_both}
+use Rattle.wat_print.specs.Laws.Parts.{Spells, word_here, well_formed_word, well_formed_each}
+use Rattle.wat_print.specs.Laws.Parts.{each_both, each_front}
 use Rattle.wat_print_instr.specs.Numbers.{Halves, spell_signed, is_signed, is_unsigned}
-use Rattle.wat_print_instr.specs.Numbers.{fit_number_of}
-use Rattle.wat_print_instr.specs.Vectors.{spell_lanes, spell_vector, fit_vector, spell_shuffle}
-use Rattle.wat_print_instr.specs.Vectors.{fit_shuffle}
-use Rattle.wat_print_instr.specs.Laws.Numbers.{equal_by, same_number, halves_8, halves_16}
-use Rattle.wat_print_instr.specs.Laws.Numbers.{halves_32, halves_64, signed_here, signed_neat}
-use Rattle.wat_print_instr.specs.Laws.Numbers.{signed_only, unsigned_here, unsigned_neat}
-use Rattle.wat_print_instr.specs.Laws.Numbers.{unsigned_only}
-use Rattle.wat_print_instr.specs.Laws.Places.{both_here, each_front}
+use Rattle.wat_print_instr.specs.Numbers.{printable_number_of}
+use Rattle.wat_print_instr.specs.Vectors.{spell_lanes, spell_vector, printable_vector}
+use Rattle.wat_print_instr.specs.Vectors.{spell_shuffle, printable_shuffle}
+use Rattle.wat_print_instr.specs.Laws.Numbers.{same_number, halves_8, halves_16}
+use Rattle.wat_print_instr.specs.Laws.Numbers.{halves_32, halves_64, signed_here}
+use Rattle.wat_print_instr.specs.Laws.Numbers.{signed_well_formed, signed_only, unsigned_here}
+use Rattle.wat_print_instr.specs.Laws.Numbers.{unsigned_well_formed, unsigned_only}
+use Rattle.wat_print_instr.specs.Laws.Places.{both_here}
 
 -- ---- a number of values
 
@@ -101,43 +101,45 @@ module _ {A : Type 0} (spell : A → List Tok) (ok : A → Bool) where
   -- ---- what a text spells can be written
 
   pair_fits : (p : A × A) → ok p.0 && ok p.1 ≡ true
-      → fit_number_of 2 ok (p.0 ∷ (p.1 ∷ [])) ≡ true
+      → printable_number_of 2 ok (p.0 ∷ (p.1 ∷ [])) ≡ true
   pair_fits p h = let a = and_parts (ok p.0) (ok p.1) h in rw (a.0, a.1) refl
 
-  two_only : (g : Production A) → OnlyFit g ok → OnlyFit (two g) (fit_number_of 2 ok)
+  two_only : (g : Production A) → OnlyPrintable g ok
+      → OnlyPrintable (two g) (printable_number_of 2 ok)
   unfolding two
   two_only g m =
-      only_made (λ _. true) (λ v. v.0 ∷ (v.1 ∷ [])) (fit_number_of 2 ok)
-      (only_weaker (λ v. fit_number_of 2 ok (v.0 ∷ (v.1 ∷ []))) pair_fits (only_seq m m))
+      only_made (λ _. true) (λ v. v.0 ∷ (v.1 ∷ [])) (printable_number_of 2 ok)
+      (only_weaker (λ v. printable_number_of 2 ok (v.0 ∷ (v.1 ∷ []))) pair_fits (only_seq m m))
 
-  both_fit : (n : ℕ) (p : List A × List A)
-      → fit_number_of n ok p.0 && fit_number_of n ok p.1 ≡ true
-      → fit_number_of (n + n) ok (p.0 ++ p.1) ≡ true
-  both_fit n p h =
-      let a = and_parts (fit_number_of n ok p.0) (fit_number_of n ok p.1) h in
+  both_printable : (n : ℕ) (p : List A × List A)
+      → printable_number_of n ok p.0 && printable_number_of n ok p.1 ≡ true
+      → printable_number_of (n + n) ok (p.0 ++ p.1) ≡ true
+  both_printable n p h =
+      let a = and_parts (printable_number_of n ok p.0) (printable_number_of n ok p.1) h in
       let b = and_parts (length p.0 == n) (each ok p.0) a.0 in
       let c = and_parts (length p.1 == n) (each ok p.1) a.1 in
-      let d = equal_by (length p.0) n b.0 in
-      let e = equal_by (length p.1) n c.0 in
+      let d = eqb-true (length p.0) n b.0 in
+      let e = eqb-true (length p.1) n c.0 in
       let k : length (p.0 ++ p.1) ≡ n + n = omega (arith, length-append p.0 p.1) in
       rw (k, same_number (n + n)) (each_both ok p.0 p.1 b.1 c.1)
 
-  twice_only : (n : ℕ) (g : Production (List A)) → OnlyFit g (fit_number_of n ok)
-      → OnlyFit (twice g) (fit_number_of (n + n) ok)
+  twice_only : (n : ℕ) (g : Production (List A)) → OnlyPrintable g (printable_number_of n ok)
+      → OnlyPrintable (twice g) (printable_number_of (n + n) ok)
   twice_only n g m =
-      only_made (λ _. true) (λ v. v.0 ++ v.1) (fit_number_of (n + n) ok)
-      (only_weaker (λ v. fit_number_of (n + n) ok (v.0 ++ v.1)) (both_fit n) (only_seq m m))
+      only_made (λ _. true) (λ v. v.0 ++ v.1) (printable_number_of (n + n) ok)
+      (only_weaker (λ v. printable_number_of (n + n) ok (v.0 ++ v.1)) (both_printable n)
+      (only_seq m m))
 
-  module _ (g : Production A) (m : OnlyFit g ok) where
-    four_only : OnlyFit (four g) (fit_number_of 4 ok)
+  module _ (g : Production A) (m : OnlyPrintable g ok) where
+    four_only : OnlyPrintable (four g) (printable_number_of 4 ok)
     unfolding four
     four_only = twice_only 2 (two g) (two_only g m)
 
-    eight_only : OnlyFit (eight g) (fit_number_of 8 ok)
+    eight_only : OnlyPrintable (eight g) (printable_number_of 8 ok)
     unfolding eight
     eight_only = twice_only 4 (four g) four_only
 
-    sixteen_only : OnlyFit (sixteen g) (fit_number_of 16 ok)
+    sixteen_only : OnlyPrintable (sixteen g) (printable_number_of 16 ok)
     unfolding sixteen
     sixteen_only = twice_only 8 (eight g) eight_only
 
@@ -146,19 +148,19 @@ module _ {A : Type 0} (spell : A → List Tok) (ok : A → Bool) where
 -- the lanes of a shape, behind its word
 shape_here : (n : ℕ) (w : List ℕ) (f : List ℤ → V128Const) (bits : ℕ) (g : Production (List ℤ))
     → bytes_eq w w ≡ true → ListHere n g spell_signed (is_signed bits) → (zs : List ℤ)
-    (r : List Tok) → fit_number_of n (is_signed bits) zs ≡ true
+    (r : List Tok) → printable_number_of n (is_signed bits) zs ≡ true
     → (shaped w f g).spells (f zs) (spell_lanes w zs) r
 shape_here n w f bits g b s zs r h =
     let a = and_parts (length zs == n) (each (is_signed bits) zs) h in (
       (tt, zs),
       both_here (word w) g tt zs (Keyword w ∷ []) (flat_map spell_signed zs) r
           (word_here w b (flat_map spell_signed zs ++ r))
-          (s zs r (equal_by (length zs) n a.0) a.1),
+          (s zs r (eqb-true (length zs) n a.0) a.1),
       refl,
       refl,
     )
 
-pub vector_here : (v : V128Const) → fit_vector v ≡ true → Spells v128_const v (spell_vector v)
+pub vector_here : (v : V128Const) → printable_vector v ≡ true → Spells v128_const v (spell_vector v)
 unfolding v128_const wide_const
 vector_here (I8x16 zs) f r =
     inl (
@@ -212,58 +214,61 @@ vector_here (I64x2 zs) f r =
 vector_here (F32x4 xs) f r = absurd cc
 vector_here (F64x2 xs) f r = absurd cc
 
-lanes_neat : (n bits : ℕ) (w : List ℕ) (zs : List ℤ) → Halves bits → is_keyword w ≡ true
-    → fit_number_of n (is_signed bits) zs ≡ true → Neat (spell_lanes w zs)
-lanes_neat n bits w zs k h f =
+lanes_well_formed : (n bits : ℕ) (w : List ℕ) (zs : List ℤ) → Halves bits → is_keyword w ≡ true
+    → printable_number_of n (is_signed bits) zs ≡ true → WellFormed (spell_lanes w zs)
+lanes_well_formed n bits w zs k h f =
     let a = and_parts (length zs == n) (each (is_signed bits) zs) f in
-    neat_word w (flat_map spell_signed zs) h
-    (neat_each spell_signed (is_signed bits) (λ z u. (signed_neat bits z k u)) zs a.1)
+    well_formed_word w (flat_map spell_signed zs) h
+    (well_formed_each spell_signed (is_signed bits) (λ z u. (signed_well_formed bits z k u)) zs a.1)
 
-pub vector_neat : (v : V128Const) → fit_vector v ≡ true → Neat (spell_vector v)
-vector_neat (I8x16 zs) f = lanes_neat 16 8 (codes "i8x16") zs halves_8 refl f
-vector_neat (I16x8 zs) f = lanes_neat 8 16 (codes "i16x8") zs halves_16 refl f
-vector_neat (I32x4 zs) f = lanes_neat 4 32 (codes "i32x4") zs halves_32 refl f
-vector_neat (I64x2 zs) f = lanes_neat 2 64 (codes "i64x2") zs halves_64 refl f
-vector_neat (F32x4 xs) f = absurd cc
-vector_neat (F64x2 xs) f = absurd cc
+pub vector_well_formed : (v : V128Const) → printable_vector v ≡ true → WellFormed (spell_vector v)
+vector_well_formed (I8x16 zs) f = lanes_well_formed 16 8 (codes "i8x16") zs halves_8 refl f
+vector_well_formed (I16x8 zs) f = lanes_well_formed 8 16 (codes "i16x8") zs halves_16 refl f
+vector_well_formed (I32x4 zs) f = lanes_well_formed 4 32 (codes "i32x4") zs halves_32 refl f
+vector_well_formed (I64x2 zs) f = lanes_well_formed 2 64 (codes "i64x2") zs halves_64 refl f
+vector_well_formed (F32x4 xs) f = absurd cc
+vector_well_formed (F64x2 xs) f = absurd cc
 
-shape_only : {A : Type 0} {g : Production (List A)} {fit : List A → Bool} (w : List ℕ)
-    (f : List A → V128Const) → ((zs : List A) → fit zs ≡ true → fit_vector (f zs) ≡ true)
-    → OnlyFit g fit → OnlyFit (shaped w f g) fit_vector
-shape_only {fit = fit} w f h m =
-    only_made (λ _. true) (λ v. f v.1) fit_vector
-    (only_weaker (λ v. fit_vector (f v.1)) (λ v e. (h v.1 e)) (only_seq (only_any (word w)) m))
+shape_only : {A : Type 0} {g : Production (List A)} {printable : List A → Bool} (w : List ℕ)
+    (f : List A → V128Const)
+    → ((zs : List A) → printable zs ≡ true → printable_vector (f zs) ≡ true)
+    → OnlyPrintable g printable → OnlyPrintable (shaped w f g) printable_vector
+shape_only {printable = printable} w f h m =
+    only_made (λ _. true) (λ v. f v.1) printable_vector
+    (only_weaker (λ v. printable_vector (f v.1)) (λ v e. (h v.1 e))
+    (only_seq (only_any (word w)) m))
 
-pub unfit : {P : Type 0} → false ≡ true → P
-unfit h = absurd cc
+pub unprintable : {P : Type 0} → false ≡ true → P
+unprintable h = absurd cc
 
-pub none_only : {A : Type 0} (fit : A → Bool) → OnlyFit (none {A = A}) fit
-none_only fit = record { holds = λ v c r a s. absurd s }
+pub none_only : {A : Type 0} (printable : A → Bool) → OnlyPrintable (none {A = A}) printable
+none_only printable = record { holds = λ v c r a s. absurd s }
 
 abbrev never : {A : Type 0} → A → Bool
 never v = false
 
-none_two : {A : Type 0} → OnlyFit (two (none {A = A})) never
+none_two : {A : Type 0} → OnlyPrintable (two (none {A = A})) never
 unfolding two
 none_two = only_made (λ _. true) (λ v. v.0 ∷ (v.1 ∷ [])) never
     (only_weaker (λ v. false) (λ v h. absurd cc) (only_seq (none_only never) (none_only never)))
 
-none_twice : {A : Type 0} {g : Production (List A)} → OnlyFit g never → OnlyFit (twice g) never
+none_twice : {A : Type 0} {g : Production (List A)} → OnlyPrintable g never
+    → OnlyPrintable (twice g) never
 none_twice m = only_made (λ _. true) (λ v. v.0 ++ v.1) never
     (only_weaker (λ v. false) (λ v h. absurd cc) (only_seq m m))
 
-none_four : {A : Type 0} → OnlyFit (four (none {A = A})) never
+none_four : {A : Type 0} → OnlyPrintable (four (none {A = A})) never
 unfolding four
 none_four = none_twice none_two
 
-floats_only : OnlyFit float_const fit_vector
+floats_only : OnlyPrintable float_const printable_vector
 unfolding float_const
 floats_only =
     only_where (begins_word (codes "f32x4"))
     (shape_only (codes "f32x4") f32x4_of (λ zs h. absurd cc) none_four)
     (shape_only (codes "f64x2") f64x2_of (λ zs h. absurd cc) none_two)
 
-wide_only : OnlyFit wide_const fit_vector
+wide_only : OnlyPrintable wide_const printable_vector
 unfolding wide_const
 wide_only =
     only_where (begins_word (codes "i32x4"))
@@ -273,7 +278,7 @@ wide_only =
     (shape_only (codes "i64x2") I64x2 (λ zs h. h)
     (two_only spell_signed (is_signed 64) (signed 64) (signed_only 64 halves_64))) floats_only)
 
-pub vector_only : OnlyFit v128_const fit_vector
+pub vector_only : OnlyPrintable v128_const printable_vector
 unfolding v128_const
 vector_only =
     only_where (begins_word (codes "i8x16"))
@@ -285,26 +290,28 @@ vector_only =
 
 -- ---- shuffles
 
-pub shuffle_here : (s : I8x16Shuffle) → fit_shuffle s ≡ true
+pub shuffle_here : (s : I8x16Shuffle) → printable_shuffle s ≡ true
     → Spells shuffle s (spell_shuffle s)
 unfolding shuffle
 shuffle_here s f r =
     let a = and_parts (length s.lanes == 16) (each (is_unsigned 8) s.lanes) f in (
       s.lanes,
       sixteen_here spell_number (is_unsigned 8) (unsigned 8)
-          (λ n h. (unsigned_here 8 n (lit≤ tt) h)) s.lanes r (equal_by (length s.lanes) 16 a.0) a.1,
+          (λ n h. (unsigned_here 8 n (lit≤ tt) h)) s.lanes r (eqb-true (length s.lanes) 16 a.0) a.1,
       refl,
       refl,
     )
 
-pub shuffle_neat : (s : I8x16Shuffle) → fit_shuffle s ≡ true → Neat (spell_shuffle s)
-shuffle_neat s f =
+pub shuffle_well_formed : (s : I8x16Shuffle) → printable_shuffle s ≡ true
+    → WellFormed (spell_shuffle s)
+shuffle_well_formed s f =
     let a = and_parts (length s.lanes == 16) (each (is_unsigned 8) s.lanes) f in
-    neat_each spell_number (is_unsigned 8) (λ n h. (unsigned_neat 8 n (lit≤ tt) h)) s.lanes a.1
+    well_formed_each spell_number (is_unsigned 8)
+    (λ n h. (unsigned_well_formed 8 n (lit≤ tt) h)) s.lanes a.1
 
-pub shuffle_only : OnlyFit shuffle fit_shuffle
+pub shuffle_only : OnlyPrintable shuffle printable_shuffle
 unfolding shuffle
 shuffle_only =
-    only_made (λ _. true) shuffle_of fit_shuffle
-    (only_weaker (λ ls. fit_shuffle (shuffle_of ls)) (λ ls h. h)
+    only_made (λ _. true) shuffle_of printable_shuffle
+    (only_weaker (λ ls. printable_shuffle (shuffle_of ls)) (λ ls h. h)
     (sixteen_only spell_number (is_unsigned 8) (unsigned 8) (unsigned_only 8 (lit≤ tt))))

@@ -1,12 +1,12 @@
 -- Laws: where a field ends an expression ends, and what it begins with.
 use Rattle.std.specs.Prelude.{◌≡◌, false, List, ◌++◌, codes}
+use Rattle.std.proofs.Common.{refl}
 use Rattle.wat_lexer.specs.Token.{Tok}
 use Rattle.wat_tokens.specs.Tests.{begins_word, second}
 use Rattle.wat_expr.specs.Expression.{Expr}
 use Rattle.wat_print_instr.specs.ExpressionForm.{spell_expression}
 use Rattle.wat_print_instr.specs.Laws.Expression.{EndsExpression, NoMnemonic, expression_second}
 use Rattle.wat_print_instr.specs.Laws.Expression.{word_unsought}
-use Rattle.wat_print_instr.specs.Laws.OperandFront.{local_apart}
 use Rattle.wat_print_module.specs.Laws.FieldHead.{EndsField}
 
 pub field_ends_expression : (r : List Tok) → EndsField r → EndsExpression r
@@ -19,4 +19,4 @@ no_local h = (word_unsought h).no_local
 pub expression_no_local : (e : Expr) (r : List Tok) → EndsField r
     → second (begins_word (codes "local")) (spell_expression e ++ r) ≡ false
 expression_no_local e r k =
-    expression_second (codes "local") local_apart no_local e r k.0 (k.1 (codes "local"))
+    expression_second (codes "local") refl no_local e r k.0 (k.1 (codes "local"))

@@ -8,13 +8,13 @@ use Rattle.wat_tokens.specs.Tests.{begins_word, begins_lparen}
 use Rattle.wat_links.specs.CustomPlace.{section, before, after, custom_place}
 use Rattle.wat_links.specs.Raw.{raw_place}
 use Rattle.wat_links.specs.declared.custom_place.CustomPlace.{CustomPlace}
-use Rattle.wat_links.specs.declared.custom_place.CustomPlace.TheVariants.{BeforeFirst, Before, After}
-use Rattle.wat_links.specs.declared.custom_place.CustomPlace.TheVariants.{AfterLast}
+use Rattle.wat_links.specs.declared.custom_place.CustomPlace.TheVariants.{BeforeFirst, Before}
+use Rattle.wat_links.specs.declared.custom_place.CustomPlace.TheVariants.{After, AfterLast}
 use Rattle.wat_links.specs.declared.custom_place.CustomPlaceAnchor.{CustomPlaceAnchor}
 use Rattle.wat_links.specs.declared.custom_place.CustomPlaceAnchor.TheVariants as anchor
-use Rattle.wat_print.specs.Neat.{is_keyword, Neat, nothing}
-use Rattle.wat_print.specs.Laws.Parts.{Spells, paren_here, word_here, neat_one, neat_word}
-use Rattle.wat_print.specs.Laws.Parts.{neat_paren}
+use Rattle.wat_print.specs.WellFormed.{is_keyword, WellFormed, nothing}
+use Rattle.wat_print.specs.Laws.Parts.{Spells, paren_here, word_here, well_formed_one}
+use Rattle.wat_print.specs.Laws.Parts.{well_formed_word, well_formed_paren}
 use Rattle.wat_print.specs.Laws.Define.{after_here}
 use Rattle.wat_print_module.specs.CustomPlace.{section_word, spell_section, spell_place}
 use Rattle.wat_print_module.specs.CustomPlace.{spell_place_group}
@@ -24,24 +24,14 @@ use Rattle.wat_print_module.specs.CustomPlace.{spell_place_group}
 pub section_here : (a : CustomPlaceAnchor) → Spells section a (spell_section a)
 unfolding section
 section_here anchor.«Type» r = (Keyword (codes "type"), refl, refl)
-section_here anchor.Import r = (Keyword (codes "import"), refl, refl)
-section_here anchor.Func r = (Keyword (codes "func"), refl, refl)
-section_here anchor.Table r = (Keyword (codes "table"), refl, refl)
-section_here anchor.Memory r = (Keyword (codes "memory"), refl, refl)
-section_here anchor.Global r = (Keyword (codes "global"), refl, refl)
-section_here anchor.Export r = (Keyword (codes "export"), refl, refl)
-section_here anchor.Start r = (Keyword (codes "start"), refl, refl)
-section_here anchor.Elem r = (Keyword (codes "elem"), refl, refl)
-section_here anchor.Code r = (Keyword (codes "code"), refl, refl)
-section_here anchor.Data r = (Keyword (codes "data"), refl, refl)
-section_here anchor.Tag r = (Keyword (codes "tag"), refl, refl)
+section_here a r = (Keyword (section_word a), refl, refl)
 
-section_fit : (a : CustomPlaceAnchor) → is_keyword (section_word a) ≡ true
-section_fit anchor.«Type» = refl
-section_fit _ = refl
+section_printable : (a : CustomPlaceAnchor) → is_keyword (section_word a) ≡ true
+section_printable anchor.«Type» = refl
+section_printable _ = refl
 
-pub section_neat : (a : CustomPlaceAnchor) → Neat (spell_section a)
-section_neat a = neat_one (Keyword (section_word a)) (section_fit a)
+pub section_well_formed : (a : CustomPlaceAnchor) → WellFormed (spell_section a)
+section_well_formed a = well_formed_one (Keyword (section_word a)) (section_printable a)
 
 -- no known section is called `first` or `last`
 section_no_first : (a : CustomPlaceAnchor) (x : List Tok)
@@ -95,15 +85,17 @@ custom_place_here AfterLast r =
           (inl (refl, (tt, word_here (codes "last") refl r, refl, refl))),
     )
 
-pub custom_place_neat : (p : CustomPlace) → Neat (spell_place p)
-custom_place_neat BeforeFirst =
-    neat_word (codes "before") (Keyword (codes "first") ∷ []) refl
-    (neat_one (Keyword (codes "first")) refl)
-custom_place_neat (Before a) = neat_word (codes "before") (spell_section a) refl (section_neat a)
-custom_place_neat (After a) = neat_word (codes "after") (spell_section a) refl (section_neat a)
-custom_place_neat AfterLast =
-    neat_word (codes "after") (Keyword (codes "last") ∷ []) refl
-    (neat_one (Keyword (codes "last")) refl)
+pub custom_place_well_formed : (p : CustomPlace) → WellFormed (spell_place p)
+custom_place_well_formed BeforeFirst =
+    well_formed_word (codes "before") (Keyword (codes "first") ∷ []) refl
+    (well_formed_one (Keyword (codes "first")) refl)
+custom_place_well_formed (Before a) =
+    well_formed_word (codes "before") (spell_section a) refl (section_well_formed a)
+custom_place_well_formed (After a) =
+    well_formed_word (codes "after") (spell_section a) refl (section_well_formed a)
+custom_place_well_formed AfterLast =
+    well_formed_word (codes "after") (Keyword (codes "last") ∷ []) refl
+    (well_formed_one (Keyword (codes "last")) refl)
 
 -- ---- places of raw sections
 
@@ -125,8 +117,11 @@ place_group_here (After a) r e =
     (custom_place_here (After a) (RParen ∷ r)) in
     (Some (After a), (refl, s), refl, refl)
 
-pub place_group_neat : (p : CustomPlace) → Neat (spell_place_group p)
-place_group_neat AfterLast = nothing
-place_group_neat BeforeFirst = neat_paren (spell_place BeforeFirst) (custom_place_neat BeforeFirst)
-place_group_neat (Before a) = neat_paren (spell_place (Before a)) (custom_place_neat (Before a))
-place_group_neat (After a) = neat_paren (spell_place (After a)) (custom_place_neat (After a))
+pub place_group_well_formed : (p : CustomPlace) → WellFormed (spell_place_group p)
+place_group_well_formed AfterLast = nothing
+place_group_well_formed BeforeFirst =
+    well_formed_paren (spell_place BeforeFirst) (custom_place_well_formed BeforeFirst)
+place_group_well_formed (Before a) =
+    well_formed_paren (spell_place (Before a)) (custom_place_well_formed (Before a))
+place_group_well_formed (After a) =
+    well_formed_paren (spell_place (After a)) (custom_place_well_formed (After a))

@@ -17,37 +17,37 @@ use Rattle.wat_fields.specs.Data.{memory_follows, data_memory, data_active, data
 use Rattle.wat_fields.specs.DataVal.{DataValTy, written, numbers}
 use Rattle.wat_fields.specs.DataVals.{data_vals}
 use Rattle.wat_fields.specs.Offset.{head_behind, head_last, offset_inside}
-use Rattle.wat_print.specs.Index.{spell_index, fit_index}
-use Rattle.wat_print.specs.Label.{spell_label, fit_label}
-use Rattle.wat_print.specs.Neat.{Neat, nothing}
+use Rattle.wat_print.specs.Index.{spell_index, printable_index}
+use Rattle.wat_print.specs.Label.{spell_label, printable_label}
+use Rattle.wat_print.specs.WellFormed.{WellFormed, nothing}
 use Rattle.wat_print.specs.Parts.{grouped, each, if_some}
-use Rattle.wat_print.specs.Laws.Label.{label_here, label_neat, label_only}
-use Rattle.wat_print.specs.Laws.Only.{OnlyFit, only_where, only_opt, only_seq, only_made}
-use Rattle.wat_print.specs.Laws.Only.{only_weaker}
-use Rattle.wat_print.specs.Laws.Only.{only_paren, only_after, only_group}
-use Rattle.wat_print.specs.Laws.Parts.{paren_here, group_here, neat_word, neat_both}
-use Rattle.wat_print.specs.Laws.Parts.{neat_group}
-use Rattle.wat_print.specs.Laws.Reference.{index_here, index_neat, index_only}
+use Rattle.wat_print.specs.Laws.Label.{label_here, label_well_formed, label_only}
+use Rattle.wat_print.specs.Laws.Only.{OnlyPrintable, only_where, only_opt, only_seq, only_made}
+use Rattle.wat_print.specs.Laws.Only.{only_weaker, only_paren, only_after, only_group}
+use Rattle.wat_print.specs.Laws.Parts.{paren_here, group_here, well_formed_word, well_formed_both}
+use Rattle.wat_print.specs.Laws.Parts.{well_formed_group}
+use Rattle.wat_print.specs.Laws.Reference.{index_here, index_only, index_group_well_formed}
 use Rattle.wat_print.specs.Laws.Define.{after_here}
-use Rattle.wat_print_instr.specs.ExpressionForm.{spell_expression, fit_expression}
-use Rattle.wat_print_instr.specs.Laws.Expression.{expression_closed, expression_neat}
+use Rattle.wat_print_instr.specs.ExpressionForm.{spell_expression, printable_expression}
+use Rattle.wat_print_instr.specs.Laws.Expression.{expression_closed, expression_well_formed}
 use Rattle.wat_print_instr.specs.Laws.ExpressionOnly.{expression_only}
 use Rattle.wat_print_instr.specs.Laws.Instruction.{instruction_only}
 use Rattle.wat_print_instr.specs.Laws.Numbers.{unsigned_only}
 use Rattle.wat_print_instr.specs.Laws.Places.{both_here}
 use Rattle.wat_print_module.specs.Segments.{spell_offset, spell_data_memory, spell_data_kind}
-use Rattle.wat_print_module.specs.Segments.{fit_data_kind, fit_data_val, spell_data_vals}
-use Rattle.wat_print_module.specs.Segments.{spell_data, fit_data}
-use Rattle.wat_print_module.specs.Laws.DataVal.{data_vals_here, data_vals_neat}
+use Rattle.wat_print_module.specs.Segments.{printable_data_kind, printable_data_val}
+use Rattle.wat_print_module.specs.Segments.{spell_data_vals, spell_data, printable_data}
+use Rattle.wat_print_module.specs.Laws.DataVal.{data_vals_here, data_vals_well_formed}
 use Rattle.wat_print_module.specs.Laws.DataVal.{data_vals_only}
-use Rattle.wat_print_module.specs.Laws.Folded.{NoTypeFirst, no_word, no_type_first, behind_fit}
+use Rattle.wat_print_module.specs.Laws.Folded.{NoTypeFirst, no_word, no_type_first}
+use Rattle.wat_print_module.specs.Laws.Folded.{behind_printable}
 
 -- ---- memories and offsets
 
 abbrev InMemory : Idx → List Tok → List Tok → Type 0
 InMemory i c r = data_memory.spells i c r
 
-written_memory : (i : Idx) (r : List Tok) → fit_index i ≡ true
+written_memory : (i : Idx) (r : List Tok) → printable_index i ≡ true
     → InMemory i (grouped (codes "memory") (spell_index i)) r
 unfolding data_memory
 written_memory i r f =
@@ -66,14 +66,14 @@ written_memory i r f =
     )
 
 -- in front of a group of another word
-memory_here : (i : Idx) (r : List Tok) → fit_index i ≡ true → begins_integer r ≡ false
+memory_here : (i : Idx) (r : List Tok) → printable_index i ≡ true → begins_integer r ≡ false
     → memory_follows r ≡ false → InMemory i (spell_data_memory i) r
 unfolding data_memory
 memory_here (number zero) r f e k = inr (e, (None, (refl, k), refl, refl))
 memory_here (number (suc n)) r f e k = written_memory (number (suc n)) r f
 memory_here (name x) r f e k = written_memory (name x) r f
 
-offset_here : (e : Expr) (r : List Tok) → fit_expression e ≡ true → NoTypeFirst r
+offset_here : (e : Expr) (r : List Tok) → printable_expression e ≡ true → NoTypeFirst r
     → (paren offset_inside).spells e (spell_offset e) r
 unfolding offset_inside
 offset_here e r f n =
@@ -112,8 +112,8 @@ active_no_passive (number zero) e r = refl
 active_no_passive (number (suc n)) e r = refl
 active_no_passive (name x) e r = refl
 
-active_here : (i : Idx) (e : Expr) (r : List Tok) → fit_index i ≡ true
-    → fit_expression e ≡ true → NoTypeFirst r
+active_here : (i : Idx) (e : Expr) (r : List Tok) → printable_index i ≡ true
+    → printable_expression e ≡ true → NoTypeFirst r
     → data_active.spells (active i e) (spell_data_memory i ++ spell_offset e) r
 unfolding data_active
 active_here i e r f g n = (
@@ -125,12 +125,12 @@ active_here i e r f g n = (
 )
 
 -- in front of values
-kind_here : (k : DataKindTy) (vs : List DataValTy) (r : List Tok) → fit_data_kind k ≡ true
+kind_here : (k : DataKindTy) (vs : List DataValTy) (r : List Tok) → printable_data_kind k ≡ true
     → data_kind.spells k (spell_data_kind k) (spell_data_vals vs ++ RParen ∷ r)
 unfolding data_kind
 kind_here passive vs r f = (None, (refl, vals_passive vs r), refl, refl)
 kind_here (active i e) vs r f =
-    let a = and_parts (fit_index i) (fit_expression e) f in
+    let a = and_parts (printable_index i) (printable_expression e) f in
     let x = spell_data_vals vs ++ RParen ∷ r in (
       Some (active i e),
       (active_no_passive i e x, active_here i e x a.0 a.1 (vals_no_type vs r)),
@@ -151,12 +151,12 @@ kind_first test b f g h (active (number (suc n)) e) vs r = g (codes "memory") _
 kind_first test b f g h (active (name x) e) vs r = g (codes "memory") _
 
 -- in front of the `)` of its group, which makes a segment passive that has no values
-pub data_here : (d : DataTy) (r : List Tok) → fit_data d ≡ true
+pub data_here : (d : DataTy) (r : List Tok) → printable_data d ≡ true
     → data_segment.spells d (spell_data d) (RParen ∷ r)
 unfolding data_segment
 data_here d r f =
-    let a = and_parts (fit_label d.label) _ f in
-    let b = and_parts (fit_data_kind d.kind) (each fit_data_val d.vals) a.1 in
+    let a = and_parts (printable_label d.label) _ f in
+    let b = and_parts (printable_data_kind d.kind) (each printable_data_val d.vals) a.1 in
     let k = spell_data_kind d.kind in
     let v = spell_data_vals d.vals in
     let x = v ++ RParen ∷ r in
@@ -180,72 +180,75 @@ data_here d r f =
 
 -- ---- they can be written
 
-pub offset_neat : (e : Expr) → fit_expression e ≡ true → Neat (spell_offset e)
-offset_neat e f = neat_group (codes "offset") (spell_expression e) refl (expression_neat e f)
+pub offset_well_formed : (e : Expr) → printable_expression e ≡ true → WellFormed (spell_offset e)
+offset_well_formed e f =
+    well_formed_group (codes "offset") (spell_expression e) refl (expression_well_formed e f)
 
-memory_neat : (i : Idx) → fit_index i ≡ true → Neat (spell_data_memory i)
-memory_neat (number zero) f = nothing
-memory_neat (number (suc n)) f =
-    neat_group (codes "memory") (spell_index (number (suc n))) refl (index_neat (number (suc n)) f)
-memory_neat (name x) f =
-    neat_group (codes "memory") (spell_index (name x)) refl (index_neat (name x) f)
+memory_well_formed : (i : Idx) → printable_index i ≡ true → WellFormed (spell_data_memory i)
+memory_well_formed (number zero) f = nothing
+memory_well_formed (number (suc n)) f =
+    index_group_well_formed (codes "memory") refl (number (suc n)) f
+memory_well_formed (name x) f =
+    index_group_well_formed (codes "memory") refl (name x) f
 
-kind_neat : (k : DataKindTy) → fit_data_kind k ≡ true → Neat (spell_data_kind k)
-kind_neat passive f = nothing
-kind_neat (active i e) f =
-    let a = and_parts (fit_index i) (fit_expression e) f in
-    neat_both (spell_data_memory i) (spell_offset e) (memory_neat i a.0) (offset_neat e a.1)
+kind_well_formed : (k : DataKindTy) → printable_data_kind k ≡ true → WellFormed (spell_data_kind k)
+kind_well_formed passive f = nothing
+kind_well_formed (active i e) f =
+    let a = and_parts (printable_index i) (printable_expression e) f in
+    well_formed_both (spell_data_memory i) (spell_offset e) (memory_well_formed i a.0)
+    (offset_well_formed e a.1)
 
-pub data_neat : (d : DataTy) → fit_data d ≡ true → Neat (spell_data d)
-data_neat d f =
-    let a = and_parts (fit_label d.label) _ f in
-    let b = and_parts (fit_data_kind d.kind) (each fit_data_val d.vals) a.1 in
+pub data_well_formed : (d : DataTy) → printable_data d ≡ true → WellFormed (spell_data d)
+data_well_formed d f =
+    let a = and_parts (printable_label d.label) _ f in
+    let b = and_parts (printable_data_kind d.kind) (each printable_data_val d.vals) a.1 in
     let k = spell_data_kind d.kind in
     let v = spell_data_vals d.vals in
-    neat_word (codes "data") (spell_label d.label ++ (k ++ v)) refl
-    (neat_both (spell_label d.label) (k ++ v) (label_neat d.label a.0)
-    (neat_both k v (kind_neat d.kind b.0) (data_vals_neat d.vals b.1)))
+    well_formed_word (codes "data") (spell_label d.label ++ (k ++ v)) refl
+    (well_formed_both (spell_label d.label) (k ++ v) (label_well_formed d.label a.0)
+    (well_formed_both k v (kind_well_formed d.kind b.0) (data_vals_well_formed d.vals b.1)))
 
 -- ---- what a text spells can be written
 
-zero_or : (o : Option Idx) → if_some fit_index o ≡ true
-    → fit_index (unwrap_or o (number 0)) ≡ true
+zero_or : (o : Option Idx) → if_some printable_index o ≡ true
+    → printable_index (unwrap_or o (number 0)) ≡ true
 zero_or (Some i) f = f
 zero_or None f = refl
 
-memory_only : OnlyFit data_memory fit_index
+memory_only : OnlyPrintable data_memory printable_index
 unfolding data_memory
 memory_only =
     only_where begins_integer
-    (only_made (λ _. true) number fit_index (unsigned_only 32 (lit≤ tt)))
-    (only_made (λ _. true) (λ i. unwrap_or i (number 0)) fit_index
-    (only_weaker (λ i. fit_index (unwrap_or i (number 0))) zero_or
+    (only_made (λ _. true) number printable_index (unsigned_only 32 (lit≤ tt)))
+    (only_made (λ _. true) (λ i. unwrap_or i (number 0)) printable_index
+    (only_weaker (λ i. printable_index (unwrap_or i (number 0))) zero_or
     (only_opt memory_follows (only_group (codes "memory") index_only))))
 
-offset_only : OnlyFit offset_inside fit_expression
+offset_only : OnlyPrintable offset_inside printable_expression
 unfolding offset_inside head_last
 offset_only =
     only_where (begins_word (codes "offset")) (only_after (codes "offset") expression_only)
-    (only_made (λ _. true) (λ v. head_behind v.0 v.1) fit_expression
-    (only_weaker (λ v. fit_expression (head_behind v.0 v.1)) (λ v f. (behind_fit v.0 v.1 f))
+    (only_made (λ _. true) (λ v. head_behind v.0 v.1) printable_expression
+    (only_weaker (λ v. printable_expression (head_behind v.0 v.1))
+    (λ v f. (behind_printable v.0 v.1 f))
     (only_seq instruction_only expression_only)))
 
-passive_or : (o : Option DataKindTy) → if_some fit_data_kind o ≡ true
-    → fit_data_kind (unwrap_or o passive) ≡ true
+passive_or : (o : Option DataKindTy) → if_some printable_data_kind o ≡ true
+    → printable_data_kind (unwrap_or o passive) ≡ true
 passive_or (Some k) f = f
 passive_or None f = refl
 
-kind_only : OnlyFit data_kind fit_data_kind
+kind_only : OnlyPrintable data_kind printable_data_kind
 unfolding data_kind data_active
 kind_only =
-    only_made (λ _. true) (λ k. unwrap_or k passive) fit_data_kind
-    (only_weaker (λ k. fit_data_kind (unwrap_or k passive)) passive_or
+    only_made (λ _. true) (λ k. unwrap_or k passive) printable_data_kind
+    (only_weaker (λ k. printable_data_kind (unwrap_or k passive)) passive_or
     (only_opt (λ t. not (begins_passive t))
-    (only_made (λ _. true) (λ v. active v.0 v.1) fit_data_kind
+    (only_made (λ _. true) (λ v. active v.0 v.1) printable_data_kind
     (only_seq memory_only (only_paren offset_only)))))
 
-pub data_only : OnlyFit data_segment fit_data
+pub data_only : OnlyPrintable data_segment printable_data
 unfolding data_segment
 data_only =
-    only_after (codes "data") (only_made (λ _. true) (λ v. data_of v.0 v.1.0 v.1.1) fit_data
+    only_after (codes "data") (only_made (λ _. true) (λ v. data_of v.0 v.1.0 v.1.1) printable_data
     (only_seq label_only (only_seq kind_only data_vals_only)))

@@ -5,7 +5,7 @@ use Rattle.std.specs.Prelude.{flat_map, codes, Some, decimal}
 use Rattle.std.specs.Int.{Width, w8, w16, w32, w64, cast_unsigned, to_le_bytes, bytes_low_first}
 use Rattle.std.specs.Int.{byte_at}
 use Rattle.std.proofs.Common.{refl, ap, subst, sym, ◌∙◌, inl, inr, arith, lit≤}
-use Rattle.std.proofs.lemmas.Bool.{and_parts, cond_both}
+use Rattle.std.proofs.lemmas.Bool.{and_parts, cond_both, ltb-true}
 use Rattle.std.proofs.lemmas.Bool.Decides.{nat_tests}
 use Rattle.std.proofs.lemmas.Fmt.{decimal_is_IsNumeral}
 use Rattle.std.proofs.lemmas.Int.{ints}
@@ -27,20 +27,18 @@ use Rattle.wat_fields.specs.Numbers.{other_numbers, wide_numbers, number_list}
 use Rattle.wat_fields.specs.VectorBytes.{vector_as_bytes}
 use Rattle.wat_print.specs.Label.{by_itself}
 use Rattle.wat_print.specs.Limits.{spell_number}
-use Rattle.wat_print.specs.Neat.{Neat, is_byte, is_given}
+use Rattle.wat_print.specs.WellFormed.{WellFormed, is_byte, is_given}
 use Rattle.wat_print.specs.Parts.{each}
 use Rattle.wat_print.specs.Text.{all_are}
 use Rattle.wat_print.specs.Laws.Bytes.{both_are, byte_is}
-use Rattle.wat_print.specs.Laws.Numbers.{decimal_fit, magnitude_decimal, no_sign}
-use Rattle.wat_print.specs.Laws.Only.{OnlyFit, only_any, only_one, only_where, only_made}
-use Rattle.wat_print.specs.Laws.Only.{only_weaker}
-use Rattle.wat_print.specs.Laws.Only.{only_many, only_paren, only_after}
-use Rattle.wat_print.specs.Laws.Parts.{Spells, paren_here, many_here, neat_one}
-use Rattle.wat_print.specs.Laws.Parts.{neat_group, neat_each}
+use Rattle.wat_print.specs.Laws.Numbers.{decimal_printable, magnitude_decimal, no_sign}
+use Rattle.wat_print.specs.Laws.Only.{OnlyPrintable, only_any, only_one, only_where, only_made}
+use Rattle.wat_print.specs.Laws.Only.{only_weaker, only_many, only_paren, only_after}
+use Rattle.wat_print.specs.Laws.Parts.{Spells, paren_here, many_here, well_formed_one}
+use Rattle.wat_print.specs.Laws.Parts.{well_formed_group, well_formed_each}
 use Rattle.wat_print.specs.Laws.Define.{after_here}
-use Rattle.wat_print_instr.specs.Laws.Numbers.{less_by}
 use Rattle.wat_print_instr.specs.Laws.Vectors.{none_only}
-use Rattle.wat_print_module.specs.Segments.{spell_data_val, fit_data_val, spell_data_vals}
+use Rattle.wat_print_module.specs.Segments.{spell_data_val, printable_data_val, spell_data_vals}
 
 -- ---- a byte, as a number of 8 bits
 
@@ -72,7 +70,7 @@ byte_text b lt =
 byte_here : (b : ℕ) → is_byte b ≡ true
     → Spells (integer_as_bytes w8 8) (by_itself b) (spell_number b)
 byte_here b h r =
-    let lt = less_by b 256 h in
+    let lt = ltb-true b 256 h in
     (twos_complement 8 b, (Integer (decimal b), refl, byte_text b lt), refl, byte_back b lt)
 
 -- ---- all of them
@@ -105,7 +103,8 @@ numbers_here bs r f e =
           (map by_itself bs, numbers_many bs r f e, refl, bytes_each bs),
     )
 
-pub data_val_here : (v : DataValTy) → fit_data_val v ≡ true → Spells data_val v (spell_data_val v)
+pub data_val_here : (v : DataValTy) → printable_data_val v ≡ true
+    → Spells data_val v (spell_data_val v)
 unfolding data_val
 data_val_here (written bs) f r = inr (refl, (bs, (String bs, refl, refl), refl, refl))
 data_val_here (numbers bs) f r =
@@ -121,26 +120,28 @@ data_val_here (numbers bs) f r =
     )
 
 -- one is in front
-data_val_more : (v : DataValTy) (x : List Tok) → fit_data_val v ≡ true
+data_val_more : (v : DataValTy) (x : List Tok) → printable_data_val v ≡ true
     → more (spell_data_val v ++ x) ≡ true
 data_val_more (written bs) x f = refl
 data_val_more (numbers bs) x f = refl
 
-pub data_vals_here : (vs : List DataValTy) (r : List Tok) → each fit_data_val vs ≡ true
+pub data_vals_here : (vs : List DataValTy) (r : List Tok) → each printable_data_val vs ≡ true
     → ends r ≡ true → data_vals.spells vs (spell_data_vals vs) r
 unfolding data_vals
 data_vals_here vs r f e =
-    many_here more data_val spell_data_val fit_data_val data_val_here data_val_more vs r f
+    many_here more data_val spell_data_val printable_data_val data_val_here data_val_more vs r f
     (rw e refl)
 
 -- ---- they can be written
 
-numbers_neat : (bs : List ℕ) → all_are is_byte bs ≡ true → Neat (flat_map spell_number bs)
-numbers_neat bs f =
-    neat_each spell_number is_byte
+numbers_well_formed : (bs : List ℕ) → all_are is_byte bs ≡ true
+    → WellFormed (flat_map spell_number bs)
+numbers_well_formed bs f =
+    well_formed_each spell_number is_byte
     (λ b h.
-    (let lt = less_by b 256 h in
-    let low : b < 2 ^ 64 = omega arith in neat_one (Integer (decimal b)) (decimal_fit b low))) bs
+    (let lt = ltb-true b 256 h in
+    let low : b < 2 ^ 64 =
+    omega arith in well_formed_one (Integer (decimal b)) (decimal_printable b low))) bs
     (each_byte bs f)
   where
     each_byte : (bs : List ℕ) → all_are is_byte bs ≡ true → each is_byte bs ≡ true
@@ -148,14 +149,16 @@ numbers_neat bs f =
     each_byte (b ∷ bs) f =
         let a = and_parts (is_byte b) (all_are is_byte bs) f in rw (a.0) (each_byte bs a.1)
 
-pub data_val_neat : (v : DataValTy) → fit_data_val v ≡ true → Neat (spell_data_val v)
-data_val_neat (written bs) f = neat_one (String bs) f
-data_val_neat (numbers bs) f =
-    neat_group (codes "i8") (flat_map spell_number bs) refl (numbers_neat bs f)
+pub data_val_well_formed : (v : DataValTy) → printable_data_val v ≡ true
+    → WellFormed (spell_data_val v)
+data_val_well_formed (written bs) f = well_formed_one (String bs) f
+data_val_well_formed (numbers bs) f =
+    well_formed_group (codes "i8") (flat_map spell_number bs) refl (numbers_well_formed bs f)
 
-pub data_vals_neat : (vs : List DataValTy) → each fit_data_val vs ≡ true
-    → Neat (spell_data_vals vs)
-data_vals_neat vs f = neat_each spell_data_val fit_data_val data_val_neat vs f
+pub data_vals_well_formed : (vs : List DataValTy) → each printable_data_val vs ≡ true
+    → WellFormed (spell_data_vals vs)
+data_vals_well_formed vs f =
+    well_formed_each spell_data_val printable_data_val data_val_well_formed vs f
 
 -- ---- what a text spells can be written
 
@@ -170,13 +173,13 @@ low_first_are i (suc k) n = rw (byte_at_is i n) (low_first_are (suc i) k n)
 pub le_bytes_are : (w : Width) (n : ℕ) → all_are is_byte (to_le_bytes w n) ≡ true
 le_bytes_are w n = low_first_are 0 _ n
 
-integer_only : (w : Width) (n : ℕ) → OnlyFit (integer_as_bytes w n) (all_are is_byte)
+integer_only : (w : Width) (n : ℕ) → OnlyPrintable (integer_as_bytes w n) (all_are is_byte)
 integer_only w n =
     only_made (λ _. true) (integer_bytes w) (all_are is_byte)
     (only_weaker (λ z. all_are is_byte (integer_bytes w z))
     (λ z h. (le_bytes_are w (cast_unsigned w z))) (only_any (signed n)))
 
-float_only : (w : Width) → OnlyFit (float_as_bytes w) (all_are is_byte)
+float_only : (w : Width) → OnlyPrintable (float_as_bytes w) (all_are is_byte)
 float_only w =
     only_made (λ _. true) (to_le_bytes w) (all_are is_byte)
     (none_only (λ n. all_are is_byte (to_le_bytes w n)))
@@ -187,7 +190,7 @@ lanes_are w (n ∷ ns) =
     both_are is_byte (to_le_bytes w n) (flat_map (to_le_bytes w) ns) (le_bytes_are w n)
     (lanes_are w ns)
 
-vector_bytes_only : OnlyFit vector_as_bytes (all_are is_byte)
+vector_bytes_only : OnlyPrintable vector_as_bytes (all_are is_byte)
 vector_bytes_only =
     only_made (λ _. true) bytes_of (all_are is_byte)
     (only_weaker (λ v. all_are is_byte (bytes_of v))
@@ -201,19 +204,19 @@ all_bytes (g ∷ gs) f =
     both_are is_byte g (all_of gs) a.0 (all_bytes gs a.1)
 
 behind_only : {g : Production (List ℕ)} (w : List ℕ) (consumes : 1 ≤ g.least)
-    → OnlyFit g (all_are is_byte) → OnlyFit (all_behind w g consumes) (all_are is_byte)
+    → OnlyPrintable g (all_are is_byte) → OnlyPrintable (all_behind w g consumes) (all_are is_byte)
 behind_only w consumes m =
     only_after w (only_made (λ _. true) (λ gs. all_of gs) (all_are is_byte)
     (only_weaker (λ gs. all_are is_byte (all_of gs)) all_bytes (only_many more consumes m)))
 
-other_only : OnlyFit other_numbers (all_are is_byte)
+other_only : OnlyPrintable other_numbers (all_are is_byte)
 unfolding other_numbers
 other_only =
     only_where (begins_word (codes "f32")) (behind_only (codes "f32") (lit≤ tt) (float_only w32))
     (only_where (begins_word (codes "f64")) (behind_only (codes "f64") (lit≤ tt) (float_only w64))
     (behind_only (codes "v128") vector_consumes vector_bytes_only))
 
-wide_numbers_only : OnlyFit wide_numbers (all_are is_byte)
+wide_numbers_only : OnlyPrintable wide_numbers (all_are is_byte)
 unfolding wide_numbers
 wide_numbers_only =
     only_where (begins_word (codes "i32"))
@@ -221,7 +224,7 @@ wide_numbers_only =
     (only_where (begins_word (codes "i64"))
     (behind_only (codes "i64") (lit≤ tt) (integer_only w64 64)) other_only)
 
-number_list_only : OnlyFit number_list (all_are is_byte)
+number_list_only : OnlyPrintable number_list (all_are is_byte)
 unfolding number_list
 number_list_only =
     only_where (begins_word (codes "i8")) (behind_only (codes "i8") (lit≤ tt) (integer_only w8 8))
@@ -235,16 +238,16 @@ string_given (String x) s a e =
 string_given LParen s a e = absurd cc
 string_given _ s a e = absurd cc
 
-string_only : OnlyFit string (all_are is_byte)
+string_only : OnlyPrintable string (all_are is_byte)
 string_only = only_one as_string (refl, refl) (all_are is_byte) string_given
 
-pub data_val_only : OnlyFit data_val fit_data_val
+pub data_val_only : OnlyPrintable data_val printable_data_val
 unfolding data_val
 data_val_only =
     only_where begins_lparen
-    (only_made (λ _. true) numbers fit_data_val (only_paren number_list_only))
-    (only_made (λ _. true) written fit_data_val string_only)
+    (only_made (λ _. true) numbers printable_data_val (only_paren number_list_only))
+    (only_made (λ _. true) written printable_data_val string_only)
 
-pub data_vals_only : OnlyFit data_vals (each fit_data_val)
+pub data_vals_only : OnlyPrintable data_vals (each printable_data_val)
 unfolding data_vals
 data_vals_only = only_many more data_val_consumes data_val_only

@@ -1,22 +1,20 @@
 -- Laws: the `dylink.0` section is read again.
-use Rattle.std.specs.Prelude.{◌≡◌, ℕ, ◌^◌, Bool, true, false, ◌&&◌, List, []}
-use Rattle.std.specs.Prelude.{◌∷◌, ◌++◌, codes, flat_map, map, fold, decimal, Option, Some}
-use Rattle.std.specs.Prelude.{None, unwrap_or}
+use Rattle.std.specs.Prelude.{◌≡◌, ℕ, ◌^◌, Bool, true, false, ◌&&◌, List, [], ◌∷◌, ◌++◌, codes}
+use Rattle.std.specs.Prelude.{flat_map, map, fold, decimal, Option, Some, None, unwrap_or}
 use Rattle.std.specs.Int.Bits.{bit_or, or_zero_l}
 use Rattle.std.specs.Str.{bytes_eq, is_utf8}
 use Rattle.std.proofs.Common.{refl, ap, subst, sym, ◌∙◌, append-nil, inl, inr, lit≤, arith}
-use Rattle.std.proofs.lemmas.Bool.{and_parts, cond_both}
+use Rattle.std.proofs.lemmas.Bool.{and_parts, lt-ltb, ltb-true}
 use Rattle.std.proofs.lemmas.Grind.{flat_map-append}
 use Rattle.std.proofs.lemmas.Nat.{or_lt}
-use Rattle.wat_lexer.specs.Token.{Tok, LParen, RParen, Integer, String}
-use Rattle.wat_lexer.specs.Token.{Keyword}
+use Rattle.wat_lexer.specs.Token.{Tok, LParen, RParen, Integer, String, Keyword}
 use Rattle.wat_tokens.specs.Integers.{unsigned}
 use Rattle.wat_tokens.specs.Many.{many}
 use Rattle.wat_tokens.specs.ManySpells.{many_spells}
 use Rattle.wat_tokens.specs.Parts.{seq, made}
 use Rattle.wat_tokens.specs.Spelled.{in_parens}
 use Rattle.wat_tokens.specs.Strings.{text}
-use Rattle.wat_tokens.specs.Tests.{begins_group, begins_word, second, more, look_up}
+use Rattle.wat_tokens.specs.Tests.{begins_group, begins_word, second, more}
 use Rattle.wat_links.specs.CutForm.{entries, CutSpells}
 use Rattle.wat_links.specs.Cutting.{cut_subsections, dylink}
 use Rattle.wat_links.specs.Dylink.{SubsectionTy, mem_info, needed, export_info, import_info}
@@ -30,41 +28,43 @@ use Rattle.wat_links.specs.Flags.{flag_list, symbol_flags}
 use Rattle.wat_links.specs.Laws.Entries.{entry_consumes}
 use Rattle.wat_links.specs.Laws.Flags.{flag_bits_consumes}
 use Rattle.wat_print.specs.Limits.{spell_number}
-use Rattle.wat_print.specs.Neat.{is_given, is_keyword, Neat}
+use Rattle.wat_print.specs.WellFormed.{is_given, is_keyword, WellFormed}
 use Rattle.wat_print.specs.Parts.{if_some, each}
 use Rattle.wat_print.specs.Laws.Numbers.{unsigned_decimal}
-use Rattle.wat_print.specs.Laws.Only.{OnlyFit, only_one, only_where, only_opt, only_many, only_seq}
-use Rattle.wat_print.specs.Laws.Only.{only_made, only_weaker, only_group}
-use Rattle.wat_print.specs.Laws.Parts.{Spells, group_here, many_here, neat_group, neat_both}
-use Rattle.wat_print.specs.Laws.Parts.{neat_each, each_both}
+use Rattle.wat_print.specs.Laws.Only.{OnlyPrintable, only_one, only_where, only_opt, only_many}
+use Rattle.wat_print.specs.Laws.Only.{only_seq, only_made, only_weaker, only_group}
+use Rattle.wat_print.specs.Laws.Only.{look_up_printable}
+use Rattle.wat_print.specs.Laws.Parts.{Spells, group_here, many_here, well_formed_group}
+use Rattle.wat_print.specs.Laws.Parts.{well_formed_both, well_formed_each, each_both, each_front}
 use Rattle.wat_print_instr.specs.Numbers.{is_unsigned}
-use Rattle.wat_print_instr.specs.Laws.Numbers.{less_by, less_tested, unsigned_here, unsigned_neat}
-use Rattle.wat_print_instr.specs.Laws.Numbers.{unsigned_given, unsigned_only}
-use Rattle.wat_print_instr.specs.Laws.Places.{both_here, each_front}
+use Rattle.wat_print_instr.specs.Laws.Numbers.{unsigned_here}
+use Rattle.wat_print_instr.specs.Laws.Numbers.{unsigned_well_formed, unsigned_given, unsigned_only}
+use Rattle.wat_print_instr.specs.Laws.Places.{both_here}
 use Rattle.wat_print_module.specs.Dylink.{spell_sizes, spell_names, spell_export_flags}
 use Rattle.wat_print_module.specs.Dylink.{spell_import_flags, spell_subsection, spell_dylink}
-use Rattle.wat_print_module.specs.Dylink.{fit_sizes, fit_export_flags, fit_import_flags}
-use Rattle.wat_print_module.specs.Dylink.{fit_subsection, is_filled, is_apart, are_cut, fit_dylink}
+use Rattle.wat_print_module.specs.Dylink.{printable_sizes, printable_export_flags}
+use Rattle.wat_print_module.specs.Dylink.{printable_import_flags, printable_subsection, is_filled}
+use Rattle.wat_print_module.specs.Dylink.{is_apart, are_cut, printable_dylink}
 use Rattle.wat_print.specs.Strings.{spell_string}
-use Rattle.wat_print.specs.Laws.Strings.{text_here, text_neat, text_only}
-use Rattle.wat_print_module.specs.Laws.Strings.{annotated_here, only_annotated, neat_annotated}
-use Rattle.wat_print_module.specs.Laws.Strings.{dylink_annotation}
+use Rattle.wat_print.specs.Laws.Strings.{text_here, text_well_formed, text_only}
+use Rattle.wat_print_module.specs.Laws.Strings.{annotated_here, only_annotated}
+use Rattle.wat_print_module.specs.Laws.Strings.{well_formed_annotated, dylink_annotation}
 
 -- ---- numbers and flags
 
 u32_here : (n : ℕ) → is_unsigned 32 n ≡ true → Spells (unsigned 32) n (spell_number n)
 u32_here n f r = unsigned_here 32 n (lit≤ tt) f r
 
-u32_neat : (n : ℕ) → is_unsigned 32 n ≡ true → Neat (spell_number n)
-u32_neat n f = unsigned_neat 32 n (lit≤ tt) f
+u32_well_formed : (n : ℕ) → is_unsigned 32 n ≡ true → WellFormed (spell_number n)
+u32_well_formed n f = unsigned_well_formed 32 n (lit≤ tt) f
 
-u32_only : OnlyFit (unsigned 32) (is_unsigned 32)
+u32_only : OnlyPrintable (unsigned 32) (is_unsigned 32)
 u32_only = unsigned_only 32 (lit≤ tt)
 
 flag_here : (n : ℕ) → is_unsigned 32 n ≡ true → Spells flag_bits n (spell_number n)
 unfolding flag_bits
 flag_here n f r =
-    let lt = less_by n (2 ^ 32) f in
+    let lt = ltb-true n (2 ^ 32) f in
     (Integer (decimal n), refl, unsigned_decimal 32 n (omega arith) (omega arith))
 
 -- one number
@@ -78,45 +78,35 @@ flags_here n r f e = (
   or_zero_l n,
 )
 
-look_up_fit : {A : Type 0} (fit : A → Bool) (table : List (List ℕ × A)) (w : List ℕ) (v : A)
-    → each (λ e. fit e.1) table ≡ true → look_up table w ≡ Some v → fit v ≡ true
-look_up_fit fit [] w v a e = absurd cc
-look_up_fit {A = A} fit (x ∷ table) w v a e =
-    let p = and_parts (fit x.1) (each (λ e. fit e.1) table) a in
-    cond_both (bytes_eq w x.0) (Some x.1) (look_up table w)
-    (λ (o : Option A). o ≡ Some v → fit v ≡ true)
-    (λ k f. (let same : x.1 ≡ v = cc in subst (λ (u : A). fit u ≡ true) same (p.0)))
-    (λ k f. (look_up_fit fit table w v p.1 f)) e
-
 flag_given : (t : Tok) (n : ℕ) → is_given t ≡ true → flag_of t ≡ Some n → is_unsigned 32 n ≡ true
 flag_given (Integer x) n a e = unsigned_given 32 (lit≤ tt) (Integer x) n a e
-flag_given (Keyword w) n a e = look_up_fit (is_unsigned 32) flag_words w n refl e
+flag_given (Keyword w) n a e = look_up_printable (is_unsigned 32) flag_words w n refl e
 flag_given LParen n a e = absurd cc
 flag_given _ n a e = absurd cc
 
-flag_only : OnlyFit flag_bits (is_unsigned 32)
+flag_only : OnlyPrintable flag_bits (is_unsigned 32)
 unfolding flag_bits
 flag_only = only_one flag_of (refl, refl) (is_unsigned 32) flag_given
 
 -- what bits of 32 are joined to has no more
-joined_fit : (ns : List ℕ) (n : ℕ) → is_unsigned 32 n ≡ true → each (is_unsigned 32) ns ≡ true
+joined_printable : (ns : List ℕ) (n : ℕ) → is_unsigned 32 n ≡ true → each (is_unsigned 32) ns ≡ true
     → is_unsigned 32 (fold bit_or n ns) ≡ true
-joined_fit [] n f g = f
-joined_fit (m ∷ ns) n f g =
+joined_printable [] n f g = f
+joined_printable (m ∷ ns) n f g =
     let a = and_parts (is_unsigned 32 m) (each (is_unsigned 32) ns) g in
-    let lt = or_lt 32 n m (less_by n (2 ^ 32) f) (less_by m (2 ^ 32) a.0) in
-    joined_fit ns (bit_or n m) (less_tested (bit_or n m) (2 ^ 32) lt) a.1
+    let lt = or_lt 32 n m (ltb-true n (2 ^ 32) f) (ltb-true m (2 ^ 32) a.0) in
+    joined_printable ns (bit_or n m) (lt-ltb (bit_or n m) (2 ^ 32) lt) a.1
 
-flags_only : OnlyFit symbol_flags (is_unsigned 32)
+flags_only : OnlyPrintable symbol_flags (is_unsigned 32)
 unfolding symbol_flags flag_list
 flags_only =
     only_made (λ _. true) (λ ns. fold bit_or 0 ns) (is_unsigned 32)
-    (only_weaker (λ ns. is_unsigned 32 (fold bit_or 0 ns)) (λ ns h. (joined_fit ns 0 refl h))
+    (only_weaker (λ ns. is_unsigned 32 (fold bit_or 0 ns)) (λ ns h. (joined_printable ns 0 refl h))
     (only_many more flag_bits_consumes flag_only))
 
 -- ---- entries of exports and of imports
 
-export_flags_here : (e : List ℕ × ℕ) → fit_export_flags e ≡ true
+export_flags_here : (e : List ℕ × ℕ) → printable_export_flags e ≡ true
     → Spells export_entry e (spell_export_flags e)
 unfolding export_entry
 export_flags_here e f r =
@@ -127,7 +117,7 @@ export_flags_here e f r =
     (both_here text symbol_flags e.0 e.1 (spell_string e.0) n x (text_here e.0 a.0 (n ++ x))
     (flags_here e.1 x a.1 refl))
 
-import_flags_here : (e : List ℕ × List ℕ × ℕ) → fit_import_flags e ≡ true
+import_flags_here : (e : List ℕ × List ℕ × ℕ) → printable_import_flags e ≡ true
     → Spells import_entry e (spell_import_flags e)
 unfolding import_entry
 import_flags_here e f r =
@@ -147,37 +137,40 @@ import_flags_here e f r =
       refl,
     )
 
-export_flags_neat : (e : List ℕ × ℕ) → fit_export_flags e ≡ true → Neat (spell_export_flags e)
-export_flags_neat e f =
+export_flags_well_formed : (e : List ℕ × ℕ) → printable_export_flags e ≡ true
+    → WellFormed (spell_export_flags e)
+export_flags_well_formed e f =
     let a = and_parts (is_utf8 e.0) (is_unsigned 32 e.1) f in
-    neat_group (codes "export-info") (String e.0 ∷ spell_number e.1) refl
-    (neat_both (spell_string e.0) (spell_number e.1) (text_neat e.0 a.0) (u32_neat e.1 a.1))
+    well_formed_group (codes "export-info") (String e.0 ∷ spell_number e.1) refl
+    (well_formed_both (spell_string e.0) (spell_number e.1) (text_well_formed e.0 a.0)
+    (u32_well_formed e.1 a.1))
 
-import_flags_neat : (e : List ℕ × List ℕ × ℕ) → fit_import_flags e ≡ true
-    → Neat (spell_import_flags e)
-import_flags_neat e f =
+import_flags_well_formed : (e : List ℕ × List ℕ × ℕ) → printable_import_flags e ≡ true
+    → WellFormed (spell_import_flags e)
+import_flags_well_formed e f =
     let a = and_parts (is_utf8 e.0) (is_utf8 e.1 && is_unsigned 32 e.2) f in
     let b = and_parts (is_utf8 e.1) (is_unsigned 32 e.2) a.1 in
-    neat_group (codes "import-info") (String e.0 ∷ String e.1 ∷ spell_number e.2) refl
-    (neat_both (spell_string e.0) (String e.1 ∷ spell_number e.2) (text_neat e.0 a.0)
-    (neat_both (spell_string e.1) (spell_number e.2) (text_neat e.1 b.0) (u32_neat e.2 b.1)))
+    well_formed_group (codes "import-info") (String e.0 ∷ String e.1 ∷ spell_number e.2) refl
+    (well_formed_both (spell_string e.0) (String e.1 ∷ spell_number e.2) (text_well_formed e.0 a.0)
+    (well_formed_both (spell_string e.1) (spell_number e.2) (text_well_formed e.1 b.0)
+    (u32_well_formed e.2 b.1)))
 
-export_flags_only : OnlyFit export_entry fit_export_flags
+export_flags_only : OnlyPrintable export_entry printable_export_flags
 unfolding export_entry
 export_flags_only =
-    only_group (codes "export-info") (only_weaker fit_export_flags (λ v h. h)
+    only_group (codes "export-info") (only_weaker printable_export_flags (λ v h. h)
     (only_seq text_only flags_only))
 
-import_flags_only : OnlyFit import_entry fit_import_flags
+import_flags_only : OnlyPrintable import_entry printable_import_flags
 unfolding import_entry
 import_flags_only =
-    only_group (codes "import-info") (only_made (λ _. true) import_of fit_import_flags
-    (only_weaker (λ v. fit_import_flags (import_of v)) (λ v h. h)
+    only_group (codes "import-info") (only_made (λ _. true) import_of printable_import_flags
+    (only_weaker (λ v. printable_import_flags (import_of v)) (λ v h. h)
     (only_seq text_only (only_seq text_only flags_only))))
 
 -- ---- other entries
 
-sizes_here : (w : List ℕ) (size align : ℕ) → bytes_eq w w ≡ true → fit_sizes size align ≡ true
+sizes_here : (w : List ℕ) (size align : ℕ) → bytes_eq w w ≡ true → printable_sizes size align ≡ true
     → Spells (sizes w) (size, align) (spell_sizes w size align)
 unfolding sizes
 sizes_here w size align e f r =
@@ -196,11 +189,11 @@ sizes_here w size align e f r =
       refl,
     )
 
-mem_info_here : (ms ma ts ta : ℕ) → fit_subsection (mem_info ms ma ts ta) ≡ true
+mem_info_here : (ms ma ts ta : ℕ) → printable_subsection (mem_info ms ma ts ta) ≡ true
     → Spells mem_info_entry (mem_info ms ma ts ta) (spell_subsection (mem_info ms ma ts ta))
 unfolding mem_info_entry
 mem_info_here ms ma ts ta f r =
-    let a = and_parts (fit_sizes ms ma) (fit_sizes ts ta) f in
+    let a = and_parts (printable_sizes ms ma) (printable_sizes ts ta) f in
     let s = spell_sizes (codes "memory") ms ma in
     let t = spell_sizes (codes "table") ts ta in
     let x = RParen ∷ r in
@@ -221,17 +214,20 @@ names_here w ns e f r =
     group_here w (many more text (lit≤ tt)) ns (flat_map spell_string ns) r e
     (many_here more text spell_string is_utf8 text_here (λ v x o. refl) ns (RParen ∷ r) f refl)
 
-sizes_neat : (w : List ℕ) (size align : ℕ) → is_keyword w ≡ true → fit_sizes size align ≡ true
-    → Neat (spell_sizes w size align)
-sizes_neat w size align k f =
+sizes_well_formed : (w : List ℕ) (size align : ℕ) → is_keyword w ≡ true
+    → printable_sizes size align ≡ true
+    → WellFormed (spell_sizes w size align)
+sizes_well_formed w size align k f =
     let a = and_parts (is_unsigned 32 size) (is_unsigned 32 align) f in
-    neat_group w (spell_number size ++ spell_number align) k
-    (neat_both (spell_number size) (spell_number align) (u32_neat size a.0) (u32_neat align a.1))
+    well_formed_group w (spell_number size ++ spell_number align) k
+    (well_formed_both (spell_number size) (spell_number align) (u32_well_formed size a.0)
+    (u32_well_formed align a.1))
 
-names_neat : (w : List ℕ) (ns : List (List ℕ)) → is_keyword w ≡ true → each is_utf8 ns ≡ true
-    → Neat (spell_names w ns)
-names_neat w ns k f =
-    neat_group w (flat_map spell_string ns) k (neat_each spell_string is_utf8 text_neat ns f)
+names_well_formed : (w : List ℕ) (ns : List (List ℕ)) → is_keyword w ≡ true → each is_utf8 ns ≡ true
+    → WellFormed (spell_names w ns)
+names_well_formed w ns k f =
+    well_formed_group w (flat_map spell_string ns) k
+    (well_formed_each spell_string is_utf8 text_well_formed ns f)
 
 -- it is of neither exports nor imports
 abbrev is_lone : SubsectionTy → Bool
@@ -239,10 +235,10 @@ is_lone (export_info es) = false
 is_lone (import_info es) = false
 is_lone _ = true
 
-abbrev fit_lone : SubsectionTy → Bool
-fit_lone s = is_lone s && fit_subsection s
+abbrev printable_lone : SubsectionTy → Bool
+printable_lone s = is_lone s && printable_subsection s
 
-lone_here : (s : SubsectionTy) → fit_lone s ≡ true → Spells lone_entry s (spell_subsection s)
+lone_here : (s : SubsectionTy) → printable_lone s ≡ true → Spells lone_entry s (spell_subsection s)
 unfolding lone_entry
 lone_here (mem_info ms ma ts ta) f r = inl (refl, mem_info_here ms ma ts ta f r)
 lone_here (needed ns) f r =
@@ -276,7 +272,7 @@ lone_here (export_info es) f r = absurd cc
 lone_here (import_info es) f r = absurd cc
 
 -- its word is none of those of exports and imports
-lone_no_export : (s : SubsectionTy) (x : List Tok) → fit_lone s ≡ true
+lone_no_export : (s : SubsectionTy) (x : List Tok) → printable_lone s ≡ true
     → (begins_export (spell_subsection s ++ x) ≡ false)
     × (begins_import (spell_subsection s ++ x) ≡ false)
 lone_no_export (mem_info ms ma ts ta) x f = (refl, refl)
@@ -286,36 +282,38 @@ lone_no_export (target_arch n) x f = (refl, refl)
 lone_no_export (export_info es) x f = absurd cc
 lone_no_export (import_info es) x f = absurd cc
 
-or_none_fit : (o : Option (ℕ × ℕ)) → if_some (λ v. is_unsigned 32 v.0 && is_unsigned 32 v.1) o
+or_none_printable : (o : Option (ℕ × ℕ)) → if_some (λ v. is_unsigned 32 v.0 && is_unsigned 32 v.1) o
     ≡ true
-    → fit_sizes (unwrap_or o no_size).0 (unwrap_or o no_size).1 ≡ true
-or_none_fit (Some v) h = h
-or_none_fit None h = refl
+    → printable_sizes (unwrap_or o no_size).0 (unwrap_or o no_size).1 ≡ true
+or_none_printable (Some v) h = h
+or_none_printable None h = refl
 
-sizes_only : (w : List ℕ) → OnlyFit (sizes w) (λ v. fit_sizes v.0 v.1)
+sizes_only : (w : List ℕ) → OnlyPrintable (sizes w) (λ v. printable_sizes v.0 v.1)
 unfolding sizes
 sizes_only w =
-    only_made (λ _. true) (λ o. unwrap_or o no_size) (λ v. fit_sizes v.0 v.1)
-    (only_weaker (λ o. fit_sizes (unwrap_or o no_size).0 (unwrap_or o no_size).1) or_none_fit
+    only_made (λ _. true) (λ o. unwrap_or o no_size) (λ v. printable_sizes v.0 v.1)
+    (only_weaker (λ o. printable_sizes (unwrap_or o no_size).0 (unwrap_or o no_size).1)
+    or_none_printable
     (only_opt (second (begins_word w)) (only_group w (only_seq u32_only u32_only))))
 
-names_only : (w : List ℕ) → OnlyFit (names_entry w) (each is_utf8)
+names_only : (w : List ℕ) → OnlyPrintable (names_entry w) (each is_utf8)
 unfolding names_entry
 names_only w = only_group w (only_many more (lit≤ tt) text_only)
 
-lone_only : OnlyFit lone_entry fit_lone
+lone_only : OnlyPrintable lone_entry printable_lone
 unfolding lone_entry mem_info_entry
 lone_only =
     only_where (begins_group (codes "mem-info"))
     (only_group (codes "mem-info")
-    (only_made (λ _. true) (λ v. mem_info v.0.0 v.0.1 v.1.0 v.1.1) fit_lone
-    (only_weaker (λ v. fit_lone (mem_info v.0.0 v.0.1 v.1.0 v.1.1)) (λ v h. h)
+    (only_made (λ _. true) (λ v. mem_info v.0.0 v.0.1 v.1.0 v.1.1) printable_lone
+    (only_weaker (λ v. printable_lone (mem_info v.0.0 v.0.1 v.1.0 v.1.1)) (λ v h. h)
     (only_seq (sizes_only (codes "memory")) (sizes_only (codes "table"))))))
     (only_where (begins_group (codes "needed"))
-    (only_made (λ _. true) needed fit_lone (names_only (codes "needed")))
+    (only_made (λ _. true) needed printable_lone (names_only (codes "needed")))
     (only_where (begins_group (codes "runtime-path"))
-    (only_made (λ _. true) runtime_path fit_lone (names_only (codes "runtime-path")))
-    (only_made (λ _. true) target_arch fit_lone (only_group (codes "target-arch") text_only))))
+    (only_made (λ _. true) runtime_path printable_lone (names_only (codes "runtime-path")))
+    (only_made (λ _. true) target_arch printable_lone
+    (only_group (codes "target-arch") text_only))))
 
 -- ---- any entry
 
@@ -324,12 +322,12 @@ spell_entry (of_export e) = spell_export_flags e
 spell_entry (of_import e) = spell_import_flags e
 spell_entry (other s) = spell_subsection s
 
-abbrev fit_entry : EntryTy → Bool
-fit_entry (of_export e) = fit_export_flags e
-fit_entry (of_import e) = fit_import_flags e
-fit_entry (other s) = fit_lone s
+abbrev printable_entry : EntryTy → Bool
+printable_entry (of_export e) = printable_export_flags e
+printable_entry (of_import e) = printable_import_flags e
+printable_entry (other s) = printable_lone s
 
-entry_here : (e : EntryTy) → fit_entry e ≡ true → Spells entry e (spell_entry e)
+entry_here : (e : EntryTy) → printable_entry e ≡ true → Spells entry e (spell_entry e)
 unfolding entry
 entry_here (of_export e) f r = inl (refl, (e, export_flags_here e f r, refl, refl))
 entry_here (of_import e) f r =
@@ -338,7 +336,7 @@ entry_here (other s) f r =
     let n = lone_no_export s r f in
     inr (n.0, inr (n.1, (s, lone_here s f r, refl, refl)))
 
-lone_more : (s : SubsectionTy) (x : List Tok) → fit_lone s ≡ true
+lone_more : (s : SubsectionTy) (x : List Tok) → printable_lone s ≡ true
     → more (spell_subsection s ++ x) ≡ true
 lone_more (mem_info ms ma ts ta) x f = refl
 lone_more (needed ns) x f = refl
@@ -347,17 +345,18 @@ lone_more (target_arch n) x f = refl
 lone_more (export_info es) x f = absurd cc
 lone_more (import_info es) x f = absurd cc
 
-entry_more : (e : EntryTy) (x : List Tok) → fit_entry e ≡ true → more (spell_entry e ++ x) ≡ true
+entry_more : (e : EntryTy) (x : List Tok) → printable_entry e ≡ true
+    → more (spell_entry e ++ x) ≡ true
 entry_more (of_export e) x f = refl
 entry_more (of_import e) x f = refl
 entry_more (other s) x f = lone_more s x f
 
-entry_only : OnlyFit entry fit_entry
+entry_only : OnlyPrintable entry printable_entry
 unfolding entry
 entry_only =
-    only_where begins_export (only_made (λ _. true) of_export fit_entry export_flags_only)
-    (only_where begins_import (only_made (λ _. true) of_import fit_entry import_flags_only)
-    (only_made (λ _. true) other fit_entry lone_only))
+    only_where begins_export (only_made (λ _. true) of_export printable_entry export_flags_only)
+    (only_where begins_import (only_made (λ _. true) of_import printable_entry import_flags_only)
+    (only_made (λ _. true) other printable_entry lone_only))
 
 -- ---- the entries of subsections
 
@@ -387,44 +386,48 @@ all_spelled (s ∷ ss) =
     ∙ ap (λ (l : List Tok). l ++ flat_map spell_entry (flat_map entries_in ss)) (one_spelled s)
     ∙ ap (λ (l : List Tok). spell_subsection s ++ l) (all_spelled ss)
 
-exports_fit : (es : List (List ℕ × ℕ))
-    → each fit_entry (map of_export es) ≡ each fit_export_flags es
-exports_fit [] = refl
-exports_fit (e ∷ es) = ap (λ (b : Bool). fit_export_flags e && b) (exports_fit es)
+exports_printable : (es : List (List ℕ × ℕ))
+    → each printable_entry (map of_export es) ≡ each printable_export_flags es
+exports_printable [] = refl
+exports_printable (e ∷ es) = ap (λ (b : Bool). printable_export_flags e && b) (exports_printable es)
 
-imports_fit : (es : List (List ℕ × List ℕ × ℕ))
-    → each fit_entry (map of_import es) ≡ each fit_import_flags es
-imports_fit [] = refl
-imports_fit (e ∷ es) = ap (λ (b : Bool). fit_import_flags e && b) (imports_fit es)
+imports_printable : (es : List (List ℕ × List ℕ × ℕ))
+    → each printable_entry (map of_import es) ≡ each printable_import_flags es
+imports_printable [] = refl
+imports_printable (e ∷ es) = ap (λ (b : Bool). printable_import_flags e && b) (imports_printable es)
 
-one_fit : (s : SubsectionTy) → fit_subsection s ≡ true → each fit_entry (entries_in s) ≡ true
-one_fit (mem_info ms ma ts ta) f = rw f refl
-one_fit (needed ns) f = rw f refl
-one_fit (export_info es) f = exports_fit es ∙ f
-one_fit (import_info es) f = imports_fit es ∙ f
-one_fit (runtime_path ns) f = rw f refl
-one_fit (target_arch n) f = rw f refl
+one_printable : (s : SubsectionTy) → printable_subsection s ≡ true
+    → each printable_entry (entries_in s) ≡ true
+one_printable (mem_info ms ma ts ta) f = rw f refl
+one_printable (needed ns) f = rw f refl
+one_printable (export_info es) f = exports_printable es ∙ f
+one_printable (import_info es) f = imports_printable es ∙ f
+one_printable (runtime_path ns) f = rw f refl
+one_printable (target_arch n) f = rw f refl
 
-one_given : (s : SubsectionTy) → each fit_entry (entries_in s) ≡ true → fit_subsection s ≡ true
-one_given (mem_info ms ma ts ta) f = (and_parts (fit_subsection (mem_info ms ma ts ta)) true f).0
-one_given (needed ns) f = (and_parts (fit_subsection (needed ns)) true f).0
-one_given (export_info es) f = sym (exports_fit es) ∙ f
-one_given (import_info es) f = sym (imports_fit es) ∙ f
-one_given (runtime_path ns) f = (and_parts (fit_subsection (runtime_path ns)) true f).0
-one_given (target_arch n) f = (and_parts (fit_subsection (target_arch n)) true f).0
+one_given : (s : SubsectionTy) → each printable_entry (entries_in s) ≡ true
+    → printable_subsection s ≡ true
+one_given (mem_info ms ma ts ta) f =
+    (and_parts (printable_subsection (mem_info ms ma ts ta)) true f).0
+one_given (needed ns) f = (and_parts (printable_subsection (needed ns)) true f).0
+one_given (export_info es) f = sym (exports_printable es) ∙ f
+one_given (import_info es) f = sym (imports_printable es) ∙ f
+one_given (runtime_path ns) f = (and_parts (printable_subsection (runtime_path ns)) true f).0
+one_given (target_arch n) f = (and_parts (printable_subsection (target_arch n)) true f).0
 
-all_fit : (ss : List SubsectionTy) → each fit_subsection ss ≡ true
-    → each fit_entry (flat_map entries_in ss) ≡ true
-all_fit [] f = refl
-all_fit (s ∷ ss) f =
-    let a = and_parts (fit_subsection s) (each fit_subsection ss) f in
-    each_both fit_entry (entries_in s) (flat_map entries_in ss) (one_fit s a.0) (all_fit ss a.1)
+all_printable : (ss : List SubsectionTy) → each printable_subsection ss ≡ true
+    → each printable_entry (flat_map entries_in ss) ≡ true
+all_printable [] f = refl
+all_printable (s ∷ ss) f =
+    let a = and_parts (printable_subsection s) (each printable_subsection ss) f in
+    each_both printable_entry (entries_in s) (flat_map entries_in ss) (one_printable s a.0)
+    (all_printable ss a.1)
 
-all_given : (ss : List SubsectionTy) → each fit_entry (flat_map entries_in ss) ≡ true
-    → each fit_subsection ss ≡ true
+all_given : (ss : List SubsectionTy) → each printable_entry (flat_map entries_in ss) ≡ true
+    → each printable_subsection ss ≡ true
 all_given [] f = refl
 all_given (s ∷ ss) f =
-    let a = each_front fit_entry (entries_in s) (flat_map entries_in ss) f in
+    let a = each_front printable_entry (entries_in s) (flat_map entries_in ss) f in
     rw (one_given s a.0) (all_given ss a.1)
 
 -- ---- how they are cut
@@ -474,53 +477,58 @@ cut_tested (s ∷ ss) h = rw (filled_to s h.0, apart_to s ss h.1) (cut_tested ss
 
 -- ---- the section
 
-entries_here : (ss : List SubsectionTy) (r : List Tok) → each fit_subsection ss ≡ true
+entries_here : (ss : List SubsectionTy) (r : List Tok) → each printable_subsection ss ≡ true
     → more r ≡ false → entries.spells (flat_map entries_in ss) (flat_map spell_subsection ss) r
 unfolding entries
 entries_here ss r f e =
     subst (λ (c : List Tok). many_spells more entry (flat_map entries_in ss) c r) (all_spelled ss)
-    (many_here more entry spell_entry fit_entry entry_here entry_more (flat_map entries_in ss) r
-    (all_fit ss f) e)
+    (many_here more entry spell_entry printable_entry entry_here entry_more
+    (flat_map entries_in ss) r
+    (all_printable ss f) e)
 
 -- up to the end of the group
-pub dylink_here : (ss : List SubsectionTy) (r : List Tok) → fit_dylink ss ≡ true → more r ≡ false
+pub dylink_here : (ss : List SubsectionTy) (r : List Tok) → printable_dylink ss ≡ true
+    → more r ≡ false
     → dylink.spells ss (spell_dylink ss) r
 unfolding dylink cut_subsections
 dylink_here ss r f e =
-    let a = and_parts (each fit_subsection ss) (are_cut ss) f in
+    let a = and_parts (each printable_subsection ss) (are_cut ss) f in
     annotated_here (codes "dylink.0") cut_subsections ss (flat_map spell_subsection ss) r refl
     (entries_here ss r a.0 e, cut_by ss a.1)
 
-subsection_neat : (s : SubsectionTy) → fit_subsection s ≡ true → Neat (spell_subsection s)
-subsection_neat (mem_info ms ma ts ta) f =
-    let a = and_parts (fit_sizes ms ma) (fit_sizes ts ta) f in
-    neat_group (codes "mem-info") (spell_sizes (codes "memory") ms ma
+subsection_well_formed : (s : SubsectionTy) → printable_subsection s ≡ true
+    → WellFormed (spell_subsection s)
+subsection_well_formed (mem_info ms ma ts ta) f =
+    let a = and_parts (printable_sizes ms ma) (printable_sizes ts ta) f in
+    well_formed_group (codes "mem-info") (spell_sizes (codes "memory") ms ma
     ++ spell_sizes (codes "table") ts ta) refl
-    (neat_both (spell_sizes (codes "memory") ms ma) (spell_sizes (codes "table") ts ta)
-    (sizes_neat (codes "memory") ms ma refl a.0) (sizes_neat (codes "table") ts ta refl a.1))
-subsection_neat (needed ns) f = names_neat (codes "needed") ns refl f
-subsection_neat (export_info es) f =
-    neat_each spell_export_flags fit_export_flags export_flags_neat es f
-subsection_neat (import_info es) f =
-    neat_each spell_import_flags fit_import_flags import_flags_neat es f
-subsection_neat (runtime_path ns) f = names_neat (codes "runtime-path") ns refl f
-subsection_neat (target_arch n) f =
-    neat_group (codes "target-arch") (spell_string n) refl (text_neat n f)
+    (well_formed_both (spell_sizes (codes "memory") ms ma) (spell_sizes (codes "table") ts ta)
+    (sizes_well_formed (codes "memory") ms ma refl a.0)
+    (sizes_well_formed (codes "table") ts ta refl a.1))
+subsection_well_formed (needed ns) f = names_well_formed (codes "needed") ns refl f
+subsection_well_formed (export_info es) f =
+    well_formed_each spell_export_flags printable_export_flags export_flags_well_formed es f
+subsection_well_formed (import_info es) f =
+    well_formed_each spell_import_flags printable_import_flags import_flags_well_formed es f
+subsection_well_formed (runtime_path ns) f = names_well_formed (codes "runtime-path") ns refl f
+subsection_well_formed (target_arch n) f =
+    well_formed_group (codes "target-arch") (spell_string n) refl (text_well_formed n f)
 
-pub dylink_neat : (ss : List SubsectionTy) → fit_dylink ss ≡ true
-    → Neat (in_parens (spell_dylink ss))
-dylink_neat ss f =
-    let a = and_parts (each fit_subsection ss) (are_cut ss) f in
-    neat_annotated (codes "dylink.0") (flat_map spell_subsection ss) dylink_annotation refl
-    (neat_each spell_subsection fit_subsection subsection_neat ss a.0)
+pub dylink_well_formed : (ss : List SubsectionTy) → printable_dylink ss ≡ true
+    → WellFormed (in_parens (spell_dylink ss))
+dylink_well_formed ss f =
+    let a = and_parts (each printable_subsection ss) (are_cut ss) f in
+    well_formed_annotated (codes "dylink.0") (flat_map spell_subsection ss) dylink_annotation refl
+    (well_formed_each spell_subsection printable_subsection subsection_well_formed ss a.0)
 
 cut_holds : (ss : List SubsectionTy) (c r : List Tok) → each is_given c ≡ true → CutSpells ss c r
-    → fit_dylink ss ≡ true
+    → printable_dylink ss ≡ true
 unfolding entries
 cut_holds ss c r a s =
-    let m : OnlyFit entries (each fit_entry) = only_many more entry_consumes entry_only in
+    let m : OnlyPrintable entries (each printable_entry) =
+    only_many more entry_consumes entry_only in
     rw (all_given ss (m.holds (flat_map entries_in ss) c r a s.0)) (cut_tested ss s.1)
 
-pub dylink_only : OnlyFit dylink fit_dylink
+pub dylink_only : OnlyPrintable dylink printable_dylink
 unfolding dylink cut_subsections
 dylink_only = only_annotated (codes "dylink.0") (record { holds = cut_holds })

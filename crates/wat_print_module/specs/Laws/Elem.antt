@@ -25,40 +25,42 @@ use Rattle.wat_fields.specs.Item.{written_or_folded, item}
 use Rattle.wat_fields.specs.Laws.Payload.{item_consumes}
 use Rattle.wat_fields.specs.Payload.{PayloadTy, indices, exprs, item_list, index_list}
 use Rattle.wat_fields.specs.Payload.{typed_elems, payload, payload_or_indices}
-use Rattle.wat_print.specs.Index.{spell_index, fit_index}
-use Rattle.wat_print.specs.Label.{spell_label, fit_label}
-use Rattle.wat_print.specs.Neat.{Neat, nothing}
+use Rattle.wat_print.specs.Index.{spell_index, printable_index}
+use Rattle.wat_print.specs.Label.{spell_label, printable_label}
+use Rattle.wat_print.specs.WellFormed.{WellFormed, nothing}
 use Rattle.wat_print.specs.Parts.{grouped, each, if_some, spell_option}
-use Rattle.wat_print.specs.Reference.{short_word, spell_long, spell_ref, fit_ref}
-use Rattle.wat_print.specs.Laws.Label.{label_here, label_neat, label_only}
-use Rattle.wat_print.specs.Laws.Only.{OnlyFit, only_where, only_opt, only_seq, only_made, only_many}
-use Rattle.wat_print.specs.Laws.Only.{only_after, only_group, only_weaker}
-use Rattle.wat_print.specs.Laws.Parts.{group_here, many_here, many_told, neat_word, neat_both}
-use Rattle.wat_print.specs.Laws.Parts.{neat_group, neat_each, neat_option, neat_one}
-use Rattle.wat_print.specs.Laws.Reference.{index_here, index_neat, index_only, ref_here, ref_neat}
-use Rattle.wat_print.specs.Laws.Reference.{ref_only, of_refs}
+use Rattle.wat_print.specs.Reference.{short_word, spell_long, spell_ref, printable_ref}
+use Rattle.wat_print.specs.Laws.Label.{label_here, label_well_formed, label_only}
+use Rattle.wat_print.specs.Laws.Only.{OnlyPrintable, only_where, only_opt, only_seq, only_made}
+use Rattle.wat_print.specs.Laws.Only.{only_many, only_after, only_group, only_weaker}
+use Rattle.wat_print.specs.Laws.Parts.{group_here, many_here, many_told, well_formed_word}
+use Rattle.wat_print.specs.Laws.Parts.{well_formed_both, well_formed_group, well_formed_each}
+use Rattle.wat_print.specs.Laws.Parts.{well_formed_option, well_formed_one}
+use Rattle.wat_print.specs.Laws.Reference.{index_here, index_well_formed, index_only, ref_here}
+use Rattle.wat_print.specs.Laws.Reference.{ref_well_formed, ref_only, of_refs}
+use Rattle.wat_print.specs.Laws.Reference.{index_group_well_formed}
 use Rattle.wat_print.specs.Laws.Define.{after_here}
-use Rattle.wat_print_instr.specs.ExpressionForm.{spell_expression, fit_expression}
-use Rattle.wat_print_instr.specs.Laws.Expression.{expression_neat}
+use Rattle.wat_print_instr.specs.ExpressionForm.{spell_expression, printable_expression}
+use Rattle.wat_print_instr.specs.Laws.Expression.{expression_well_formed}
 use Rattle.wat_print_instr.specs.Laws.ExpressionOnly.{expression_only}
 use Rattle.wat_print_instr.specs.Laws.Numbers.{unsigned_only}
 use Rattle.wat_print_instr.specs.Laws.Places.{both_here}
-use Rattle.wat_print_module.specs.Segments.{spell_offset, spell_item, spell_payload, fit_payload}
-use Rattle.wat_print_module.specs.Segments.{spell_elem_table, spell_elem_kind, fit_elem_kind}
-use Rattle.wat_print_module.specs.Segments.{spell_elem, fit_elem}
-use Rattle.wat_print_module.specs.Laws.Data.{offset_neat}
+use Rattle.wat_print_module.specs.Segments.{spell_offset, spell_item, spell_payload}
+use Rattle.wat_print_module.specs.Segments.{printable_payload, spell_elem_table, spell_elem_kind}
+use Rattle.wat_print_module.specs.Segments.{printable_elem_kind, spell_elem, printable_elem}
+use Rattle.wat_print_module.specs.Laws.Data.{offset_well_formed}
 use Rattle.wat_print_module.specs.Laws.Folded.{no_word, NoTypeFirst, no_type_first, end_no_word}
 use Rattle.wat_print_module.specs.Laws.Folded.{expression_grouped, folded_only}
-use Rattle.wat_print_instr.specs.Laws.OperandFront.{type_apart, param_apart, result_apart}
+use Rattle.wat_print_instr.specs.Laws.OperandFront.{short_apart}
 
 -- ---- what a reference type begins with
 
 -- neither of the words is a shorthand
-short_apart : (t : AbstractHeapType)
+short_not : (t : AbstractHeapType)
     → (bytes_eq (short_word t) (codes "func") ≡ false)
     × (bytes_eq (short_word t) (codes "declare") ≡ false)
-short_apart word.Func = (refl, refl)
-short_apart _ = (refl, refl)
+short_not word.Func = (refl, refl)
+short_not _ = (refl, refl)
 
 -- the test says of what begins with a reference type
 pub of_ref : (test : List Tok → Bool) (b : Bool)
@@ -89,56 +91,56 @@ ref_not_word w f t c r = of_ref (begins_word w) false (λ s x. (f s)) (λ n h x.
 
 ref_no_func : (t : RefTy) (c r : List Tok)
     → begins_word (codes "func") ((spell_ref t ++ c) ++ r) ≡ false
-ref_no_func t c r = ref_not_word (codes "func") (λ s. (short_apart s).0) t c r
+ref_no_func t c r = ref_not_word (codes "func") (λ s. (short_not s).0) t c r
 
 ref_no_declare : (t : RefTy) (c r : List Tok)
     → begins_word (codes "declare") ((spell_ref t ++ c) ++ r) ≡ false
-ref_no_declare t c r = ref_not_word (codes "declare") (λ s. (short_apart s).1) t c r
+ref_no_declare t c r = ref_not_word (codes "declare") (λ s. (short_not s).1) t c r
 
 ref_no_type : (t : RefTy) (c r : List Tok) → NoTypeFirst ((spell_ref t ++ c) ++ r)
 ref_no_type t c r = (
-  ref_not_word (codes "type") type_apart.no_short t c r,
-  ref_not_word (codes "param") param_apart.no_short t c r,
-  ref_not_word (codes "result") result_apart.no_short t c r,
+  ref_not_word (codes "type") (short_apart (codes "type") refl) t c r,
+  ref_not_word (codes "param") (short_apart (codes "param") refl) t c r,
+  ref_not_word (codes "result") (short_apart (codes "result") refl) t c r,
 )
 
 -- ---- items and indices
 
 written_here : (w : List ℕ) (e : Expr) (r : List Tok) → bytes_eq w w ≡ true
-    → fit_expression e ≡ true → NoTypeFirst r
+    → printable_expression e ≡ true → NoTypeFirst r
     → (written_or_folded w).spells e (grouped w (spell_expression e)) r
 unfolding written_or_folded
 written_here w e r b f n = inl (b, expression_grouped w e r b f n)
 
-item_here : (e : Expr) (r : List Tok) → fit_expression e ≡ true → no_word r ≡ true
+item_here : (e : Expr) (r : List Tok) → printable_expression e ≡ true → no_word r ≡ true
     → item.spells e (spell_item e) r
 unfolding item
 item_here e r f n = written_here (codes "item") e r refl f (no_type_first r n)
 
-pub items_here : (es : List Expr) (r : List Tok) → each fit_expression es ≡ true
+pub items_here : (es : List Expr) (r : List Tok) → each printable_expression es ≡ true
     → ends r ≡ true → item_list.spells es (flat_map spell_item es) r
 unfolding item_list
 items_here es r f e =
-    many_told more no_word item spell_item fit_expression item_here (λ v x h. refl)
+    many_told more no_word item spell_item printable_expression item_here (λ v x h. refl)
     (λ v x h. refl) es r f (end_no_word r e) (rw e refl)
 
-index_more : (i : Idx) (x : List Tok) → fit_index i ≡ true → more (spell_index i ++ x) ≡ true
+index_more : (i : Idx) (x : List Tok) → printable_index i ≡ true → more (spell_index i ++ x) ≡ true
 index_more (number n) x f = refl
 index_more (name n) x f = refl
 
-pub indices_here : (is : List Idx) (r : List Tok) → each fit_index is ≡ true → ends r ≡ true
+pub indices_here : (is : List Idx) (r : List Tok) → each printable_index is ≡ true → ends r ≡ true
     → index_list.spells is (flat_map spell_index is) r
 unfolding index_list
 indices_here is r f e =
-    many_here more index spell_index fit_index index_here index_more is r f (rw e refl)
+    many_here more index spell_index printable_index index_here index_more is r f (rw e refl)
 
 -- ---- payloads
 
-typed_here : (t : RefTy) (es : List Expr) (r : List Tok) → fit_payload (exprs t es) ≡ true
+typed_here : (t : RefTy) (es : List Expr) (r : List Tok) → printable_payload (exprs t es) ≡ true
     → ends r ≡ true → typed_elems.spells (exprs t es) (spell_payload (exprs t es)) r
 unfolding typed_elems
 typed_here t es r f e =
-    let a = and_parts (fit_ref t) (each fit_expression es) f in
+    let a = and_parts (printable_ref t) (each printable_expression es) f in
     let x = flat_map spell_item es in (
       (t, es),
       both_here ref_type item_list t es (spell_ref t) x r (ref_here t a.0 (x ++ r))
@@ -147,37 +149,27 @@ typed_here t es r f e =
       refl,
     )
 
-payload_here : (p : PayloadTy) (r : List Tok) → fit_payload p ≡ true → ends r ≡ true
+functions_here : (is : List Idx) (r : List Tok) → each printable_index is ≡ true → ends r ≡ true
+    → (made indices (after_word (codes "func") index_list)).spells (indices is)
+    (spell_payload (indices is)) r
+functions_here is r f e = (
+  is,
+  after_here (codes "func") index_list is (flat_map spell_index is) r refl (indices_here is r f e),
+  refl,
+  refl,
+)
+
+payload_here : (p : PayloadTy) (r : List Tok) → printable_payload p ≡ true → ends r ≡ true
     → payload.spells p (spell_payload p) r
 unfolding payload
-payload_here (indices is) r f e =
-    inl (
-      refl,
-      (
-        is,
-        after_here (codes "func") index_list is (flat_map spell_index is) r refl
-            (indices_here is r f e),
-        refl,
-        refl,
-      ),
-    )
+payload_here (indices is) r f e = inl (refl, functions_here is r f e)
 payload_here (exprs t es) r f e =
     inr (ref_no_func t (flat_map spell_item es) r, typed_here t es r f e)
 
-any_payload_here : (p : PayloadTy) (r : List Tok) → fit_payload p ≡ true → ends r ≡ true
+any_payload_here : (p : PayloadTy) (r : List Tok) → printable_payload p ≡ true → ends r ≡ true
     → payload_or_indices.spells p (spell_payload p) r
 unfolding payload_or_indices
-any_payload_here (indices is) r f e =
-    inl (
-      refl,
-      (
-        is,
-        after_here (codes "func") index_list is (flat_map spell_index is) r refl
-            (indices_here is r f e),
-        refl,
-        refl,
-      ),
-    )
+any_payload_here (indices is) r f e = inl (refl, functions_here is r f e)
 any_payload_here (exprs t es) r f e =
     let x = flat_map spell_item es in
     inr (ref_no_func t x r, inl (ref_begins t x r, typed_here t es r f e))
@@ -201,13 +193,13 @@ payload_no_active : (p : PayloadTy) (r : List Tok) → begins_active (spell_payl
 payload_no_active (indices is) r = refl
 payload_no_active (exprs t es) r = ref_no_active t (flat_map spell_item es) r
 
-elem_offset_here : (e : Expr) (r : List Tok) → fit_expression e ≡ true → NoTypeFirst r
+elem_offset_here : (e : Expr) (r : List Tok) → printable_expression e ≡ true → NoTypeFirst r
     → elem_offset.spells e (spell_offset e) r
 unfolding elem_offset
 elem_offset_here e r f n = written_here (codes "offset") e r refl f n
 
-some_table : (i : Idx) (e : Expr) (p : PayloadTy) (r : List Tok) → fit_index i ≡ true
-    → fit_expression e ≡ true → fit_payload p ≡ true → ends r ≡ true
+some_table : (i : Idx) (e : Expr) (p : PayloadTy) (r : List Tok) → printable_index i ≡ true
+    → printable_expression e ≡ true → printable_payload p ≡ true → ends r ≡ true
     → in_table.spells (active (Some i) e, p)
     (spell_elem_table i ++ (spell_offset e ++ spell_payload p)) r
 unfolding in_table
@@ -229,8 +221,8 @@ some_table i e p r f g h k =
       refl,
     )
 
-no_table : (e : Expr) (p : PayloadTy) (r : List Tok) → fit_expression e ≡ true
-    → fit_payload p ≡ true → ends r ≡ true
+no_table : (e : Expr) (p : PayloadTy) (r : List Tok) → printable_expression e ≡ true
+    → printable_payload p ≡ true → ends r ≡ true
     → in_some_table.spells (active None e, p) (spell_offset e ++ spell_payload p) r
 unfolding in_some_table table_number
 no_table e p r g h k =
@@ -245,8 +237,8 @@ no_table e p r g h k =
       refl,
     )
 
-segment_here : (k : ElemKindTy) (p : PayloadTy) (r : List Tok) → fit_elem_kind k ≡ true
-    → fit_payload p ≡ true → ends r ≡ true
+segment_here : (k : ElemKindTy) (p : PayloadTy) (r : List Tok) → printable_elem_kind k ≡ true
+    → printable_payload p ≡ true → ends r ≡ true
     → segment.spells (k, p) (spell_elem_kind k ++ spell_payload p) r
 unfolding segment declared_segment active_segment passive_segment begins_shorthand
 segment_here declared p r f g e =
@@ -266,7 +258,7 @@ segment_here passive p r f g e =
       inr (payload_no_active p r, (p, payload_here p r g e, refl, refl)),
     )
 segment_here (active (Some i) o) p r f g e =
-    let a = and_parts (fit_index i) (fit_expression o) f in
+    let a = and_parts (printable_index i) (printable_expression o) f in
     subst (λ (c : List Tok). segment.spells (active (Some i) o, p) c r)
     (sym (append_assoc (spell_elem_table i) (spell_offset o) (spell_payload p)))
     (inr (refl, inl (refl, inl (refl, some_table i o p r a.0 a.1 g e))))
@@ -289,12 +281,12 @@ segment_first test f g (active (Some i) o) p r = g (codes "table") _
 segment_first test f g (active None o) p r = g (codes "offset") _
 
 -- in front of an end
-pub elem_here : (e : ElemTy) (r : List Tok) → fit_elem e ≡ true → ends r ≡ true
+pub elem_here : (e : ElemTy) (r : List Tok) → printable_elem e ≡ true → ends r ≡ true
     → elem.spells e (spell_elem e) r
 unfolding elem
 elem_here e r f k =
-    let a = and_parts (fit_label e.label) _ f in
-    let b = and_parts (fit_elem_kind e.segment.0) (fit_payload e.segment.1) a.1 in
+    let a = and_parts (printable_label e.label) _ f in
+    let b = and_parts (printable_elem_kind e.segment.0) (printable_payload e.segment.1) a.1 in
     let s = spell_elem_kind e.segment.0 ++ spell_payload e.segment.1 in
     after_here (codes "elem") (made (λ v. elem_of v.0 v.1) (seq label segment)) e
     (spell_label e.label ++ s) r refl (
@@ -310,124 +302,134 @@ elem_here e r f k =
 
 -- ---- they can be written
 
-pub items_neat : (es : List Expr) → each fit_expression es ≡ true
-    → Neat (flat_map spell_item es)
-items_neat es f =
-    neat_each spell_item fit_expression
-    (λ e h. (neat_group (codes "item") (spell_expression e) refl (expression_neat e h))) es f
+pub items_well_formed : (es : List Expr) → each printable_expression es ≡ true
+    → WellFormed (flat_map spell_item es)
+items_well_formed es f =
+    well_formed_each spell_item printable_expression
+    (λ e h. (well_formed_group (codes "item") (spell_expression e) refl
+    (expression_well_formed e h))) es f
 
-pub indices_neat : (is : List Idx) → each fit_index is ≡ true → Neat (flat_map spell_index is)
-indices_neat is f = neat_each spell_index fit_index index_neat is f
+pub indices_well_formed : (is : List Idx) → each printable_index is ≡ true
+    → WellFormed (flat_map spell_index is)
+indices_well_formed is f = well_formed_each spell_index printable_index index_well_formed is f
 
-payload_neat : (p : PayloadTy) → fit_payload p ≡ true → Neat (spell_payload p)
-payload_neat (indices is) f =
-    neat_word (codes "func") (flat_map spell_index is) refl (indices_neat is f)
-payload_neat (exprs t es) f =
-    let a = and_parts (fit_ref t) (each fit_expression es) f in
-    neat_both (spell_ref t) (flat_map spell_item es) (ref_neat t a.0) (items_neat es a.1)
+payload_well_formed : (p : PayloadTy) → printable_payload p ≡ true → WellFormed (spell_payload p)
+payload_well_formed (indices is) f =
+    well_formed_word (codes "func") (flat_map spell_index is) refl (indices_well_formed is f)
+payload_well_formed (exprs t es) f =
+    let a = and_parts (printable_ref t) (each printable_expression es) f in
+    well_formed_both (spell_ref t) (flat_map spell_item es) (ref_well_formed t a.0)
+    (items_well_formed es a.1)
 
-table_neat : (i : Idx) → fit_index i ≡ true → Neat (spell_elem_table i)
-table_neat i f = neat_group (codes "table") (spell_index i) refl (index_neat i f)
+table_well_formed : (i : Idx) → printable_index i ≡ true → WellFormed (spell_elem_table i)
+table_well_formed i f =
+    index_group_well_formed (codes "table") refl i f
 
-kind_neat : (k : ElemKindTy) → fit_elem_kind k ≡ true → Neat (spell_elem_kind k)
-kind_neat passive f = nothing
-kind_neat declared f = neat_one (Keyword (codes "declare")) refl
-kind_neat (active t e) f =
-    let a = and_parts (if_some fit_index t) (fit_expression e) f in
-    neat_both (spell_option spell_elem_table t) (spell_offset e)
-    (neat_option spell_elem_table fit_index t table_neat a.0) (offset_neat e a.1)
+kind_well_formed : (k : ElemKindTy) → printable_elem_kind k ≡ true → WellFormed (spell_elem_kind k)
+kind_well_formed passive f = nothing
+kind_well_formed declared f = well_formed_one (Keyword (codes "declare")) refl
+kind_well_formed (active t e) f =
+    let a = and_parts (if_some printable_index t) (printable_expression e) f in
+    well_formed_both (spell_option spell_elem_table t) (spell_offset e)
+    (well_formed_option spell_elem_table printable_index t table_well_formed a.0)
+    (offset_well_formed e a.1)
 
-pub elem_neat : (e : ElemTy) → fit_elem e ≡ true → Neat (spell_elem e)
-elem_neat e f =
-    let a = and_parts (fit_label e.label) _ f in
-    let b = and_parts (fit_elem_kind e.segment.0) (fit_payload e.segment.1) a.1 in
+pub elem_well_formed : (e : ElemTy) → printable_elem e ≡ true → WellFormed (spell_elem e)
+elem_well_formed e f =
+    let a = and_parts (printable_label e.label) _ f in
+    let b = and_parts (printable_elem_kind e.segment.0) (printable_payload e.segment.1) a.1 in
     let k = spell_elem_kind e.segment.0 in
     let p = spell_payload e.segment.1 in
-    neat_word (codes "elem") (spell_label e.label ++ (k ++ p)) refl
-    (neat_both (spell_label e.label) (k ++ p) (label_neat e.label a.0)
-    (neat_both k p (kind_neat e.segment.0 b.0) (payload_neat e.segment.1 b.1)))
+    well_formed_word (codes "elem") (spell_label e.label ++ (k ++ p)) refl
+    (well_formed_both (spell_label e.label) (k ++ p) (label_well_formed e.label a.0)
+    (well_formed_both k p (kind_well_formed e.segment.0 b.0) (payload_well_formed e.segment.1 b.1)))
 
 -- ---- what a text spells can be written
 
-written_only : (w : List ℕ) → OnlyFit (written_or_folded w) fit_expression
+written_only : (w : List ℕ) → OnlyPrintable (written_or_folded w) printable_expression
 unfolding written_or_folded
 written_only w =
     only_where (second (begins_word w)) (only_group w expression_only) folded_only
 
-pub items_only : OnlyFit item_list (each fit_expression)
+pub items_only : OnlyPrintable item_list (each printable_expression)
 unfolding item_list item
 items_only = only_many more item_consumes (written_only (codes "item"))
 
-pub indices_only : OnlyFit index_list (each fit_index)
+pub indices_only : OnlyPrintable index_list (each printable_index)
 unfolding index_list
 indices_only = only_many more (lit≤ tt) index_only
 
-func_only : OnlyFit (made indices (after_word (codes "func") index_list)) fit_payload
-func_only = only_made (λ _. true) indices fit_payload (only_after (codes "func") indices_only)
+func_only : OnlyPrintable (made indices (after_word (codes "func") index_list)) printable_payload
+func_only = only_made (λ _. true) indices printable_payload (only_after (codes "func") indices_only)
 
-typed_only : OnlyFit typed_elems fit_payload
+typed_only : OnlyPrintable typed_elems printable_payload
 unfolding typed_elems
 typed_only =
-    only_made (λ _. true) (λ v. exprs v.0 v.1) fit_payload (only_seq ref_only items_only)
+    only_made (λ _. true) (λ v. exprs v.0 v.1) printable_payload (only_seq ref_only items_only)
 
-payload_only : OnlyFit payload fit_payload
+payload_only : OnlyPrintable payload printable_payload
 unfolding payload
 payload_only = only_where (begins_word (codes "func")) func_only typed_only
 
-any_payload_only : OnlyFit payload_or_indices fit_payload
+any_payload_only : OnlyPrintable payload_or_indices printable_payload
 unfolding payload_or_indices
 any_payload_only =
     only_where (begins_word (codes "func")) func_only
-    (only_where begins_ref typed_only (only_made (λ _. true) indices fit_payload indices_only))
+    (only_where begins_ref typed_only
+    (only_made (λ _. true) indices printable_payload indices_only))
 
-abbrev fit_segment : Segment → Bool
-fit_segment s = fit_elem_kind s.0 && fit_payload s.1
+abbrev printable_segment : Segment → Bool
+printable_segment s = printable_elem_kind s.0 && printable_payload s.1
 
 -- a table, an offset and what the segment holds
-active_fit : (t : Option Idx) (e : Expr) (p : PayloadTy)
-    → if_some fit_index t && (fit_expression e && fit_payload p) ≡ true
-    → fit_segment (active_of (t, (e, p))) ≡ true
-active_fit t e p f =
-    let a = and_parts (if_some fit_index t) _ f in
-    let b = and_parts (fit_expression e) (fit_payload p) a.1 in
+active_printable : (t : Option Idx) (e : Expr) (p : PayloadTy)
+    → if_some printable_index t && (printable_expression e && printable_payload p) ≡ true
+    → printable_segment (active_of (t, (e, p))) ≡ true
+active_printable t e p f =
+    let a = and_parts (if_some printable_index t) _ f in
+    let b = and_parts (printable_expression e) (printable_payload p) a.1 in
     rw (a.0, b.0, b.1) refl
 
-offset_only : OnlyFit elem_offset fit_expression
+offset_only : OnlyPrintable elem_offset printable_expression
 unfolding elem_offset
 offset_only = written_only (codes "offset")
 
-table_only : OnlyFit (made (λ i. Some i) (group (codes "table") index)) (if_some fit_index)
+table_only : OnlyPrintable (made (λ i. Some i) (group (codes "table") index))
+    (if_some printable_index)
 table_only =
-    only_made (λ _. true) (λ i. Some i) (if_some fit_index) (only_group (codes "table") index_only)
+    only_made (λ _. true) (λ i. Some i) (if_some printable_index)
+    (only_group (codes "table") index_only)
 
-number_only : OnlyFit table_number (if_some fit_index)
+number_only : OnlyPrintable table_number (if_some printable_index)
 unfolding table_number
 number_only =
     only_opt begins_integer
-    (only_made (λ _. true) number fit_index (unsigned_only 32 (lit≤ tt)))
+    (only_made (λ _. true) number printable_index (unsigned_only 32 (lit≤ tt)))
 
-active_only : OnlyFit active_segment fit_segment
+active_only : OnlyPrintable active_segment printable_segment
 unfolding active_segment in_table in_some_table
 active_only =
     only_where (begins_group (codes "table"))
-    (only_made (λ _. true) active_of fit_segment
-    (only_weaker (λ v. fit_segment (active_of v)) (λ v f. (active_fit v.0 v.1.0 v.1.1 f))
+    (only_made (λ _. true) active_of printable_segment
+    (only_weaker (λ v. printable_segment (active_of v))
+    (λ v f. (active_printable v.0 v.1.0 v.1.1 f))
     (only_seq table_only (only_seq offset_only payload_only))))
-    (only_made (λ _. true) active_of fit_segment
-    (only_weaker (λ v. fit_segment (active_of v)) (λ v f. (active_fit v.0 v.1.0 v.1.1 f))
+    (only_made (λ _. true) active_of printable_segment
+    (only_weaker (λ v. printable_segment (active_of v))
+    (λ v f. (active_printable v.0 v.1.0 v.1.1 f))
     (only_seq number_only (only_seq offset_only any_payload_only))))
 
-segment_only : OnlyFit segment fit_segment
+segment_only : OnlyPrintable segment printable_segment
 unfolding segment declared_segment passive_segment
 segment_only =
     only_where (begins_word (codes "declare"))
-    (only_made (λ _. true) (λ p. (declared, p)) fit_segment
+    (only_made (λ _. true) (λ p. (declared, p)) printable_segment
     (only_after (codes "declare") payload_only))
     (only_where begins_active active_only
-    (only_made (λ _. true) (λ p. (passive, p)) fit_segment payload_only))
+    (only_made (λ _. true) (λ p. (passive, p)) printable_segment payload_only))
 
-pub elem_only : OnlyFit elem fit_elem
+pub elem_only : OnlyPrintable elem printable_elem
 unfolding elem
 elem_only =
-    only_after (codes "elem") (only_made (λ _. true) (λ v. elem_of v.0 v.1) fit_elem
+    only_after (codes "elem") (only_made (λ _. true) (λ v. elem_of v.0 v.1) printable_elem
     (only_seq label_only segment_only))

@@ -13,24 +13,23 @@ use Rattle.wat_links.specs.Export.{export_type}
 use Rattle.wat_links.specs.ImportItem.{sig_group}
 use Rattle.wat_links.specs.declared.export.ExportKind.{ExportKind}
 use Rattle.wat_links.specs.declared.export.ExportKind.TheVariants as code
-use Rattle.wat_print.specs.Index.{spell_index, fit_index}
-use Rattle.wat_print.specs.Neat.{is_keyword, Neat}
+use Rattle.wat_print.specs.Index.{spell_index, printable_index}
+use Rattle.wat_print.specs.WellFormed.{is_keyword, WellFormed}
 use Rattle.wat_print.specs.Parts.{grouped}
-use Rattle.wat_print.specs.Laws.Only.{OnlyFit, only_any, only_paren, only_seq, only_made}
-use Rattle.wat_print.specs.Laws.Only.{only_weaker}
-use Rattle.wat_print.specs.Laws.Only.{only_after}
-use Rattle.wat_print.specs.Laws.Parts.{Spells, paren_here, neat_one, neat_word, neat_group}
-use Rattle.wat_print.specs.Laws.Parts.{neat_both}
-use Rattle.wat_print.specs.Laws.Reference.{index_here, index_neat, index_only}
+use Rattle.wat_print.specs.Laws.Only.{OnlyPrintable, only_any, only_paren, only_seq, only_made}
+use Rattle.wat_print.specs.Laws.Only.{only_weaker, only_after}
+use Rattle.wat_print.specs.Laws.Parts.{Spells, paren_here, well_formed_one, well_formed_word}
+use Rattle.wat_print.specs.Laws.Parts.{well_formed_group, well_formed_both}
+use Rattle.wat_print.specs.Laws.Reference.{index_here, index_well_formed, index_only}
 use Rattle.wat_print.specs.Laws.Define.{after_here}
 use Rattle.wat_print_instr.specs.Laws.Places.{both_here}
 use Rattle.wat_print_module.specs.Export.{export_kind_word, spell_export_kind, spell_export}
-use Rattle.wat_print_module.specs.Export.{fit_export}
-use Rattle.wat_print_module.specs.Export.{spell_export_type, fit_export_type}
-use Rattle.wat_print_module.specs.Item.{fit_sig, spell_sig_group}
+use Rattle.wat_print_module.specs.Export.{printable_export}
+use Rattle.wat_print_module.specs.Export.{spell_export_type, printable_export_type}
+use Rattle.wat_print_module.specs.Item.{printable_sig, spell_sig_group}
 use Rattle.wat_print.specs.Strings.{spell_string}
-use Rattle.wat_print_module.specs.Laws.Item.{sig_group_here, sig_group_neat, sig_group_only}
-use Rattle.wat_print.specs.Laws.Strings.{text_here, text_neat, text_only}
+use Rattle.wat_print_module.specs.Laws.Item.{sig_group_here, sig_group_well_formed, sig_group_only}
+use Rattle.wat_print.specs.Laws.Strings.{text_here, text_well_formed, text_only}
 use Rattle.wat_print_module.specs.Laws.Folded.{no_word}
 
 -- ---- kinds
@@ -38,24 +37,21 @@ use Rattle.wat_print_module.specs.Laws.Folded.{no_word}
 pub export_kind_here : (k : ExportKind) → Spells export_kind k (spell_export_kind k)
 unfolding export_kind
 export_kind_here code.Func r = (Keyword (codes "func"), refl, refl)
-export_kind_here code.Table r = (Keyword (codes "table"), refl, refl)
-export_kind_here code.Memory r = (Keyword (codes "memory"), refl, refl)
-export_kind_here code.Global r = (Keyword (codes "global"), refl, refl)
-export_kind_here code.Tag r = (Keyword (codes "tag"), refl, refl)
+export_kind_here k r = (Keyword (export_kind_word k), refl, refl)
 
-export_word_fit : (k : ExportKind) → is_keyword (export_kind_word k) ≡ true
-export_word_fit code.Func = refl
-export_word_fit _ = refl
+export_word_printable : (k : ExportKind) → is_keyword (export_kind_word k) ≡ true
+export_word_printable code.Func = refl
+export_word_printable _ = refl
 
-pub export_kind_neat : (k : ExportKind) → Neat (spell_export_kind k)
-export_kind_neat k = neat_one (Keyword (export_kind_word k)) (export_word_fit k)
+pub export_kind_well_formed : (k : ExportKind) → WellFormed (spell_export_kind k)
+export_kind_well_formed k = well_formed_one (Keyword (export_kind_word k)) (export_word_printable k)
 
 -- ---- exports
 
-pub export_here : (e : ExportTy) → fit_export e ≡ true → Spells export_ e (spell_export e)
+pub export_here : (e : ExportTy) → printable_export e ≡ true → Spells export_ e (spell_export e)
 unfolding export_
 export_here e f r =
-    let a = and_parts (is_utf8 e.name) (fit_index e.item) f in
+    let a = and_parts (is_utf8 e.name) (printable_index e.item) f in
     let i = spell_index e.item in
     let g = paren (seq export_kind index) in
     after_here (codes "export")
@@ -73,45 +69,46 @@ export_here e f r =
       refl,
     )
 
-pub export_neat : (e : ExportTy) → fit_export e ≡ true → Neat (spell_export e)
-export_neat e f =
-    let a = and_parts (is_utf8 e.name) (fit_index e.item) f in
+pub export_well_formed : (e : ExportTy) → printable_export e ≡ true → WellFormed (spell_export e)
+export_well_formed e f =
+    let a = and_parts (is_utf8 e.name) (printable_index e.item) f in
     let g = grouped (export_kind_word e.kind) (spell_index e.item) in
-    neat_word (codes "export") (String e.name ∷ g) refl
-    (neat_both (spell_string e.name) g (text_neat e.name a.0)
-    (neat_group (export_kind_word e.kind) (spell_index e.item) (export_word_fit e.kind)
-    (index_neat e.item a.1)))
+    well_formed_word (codes "export") (String e.name ∷ g) refl
+    (well_formed_both (spell_string e.name) g (text_well_formed e.name a.0)
+    (well_formed_group (export_kind_word e.kind) (spell_index e.item) (export_word_printable e.kind)
+    (index_well_formed e.item a.1)))
 
-pub export_only : OnlyFit export_ fit_export
+pub export_only : OnlyPrintable export_ printable_export
 unfolding export_
 export_only =
     only_after (codes "export")
-    (only_made (λ _. true) (λ v. export_of v.0 v.1.0 v.1.1) fit_export
-    (only_weaker (λ v. fit_export (export_of v.0 v.1.0 v.1.1)) (λ v h. h)
+    (only_made (λ _. true) (λ v. export_of v.0 v.1.0 v.1.1) printable_export
+    (only_weaker (λ v. printable_export (export_of v.0 v.1.0 v.1.1)) (λ v h. h)
     (only_seq text_only (only_paren (only_seq (only_any export_kind) index_only)))))
 
 -- ---- types of exports
 
 -- where no word follows
-pub export_type_here : (e : ExportTypeTy) (r : List Tok) → fit_export_type e ≡ true
+pub export_type_here : (e : ExportTypeTy) (r : List Tok) → printable_export_type e ≡ true
     → no_word r ≡ true → export_type.spells e (spell_export_type e) r
 unfolding export_type
 export_type_here e r f n =
-    let a = and_parts (is_utf8 e.0) (fit_sig e.1) f in
+    let a = and_parts (is_utf8 e.0) (printable_sig e.1) f in
     after_here (codes "export") (seq text sig_group) e
     (String e.0 ∷ spell_sig_group e.1) r refl
     (both_here text sig_group e.0 e.1 (spell_string e.0) (spell_sig_group e.1) r
     (text_here e.0 a.0 (spell_sig_group e.1 ++ r)) (sig_group_here e.1 r a.1 n))
 
-pub export_type_neat : (e : ExportTypeTy) → fit_export_type e ≡ true → Neat (spell_export_type e)
-export_type_neat e f =
-    let a = and_parts (is_utf8 e.0) (fit_sig e.1) f in
-    neat_word (codes "export") (String e.0 ∷ spell_sig_group e.1) refl
-    (neat_both (spell_string e.0) (spell_sig_group e.1) (text_neat e.0 a.0)
-    (sig_group_neat e.1 a.1))
+pub export_type_well_formed : (e : ExportTypeTy) → printable_export_type e ≡ true
+    → WellFormed (spell_export_type e)
+export_type_well_formed e f =
+    let a = and_parts (is_utf8 e.0) (printable_sig e.1) f in
+    well_formed_word (codes "export") (String e.0 ∷ spell_sig_group e.1) refl
+    (well_formed_both (spell_string e.0) (spell_sig_group e.1) (text_well_formed e.0 a.0)
+    (sig_group_well_formed e.1 a.1))
 
-pub export_type_only : OnlyFit export_type fit_export_type
+pub export_type_only : OnlyPrintable export_type printable_export_type
 unfolding export_type
 export_type_only =
-    only_after (codes "export") (only_weaker fit_export_type (λ v h. h)
+    only_after (codes "export") (only_weaker printable_export_type (λ v h. h)
     (only_seq text_only sig_group_only))

@@ -11,33 +11,34 @@ use Rattle.wat_core.specs.Field.{a_memory, a_global, an_export, a_start, an_elem
 use Rattle.wat_core.specs.Field.{a_custom, start, start_or_later_field, global_or_later_field}
 use Rattle.wat_core.specs.Field.{func_or_later_field, module_field}
 use Rattle.wat_core.specs.FieldGroup.{field_group}
-use Rattle.wat_print.specs.Index.{spell_index, fit_index}
-use Rattle.wat_print.specs.Neat.{Neat}
+use Rattle.wat_print.specs.Index.{spell_index, printable_index}
+use Rattle.wat_print.specs.WellFormed.{WellFormed}
 use Rattle.wat_print.specs.Parts.{each}
-use Rattle.wat_print.specs.Laws.Define.{type_here, type_neat, type_only, rec_here, rec_neat}
-use Rattle.wat_print.specs.Laws.Define.{rec_only}
-use Rattle.wat_print.specs.Laws.Only.{OnlyFit, only_where, only_paren, only_made, only_after}
-use Rattle.wat_print.specs.Laws.Parts.{Spells, paren_here, many_told, neat_word, neat_paren}
-use Rattle.wat_print.specs.Laws.Reference.{index_here, index_neat, index_only}
+use Rattle.wat_print.specs.Laws.Define.{type_here, type_well_formed, type_only, rec_here}
+use Rattle.wat_print.specs.Laws.Define.{rec_well_formed, rec_only}
+use Rattle.wat_print.specs.Laws.Only.{OnlyPrintable, only_where, only_paren, only_made, only_after}
+use Rattle.wat_print.specs.Laws.Parts.{Spells, paren_here, many_told, well_formed_word}
+use Rattle.wat_print.specs.Laws.Parts.{well_formed_paren}
+use Rattle.wat_print.specs.Laws.Reference.{index_here, index_well_formed, index_only}
 use Rattle.wat_print.specs.Laws.Define.{after_here}
 use Rattle.wat_print_module.specs.Custom.{spell_custom}
-use Rattle.wat_print_module.specs.Field.{spell_start, spell_module_field, fit_module_field}
+use Rattle.wat_print_module.specs.Field.{spell_start, spell_module_field, printable_module_field}
 use Rattle.wat_print_module.specs.Field.{spell_field_group}
-use Rattle.wat_print_module.specs.Laws.Custom.{custom_here, custom_neat, custom_only}
-use Rattle.wat_print_module.specs.Laws.Data.{data_here, data_neat, data_only}
-use Rattle.wat_print_module.specs.Laws.Elem.{elem_here, elem_neat, elem_only}
-use Rattle.wat_print_module.specs.Laws.Export.{export_here, export_neat, export_only}
+use Rattle.wat_print_module.specs.Laws.Custom.{custom_here, custom_well_formed, custom_only}
+use Rattle.wat_print_module.specs.Laws.Data.{data_here, data_well_formed, data_only}
+use Rattle.wat_print_module.specs.Laws.Elem.{elem_here, elem_well_formed, elem_only}
+use Rattle.wat_print_module.specs.Laws.Export.{export_here, export_well_formed, export_only}
 use Rattle.wat_print_module.specs.Laws.FieldHead.{EndsField}
 use Rattle.wat_print_module.specs.Laws.Body.{field_ends_expression}
-use Rattle.wat_print_module.specs.Laws.Func.{func_here, func_neat, func_only}
-use Rattle.wat_print_module.specs.Laws.Global.{global_field_here, global_field_neat}
+use Rattle.wat_print_module.specs.Laws.Func.{func_here, func_well_formed, func_only}
+use Rattle.wat_print_module.specs.Laws.Global.{global_field_here, global_field_well_formed}
 use Rattle.wat_print_module.specs.Laws.Global.{global_field_only}
-use Rattle.wat_print_module.specs.Laws.Import.{imports_here, imports_neat, imports_only}
-use Rattle.wat_print_module.specs.Laws.Memory.{memory_here, memory_neat, memory_only}
+use Rattle.wat_print_module.specs.Laws.Import.{imports_here, imports_well_formed, imports_only}
+use Rattle.wat_print_module.specs.Laws.Memory.{memory_here, memory_well_formed, memory_only}
 use Rattle.wat_print_module.specs.Laws.Folded.{no_word, not_a_word}
-use Rattle.wat_print_module.specs.Laws.Table.{table_here, table_neat}
+use Rattle.wat_print_module.specs.Laws.Table.{table_here, table_well_formed}
 use Rattle.wat_print_module.specs.Laws.TableOnly.{table_only}
-use Rattle.wat_print_module.specs.Laws.Tag.{tag_here, tag_neat, tag_only}
+use Rattle.wat_print_module.specs.Laws.Tag.{tag_here, tag_well_formed, tag_only}
 
 -- ---- the word in front tells the kinds apart
 
@@ -47,7 +48,7 @@ custom_front (raw v) w x = refl
 custom_front (produced fs) w x = refl
 custom_front (linked ss) w x = refl
 
-start_here : (i : Idx) → fit_index i ≡ true → Spells start i (spell_start i)
+start_here : (i : Idx) → printable_index i ≡ true → Spells start i (spell_start i)
 unfolding start
 start_here i f r = after_here (codes "start") index i (spell_index i) r refl (index_here i f r)
 
@@ -77,7 +78,7 @@ early f c r g e t s = inr (g, inr (e, inr (t, s)))
 field_shut : (x : List Tok) → no_word x ≡ true → EndsField (RParen ∷ x)
 field_shut x n = (refl, λ w. not_a_word w x n)
 
-first_in : (f : ModuleFieldTy) (x : List Tok) → fit_module_field f ≡ true → no_word x ≡ true
+first_in : (f : ModuleFieldTy) (x : List Tok) → printable_module_field f ≡ true → no_word x ≡ true
     → module_field.spells f (spell_module_field f) (RParen ∷ x)
 unfolding module_field func_or_later_field global_or_later_field start_or_later_field
 first_in (a_type t) x f n = inl (refl, (t, type_here t (RParen ∷ x) f refl, refl, refl))
@@ -171,84 +172,95 @@ first_in (a_custom v) x f n =
     ))))
 
 -- in front of what begins with no word
-pub field_group_here : (f : ModuleFieldTy) (x : List Tok) → fit_module_field f ≡ true
+pub field_group_here : (f : ModuleFieldTy) (x : List Tok) → printable_module_field f ≡ true
     → no_word x ≡ true → field_group.spells f (spell_field_group f) x
 field_group_here f x h n =
     paren_here module_field f (spell_module_field f) x (first_in f x h n)
 
-pub fields_here : (fs : List ModuleFieldTy) (r : List Tok) → each fit_module_field fs ≡ true
+pub fields_here : (fs : List ModuleFieldTy) (r : List Tok) → each printable_module_field fs ≡ true
     → no_word r ≡ true → more r ≡ false
     → many_spells more field_group fs (flat_map spell_field_group fs) r
 fields_here fs r f n e =
-    many_told more no_word field_group spell_field_group fit_module_field field_group_here
+    many_told more no_word field_group spell_field_group printable_module_field field_group_here
     (λ v x o. refl) (λ v x o. refl) fs r f n e
 
 -- ---- they can be written
 
-pub field_group_neat : (f : ModuleFieldTy) → fit_module_field f ≡ true → Neat (spell_field_group f)
-field_group_neat (a_type t) f = neat_paren (spell_module_field (a_type t)) (type_neat t f)
-field_group_neat (a_rec ts) f = neat_paren (spell_module_field (a_rec ts)) (rec_neat ts f)
-field_group_neat (an_import i) f = neat_paren (spell_module_field (an_import i)) (imports_neat i f)
-field_group_neat (a_func v) f = neat_paren (spell_module_field (a_func v)) (func_neat v f)
-field_group_neat (a_table v) f = neat_paren (spell_module_field (a_table v)) (table_neat v f)
-field_group_neat (a_memory v) f = neat_paren (spell_module_field (a_memory v)) (memory_neat v f)
-field_group_neat (a_global v) f =
-    neat_paren (spell_module_field (a_global v)) (global_field_neat v f)
-field_group_neat (an_export v) f = neat_paren (spell_module_field (an_export v)) (export_neat v f)
-field_group_neat (a_start i) f =
-    neat_paren (spell_module_field (a_start i))
-    (neat_word (codes "start") (spell_index i) refl (index_neat i f))
-field_group_neat (an_elem v) f = neat_paren (spell_module_field (an_elem v)) (elem_neat v f)
-field_group_neat (a_data v) f = neat_paren (spell_module_field (a_data v)) (data_neat v f)
-field_group_neat (a_tag v) f = neat_paren (spell_module_field (a_tag v)) (tag_neat v f)
-field_group_neat (a_custom v) f = custom_neat v f
+pub field_group_well_formed : (f : ModuleFieldTy) → printable_module_field f ≡ true
+    → WellFormed (spell_field_group f)
+field_group_well_formed (a_type t) f =
+    well_formed_paren (spell_module_field (a_type t)) (type_well_formed t f)
+field_group_well_formed (a_rec ts) f =
+    well_formed_paren (spell_module_field (a_rec ts)) (rec_well_formed ts f)
+field_group_well_formed (an_import i) f =
+    well_formed_paren (spell_module_field (an_import i)) (imports_well_formed i f)
+field_group_well_formed (a_func v) f =
+    well_formed_paren (spell_module_field (a_func v)) (func_well_formed v f)
+field_group_well_formed (a_table v) f =
+    well_formed_paren (spell_module_field (a_table v)) (table_well_formed v f)
+field_group_well_formed (a_memory v) f =
+    well_formed_paren (spell_module_field (a_memory v)) (memory_well_formed v f)
+field_group_well_formed (a_global v) f =
+    well_formed_paren (spell_module_field (a_global v)) (global_field_well_formed v f)
+field_group_well_formed (an_export v) f =
+    well_formed_paren (spell_module_field (an_export v)) (export_well_formed v f)
+field_group_well_formed (a_start i) f =
+    well_formed_paren (spell_module_field (a_start i))
+    (well_formed_word (codes "start") (spell_index i) refl (index_well_formed i f))
+field_group_well_formed (an_elem v) f =
+    well_formed_paren (spell_module_field (an_elem v)) (elem_well_formed v f)
+field_group_well_formed (a_data v) f =
+    well_formed_paren (spell_module_field (a_data v)) (data_well_formed v f)
+field_group_well_formed (a_tag v) f =
+    well_formed_paren (spell_module_field (a_tag v)) (tag_well_formed v f)
+field_group_well_formed (a_custom v) f = custom_well_formed v f
 
 -- ---- what a text spells can be written
 
-start_only : OnlyFit start fit_index
+start_only : OnlyPrintable start printable_index
 unfolding start
 start_only = only_after (codes "start") index_only
 
-late_only : OnlyFit start_or_later_field fit_module_field
+late_only : OnlyPrintable start_or_later_field printable_module_field
 unfolding start_or_later_field
 late_only =
     only_where (begins_word (codes "start"))
-    (only_made (λ _. true) a_start fit_module_field start_only)
+    (only_made (λ _. true) a_start printable_module_field start_only)
     (only_where (begins_word (codes "elem"))
-    (only_made (λ _. true) an_elem fit_module_field elem_only)
+    (only_made (λ _. true) an_elem printable_module_field elem_only)
     (only_where (begins_word (codes "data"))
-    (only_made (λ _. true) a_data fit_module_field data_only)
-    (only_made (λ _. true) a_custom fit_module_field custom_only)))
+    (only_made (λ _. true) a_data printable_module_field data_only)
+    (only_made (λ _. true) a_custom printable_module_field custom_only)))
 
-middle_only : OnlyFit global_or_later_field fit_module_field
+middle_only : OnlyPrintable global_or_later_field printable_module_field
 unfolding global_or_later_field
 middle_only =
     only_where (begins_word (codes "global"))
-    (only_made (λ _. true) a_global fit_module_field global_field_only)
+    (only_made (λ _. true) a_global printable_module_field global_field_only)
     (only_where (begins_word (codes "export"))
-    (only_made (λ _. true) an_export fit_module_field export_only)
+    (only_made (λ _. true) an_export printable_module_field export_only)
     (only_where (begins_word (codes "tag"))
-    (only_made (λ _. true) a_tag fit_module_field tag_only) late_only))
+    (only_made (λ _. true) a_tag printable_module_field tag_only) late_only))
 
-early_only : OnlyFit func_or_later_field fit_module_field
+early_only : OnlyPrintable func_or_later_field printable_module_field
 unfolding func_or_later_field
 early_only =
     only_where (begins_word (codes "func"))
-    (only_made (λ _. true) a_func fit_module_field func_only)
+    (only_made (λ _. true) a_func printable_module_field func_only)
     (only_where (begins_word (codes "table"))
-    (only_made (λ _. true) a_table fit_module_field table_only)
+    (only_made (λ _. true) a_table printable_module_field table_only)
     (only_where (begins_word (codes "memory"))
-    (only_made (λ _. true) a_memory fit_module_field memory_only) middle_only))
+    (only_made (λ _. true) a_memory printable_module_field memory_only) middle_only))
 
-pub module_field_only : OnlyFit module_field fit_module_field
+pub module_field_only : OnlyPrintable module_field printable_module_field
 unfolding module_field
 module_field_only =
     only_where (begins_word (codes "type"))
-    (only_made (λ _. true) a_type fit_module_field type_only)
+    (only_made (λ _. true) a_type printable_module_field type_only)
     (only_where (begins_word (codes "rec"))
-    (only_made (λ _. true) a_rec fit_module_field rec_only)
+    (only_made (λ _. true) a_rec printable_module_field rec_only)
     (only_where (begins_word (codes "import"))
-    (only_made (λ _. true) an_import fit_module_field imports_only) early_only))
+    (only_made (λ _. true) an_import printable_module_field imports_only) early_only))
 
-pub field_group_only : OnlyFit field_group fit_module_field
+pub field_group_only : OnlyPrintable field_group printable_module_field
 field_group_only = only_paren module_field_only

@@ -13,16 +13,16 @@ use Rattle.wat_links.specs.FieldHead.{FieldHeadTy, field_head, head}
 use Rattle.wat_links.specs.Import.{inline_import}
 use Rattle.wat_links.specs.InlineName.{inline_name}
 use Rattle.wat_links.specs.Laws.Export.{inline_name_consumes}
-use Rattle.wat_print.specs.Label.{spell_label, fit_label}
-use Rattle.wat_print.specs.Neat.{Neat}
-use Rattle.wat_print.specs.Laws.Label.{label_here, label_neat, label_only}
-use Rattle.wat_print.specs.Laws.Only.{OnlyFit, only_many, only_seq, only_made, only_group}
-use Rattle.wat_print.specs.Laws.Parts.{Spells, group_here, many_here, neat_both}
-use Rattle.wat_print.specs.Laws.Parts.{neat_group, neat_each}
-use Rattle.wat_print.specs.Laws.Strings.{text_here, text_neat, text_only}
+use Rattle.wat_print.specs.Label.{spell_label, printable_label}
+use Rattle.wat_print.specs.WellFormed.{WellFormed}
+use Rattle.wat_print.specs.Laws.Label.{label_here, label_well_formed, label_only}
+use Rattle.wat_print.specs.Laws.Only.{OnlyPrintable, only_many, only_seq, only_made, only_group}
+use Rattle.wat_print.specs.Laws.Parts.{Spells, group_here, many_here, well_formed_both}
+use Rattle.wat_print.specs.Laws.Parts.{well_formed_group, well_formed_each}
+use Rattle.wat_print.specs.Laws.Strings.{text_here, text_well_formed, text_only}
 use Rattle.wat_print_module.specs.FieldHead.{spell_inline_name, spell_inline_export}
-use Rattle.wat_print_module.specs.FieldHead.{fit_inline_export, spell_inline_import}
-use Rattle.wat_print_module.specs.FieldHead.{fit_inline_import, spell_head, fit_head}
+use Rattle.wat_print_module.specs.FieldHead.{printable_inline_export, spell_inline_import}
+use Rattle.wat_print_module.specs.FieldHead.{printable_inline_import, spell_head, printable_head}
 
 -- ---- exports in line
 
@@ -31,27 +31,27 @@ unfolding inline_name
 inline_name_here n h r =
     group_here (codes "export") text n (String n ∷ []) r refl (text_here n h (RParen ∷ r))
 
-pub inline_export_here : (ns : List (List ℕ)) (r : List Tok) → fit_inline_export ns ≡ true
+pub inline_export_here : (ns : List (List ℕ)) (r : List Tok) → printable_inline_export ns ≡ true
     → begins_inline_export r ≡ false → inline_export.spells ns (spell_inline_export ns) r
 unfolding inline_export
 inline_export_here ns r f e =
     many_here begins_inline_export inline_name spell_inline_name is_utf8 inline_name_here
     (λ n x h. refl) ns r f e
 
-pub inline_export_neat : (ns : List (List ℕ)) → fit_inline_export ns ≡ true
-    → Neat (spell_inline_export ns)
-inline_export_neat ns f =
-    neat_each spell_inline_name is_utf8
-    (λ n h. (neat_group (codes "export") (String n ∷ []) refl (text_neat n h))) ns f
+pub inline_export_well_formed : (ns : List (List ℕ)) → printable_inline_export ns ≡ true
+    → WellFormed (spell_inline_export ns)
+inline_export_well_formed ns f =
+    well_formed_each spell_inline_name is_utf8
+    (λ n h. (well_formed_group (codes "export") (String n ∷ []) refl (text_well_formed n h))) ns f
 
-pub inline_export_only : OnlyFit inline_export fit_inline_export
+pub inline_export_only : OnlyPrintable inline_export printable_inline_export
 unfolding inline_export inline_name
 inline_export_only =
     only_many begins_inline_export inline_name_consumes (only_group (codes "export") text_only)
 
 -- ---- imports in line
 
-pub inline_import_here : (i : List ℕ × List ℕ) → fit_inline_import i ≡ true
+pub inline_import_here : (i : List ℕ × List ℕ) → printable_inline_import i ≡ true
     → Spells inline_import i (spell_inline_import i)
 unfolding inline_import
 inline_import_here i f r =
@@ -64,14 +64,15 @@ inline_import_here i f r =
       text_here i.1 a.1 (RParen ∷ r),
     )
 
-pub inline_import_neat : (i : List ℕ × List ℕ) → fit_inline_import i ≡ true
-    → Neat (spell_inline_import i)
-inline_import_neat i f =
+pub inline_import_well_formed : (i : List ℕ × List ℕ) → printable_inline_import i ≡ true
+    → WellFormed (spell_inline_import i)
+inline_import_well_formed i f =
     let a = and_parts (is_utf8 i.0) (is_utf8 i.1) f in
-    neat_group (codes "import") (String i.0 ∷ String i.1 ∷ []) refl
-    (neat_both (String i.0 ∷ []) (String i.1 ∷ []) (text_neat i.0 a.0) (text_neat i.1 a.1))
+    well_formed_group (codes "import") (String i.0 ∷ String i.1 ∷ []) refl
+    (well_formed_both (String i.0 ∷ []) (String i.1 ∷ []) (text_well_formed i.0 a.0)
+    (text_well_formed i.1 a.1))
 
-pub inline_import_only : OnlyFit inline_import fit_inline_import
+pub inline_import_only : OnlyPrintable inline_import printable_inline_import
 unfolding inline_import
 inline_import_only = only_group (codes "import") (only_seq text_only text_only)
 
@@ -92,11 +93,11 @@ exports_no_name : (ns : List (List ℕ)) (r : List Tok) → begins_name r ≡ fa
 exports_no_name [] r e = e
 exports_no_name (n ∷ ns) r e = refl
 
-pub head_here : (h : FieldHeadTy) (r : List Tok) → fit_head h ≡ true → EndsHead r
+pub head_here : (h : FieldHeadTy) (r : List Tok) → printable_head h ≡ true → EndsHead r
     → head.spells h (spell_head h) r
 unfolding head
 head_here h r f e =
-    let a = and_parts (fit_label h.label) (fit_inline_export h.exports) f in
+    let a = and_parts (printable_label h.label) (printable_inline_export h.exports) f in
     let x = spell_inline_export h.exports in (
       (h.label, h.exports),
       (
@@ -111,16 +112,17 @@ head_here h r f e =
       refl,
     )
 
-pub head_neat : (h : FieldHeadTy) → fit_head h ≡ true → Neat (spell_head h)
-head_neat h f =
-    let a = and_parts (fit_label h.label) (fit_inline_export h.exports) f in
-    neat_both (spell_label h.label) (spell_inline_export h.exports) (label_neat h.label a.0)
-    (inline_export_neat h.exports a.1)
+pub head_well_formed : (h : FieldHeadTy) → printable_head h ≡ true → WellFormed (spell_head h)
+head_well_formed h f =
+    let a = and_parts (printable_label h.label) (printable_inline_export h.exports) f in
+    well_formed_both (spell_label h.label) (spell_inline_export h.exports)
+    (label_well_formed h.label a.0)
+    (inline_export_well_formed h.exports a.1)
 
-pub head_only : OnlyFit head fit_head
+pub head_only : OnlyPrintable head printable_head
 unfolding head
 head_only =
-    only_made (λ _. true) (λ v. field_head v.0 v.1) fit_head
+    only_made (λ _. true) (λ v. field_head v.0 v.1) printable_head
     (only_seq label_only inline_export_only)
 
 -- ---- what may follow a field

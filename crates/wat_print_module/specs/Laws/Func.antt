@@ -19,30 +19,32 @@ use Rattle.wat_fields.specs.Func.{FuncKindTy, imported, inline, FuncUse, FuncFie
 use Rattle.wat_fields.specs.Func.{func_of, exact_use, func_import, func_inline, func_defined, func}
 use Rattle.wat_fields.specs.Local.{LocalTy}
 use Rattle.wat_fields.specs.Locals.{locals}
-use Rattle.wat_print.specs.Neat.{Neat}
-use Rattle.wat_print.specs.Use.{spell_use, fit_use}
-use Rattle.wat_print.specs.Laws.Only.{OnlyFit, only_where, only_seq, only_made, only_weaker}
+use Rattle.wat_print.specs.WellFormed.{WellFormed}
+use Rattle.wat_print.specs.Use.{spell_use, printable_use}
+use Rattle.wat_print.specs.Laws.Only.{OnlyPrintable, only_where, only_seq, only_made, only_weaker}
 use Rattle.wat_print.specs.Laws.Only.{only_group, only_after}
-use Rattle.wat_print.specs.Laws.Parts.{group_here, neat_word, neat_group, neat_both}
-use Rattle.wat_print.specs.Laws.Use.{EndsUse, use_here, use_neat, use_only}
+use Rattle.wat_print.specs.Laws.Parts.{group_here, well_formed_word, well_formed_group}
+use Rattle.wat_print.specs.Laws.Parts.{well_formed_both}
+use Rattle.wat_print.specs.Laws.Use.{EndsUse, use_here, use_well_formed, use_only}
 use Rattle.wat_print.specs.Laws.Define.{after_here}
-use Rattle.wat_print_instr.specs.ExpressionForm.{spell_expression, fit_expression}
+use Rattle.wat_print_instr.specs.ExpressionForm.{spell_expression, printable_expression}
 use Rattle.wat_print_instr.specs.Laws.Expression.{OnWords, OnHints, expression_first}
-use Rattle.wat_print_instr.specs.Laws.Expression.{expression_no_type, expression_closed, expression_neat}
+use Rattle.wat_print_instr.specs.Laws.Expression.{expression_no_type, expression_closed}
+use Rattle.wat_print_instr.specs.Laws.Expression.{expression_well_formed}
 use Rattle.wat_print_instr.specs.Laws.ExpressionOnly.{expression_only}
 use Rattle.wat_print_instr.specs.Laws.Places.{both_here}
-use Rattle.wat_print_module.specs.FieldHead.{spell_inline_import, fit_inline_import, spell_head}
-use Rattle.wat_print_module.specs.FieldHead.{fit_head}
-use Rattle.wat_print_module.specs.Func.{spell_exact_use, spell_defined_func, fit_func_kind}
-use Rattle.wat_print_module.specs.Func.{fit_defined_func, spell_func, fit_func}
-use Rattle.wat_print_module.specs.Local.{spell_locals, fit_locals}
+use Rattle.wat_print_module.specs.FieldHead.{spell_inline_import, printable_inline_import}
+use Rattle.wat_print_module.specs.FieldHead.{spell_head, printable_head}
+use Rattle.wat_print_module.specs.Func.{spell_exact_use, spell_defined_func, printable_func_kind}
+use Rattle.wat_print_module.specs.Func.{printable_defined_func, spell_func, printable_func}
+use Rattle.wat_print_module.specs.Local.{spell_locals, printable_locals}
 use Rattle.wat_print_module.specs.Laws.Body.{field_ends_expression, expression_no_local}
-use Rattle.wat_print_module.specs.Laws.FieldHead.{EndsField, EndsHead, head_here, head_neat}
+use Rattle.wat_print_module.specs.Laws.FieldHead.{EndsField, EndsHead, head_here, head_well_formed}
 use Rattle.wat_print_module.specs.Laws.FieldHead.{head_only, inline_import_here}
-use Rattle.wat_print_module.specs.Laws.FieldHead.{inline_import_neat, inline_import_only}
+use Rattle.wat_print_module.specs.Laws.FieldHead.{inline_import_well_formed, inline_import_only}
 use Rattle.wat_print_module.specs.Laws.Fronts.{OnGroup, OnUses, no_export, no_import_word}
 use Rattle.wat_print_module.specs.Laws.Fronts.{use_first, use_alone_first, locals_first}
-use Rattle.wat_print_module.specs.Laws.Local.{locals_here, locals_neat, locals_only}
+use Rattle.wat_print_module.specs.Laws.Local.{locals_here, locals_well_formed, locals_only}
 
 -- ---- type uses, exact or not
 
@@ -60,7 +62,7 @@ group_ends_use r e =
     λ w. fails_at_end (begins_word w) refl (λ x. refl) r e.0 in
     (n (codes "type"), refl, rw (n (codes "param"), n (codes "result")) refl)
 
-exact_here : (u : FuncUse) (b : Bool) (r : List Tok) → fit_use u ≡ true → EndsField r
+exact_here : (u : FuncUse) (b : Bool) (r : List Tok) → printable_use u ≡ true → EndsField r
     → exact_use.spells (u, b) (spell_exact_use u b) r
 unfolding exact_use
 exact_here u true r f e =
@@ -81,9 +83,11 @@ exact_here u false r f e =
       (u, use_here u r f (field_ends_use r e), refl, refl),
     )
 
-exact_neat : (u : FuncUse) (b : Bool) → fit_use u ≡ true → Neat (spell_exact_use u b)
-exact_neat u true f = neat_group (codes "exact") (spell_use u) refl (use_neat u f)
-exact_neat u false f = use_neat u f
+exact_well_formed : (u : FuncUse) (b : Bool) → printable_use u ≡ true
+    → WellFormed (spell_exact_use u b)
+exact_well_formed u true f =
+    well_formed_group (codes "exact") (spell_use u) refl (use_well_formed u f)
+exact_well_formed u false f = use_well_formed u f
 
 -- ---- a type, locals and a body
 
@@ -109,8 +113,8 @@ body_ends_use ls e r k =
       locals_first group_follows (λ y. refl) ls (spell_expression e) r (rw (n.1, n.2) refl),
     )
 
-body_here : (u : FuncUse) (ls : List LocalTy) (e : Expr) (r : List Tok) → fit_use u ≡ true
-    → fit_locals ls ≡ true → fit_expression e ≡ true → EndsField r
+body_here : (u : FuncUse) (ls : List LocalTy) (e : Expr) (r : List Tok) → printable_use u ≡ true
+    → printable_locals ls ≡ true → printable_expression e ≡ true → EndsField r
     → func_inline.spells (u, inline ls e) (spell_defined_func (u, inline ls e)) r
 unfolding func_inline
 body_here u ls e r f g h k =
@@ -127,11 +131,11 @@ body_here u ls e r f g h k =
 
 -- ---- how a function is defined
 
-defined_here : (u : FuncUse) (k : FuncKindTy) (r : List Tok) → fit_defined_func (u, k) ≡ true
+defined_here : (u : FuncUse) (k : FuncKindTy) (r : List Tok) → printable_defined_func (u, k) ≡ true
     → EndsField r → func_defined.spells (u, k) (spell_defined_func (u, k)) r
 unfolding func_defined func_import
 defined_here u (imported i b) r f e =
-    let a = and_parts (fit_use u) (fit_inline_import i) f in
+    let a = and_parts (printable_use u) (printable_inline_import i) f in
     inl (
       refl,
       (
@@ -143,8 +147,8 @@ defined_here u (imported i b) r f e =
       ),
     )
 defined_here u (inline ls x) r f e =
-    let a = and_parts (fit_use u) (fit_func_kind (inline ls x)) f in
-    let b = and_parts (fit_locals ls) (fit_expression x) a.1 in
+    let a = and_parts (printable_use u) (printable_func_kind (inline ls x)) f in
+    let b = and_parts (printable_locals ls) (printable_expression x) a.1 in
     inr (
       body_first begins_inline_import (
         (
@@ -179,26 +183,26 @@ defined_ends_head u (inline ls x) r e = (
   ) u ls x r (fails_at_end begins_inline_export refl (λ y. refl) r e.0),
 )
 
-defined_neat : (u : FuncUse) (k : FuncKindTy) → fit_defined_func (u, k) ≡ true
-    → Neat (spell_defined_func (u, k))
-defined_neat u (imported i b) f =
-    let a = and_parts (fit_use u) (fit_inline_import i) f in
-    neat_both (spell_inline_import i) (spell_exact_use u b) (inline_import_neat i a.1)
-    (exact_neat u b a.0)
-defined_neat u (inline ls x) f =
-    let a = and_parts (fit_use u) (fit_func_kind (inline ls x)) f in
-    let b = and_parts (fit_locals ls) (fit_expression x) a.1 in
-    neat_both (spell_use u) (spell_locals ls ++ spell_expression x) (use_neat u a.0)
-    (neat_both (spell_locals ls) (spell_expression x) (locals_neat ls b.0)
-    (expression_neat x b.1))
+defined_well_formed : (u : FuncUse) (k : FuncKindTy) → printable_defined_func (u, k) ≡ true
+    → WellFormed (spell_defined_func (u, k))
+defined_well_formed u (imported i b) f =
+    let a = and_parts (printable_use u) (printable_inline_import i) f in
+    well_formed_both (spell_inline_import i) (spell_exact_use u b) (inline_import_well_formed i a.1)
+    (exact_well_formed u b a.0)
+defined_well_formed u (inline ls x) f =
+    let a = and_parts (printable_use u) (printable_func_kind (inline ls x)) f in
+    let b = and_parts (printable_locals ls) (printable_expression x) a.1 in
+    well_formed_both (spell_use u) (spell_locals ls ++ spell_expression x) (use_well_formed u a.0)
+    (well_formed_both (spell_locals ls) (spell_expression x) (locals_well_formed ls b.0)
+    (expression_well_formed x b.1))
 
 -- ---- functions
 
-pub func_here : (f : FuncFieldTy) (r : List Tok) → fit_func f ≡ true → EndsField r
+pub func_here : (f : FuncFieldTy) (r : List Tok) → printable_func f ≡ true → EndsField r
     → func.spells f (spell_func f) r
 unfolding func
 func_here f r h e =
-    let a = and_parts (fit_head f.head) (fit_defined_func (f.ty, f.kind)) h in
+    let a = and_parts (printable_head f.head) (printable_defined_func (f.ty, f.kind)) h in
     let c = spell_defined_func (f.ty, f.kind) in
     after_here (codes "func") (made (λ v. func_of v.0 v.1) (seq head func_defined)) f
     (spell_head f.head ++ c) r refl (
@@ -210,43 +214,45 @@ func_here f r h e =
       refl,
     )
 
-pub func_neat : (f : FuncFieldTy) → fit_func f ≡ true → Neat (spell_func f)
-func_neat f h =
-    let a = and_parts (fit_head f.head) (fit_defined_func (f.ty, f.kind)) h in
+pub func_well_formed : (f : FuncFieldTy) → printable_func f ≡ true → WellFormed (spell_func f)
+func_well_formed f h =
+    let a = and_parts (printable_head f.head) (printable_defined_func (f.ty, f.kind)) h in
     let c = spell_defined_func (f.ty, f.kind) in
-    neat_word (codes "func") (spell_head f.head ++ c) refl
-    (neat_both (spell_head f.head) c (head_neat f.head a.0) (defined_neat f.ty f.kind a.1))
+    well_formed_word (codes "func") (spell_head f.head ++ c) refl
+    (well_formed_both (spell_head f.head) c (head_well_formed f.head a.0)
+    (defined_well_formed f.ty f.kind a.1))
 
 -- ---- what a text spells can be written
 
-exact_only : OnlyFit exact_use (λ v. fit_use v.0)
+exact_only : OnlyPrintable exact_use (λ v. printable_use v.0)
 unfolding exact_use
 exact_only =
     only_where (second (begins_word (codes "exact")))
-    (only_made (λ _. true) (λ u. (u, true)) (λ v. fit_use v.0)
+    (only_made (λ _. true) (λ u. (u, true)) (λ v. printable_use v.0)
     (only_group (codes "exact") use_only))
-    (only_made (λ _. true) (λ u. (u, false)) (λ v. fit_use v.0) use_only)
+    (only_made (λ _. true) (λ u. (u, false)) (λ v. printable_use v.0) use_only)
 
-import_fit : (v : (List ℕ × List ℕ) × (FuncUse × Bool))
-    → fit_inline_import v.0 && fit_use v.1.0 ≡ true
-    → fit_defined_func (v.1.0, imported v.0 v.1.1) ≡ true
-import_fit v h =
-    let a = and_parts (fit_inline_import v.0) (fit_use v.1.0) h in
+import_printable : (v : (List ℕ × List ℕ) × (FuncUse × Bool))
+    → printable_inline_import v.0 && printable_use v.1.0 ≡ true
+    → printable_defined_func (v.1.0, imported v.0 v.1.1) ≡ true
+import_printable v h =
+    let a = and_parts (printable_inline_import v.0) (printable_use v.1.0) h in
     rw (a.0, a.1) refl
 
-defined_only : OnlyFit func_defined fit_defined_func
+defined_only : OnlyPrintable func_defined printable_defined_func
 unfolding func_defined func_import func_inline
 defined_only =
     only_where begins_inline_import
-    (only_made (λ _. true) (λ v. (v.1.0, imported v.0 v.1.1)) fit_defined_func
-    (only_weaker (λ v. fit_defined_func (v.1.0, imported v.0 v.1.1)) import_fit
+    (only_made (λ _. true) (λ v. (v.1.0, imported v.0 v.1.1)) printable_defined_func
+    (only_weaker (λ v. printable_defined_func (v.1.0, imported v.0 v.1.1)) import_printable
     (only_seq inline_import_only exact_only)))
-    (only_made (λ _. true) (λ v. (v.0, inline v.1.0 v.1.1)) fit_defined_func
-    (only_weaker (λ v. fit_defined_func (v.0, inline v.1.0 v.1.1)) (λ v h. h)
+    (only_made (λ _. true) (λ v. (v.0, inline v.1.0 v.1.1)) printable_defined_func
+    (only_weaker (λ v. printable_defined_func (v.0, inline v.1.0 v.1.1)) (λ v h. h)
     (only_seq use_only (only_seq locals_only expression_only))))
 
-pub func_only : OnlyFit func fit_func
+pub func_only : OnlyPrintable func printable_func
 unfolding func
 func_only =
-    only_after (codes "func") (only_made (λ _. true) (λ v. func_of v.0 v.1) fit_func
-    (only_weaker (λ v. fit_func (func_of v.0 v.1)) (λ v h. h) (only_seq head_only defined_only)))
+    only_after (codes "func") (only_made (λ _. true) (λ v. func_of v.0 v.1) printable_func
+    (only_weaker (λ v. printable_func (func_of v.0 v.1)) (λ v h. h)
+    (only_seq head_only defined_only)))

@@ -14,26 +14,27 @@ use Rattle.wat_expr.specs.ExpressionProduction.{expression}
 use Rattle.wat_expr.specs.Expression.{Expr}
 use Rattle.wat_fields.specs.Global.{GlobalKindTy, imported, inline, GlobalFieldTy}
 use Rattle.wat_fields.specs.Global.{global_of, global_defined, global}
-use Rattle.wat_print.specs.Neat.{Neat}
-use Rattle.wat_print.specs.Storage.{spell_global, fit_global}
-use Rattle.wat_print.specs.Laws.Only.{OnlyFit, only_where, only_seq, only_made, only_weaker}
+use Rattle.wat_print.specs.WellFormed.{WellFormed}
+use Rattle.wat_print.specs.Storage.{spell_global, printable_global}
+use Rattle.wat_print.specs.Laws.Only.{OnlyPrintable, only_where, only_seq, only_made, only_weaker}
 use Rattle.wat_print.specs.Laws.Only.{only_after}
-use Rattle.wat_print.specs.Laws.Parts.{neat_word, neat_both}
-use Rattle.wat_print.specs.Laws.Storage.{EndsGlobal, global_here, global_neat, global_only}
+use Rattle.wat_print.specs.Laws.Parts.{well_formed_word, well_formed_both}
+use Rattle.wat_print.specs.Laws.Storage.{EndsGlobal, global_here, global_well_formed, global_only}
 use Rattle.wat_print.specs.Laws.Define.{after_here}
-use Rattle.wat_print_instr.specs.ExpressionForm.{spell_expression, fit_expression}
-use Rattle.wat_print_instr.specs.Laws.Expression.{expression_first, expression_closed, expression_neat}
-use Rattle.wat_print_instr.specs.Laws.Expression.{no_word_at_end, word_unsought}
+use Rattle.wat_print_instr.specs.ExpressionForm.{spell_expression, printable_expression}
+use Rattle.wat_print_instr.specs.Laws.Expression.{expression_first, expression_closed}
+use Rattle.wat_print_instr.specs.Laws.Expression.{expression_well_formed, no_word_at_end}
+use Rattle.wat_print_instr.specs.Laws.Expression.{word_unsought}
 use Rattle.wat_print_instr.specs.Laws.ExpressionOnly.{expression_only}
 use Rattle.wat_print_instr.specs.Laws.Places.{both_here}
-use Rattle.wat_print_module.specs.FieldHead.{spell_inline_import, fit_inline_import, spell_head}
-use Rattle.wat_print_module.specs.FieldHead.{fit_head}
-use Rattle.wat_print_module.specs.Global.{spell_defined_global, fit_defined_global}
-use Rattle.wat_print_module.specs.Global.{spell_global_field, fit_global_field}
+use Rattle.wat_print_module.specs.FieldHead.{spell_inline_import, printable_inline_import}
+use Rattle.wat_print_module.specs.FieldHead.{spell_head, printable_head}
+use Rattle.wat_print_module.specs.Global.{spell_defined_global, printable_defined_global}
+use Rattle.wat_print_module.specs.Global.{spell_global_field, printable_global_field}
 use Rattle.wat_print_module.specs.Laws.Body.{field_ends_expression}
-use Rattle.wat_print_module.specs.Laws.FieldHead.{EndsField, EndsHead, head_here, head_neat}
+use Rattle.wat_print_module.specs.Laws.FieldHead.{EndsField, EndsHead, head_here, head_well_formed}
 use Rattle.wat_print_module.specs.Laws.FieldHead.{head_only, inline_import_here}
-use Rattle.wat_print_module.specs.Laws.FieldHead.{inline_import_neat, inline_import_only}
+use Rattle.wat_print_module.specs.Laws.FieldHead.{inline_import_well_formed, inline_import_only}
 use Rattle.wat_print_module.specs.Laws.Fronts.{OnGlobals, global_first, no_export, no_import_word}
 
 -- ---- how a global is defined
@@ -56,11 +57,11 @@ typed_first test f t e r =
     (global_first test f t (spell_expression e ++ r))
 
 defined_here : (t : GlobalTy) (k : GlobalKindTy) (r : List Tok)
-    → fit_defined_global (t, k) ≡ true → EndsField r
+    → printable_defined_global (t, k) ≡ true → EndsField r
     → global_defined.spells (t, k) (spell_defined_global (t, k)) r
 unfolding global_defined
 defined_here t (imported i) r f e =
-    let a = and_parts (fit_global t) (fit_inline_import i) f in
+    let a = and_parts (printable_global t) (printable_inline_import i) f in
     inl (
       refl,
       (
@@ -74,7 +75,7 @@ defined_here t (imported i) r f e =
       ),
     )
 defined_here t (inline x) r f e =
-    let a = and_parts (fit_global t) (fit_expression x) f in
+    let a = and_parts (printable_global t) (printable_expression x) f in
     inr (
       typed_first begins_inline_import (
         λ k y. refl,
@@ -106,23 +107,24 @@ defined_ends_head t (inline x) r = (
   ) t x r,
 )
 
-defined_neat : (t : GlobalTy) (k : GlobalKindTy) → fit_defined_global (t, k) ≡ true
-    → Neat (spell_defined_global (t, k))
-defined_neat t (imported i) f =
-    let a = and_parts (fit_global t) (fit_inline_import i) f in
-    neat_both (spell_inline_import i) (spell_global t) (inline_import_neat i a.1)
-    (global_neat t a.0)
-defined_neat t (inline x) f =
-    let a = and_parts (fit_global t) (fit_expression x) f in
-    neat_both (spell_global t) (spell_expression x) (global_neat t a.0) (expression_neat x a.1)
+defined_well_formed : (t : GlobalTy) (k : GlobalKindTy) → printable_defined_global (t, k) ≡ true
+    → WellFormed (spell_defined_global (t, k))
+defined_well_formed t (imported i) f =
+    let a = and_parts (printable_global t) (printable_inline_import i) f in
+    well_formed_both (spell_inline_import i) (spell_global t) (inline_import_well_formed i a.1)
+    (global_well_formed t a.0)
+defined_well_formed t (inline x) f =
+    let a = and_parts (printable_global t) (printable_expression x) f in
+    well_formed_both (spell_global t) (spell_expression x) (global_well_formed t a.0)
+    (expression_well_formed x a.1)
 
 -- ---- globals
 
-pub global_field_here : (g : GlobalFieldTy) (r : List Tok) → fit_global_field g ≡ true
+pub global_field_here : (g : GlobalFieldTy) (r : List Tok) → printable_global_field g ≡ true
     → EndsField r → global.spells g (spell_global_field g) r
 unfolding global
 global_field_here g r f e =
-    let a = and_parts (fit_head g.head) (fit_defined_global (g.ty, g.kind)) f in
+    let a = and_parts (printable_head g.head) (printable_defined_global (g.ty, g.kind)) f in
     let c = spell_defined_global (g.ty, g.kind) in
     after_here (codes "global") (made (λ v. global_of v.0 v.1) (seq head global_defined)) g
     (spell_head g.head ++ c) r refl (
@@ -134,37 +136,39 @@ global_field_here g r f e =
       refl,
     )
 
-pub global_field_neat : (g : GlobalFieldTy) → fit_global_field g ≡ true
-    → Neat (spell_global_field g)
-global_field_neat g f =
-    let a = and_parts (fit_head g.head) (fit_defined_global (g.ty, g.kind)) f in
+pub global_field_well_formed : (g : GlobalFieldTy) → printable_global_field g ≡ true
+    → WellFormed (spell_global_field g)
+global_field_well_formed g f =
+    let a = and_parts (printable_head g.head) (printable_defined_global (g.ty, g.kind)) f in
     let c = spell_defined_global (g.ty, g.kind) in
-    neat_word (codes "global") (spell_head g.head ++ c) refl
-    (neat_both (spell_head g.head) c (head_neat g.head a.0) (defined_neat g.ty g.kind a.1))
+    well_formed_word (codes "global") (spell_head g.head ++ c) refl
+    (well_formed_both (spell_head g.head) c (head_well_formed g.head a.0)
+    (defined_well_formed g.ty g.kind a.1))
 
 -- ---- what a text spells can be written
 
-import_fit : (v : (List ℕ × List ℕ) × GlobalTy)
-    → fit_inline_import v.0 && fit_global v.1 ≡ true
-    → fit_defined_global (v.1, imported v.0) ≡ true
-import_fit v h =
-    let a = and_parts (fit_inline_import v.0) (fit_global v.1) h in
+import_printable : (v : (List ℕ × List ℕ) × GlobalTy)
+    → printable_inline_import v.0 && printable_global v.1 ≡ true
+    → printable_defined_global (v.1, imported v.0) ≡ true
+import_printable v h =
+    let a = and_parts (printable_inline_import v.0) (printable_global v.1) h in
     rw (a.0, a.1) refl
 
-defined_only : OnlyFit global_defined fit_defined_global
+defined_only : OnlyPrintable global_defined printable_defined_global
 unfolding global_defined
 defined_only =
     only_where begins_inline_import
-    (only_made (λ _. true) (λ v. (v.1, imported v.0)) fit_defined_global
-    (only_weaker (λ v. fit_defined_global (v.1, imported v.0)) import_fit
+    (only_made (λ _. true) (λ v. (v.1, imported v.0)) printable_defined_global
+    (only_weaker (λ v. printable_defined_global (v.1, imported v.0)) import_printable
     (only_seq inline_import_only global_only)))
-    (only_made (λ _. true) (λ v. (v.0, inline v.1)) fit_defined_global
-    (only_weaker (λ v. fit_defined_global (v.0, inline v.1)) (λ v h. h)
+    (only_made (λ _. true) (λ v. (v.0, inline v.1)) printable_defined_global
+    (only_weaker (λ v. printable_defined_global (v.0, inline v.1)) (λ v h. h)
     (only_seq global_only expression_only)))
 
-pub global_field_only : OnlyFit global fit_global_field
+pub global_field_only : OnlyPrintable global printable_global_field
 unfolding global
 global_field_only =
-    only_after (codes "global") (only_made (λ _. true) (λ v. global_of v.0 v.1) fit_global_field
-    (only_weaker (λ v. fit_global_field (global_of v.0 v.1)) (λ v h. h)
+    only_after (codes "global")
+    (only_made (λ _. true) (λ v. global_of v.0 v.1) printable_global_field
+    (only_weaker (λ v. printable_global_field (global_of v.0 v.1)) (λ v h. h)
     (only_seq head_only defined_only)))

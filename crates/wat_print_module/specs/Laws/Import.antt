@@ -13,37 +13,37 @@ use Rattle.wat_links.specs.Import.{ItemsTy, single, group1, group2, ImportsTy, i
 use Rattle.wat_links.specs.Import.{item_follows, shared_sig, single_item, typed_list, named_list}
 use Rattle.wat_links.specs.Import.{typed_items, named_items, typed, import_choice}
 use Rattle.wat_links.specs.ImportItem.{sig_group, typed_item, named_item}
-use Rattle.wat_links.specs.Item.{ItemKindTy, func, SigTy}
-use Rattle.wat_links.specs.Item.{item_sig}
+use Rattle.wat_links.specs.Item.{ItemKindTy, func, SigTy, item_sig}
 use Rattle.wat_links.specs.ItemForms.{ItemsSpells}
 use Rattle.wat_links.specs.Laws.Forms.{items_from}
 use Rattle.wat_links.specs.Laws.Import.{typed_item_consumes, named_item_consumes}
-use Rattle.wat_print.specs.Neat.{is_given, Neat}
+use Rattle.wat_print.specs.WellFormed.{is_given, WellFormed}
 use Rattle.wat_print.specs.Parts.{each}
-use Rattle.wat_print.specs.Laws.Only.{OnlyFit, only_where, only_paren, only_many, only_seq}
-use Rattle.wat_print.specs.Laws.Only.{only_made}
-use Rattle.wat_print.specs.Laws.Only.{only_weaker, only_after, only_group}
-use Rattle.wat_print.specs.Laws.Parts.{Spells, paren_here, group_here, many_here, neat_word}
-use Rattle.wat_print.specs.Laws.Parts.{neat_group, neat_both, neat_each}
+use Rattle.wat_print.specs.Laws.Only.{OnlyPrintable, only_where, only_paren, only_many, only_seq}
+use Rattle.wat_print.specs.Laws.Only.{only_made, only_weaker, only_after, only_group}
+use Rattle.wat_print.specs.Laws.Parts.{Spells, paren_here, group_here, many_here, well_formed_word}
+use Rattle.wat_print.specs.Laws.Parts.{well_formed_group, well_formed_both, well_formed_each}
 use Rattle.wat_print_instr.specs.Laws.Places.{both_here}
-use Rattle.wat_print_module.specs.Import.{spell_typed, fit_typed, spell_named, fit_shared}
-use Rattle.wat_print_module.specs.Import.{spell_items, fit_items, spell_imports, fit_imports}
+use Rattle.wat_print_module.specs.Import.{spell_typed, printable_typed, spell_named}
+use Rattle.wat_print_module.specs.Import.{printable_shared, spell_items, printable_items}
+use Rattle.wat_print_module.specs.Import.{spell_imports, printable_imports}
 use Rattle.wat_print.specs.Label.{spell_label}
 use Rattle.wat_print.specs.Laws.Define.{after_here}
-use Rattle.wat_print_module.specs.Item.{item_word, spell_item, spell_sig, fit_sig, spell_sig_group}
+use Rattle.wat_print_module.specs.Item.{item_word, spell_item, spell_sig, printable_sig}
+use Rattle.wat_print_module.specs.Item.{spell_sig_group}
 use Rattle.wat_print.specs.Strings.{spell_string}
-use Rattle.wat_print_module.specs.Laws.Item.{sig_here, sig_group_here, sig_group_neat, sig_only}
-use Rattle.wat_print_module.specs.Laws.Item.{sig_group_only}
-use Rattle.wat_print.specs.Laws.Strings.{text_here, text_neat, text_only}
+use Rattle.wat_print_module.specs.Laws.Item.{sig_here, sig_group_here, sig_group_well_formed}
+use Rattle.wat_print_module.specs.Laws.Item.{sig_only, sig_group_only}
+use Rattle.wat_print.specs.Laws.Strings.{text_here, text_well_formed, text_only}
 use Rattle.wat_print_module.specs.Laws.Folded.{no_word, not_a_word}
 use Rattle.wat_print_module.specs.Laws.Strings.{is_shut, shut_no_word}
 
 -- ---- items
 
-typed_here : (x : List ℕ × SigTy) → fit_typed x ≡ true → Spells typed_item x (spell_typed x)
+typed_here : (x : List ℕ × SigTy) → printable_typed x ≡ true → Spells typed_item x (spell_typed x)
 unfolding typed_item
 typed_here x f r =
-    let a = and_parts (is_utf8 x.0) (fit_sig x.1) f in
+    let a = and_parts (is_utf8 x.0) (printable_sig x.1) f in
     group_here (codes "item") (seq text sig_group) x (String x.0 ∷ spell_sig_group x.1) r refl
     (both_here text sig_group x.0 x.1 (spell_string x.0) (spell_sig_group x.1) (RParen ∷ r)
     (text_here x.0 a.0 (spell_sig_group x.1 ++ RParen ∷ r)) (sig_group_here x.1 (RParen ∷ r) a.1
@@ -54,11 +54,12 @@ unfolding named_item
 named_here n f r =
     group_here (codes "item") text n (spell_string n) r refl (text_here n f (RParen ∷ r))
 
-typed_list_here : (xs : List (List ℕ × SigTy)) (r : List Tok) → each fit_typed xs ≡ true
+typed_list_here : (xs : List (List ℕ × SigTy)) (r : List Tok) → each printable_typed xs ≡ true
     → item_follows r ≡ false → typed_list.spells xs (flat_map spell_typed xs) r
 unfolding typed_list
 typed_list_here xs r f e =
-    many_here item_follows typed_item spell_typed fit_typed typed_here (λ v x o. refl) xs r f e
+    many_here item_follows typed_item spell_typed printable_typed typed_here
+    (λ v x o. refl) xs r f e
 
 -- no kind of item has the word `item`
 item_word_other : (k : ItemKindTy) (x : List Tok)
@@ -66,20 +67,20 @@ item_word_other : (k : ItemKindTy) (x : List Tok)
 item_word_other (func u) x = refl
 item_word_other _ x = refl
 
-shared_here : (s : SigTy) (r : List Tok) → fit_shared s ≡ true → no_word r ≡ true
+shared_here : (s : SigTy) (r : List Tok) → printable_shared s ≡ true → no_word r ≡ true
     → shared_sig.spells s (spell_sig_group s) r
 unfolding shared_sig
 shared_here s r f e =
-    let a = and_parts (is_none s.label.id) (fit_sig s) f in
+    let a = and_parts (is_none s.label.id) (printable_sig s) f in
     paren_here (made_where (λ s. is_none s.label.id) (λ s. s) item_sig) s (spell_sig s) r
     (s, sig_here s (RParen ∷ r) a.1 e, a.0, refl)
 
 named_items_here : (s : SigTy) (ns : List (List ℕ)) (r : List Tok)
-    → each is_utf8 ns && fit_shared s ≡ true → no_word r ≡ true
+    → each is_utf8 ns && printable_shared s ≡ true → no_word r ≡ true
     → (seq named_list shared_sig).spells (ns, s) (flat_map spell_named ns ++ spell_sig_group s) r
 unfolding named_list
 named_items_here s ns r f e =
-    let a = and_parts (each is_utf8 ns) (fit_shared s) f in
+    let a = and_parts (each is_utf8 ns) (printable_shared s) f in
     both_here named_list shared_sig ns s (flat_map spell_named ns) (spell_sig_group s) r
     (many_here item_follows named_item spell_named is_utf8 named_here (λ v x o. refl) ns
     (spell_sig_group s ++ r) a.0 (item_word_other s.kind
@@ -92,10 +93,10 @@ shut_item (RParen ∷ r) h = (not_a_word (codes "item") r h, refl)
 shut_item (LParen ∷ r) h = absurd cc
 shut_item (_ ∷ r) h = absurd cc
 
-items_here : (v : ItemsTy) (r : List Tok) → fit_items v ≡ true → is_shut r ≡ true
+items_here : (v : ItemsTy) (r : List Tok) → printable_items v ≡ true → is_shut r ≡ true
     → ItemsSpells v (spell_items v) r
 items_here (single n s) r f e =
-    let a = and_parts (is_utf8 n) (fit_sig s) f in
+    let a = and_parts (is_utf8 n) (printable_sig s) f in
     both_here text sig_group n s (spell_string n) (spell_sig_group s) r
     (text_here n a.0 (spell_sig_group s ++ r)) (sig_group_here s r a.1 (shut_no_word r e))
 items_here (group1 []) r f e = let a = shut_item r e in (refl, a.0, a.1)
@@ -103,11 +104,11 @@ items_here (group1 (x ∷ xs)) r f e = typed_list_here (x ∷ xs) r f (shut_item
 items_here (group2 s ns) r f e = named_items_here s ns r f (shut_no_word r e)
 
 -- in front of the end of its group, behind which there is no word
-pub imports_here : (v : ImportsTy) (r : List Tok) → fit_imports v ≡ true → is_shut r ≡ true
+pub imports_here : (v : ImportsTy) (r : List Tok) → printable_imports v ≡ true → is_shut r ≡ true
     → imports.spells v (spell_imports v) r
 unfolding imports import_items
 imports_here v r f e =
-    let a = and_parts (is_utf8 v.from) (fit_items v.items) f in
+    let a = and_parts (is_utf8 v.from) (printable_items v.items) f in
     after_here (codes "import") (made (λ v. imports_of v.0 v.1) (seq text import_items)) v
     (String v.from ∷ spell_items v.items) r refl (
       (v.from, v.items),
@@ -119,78 +120,84 @@ imports_here v r f e =
 
 -- ---- they can be written
 
-typed_neat : (x : List ℕ × SigTy) → fit_typed x ≡ true → Neat (spell_typed x)
-typed_neat x f =
-    let a = and_parts (is_utf8 x.0) (fit_sig x.1) f in
-    neat_group (codes "item") (String x.0 ∷ spell_sig_group x.1) refl
-    (neat_both (spell_string x.0) (spell_sig_group x.1) (text_neat x.0 a.0)
-    (sig_group_neat x.1 a.1))
+typed_well_formed : (x : List ℕ × SigTy) → printable_typed x ≡ true → WellFormed (spell_typed x)
+typed_well_formed x f =
+    let a = and_parts (is_utf8 x.0) (printable_sig x.1) f in
+    well_formed_group (codes "item") (String x.0 ∷ spell_sig_group x.1) refl
+    (well_formed_both (spell_string x.0) (spell_sig_group x.1) (text_well_formed x.0 a.0)
+    (sig_group_well_formed x.1 a.1))
 
-named_neat : (n : List ℕ) → is_utf8 n ≡ true → Neat (spell_named n)
-named_neat n f = neat_group (codes "item") (spell_string n) refl (text_neat n f)
+named_well_formed : (n : List ℕ) → is_utf8 n ≡ true → WellFormed (spell_named n)
+named_well_formed n f =
+    well_formed_group (codes "item") (spell_string n) refl (text_well_formed n f)
 
-items_neat : (v : ItemsTy) → fit_items v ≡ true → Neat (spell_items v)
-items_neat (single n s) f =
-    let a = and_parts (is_utf8 n) (fit_sig s) f in
-    neat_both (spell_string n) (spell_sig_group s) (text_neat n a.0) (sig_group_neat s a.1)
-items_neat (group1 xs) f = neat_each spell_typed fit_typed typed_neat xs f
-items_neat (group2 s ns) f =
-    let a = and_parts (each is_utf8 ns) (fit_shared s) f in
-    let b = and_parts (is_none s.label.id) (fit_sig s) a.1 in
-    neat_both (flat_map spell_named ns) (spell_sig_group s)
-    (neat_each spell_named is_utf8 named_neat ns a.0) (sig_group_neat s b.1)
+items_well_formed : (v : ItemsTy) → printable_items v ≡ true → WellFormed (spell_items v)
+items_well_formed (single n s) f =
+    let a = and_parts (is_utf8 n) (printable_sig s) f in
+    well_formed_both (spell_string n) (spell_sig_group s) (text_well_formed n a.0)
+    (sig_group_well_formed s a.1)
+items_well_formed (group1 xs) f =
+    well_formed_each spell_typed printable_typed typed_well_formed xs f
+items_well_formed (group2 s ns) f =
+    let a = and_parts (each is_utf8 ns) (printable_shared s) f in
+    let b = and_parts (is_none s.label.id) (printable_sig s) a.1 in
+    well_formed_both (flat_map spell_named ns) (spell_sig_group s)
+    (well_formed_each spell_named is_utf8 named_well_formed ns a.0) (sig_group_well_formed s b.1)
 
-pub imports_neat : (v : ImportsTy) → fit_imports v ≡ true → Neat (spell_imports v)
-imports_neat v f =
-    let a = and_parts (is_utf8 v.from) (fit_items v.items) f in
-    neat_word (codes "import") (String v.from ∷ spell_items v.items) refl
-    (neat_both (spell_string v.from) (spell_items v.items) (text_neat v.from a.0)
-    (items_neat v.items a.1))
+pub imports_well_formed : (v : ImportsTy) → printable_imports v ≡ true
+    → WellFormed (spell_imports v)
+imports_well_formed v f =
+    let a = and_parts (is_utf8 v.from) (printable_items v.items) f in
+    well_formed_word (codes "import") (String v.from ∷ spell_items v.items) refl
+    (well_formed_both (spell_string v.from) (spell_items v.items) (text_well_formed v.from a.0)
+    (items_well_formed v.items a.1))
 
 -- ---- what a text spells can be written
 
-typed_only : OnlyFit typed_item fit_typed
+typed_only : OnlyPrintable typed_item printable_typed
 unfolding typed_item
 typed_only =
-    only_group (codes "item") (only_weaker fit_typed (λ v h. h) (only_seq text_only sig_group_only))
+    only_group (codes "item")
+    (only_weaker printable_typed (λ v h. h) (only_seq text_only sig_group_only))
 
-named_only : OnlyFit named_item is_utf8
+named_only : OnlyPrintable named_item is_utf8
 unfolding named_item
 named_only = only_group (codes "item") text_only
 
 shared_holds : (s : SigTy) (c r : List Tok) → each is_given c ≡ true
-    → (made_where (λ s. is_none s.label.id) (λ s. s) item_sig).spells s c r → fit_shared s ≡ true
+    → (made_where (λ s. is_none s.label.id) (λ s. s) item_sig).spells s c r
+    → printable_shared s ≡ true
 shared_holds s c r a p = rw (← p.3, p.2) (sig_only.holds p.0 c r a p.1)
 
-shared_only : OnlyFit shared_sig fit_shared
+shared_only : OnlyPrintable shared_sig printable_shared
 unfolding shared_sig
 shared_only = only_paren (record { holds = shared_holds })
 
-choice_only : OnlyFit import_choice fit_items
+choice_only : OnlyPrintable import_choice printable_items
 unfolding import_choice single_item typed_items named_items typed_list named_list
 choice_only =
     only_where typed
-    (only_made (λ _. true) group1 fit_items
+    (only_made (λ _. true) group1 printable_items
     (only_many item_follows typed_item_consumes typed_only))
     (only_where begins_lparen
-    (only_made (λ _. true) (λ v. group2 v.1 v.0) fit_items
-    (only_weaker (λ v. fit_items (group2 v.1 v.0)) (λ v h. h)
+    (only_made (λ _. true) (λ v. group2 v.1 v.0) printable_items
+    (only_weaker (λ v. printable_items (group2 v.1 v.0)) (λ v h. h)
     (only_seq (only_many item_follows named_item_consumes named_only) shared_only)))
-    (only_made (λ _. true) (λ v. single v.0 v.1) fit_items
-    (only_weaker (λ v. fit_items (single v.0 v.1)) (λ v h. h)
+    (only_made (λ _. true) (λ v. single v.0 v.1) printable_items
+    (only_weaker (λ v. printable_items (single v.0 v.1)) (λ v h. h)
     (only_seq text_only sig_group_only))))
 
 items_holds : (v : ItemsTy) (c r : List Tok) → each is_given c ≡ true → ItemsSpells v c r
-    → fit_items v ≡ true
+    → printable_items v ≡ true
 items_holds v c r a s = choice_only.holds v c r a (items_from v c r s)
 
-items_only : OnlyFit import_items fit_items
+items_only : OnlyPrintable import_items printable_items
 unfolding import_items
 items_only = record { holds = items_holds }
 
-pub imports_only : OnlyFit imports fit_imports
+pub imports_only : OnlyPrintable imports printable_imports
 unfolding imports
 imports_only =
-    only_after (codes "import") (only_made (λ _. true) (λ v. imports_of v.0 v.1) fit_imports
-    (only_weaker (λ v. fit_imports (imports_of v.0 v.1)) (λ v h. h)
+    only_after (codes "import") (only_made (λ _. true) (λ v. imports_of v.0 v.1) printable_imports
+    (only_weaker (λ v. printable_imports (imports_of v.0 v.1)) (λ v h. h)
     (only_seq text_only items_only)))

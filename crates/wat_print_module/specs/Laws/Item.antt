@@ -18,28 +18,26 @@ use Rattle.wat_types.specs.declared.limits.MemoryType.{MemoryType}
 use Rattle.wat_links.specs.ImportItem.{sig_group}
 use Rattle.wat_links.specs.Item.{ItemKindTy, func, table, memory, global, tag, exact_func, SigTy}
 use Rattle.wat_links.specs.Item.{sig_of, func_use, func_kind, item_of, global_or_tag, item_sig}
-use Rattle.wat_print.specs.Label.{spell_label, fit_label}
-use Rattle.wat_print.specs.Limits.{spell_memory_type}
-use Rattle.wat_print.specs.Limits.{spell_table_type}
-use Rattle.wat_print.specs.Neat.{is_keyword, Neat}
+use Rattle.wat_print.specs.Label.{spell_label, printable_label}
+use Rattle.wat_print.specs.Limits.{spell_memory_type, spell_table_type}
+use Rattle.wat_print.specs.WellFormed.{is_keyword, WellFormed}
 use Rattle.wat_print.specs.Parts.{spell_flag}
 use Rattle.wat_print.specs.Storage.{spell_global}
-use Rattle.wat_print.specs.Use.{spell_use, fit_use}
-use Rattle.wat_print.specs.Laws.Label.{label_here, label_neat, label_only}
-use Rattle.wat_print.specs.Laws.Limits.{EndsMemory, memory_type_here, memory_type_neat}
-use Rattle.wat_print.specs.Laws.Limits.{memory_type_only, table_type_here, table_type_neat}
+use Rattle.wat_print.specs.Use.{spell_use, printable_use}
+use Rattle.wat_print.specs.Laws.Label.{label_here, label_well_formed, label_only}
+use Rattle.wat_print.specs.Laws.Limits.{EndsMemory, memory_type_here, memory_type_well_formed}
+use Rattle.wat_print.specs.Laws.Limits.{memory_type_only, table_type_here, table_type_well_formed}
 use Rattle.wat_print.specs.Laws.Limits.{table_type_only}
-use Rattle.wat_print.specs.Laws.Only.{OnlyFit, only_where, only_paren, only_seq, only_made}
-use Rattle.wat_print.specs.Laws.Only.{only_weaker}
-use Rattle.wat_print.specs.Laws.Only.{only_after, only_group}
-use Rattle.wat_print.specs.Laws.Parts.{paren_here, group_here, neat_word, neat_group, neat_paren}
-use Rattle.wat_print.specs.Laws.Parts.{neat_both}
-use Rattle.wat_print.specs.Laws.Storage.{EndsGlobal, global_here, global_neat, global_only}
-use Rattle.wat_print.specs.Laws.Use.{EndsUse, use_here, use_neat, use_only}
+use Rattle.wat_print.specs.Laws.Only.{OnlyPrintable, only_where, only_paren, only_seq, only_made}
+use Rattle.wat_print.specs.Laws.Only.{only_weaker, only_after, only_group}
+use Rattle.wat_print.specs.Laws.Parts.{paren_here, group_here, well_formed_word, well_formed_group}
+use Rattle.wat_print.specs.Laws.Parts.{well_formed_paren, well_formed_both}
+use Rattle.wat_print.specs.Laws.Storage.{EndsGlobal, global_here, global_well_formed, global_only}
+use Rattle.wat_print.specs.Laws.Use.{EndsUse, use_here, use_well_formed, use_only}
 use Rattle.wat_print.specs.Laws.Define.{after_here}
 use Rattle.wat_print_instr.specs.Laws.Places.{both_here}
-use Rattle.wat_print_module.specs.Item.{item_word, spell_item, fit_item, spell_sig, fit_sig}
-use Rattle.wat_print_module.specs.Item.{spell_sig_group}
+use Rattle.wat_print_module.specs.Item.{item_word, spell_item, printable_item, spell_sig}
+use Rattle.wat_print_module.specs.Item.{printable_sig, spell_sig_group}
 use Rattle.wat_print_module.specs.Laws.Folded.{no_word, not_a_word}
 use Rattle.wat_print_module.specs.Laws.Fronts.{use_alone_first, global_first}
 use Rattle.wat_print_module.specs.Laws.Strings.{is_shut}
@@ -144,7 +142,7 @@ global_no_name g r =
 -- ---- signatures
 
 item_here : (w : List ℕ) (k : Production ItemKindTy) (l : Label) (v : ItemKindTy) (d r : List Tok)
-    → bytes_eq w w ≡ true → fit_label l ≡ true → begins_id (d ++ r) ≡ false
+    → bytes_eq w w ≡ true → printable_label l ≡ true → begins_id (d ++ r) ≡ false
     → begins_name (d ++ r) ≡ false → k.spells v d r
     → (item_of w k).spells (sig_of l v) (Keyword w ∷ (spell_label l ++ d)) r
 item_here w k l v d r e f i n s = (
@@ -155,7 +153,8 @@ item_here w k l v d r e f i n s = (
   refl,
 )
 
-func_here : (l : Label) (u : UseTy FuncTy) (r : List Tok) → fit_label l ≡ true → fit_use u ≡ true
+func_here : (l : Label) (u : UseTy FuncTy) (r : List Tok) → printable_label l ≡ true
+    → printable_use u ≡ true
     → EndsSig r → item_sig.spells (sig_of l (func u)) (spell_sig (sig_of l (func u))) r
 unfolding item_sig func_kind
 func_here l u r f g e =
@@ -166,7 +165,8 @@ func_here l u r f g e =
           (inr (use_no_exact u r e.no_exact, (u, use_here u r g e.of_use, refl, refl))),
     )
 
-exact_here : (l : Label) (u : UseTy FuncTy) (r : List Tok) → fit_label l ≡ true → fit_use u ≡ true
+exact_here : (l : Label) (u : UseTy FuncTy) (r : List Tok) → printable_label l ≡ true
+    → printable_use u ≡ true
     → EndsSig r → item_sig.spells (sig_of l (exact_func u)) (spell_sig (sig_of l (exact_func u))) r
 unfolding item_sig func_kind
 exact_here l u r f g e =
@@ -186,7 +186,8 @@ exact_here l u r f g e =
           )),
     )
 
-sig_by : (l : Label) (k : ItemKindTy) (r : List Tok) → fit_label l ≡ true → fit_item k ≡ true
+sig_by : (l : Label) (k : ItemKindTy) (r : List Tok) → printable_label l ≡ true
+    → printable_item k ≡ true
     → EndsSig r → item_sig.spells (sig_of l k) (spell_sig (sig_of l k)) r
 unfolding item_sig global_or_tag
 sig_by l (func u) r f g e = func_here l u r f g e
@@ -247,70 +248,74 @@ sig_by l (tag u) r f g e =
     )
 
 -- in front of the end of its group, behind which there is no word
-pub sig_here : (s : SigTy) (r : List Tok) → fit_sig s ≡ true → is_shut r ≡ true
+pub sig_here : (s : SigTy) (r : List Tok) → printable_sig s ≡ true → is_shut r ≡ true
     → item_sig.spells s (spell_sig s) r
 sig_here s r f e =
-    let a = and_parts (fit_label s.label) (fit_item s.kind) f in
+    let a = and_parts (printable_label s.label) (printable_item s.kind) f in
     sig_by s.label s.kind r a.0 a.1 (shut_ends r e)
 
-pub sig_group_here : (s : SigTy) (r : List Tok) → fit_sig s ≡ true → no_word r ≡ true
+pub sig_group_here : (s : SigTy) (r : List Tok) → printable_sig s ≡ true → no_word r ≡ true
     → sig_group.spells s (spell_sig_group s) r
 sig_group_here s r f e =
     paren_here item_sig s (spell_sig s) r (sig_here s (RParen ∷ r) f e)
 
 -- ---- they can be written
 
-item_neat : (k : ItemKindTy) → fit_item k ≡ true → Neat (spell_item k)
-item_neat (func u) f = use_neat u f
-item_neat (table t) f = table_type_neat t f
-item_neat (memory m) f = memory_type_neat m f
-item_neat (global g) f = global_neat g f
-item_neat (tag u) f = use_neat u f
-item_neat (exact_func u) f = neat_group (codes "exact") (spell_use u) refl (use_neat u f)
+item_well_formed : (k : ItemKindTy) → printable_item k ≡ true → WellFormed (spell_item k)
+item_well_formed (func u) f = use_well_formed u f
+item_well_formed (table t) f = table_type_well_formed t f
+item_well_formed (memory m) f = memory_type_well_formed m f
+item_well_formed (global g) f = global_well_formed g f
+item_well_formed (tag u) f = use_well_formed u f
+item_well_formed (exact_func u) f =
+    well_formed_group (codes "exact") (spell_use u) refl (use_well_formed u f)
 
-item_word_fit : (k : ItemKindTy) → is_keyword (item_word k) ≡ true
-item_word_fit (func u) = refl
-item_word_fit _ = refl
+item_word_printable : (k : ItemKindTy) → is_keyword (item_word k) ≡ true
+item_word_printable (func u) = refl
+item_word_printable _ = refl
 
-pub sig_neat : (s : SigTy) → fit_sig s ≡ true → Neat (spell_sig s)
-sig_neat s f =
-    let a = and_parts (fit_label s.label) (fit_item s.kind) f in
-    neat_word (item_word s.kind) (spell_label s.label ++ spell_item s.kind) (item_word_fit s.kind)
-    (neat_both (spell_label s.label) (spell_item s.kind) (label_neat s.label a.0)
-    (item_neat s.kind a.1))
+pub sig_well_formed : (s : SigTy) → printable_sig s ≡ true → WellFormed (spell_sig s)
+sig_well_formed s f =
+    let a = and_parts (printable_label s.label) (printable_item s.kind) f in
+    well_formed_word (item_word s.kind) (spell_label s.label ++ spell_item s.kind)
+    (item_word_printable s.kind)
+    (well_formed_both (spell_label s.label) (spell_item s.kind) (label_well_formed s.label a.0)
+    (item_well_formed s.kind a.1))
 
-pub sig_group_neat : (s : SigTy) → fit_sig s ≡ true → Neat (spell_sig_group s)
-sig_group_neat s f = neat_paren (spell_sig s) (sig_neat s f)
+pub sig_group_well_formed : (s : SigTy) → printable_sig s ≡ true → WellFormed (spell_sig_group s)
+sig_group_well_formed s f = well_formed_paren (spell_sig s) (sig_well_formed s f)
 
 -- ---- what a text spells can be written
 
-item_only : (w : List ℕ) (k : Production ItemKindTy) → OnlyFit k fit_item → OnlyFit (item_of w k) fit_sig
+item_only : (w : List ℕ) (k : Production ItemKindTy) → OnlyPrintable k printable_item
+    → OnlyPrintable (item_of w k) printable_sig
 item_only w k m =
-    only_made (λ _. true) (λ v. sig_of v.0 v.1) fit_sig
-    (only_weaker (λ v. fit_sig (sig_of v.0 v.1)) (λ v h. h) (only_after w (only_seq label_only m)))
+    only_made (λ _. true) (λ v. sig_of v.0 v.1) printable_sig
+    (only_weaker (λ v. printable_sig (sig_of v.0 v.1)) (λ v h. h)
+    (only_after w (only_seq label_only m)))
 
-func_kind_only : OnlyFit func_kind fit_item
+func_kind_only : OnlyPrintable func_kind printable_item
 unfolding func_kind
 func_kind_only =
     only_where (second (begins_word (codes "exact")))
-    (only_made (λ _. true) exact_func fit_item (only_group (codes "exact") use_only))
-    (only_made (λ _. true) func fit_item use_only)
+    (only_made (λ _. true) exact_func printable_item (only_group (codes "exact") use_only))
+    (only_made (λ _. true) func printable_item use_only)
 
-pub sig_only : OnlyFit item_sig fit_sig
+pub sig_only : OnlyPrintable item_sig printable_sig
 unfolding item_sig global_or_tag
 sig_only =
     only_where (begins_word (codes "func")) (item_only (codes "func") func_kind func_kind_only)
     (only_where (begins_word (codes "table"))
     (item_only (codes "table") (made table table_type)
-    (only_made (λ _. true) table fit_item table_type_only))
+    (only_made (λ _. true) table printable_item table_type_only))
     (only_where (begins_word (codes "memory"))
     (item_only (codes "memory") (made memory memory_type)
-    (only_made (λ _. true) memory fit_item memory_type_only))
+    (only_made (λ _. true) memory printable_item memory_type_only))
     (only_where (begins_word (codes "global"))
     (item_only (codes "global") (made global global_type)
-    (only_made (λ _. true) global fit_item global_only))
+    (only_made (λ _. true) global printable_item global_only))
     (item_only (codes "tag") (made tag tag_type)
-    (only_made (λ _. true) tag fit_item use_only)))))
+    (only_made (λ _. true) tag printable_item use_only)))))
 
-pub sig_group_only : OnlyFit sig_group fit_sig
+pub sig_group_only : OnlyPrintable sig_group printable_sig
 sig_group_only = only_paren sig_only

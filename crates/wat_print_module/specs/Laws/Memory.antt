@@ -7,8 +7,7 @@ use Rattle.wat_lexer.specs.Token.{Tok, LParen, RParen, Keyword, Integer}
 use Rattle.wat_tokens.specs.Groups.{group}
 use Rattle.wat_tokens.specs.NameAnnotation.{begins_name}
 use Rattle.wat_tokens.specs.Parts.{seq, made}
-use Rattle.wat_tokens.specs.Tests.{begins_word, begins_id}
-use Rattle.wat_tokens.specs.Tests.{ends}
+use Rattle.wat_tokens.specs.Tests.{begins_word, begins_id, ends}
 use Rattle.wat_types.specs.Limits.{is_64, pagesize, pagesize_or_none, memory_type}
 use Rattle.wat_types.specs.declared.limits.MemoryType.{MemoryType}
 use Rattle.wat_links.specs.Export.{begins_inline_export}
@@ -19,27 +18,27 @@ use Rattle.wat_fields.specs.DataVals.{data_vals}
 use Rattle.wat_fields.specs.Memory.{MemoryKindTy, imported, normal, inline, MemoryTy, memory_of}
 use Rattle.wat_fields.specs.Memory.{inline_memory, begins_inline_data, memory_kind, memory}
 use Rattle.wat_print.specs.Limits.{spell_number, spell_page_size, is_exponent}
-use Rattle.wat_print.specs.Limits.{spell_memory_type, fit_memory_type}
-use Rattle.wat_print.specs.Neat.{Neat}
+use Rattle.wat_print.specs.Limits.{spell_memory_type, printable_memory_type}
+use Rattle.wat_print.specs.WellFormed.{WellFormed}
 use Rattle.wat_print.specs.Parts.{grouped, spell_flag, spell_option, each, if_some}
-use Rattle.wat_print.specs.Laws.Limits.{EndsMemory, memory_type_here, memory_type_neat}
-use Rattle.wat_print.specs.Laws.Limits.{memory_type_only, width_here, page_part, page_neat}
+use Rattle.wat_print.specs.Laws.Limits.{EndsMemory, memory_type_here, memory_type_well_formed}
+use Rattle.wat_print.specs.Laws.Limits.{memory_type_only, width_here, page_part, page_well_formed}
 use Rattle.wat_print.specs.Laws.Limits.{page_only}
-use Rattle.wat_print.specs.Laws.Only.{OnlyFit, only_any, only_where, only_seq, only_made}
+use Rattle.wat_print.specs.Laws.Only.{OnlyPrintable, only_any, only_where, only_seq, only_made}
 use Rattle.wat_print.specs.Laws.Only.{only_after, only_group}
-use Rattle.wat_print.specs.Laws.Parts.{group_here, neat_word}
-use Rattle.wat_print.specs.Laws.Parts.{neat_both, neat_group, neat_flag, neat_option}
+use Rattle.wat_print.specs.Laws.Parts.{group_here, well_formed_word, well_formed_both}
+use Rattle.wat_print.specs.Laws.Parts.{well_formed_group, well_formed_flag, well_formed_option}
 use Rattle.wat_print.specs.Laws.Define.{after_here}
 use Rattle.wat_print_instr.specs.Laws.Places.{both_here}
-use Rattle.wat_print_module.specs.FieldHead.{spell_inline_import, fit_inline_import, spell_head}
-use Rattle.wat_print_module.specs.FieldHead.{fit_head}
-use Rattle.wat_print_module.specs.Memory.{spell_memory_kind, fit_memory_kind, spell_memory}
-use Rattle.wat_print_module.specs.Memory.{fit_memory}
-use Rattle.wat_print_module.specs.Segments.{fit_data_val, spell_data_vals}
-use Rattle.wat_print_module.specs.Laws.DataVal.{data_vals_here, data_vals_neat}
+use Rattle.wat_print_module.specs.FieldHead.{spell_inline_import, printable_inline_import}
+use Rattle.wat_print_module.specs.FieldHead.{spell_head, printable_head}
+use Rattle.wat_print_module.specs.Memory.{spell_memory_kind, printable_memory_kind, spell_memory}
+use Rattle.wat_print_module.specs.Memory.{printable_memory}
+use Rattle.wat_print_module.specs.Segments.{printable_data_val, spell_data_vals}
+use Rattle.wat_print_module.specs.Laws.DataVal.{data_vals_here, data_vals_well_formed}
 use Rattle.wat_print_module.specs.Laws.DataVal.{data_vals_only}
-use Rattle.wat_print_module.specs.Laws.FieldHead.{EndsHead, head_here, head_neat, head_only}
-use Rattle.wat_print_module.specs.Laws.FieldHead.{inline_import_here, inline_import_neat}
+use Rattle.wat_print_module.specs.Laws.FieldHead.{EndsHead, head_here, head_well_formed, head_only}
+use Rattle.wat_print_module.specs.Laws.FieldHead.{inline_import_here, inline_import_well_formed}
 use Rattle.wat_print_module.specs.Laws.FieldHead.{inline_import_only}
 use Rattle.wat_print_module.specs.Laws.Fronts.{no_export, no_import_word}
 
@@ -87,7 +86,7 @@ group_no_word : (w : List ℕ) (o : Option ℕ) (c r : List Tok) → begins_word
 group_no_word w o c r = data_first (begins_word w) false (λ x. refl) (λ x. refl) o c r
 
 inline_here : (wide : Bool) (o : Option ℕ) (d : List DataValTy) (r : List Tok)
-    → if_some is_exponent o ≡ true → each fit_data_val d ≡ true
+    → if_some is_exponent o ≡ true → each printable_data_val d ≡ true
     → inline_memory.spells (inline wide o d) (spell_memory_kind (inline wide o d)) r
 unfolding inline_memory
 inline_here wide o d r f g =
@@ -111,11 +110,11 @@ ends_memory [] e = (refl, refl, refl)
 ends_memory (RParen ∷ r) e = (refl, refl, refl)
 ends_memory (_ ∷ r) e = absurd cc
 
-kind_here : (k : MemoryKindTy) (r : List Tok) → fit_memory_kind k ≡ true → ends r ≡ true
+kind_here : (k : MemoryKindTy) (r : List Tok) → printable_memory_kind k ≡ true → ends r ≡ true
     → memory_kind.spells k (spell_memory_kind k) r
 unfolding memory_kind
 kind_here (imported i t) r f e =
-    let a = and_parts (fit_inline_import i) (fit_memory_type t) f in
+    let a = and_parts (printable_inline_import i) (printable_memory_type t) f in
     let x = spell_memory_type t in
     inl (
       refl,
@@ -136,7 +135,7 @@ kind_here (normal t) r f e =
       ),
     )
 kind_here (inline wide o d) r f e =
-    let a = and_parts (if_some is_exponent o) (each fit_data_val d) f in
+    let a = and_parts (if_some is_exponent o) (each printable_data_val d) f in
     inr (
       inline_no_import wide o d r,
       inl (inline_begins wide o d r, inline_here wide o d r a.0 a.1),
@@ -166,11 +165,11 @@ kind_ends_head k r = (
 -- ---- memories
 
 -- in front of an end
-pub memory_here : (m : MemoryTy) (r : List Tok) → fit_memory m ≡ true → ends r ≡ true
+pub memory_here : (m : MemoryTy) (r : List Tok) → printable_memory m ≡ true → ends r ≡ true
     → memory.spells m (spell_memory m) r
 unfolding memory
 memory_here m r f e =
-    let a = and_parts (fit_head m.head) (fit_memory_kind m.kind) f in
+    let a = and_parts (printable_head m.head) (printable_memory_kind m.kind) f in
     let k = spell_memory_kind m.kind in
     after_here (codes "memory") (made (λ v. memory_of v.0 v.1) (seq head memory_kind)) m
     (spell_head m.head ++ k) r refl (
@@ -183,47 +182,50 @@ memory_here m r f e =
 
 -- ---- they can be written
 
-kind_neat : (k : MemoryKindTy) → fit_memory_kind k ≡ true → Neat (spell_memory_kind k)
-kind_neat (imported i t) f =
-    let a = and_parts (fit_inline_import i) (fit_memory_type t) f in
-    neat_both (spell_inline_import i) (spell_memory_type t) (inline_import_neat i a.0)
-    (memory_type_neat t a.1)
-kind_neat (normal t) f = memory_type_neat t f
-kind_neat (inline wide o d) f =
-    let a = and_parts (if_some is_exponent o) (each fit_data_val d) f in
+kind_well_formed : (k : MemoryKindTy) → printable_memory_kind k ≡ true
+    → WellFormed (spell_memory_kind k)
+kind_well_formed (imported i t) f =
+    let a = and_parts (printable_inline_import i) (printable_memory_type t) f in
+    well_formed_both (spell_inline_import i) (spell_memory_type t) (inline_import_well_formed i a.0)
+    (memory_type_well_formed t a.1)
+kind_well_formed (normal t) f = memory_type_well_formed t f
+kind_well_formed (inline wide o d) f =
+    let a = and_parts (if_some is_exponent o) (each printable_data_val d) f in
     let s = spell_option spell_page_size o in
     let x = grouped (codes "data") (spell_data_vals d) in
-    neat_both (spell_flag (codes "i64") wide) (s ++ x) (neat_flag (codes "i64") wide refl)
-    (neat_both s x (neat_option spell_page_size is_exponent o page_neat a.0)
-    (neat_group (codes "data") (spell_data_vals d) refl (data_vals_neat d a.1)))
+    well_formed_both (spell_flag (codes "i64") wide) (s ++ x)
+    (well_formed_flag (codes "i64") wide refl)
+    (well_formed_both s x (well_formed_option spell_page_size is_exponent o page_well_formed a.0)
+    (well_formed_group (codes "data") (spell_data_vals d) refl (data_vals_well_formed d a.1)))
 
-pub memory_neat : (m : MemoryTy) → fit_memory m ≡ true → Neat (spell_memory m)
-memory_neat m f =
-    let a = and_parts (fit_head m.head) (fit_memory_kind m.kind) f in
+pub memory_well_formed : (m : MemoryTy) → printable_memory m ≡ true → WellFormed (spell_memory m)
+memory_well_formed m f =
+    let a = and_parts (printable_head m.head) (printable_memory_kind m.kind) f in
     let k = spell_memory_kind m.kind in
-    neat_word (codes "memory") (spell_head m.head ++ k) refl
-    (neat_both (spell_head m.head) k (head_neat m.head a.0) (kind_neat m.kind a.1))
+    well_formed_word (codes "memory") (spell_head m.head ++ k) refl
+    (well_formed_both (spell_head m.head) k (head_well_formed m.head a.0)
+    (kind_well_formed m.kind a.1))
 
 -- ---- what a text spells can be written
 
-inline_only : OnlyFit inline_memory fit_memory_kind
+inline_only : OnlyPrintable inline_memory printable_memory_kind
 unfolding inline_memory
 inline_only =
-    only_made (λ _. true) (λ v. inline v.0 v.1.0 v.1.1) fit_memory_kind
+    only_made (λ _. true) (λ v. inline v.0 v.1.0 v.1.1) printable_memory_kind
     (only_seq (only_any is_64)
     (only_seq page_only (only_group (codes "data") data_vals_only)))
 
-kind_only : OnlyFit memory_kind fit_memory_kind
+kind_only : OnlyPrintable memory_kind printable_memory_kind
 unfolding memory_kind
 kind_only =
     only_where begins_inline_import
-    (only_made (λ _. true) (λ v. imported v.0 v.1) fit_memory_kind
+    (only_made (λ _. true) (λ v. imported v.0 v.1) printable_memory_kind
     (only_seq inline_import_only memory_type_only))
     (only_where begins_inline_data inline_only
-    (only_made (λ _. true) normal fit_memory_kind memory_type_only))
+    (only_made (λ _. true) normal printable_memory_kind memory_type_only))
 
-pub memory_only : OnlyFit memory fit_memory
+pub memory_only : OnlyPrintable memory printable_memory
 unfolding memory
 memory_only =
-    only_after (codes "memory") (only_made (λ _. true) (λ v. memory_of v.0 v.1) fit_memory
+    only_after (codes "memory") (only_made (λ _. true) (λ v. memory_of v.0 v.1) printable_memory
     (only_seq head_only kind_only))

@@ -1,8 +1,8 @@
 -- Laws: modules are read again.
-use Rattle.std.specs.Prelude.{◌≡◌, ℕ, Bool, true, false, ◌&&◌, List, [], ◌∷◌, ◌++◌, codes, flat_map}
+use Rattle.std.specs.Prelude.{◌≡◌, ℕ, Bool, true, false, List, [], ◌∷◌, ◌++◌, codes, flat_map}
 use Rattle.std.specs.Prelude.{Option, Some, None, zero, suc, slice_get}
 use Rattle.std.proofs.Common.{refl, inl, inr, lit≤, append_assoc, subst, sym}
-use Rattle.std.proofs.lemmas.Bool.{and_parts}
+use Rattle.std.proofs.lemmas.Bool.{and_parts, and_right}
 use Rattle.wat_lexer.specs.Token.{Tok, LParen, RParen}
 use Rattle.wat_tokens.specs.Groups.{paren}
 use Rattle.wat_tokens.specs.NameAnnotation.{begins_name}
@@ -20,31 +20,28 @@ use Rattle.wat_core.specs.Text.{IsModule, SpellsModule}
 use Rattle.wat_core.specs.Laws.Text.{is_module}
 use Rattle.wat_print.specs.Layout.{Writes}
 use Rattle.wat_print.specs.Text.{Page, blank_page}
-use Rattle.wat_print.specs.Laws.Nesting.{neat_visible}
-use Rattle.wat_print.specs.Label.{spell_label, fit_label}
-use Rattle.wat_print.specs.Neat.{Neat}
+use Rattle.wat_print.specs.Laws.Nesting.{well_formed_visible}
+use Rattle.wat_print.specs.Label.{spell_label, printable_label}
+use Rattle.wat_print.specs.WellFormed.{WellFormed}
 use Rattle.wat_print.specs.Parts.{each}
-use Rattle.wat_print.specs.Laws.Label.{label_here, label_neat, label_only}
-use Rattle.wat_print.specs.Laws.Only.{OnlyFit, only_where, only_many, only_seq, only_made}
-use Rattle.wat_print.specs.Laws.Only.{only_after}
-use Rattle.wat_print.specs.Laws.Only.{only_weaker, only_paren}
-use Rattle.wat_print.specs.Laws.Parts.{Spells, paren_here, many_here, neat_word, neat_both}
-use Rattle.wat_print.specs.Laws.Parts.{neat_each, neat_paren}
+use Rattle.wat_print.specs.Laws.Label.{label_here, label_well_formed, label_only}
+use Rattle.wat_print.specs.Laws.Only.{OnlyPrintable, only_where, only_many, only_seq, only_made}
+use Rattle.wat_print.specs.Laws.Only.{only_after, only_weaker, only_paren}
+use Rattle.wat_print.specs.Laws.Parts.{Spells, paren_here, many_here, well_formed_word}
+use Rattle.wat_print.specs.Laws.Parts.{well_formed_both, well_formed_each, well_formed_paren}
 use Rattle.wat_print.specs.Laws.Printed.{cut_back, unspelled}
 use Rattle.wat_print.specs.Laws.Define.{after_here}
 use Rattle.wat_print_instr.specs.Laws.Places.{both_here}
-use Rattle.wat_print_module.specs.Field.{spell_module_field, fit_module_field, spell_field_group}
-use Rattle.wat_print_module.specs.Module.{spell_module_kind, fit_module_kind, spell_module}
-use Rattle.wat_print_module.specs.Module.{fit_module, spell_module_group, fields_of_kind}
-use Rattle.wat_print_module.specs.Module.{UnfitField, UnfitPart, NonePart}
-use Rattle.wat_print.specs.Strings.{spell_string, fit_string}
-use Rattle.wat_print_module.specs.Laws.Field.{fields_here, field_group_neat, field_group_only}
+use Rattle.wat_print_module.specs.Field.{spell_module_field, printable_module_field}
+use Rattle.wat_print_module.specs.Field.{spell_field_group}
+use Rattle.wat_print_module.specs.Module.{spell_module_kind, printable_module_kind, spell_module}
+use Rattle.wat_print_module.specs.Module.{printable_module, spell_module_group, fields_of_kind}
+use Rattle.wat_print_module.specs.Module.{UnprintableField, UnprintablePart, NonePart}
+use Rattle.wat_print.specs.Strings.{spell_string, printable_string}
+use Rattle.wat_print_module.specs.Laws.Field.{fields_here, field_group_well_formed}
+use Rattle.wat_print_module.specs.Laws.Field.{field_group_only}
 use Rattle.wat_print_module.specs.Laws.Folded.{no_word}
-use Rattle.wat_print.specs.Laws.Strings.{string_here, string_neat, string_only}
-
-after_false : (a b : Bool) → b ≡ false → a && b ≡ false
-after_false true b e = e
-after_false false b e = refl
+use Rattle.wat_print.specs.Laws.Strings.{string_here, string_well_formed, string_only}
 
 -- ---- what is in front
 
@@ -97,7 +94,7 @@ fields_front (f ∷ fs) r e = refl
 
 -- ---- modules
 
-kind_here : (k : ModuleKindTy) (r : List Tok) → fit_module_kind k ≡ true → EndsThere r
+kind_here : (k : ModuleKindTy) (r : List Tok) → printable_module_kind k ≡ true → EndsThere r
     → module_kind.spells k (spell_module_kind k) r
 unfolding module_kind fields pieces
 kind_here (text fs) r f e =
@@ -111,7 +108,7 @@ kind_here (binary ss) r f e =
       (
         ss,
         after_here (codes "binary") pieces ss (flat_map spell_string ss) r refl
-            (many_here more string spell_string fit_string string_here (λ v x o. refl) ss r f
+            (many_here more string spell_string printable_string string_here (λ v x o. refl) ss r f
             e.no_more),
         refl,
         refl,
@@ -119,11 +116,11 @@ kind_here (binary ss) r f e =
     )
 
 -- up to the end of its group
-pub module_here : (m : ModuleTy) (r : List Tok) → fit_module m ≡ true → more r ≡ false
+pub module_here : (m : ModuleTy) (r : List Tok) → printable_module m ≡ true → more r ≡ false
     → module_.spells m (spell_module m) r
 unfolding module_
 module_here m r f e =
-    let a = and_parts (fit_label m.label) (fit_module_kind m.kind) f in
+    let a = and_parts (printable_label m.label) (printable_module_kind m.kind) f in
     let t = ends_there r e in
     let k = spell_module_kind m.kind in
     after_here (codes "module") (made (λ v. module_with v.0 v.1) (seq label module_kind)) m
@@ -136,87 +133,98 @@ module_here m r f e =
       refl,
     )
 
-pub module_group_here : (m : ModuleTy) → fit_module m ≡ true
+pub module_group_here : (m : ModuleTy) → printable_module m ≡ true
     → Spells (paren module_) m (spell_module_group m)
 module_group_here m f r =
     paren_here module_ m (spell_module m) r (module_here m (RParen ∷ r) f refl)
 
 -- ---- they can be written
 
-kind_neat : (k : ModuleKindTy) → fit_module_kind k ≡ true → Neat (spell_module_kind k)
-kind_neat (text fs) f = neat_each spell_field_group fit_module_field field_group_neat fs f
-kind_neat (binary ss) f =
-    neat_word (codes "binary") (flat_map spell_string ss) refl
-    (neat_each spell_string fit_string string_neat ss f)
+kind_well_formed : (k : ModuleKindTy) → printable_module_kind k ≡ true
+    → WellFormed (spell_module_kind k)
+kind_well_formed (text fs) f =
+    well_formed_each spell_field_group printable_module_field field_group_well_formed fs f
+kind_well_formed (binary ss) f =
+    well_formed_word (codes "binary") (flat_map spell_string ss) refl
+    (well_formed_each spell_string printable_string string_well_formed ss f)
 
-pub module_neat : (m : ModuleTy) → fit_module m ≡ true → Neat (spell_module m)
-module_neat m f =
-    let a = and_parts (fit_label m.label) (fit_module_kind m.kind) f in
-    neat_word (codes "module") (spell_label m.label ++ spell_module_kind m.kind) refl
-    (neat_both (spell_label m.label) (spell_module_kind m.kind) (label_neat m.label a.0)
-    (kind_neat m.kind a.1))
+pub module_well_formed : (m : ModuleTy) → printable_module m ≡ true → WellFormed (spell_module m)
+module_well_formed m f =
+    let a = and_parts (printable_label m.label) (printable_module_kind m.kind) f in
+    well_formed_word (codes "module") (spell_label m.label ++ spell_module_kind m.kind) refl
+    (well_formed_both (spell_label m.label) (spell_module_kind m.kind)
+    (label_well_formed m.label a.0)
+    (kind_well_formed m.kind a.1))
 
-pub module_group_neat : (m : ModuleTy) → fit_module m ≡ true → Neat (spell_module_group m)
-module_group_neat m f = neat_paren (spell_module m) (module_neat m f)
+pub module_group_well_formed : (m : ModuleTy) → printable_module m ≡ true
+    → WellFormed (spell_module_group m)
+module_group_well_formed m f = well_formed_paren (spell_module m) (module_well_formed m f)
 
 -- the text of what was written on a new page
 pub module_reads_back : (m : ModuleTy) (lines : Bool) (p q : Page) (x : List ℕ)
-    → fit_module m ≡ true → p ≡ blank_page lines → Writes (spell_module_group m) p q
+    → printable_module m ≡ true → p ≡ blank_page lines → Writes (spell_module_group m) p q
     → x ≡ q.bytes → SpellsModule x m
 module_reads_back m lines p q x f e w b =
     let ts = spell_module_group m in
-    let n = module_group_neat m f in
+    let n = module_group_well_formed m f in
     let c = cut_back ts lines p q x n e w b in
-    let s = is_module m ts refl (neat_visible ts n) (module_group_here m f []) in
+    let s = is_module m ts refl (well_formed_visible ts n) (module_group_here m f []) in
     (c.0, c.1, subst (λ (t : List Tok). IsModule t m) (sym c.2) s)
 
 -- ---- what a text spells can be written
 
-kind_only : OnlyFit module_kind fit_module_kind
+kind_only : OnlyPrintable module_kind printable_module_kind
 unfolding module_kind fields pieces
 kind_only =
     only_where (begins_word (codes "binary"))
-    (only_made (λ _. true) binary fit_module_kind
+    (only_made (λ _. true) binary printable_module_kind
     (only_after (codes "binary") (only_many more (lit≤ tt) string_only)))
-    (only_made (λ _. true) text fit_module_kind
+    (only_made (λ _. true) text printable_module_kind
     (only_many more field_group_consumes field_group_only))
 
-pub module_only : OnlyFit module_ fit_module
+pub module_only : OnlyPrintable module_ printable_module
 unfolding module_
 module_only =
     only_after (codes "module")
-    (only_made (λ _. true) (λ v. module_with v.0 v.1) fit_module
-    (only_weaker (λ v. fit_module (module_with v.0 v.1)) (λ v h. h)
+    (only_made (λ _. true) (λ v. module_with v.0 v.1) printable_module
+    (only_weaker (λ v. printable_module (module_with v.0 v.1)) (λ v h. h)
     (only_seq label_only kind_only)))
 
-pub module_group_only : OnlyFit (paren module_) fit_module
+pub module_group_only : OnlyPrintable (paren module_) printable_module
 module_group_only = only_paren module_only
 
 -- ---- what is refused
 
-get_unfit : (fs : List ModuleFieldTy) (i : ℕ) (f : ModuleFieldTy) → slice_get fs i ≡ Some f
-    → fit_module_field f ≡ false → each fit_module_field fs ≡ false
-get_unfit [] i f e h = absurd cc
-get_unfit (g ∷ fs) zero f e h =
+get_unprintable : (fs : List ModuleFieldTy) (i : ℕ) (f : ModuleFieldTy) → slice_get fs i ≡ Some f
+    → printable_module_field f ≡ false → each printable_module_field fs ≡ false
+get_unprintable [] i f e h = absurd cc
+get_unprintable (g ∷ fs) zero f e h =
     let same : g ≡ f = cc in
-    let k : fit_module_field g ≡ false =
-    subst (λ (v : ModuleFieldTy). fit_module_field v ≡ false) (sym same) h in rw k refl
-get_unfit (g ∷ fs) (suc i) f e h =
-    after_false (fit_module_field g) (each fit_module_field fs) (get_unfit fs i f e h)
+    let k : printable_module_field g ≡ false =
+    subst (λ (v : ModuleFieldTy). printable_module_field v ≡ false) (sym same) h in rw k refl
+get_unprintable (g ∷ fs) (suc i) f e h =
+    and_right (printable_module_field g) (each printable_module_field fs)
+    (get_unprintable fs i f e h)
 
-kind_unfit : (k : ModuleKindTy) (i : ℕ) → UnfitField (fields_of_kind k) (Some i)
-    → fit_module_kind k ≡ false
-kind_unfit (text fs) i u = get_unfit fs i u.0 u.1 u.2
-kind_unfit (binary ss) i u = absurd cc
+kind_unprintable : (k : ModuleKindTy) (i : ℕ) → UnprintableField (fields_of_kind k) (Some i)
+    → printable_module_kind k ≡ false
+kind_unprintable (text fs) i u = get_unprintable fs i u.0 u.1 u.2
+kind_unprintable (binary ss) i u = absurd cc
 
 -- where a part can't be written, the module can't
-pub part_unfit : (m : ModuleTy) (o : Option ℕ) → UnfitPart m o → fit_module m ≡ false
-part_unfit m (Some i) u =
-    after_false (fit_label m.label) (fit_module_kind m.kind) (kind_unfit m.kind i u)
-part_unfit m None u = rw u refl
+pub part_unprintable : (m : ModuleTy) (o : Option ℕ) → UnprintablePart m o
+    → printable_module m ≡ false
+part_unprintable m (Some i) u =
+    and_right (printable_label m.label) (printable_module_kind m.kind)
+    (kind_unprintable m.kind i u)
+part_unprintable m None u = rw u refl
 
 -- no text spells it then
-pub part_none : (m : ModuleTy) (o : Option ℕ) → UnfitPart m o → NonePart m o
-part_none m (Some i) u =
-    (u.0, u.1, unspelled field_group u.0 (fit_module_field u.0) u.2 (field_group_only.holds u.0))
-part_none m None u = unspelled label m.label (fit_label m.label) u (label_only.holds m.label)
+pub part_none : (m : ModuleTy) (o : Option ℕ) → UnprintablePart m o → NonePart m o
+part_none m (Some i) u = (
+  u.0,
+  u.1,
+  unspelled field_group u.0 (printable_module_field u.0) u.2
+      (field_group_only.holds u.0),
+)
+part_none m None u = unspelled label m.label (printable_label m.label) u (label_only.holds m.label)

@@ -19,21 +19,21 @@ use Rattle.wat_links.specs.ProducerEntry.{producer_entry}
 use Rattle.wat_links.specs.Producers.{word_of, same_field, producer_entries, field_entries}
 use Rattle.wat_links.specs.Producers.{with_entries, fields_of, producers}
 use Rattle.wat_links.specs.Laws.Producers.{producer_entry_consumes}
-use Rattle.wat_print.specs.Neat.{is_keyword, Neat, nothing}
+use Rattle.wat_print.specs.WellFormed.{is_keyword, WellFormed, nothing}
 use Rattle.wat_print.specs.Parts.{each}
-use Rattle.wat_print.specs.Laws.Only.{OnlyFit, only_any, only_paren, only_many, only_seq, only_made}
-use Rattle.wat_print.specs.Laws.Only.{only_weaker}
-use Rattle.wat_print.specs.Laws.Parts.{Spells, paren_here, neat_group, neat_both}
-use Rattle.wat_print.specs.Laws.Parts.{neat_each}
+use Rattle.wat_print.specs.Laws.Only.{OnlyPrintable, only_any, only_paren, only_many, only_seq}
+use Rattle.wat_print.specs.Laws.Only.{only_made, only_weaker}
+use Rattle.wat_print.specs.Laws.Parts.{Spells, paren_here, well_formed_group, well_formed_both}
+use Rattle.wat_print.specs.Laws.Parts.{well_formed_each}
 use Rattle.wat_print_instr.specs.Laws.Places.{both_here}
 use Rattle.wat_print_module.specs.Producers.{ProducedTy, spell_produced, spell_produced_field}
-use Rattle.wat_print_module.specs.Producers.{spell_producers, fit_versioned, fit_produced_field}
-use Rattle.wat_print_module.specs.Producers.{field_of_word, fields_behind, fit_in_turn}
-use Rattle.wat_print_module.specs.Producers.{fit_producers}
+use Rattle.wat_print_module.specs.Producers.{spell_producers, printable_versioned}
+use Rattle.wat_print_module.specs.Producers.{printable_produced_field, field_of_word, fields_behind}
+use Rattle.wat_print_module.specs.Producers.{printable_in_turn, printable_producers}
 use Rattle.wat_print.specs.Strings.{spell_string}
-use Rattle.wat_print.specs.Laws.Strings.{text_here, text_neat, text_only}
-use Rattle.wat_print_module.specs.Laws.Strings.{annotated_here, only_annotated, neat_annotated}
-use Rattle.wat_print_module.specs.Laws.Strings.{producers_annotation}
+use Rattle.wat_print.specs.Laws.Strings.{text_here, text_well_formed, text_only}
+use Rattle.wat_print_module.specs.Laws.Strings.{annotated_here, only_annotated}
+use Rattle.wat_print_module.specs.Laws.Strings.{well_formed_annotated, producers_annotation}
 
 -- ---- the words of fields
 
@@ -76,7 +76,7 @@ processor_read r = (Keyword (codes "processed-by"), refl, refl)
 
 -- ---- entries
 
-entry_here : (k : ProducerField) (x : Versioned) → IsRead k → fit_versioned x ≡ true
+entry_here : (k : ProducerField) (x : Versioned) → IsRead k → printable_versioned x ≡ true
     → Spells producer_entry (k, x) (spell_produced (word_of k) x)
 unfolding producer_entry
 entry_here k x w f r =
@@ -94,12 +94,12 @@ entries_of k xs = map (λ x. (k, x)) xs
 
 -- the entries of a field, in front of others
 entries_here : (k : ProducerField) → IsRead k → (xs : List Versioned) (es : List ProducerTy)
-    (d r : List Tok) → each fit_versioned xs ≡ true → many_spells more producer_entry es d r
+    (d r : List Tok) → each printable_versioned xs ≡ true → many_spells more producer_entry es d r
     → many_spells more producer_entry (entries_of k xs ++ es)
     (flat_map (spell_produced (word_of k)) xs ++ d) r
 entries_here k w [] es d r f m = m
 entries_here k w (x ∷ xs) es d r f m =
-    let a = and_parts (fit_versioned x) (each fit_versioned xs) f in
+    let a = and_parts (printable_versioned x) (each printable_versioned xs) f in
     let p = spell_produced (word_of k) x in
     let q = flat_map (spell_produced (word_of k)) xs in (
       p,
@@ -208,24 +208,25 @@ in_turn_spelled w fs rest e =
 -- entries, which make the field of the word, where there are any
 abbrev Entries : List ℕ → List ProducedTy → Type 0
 Entries w fs =
-    (xs : List Versioned) × (field_of_word w fs ≡ with_entries w xs) × (each fit_versioned xs
+    (xs : List Versioned) × (field_of_word w fs ≡ with_entries w xs) × (each printable_versioned xs
     ≡ true)
 
-filled : (w : List ℕ) (xs : List Versioned) → not (no_items xs) && each fit_versioned xs ≡ true
+filled : (w : List ℕ) (xs : List Versioned)
+    → not (no_items xs) && each printable_versioned xs ≡ true
     → (w, xs) ∷ [] ≡ with_entries w xs
 filled w [] h = absurd cc
 filled w (x ∷ xs) h = refl
 
 entries_there : (w : List ℕ) (fs : List ProducedTy)
-    → each fit_produced_field (field_of_word w fs) ≡ true → Entries w fs
+    → each printable_produced_field (field_of_word w fs) ≡ true → Entries w fs
 entries_there w [] h = ([], refl, refl)
 entries_there w (f ∷ fs) h =
     by_test (bytes_eq f.0 w)
     (λ e. (let k = (bytes_decides f.0 w).0 e in
-    let g = (and_parts (fit_produced_field f) true (rw e at h)).0 in (
+    let g = (and_parts (printable_produced_field f) true (rw e at h)).0 in (
       f.1,
       rw e (filled f.0 f.1 g ∙ ap (λ (v : List ℕ). with_entries v f.1) k),
-      (and_parts (not (no_items f.1)) (each fit_versioned f.1) g).1,
+      (and_parts (not (no_items f.1)) (each printable_versioned f.1) g).1,
     )))
     (λ e. ([], rw e refl, refl))
 
@@ -245,22 +246,25 @@ record Threes (fs : List ProducedTy) : Type 0 where
   sdks : List Versioned
   processors : List Versioned
   are : fs ≡ three_fields languages sdks processors
-  fit_languages : each fit_versioned languages ≡ true
-  fit_sdks : each fit_versioned sdks ≡ true
-  fit_processors : each fit_versioned processors ≡ true
+  printable_languages : each printable_versioned languages ≡ true
+  printable_sdks : each printable_versioned sdks ≡ true
+  printable_processors : each printable_versioned processors ≡ true
 
-threes : (fs : List ProducedTy) → fit_producers fs ≡ true → Threes fs
+threes : (fs : List ProducedTy) → printable_producers fs ≡ true → Threes fs
 threes fs h =
     let l = codes "language" in
     let s = codes "sdk" in
     let p = codes "processed-by" in
     let gs = fields_behind l fs in
     let hs = fields_behind s gs in
-    let a = and_parts (each fit_produced_field (field_of_word l fs)) (fit_in_turn (s ∷ p ∷ []) gs) h
+    let a = and_parts (each printable_produced_field (field_of_word l fs))
+    (printable_in_turn (s ∷ p ∷ []) gs) h
     in
-    let b = and_parts (each fit_produced_field (field_of_word s gs)) (fit_in_turn (p ∷ []) hs) a.1
+    let b = and_parts (each printable_produced_field (field_of_word s gs))
+    (printable_in_turn (p ∷ []) hs) a.1
     in
-    let c = and_parts (each fit_produced_field (field_of_word p hs)) (no_items (fields_behind p hs))
+    let c =
+    and_parts (each printable_produced_field (field_of_word p hs)) (no_items (fields_behind p hs))
     b.1 in
     let x = entries_there l fs a.0 in
     let y = entries_there s gs b.0 in
@@ -272,9 +276,9 @@ threes fs h =
       processors = z.0;
       are = fields_step l fs (with_entries s y.0 ++ (with_entries p z.0 ++ [])) x
           (fields_step s gs (with_entries p z.0 ++ []) y (fields_step p hs [] z none));
-      fit_languages = x.2;
-      fit_sdks = y.2;
-      fit_processors = z.2;
+      printable_languages = x.2;
+      printable_sdks = y.2;
+      printable_processors = z.2;
     }
 
 three_here : (fs : List ProducedTy) (t : Threes fs) (r : List Tok) → more r ≡ false
@@ -287,11 +291,11 @@ three_here fs t r e =
     let b = flat_map (spell_produced (codes "sdk")) t.sdks in
     let c = flat_map (spell_produced (codes "processed-by")) t.processors in
     entries_here language language_read t.languages (ys ++ (zs ++ [])) (b ++ (c ++ [])) r
-    t.fit_languages (entries_here sdk sdk_read t.sdks (zs ++ []) (c ++ []) r t.fit_sdks
-    (entries_here processor processor_read t.processors [] [] r t.fit_processors (refl, e)))
+    t.printable_languages (entries_here sdk sdk_read t.sdks (zs ++ []) (c ++ []) r t.printable_sdks
+    (entries_here processor processor_read t.processors [] [] r t.printable_processors (refl, e)))
 
 -- up to the end of the group
-pub producers_here : (fs : List ProducedTy) (r : List Tok) → fit_producers fs ≡ true
+pub producers_here : (fs : List ProducedTy) (r : List Tok) → printable_producers fs ≡ true
     → more r ≡ false → producers.spells fs (spell_producers fs) r
 unfolding producers
 producers_here fs r f e =
@@ -309,73 +313,80 @@ producers_here fs r f e =
 
 -- ---- they can be written
 
-produced_neat : (w : List ℕ) → is_keyword w ≡ true → (x : Versioned) → fit_versioned x ≡ true
-    → Neat (spell_produced w x)
-produced_neat w k x f =
+produced_well_formed : (w : List ℕ) → is_keyword w ≡ true → (x : Versioned)
+    → printable_versioned x ≡ true
+    → WellFormed (spell_produced w x)
+produced_well_formed w k x f =
     let a = and_parts (is_utf8 x.0) (is_utf8 x.1) f in
-    neat_group w (spell_string x.0 ++ spell_string x.1) k
-    (neat_both (spell_string x.0) (spell_string x.1) (text_neat x.0 a.0) (text_neat x.1 a.1))
+    well_formed_group w (spell_string x.0 ++ spell_string x.1) k
+    (well_formed_both (spell_string x.0) (spell_string x.1) (text_well_formed x.0 a.0)
+    (text_well_formed x.1 a.1))
 
-entries_neat : (w : List ℕ) → is_keyword w ≡ true → (xs : List Versioned) (d : List Tok)
-    → each fit_versioned xs ≡ true → Neat d → Neat (flat_map (spell_produced w) xs ++ d)
-entries_neat w k xs d f n =
-    neat_both (flat_map (spell_produced w) xs) d
-    (neat_each (spell_produced w) fit_versioned (produced_neat w k) xs f) n
+entries_well_formed : (w : List ℕ) → is_keyword w ≡ true → (xs : List Versioned) (d : List Tok)
+    → each printable_versioned xs ≡ true → WellFormed d
+    → WellFormed (flat_map (spell_produced w) xs ++ d)
+entries_well_formed w k xs d f n =
+    well_formed_both (flat_map (spell_produced w) xs) d
+    (well_formed_each (spell_produced w) printable_versioned (produced_well_formed w k) xs f) n
 
-pub producers_neat : (fs : List ProducedTy) → fit_producers fs ≡ true
-    → Neat (in_parens (spell_producers fs))
-producers_neat fs f =
+pub producers_well_formed : (fs : List ProducedTy) → printable_producers fs ≡ true
+    → WellFormed (in_parens (spell_producers fs))
+producers_well_formed fs f =
     let t = threes fs f in
     let b = flat_map (spell_produced (codes "sdk")) t.sdks in
     let c = flat_map (spell_produced (codes "processed-by")) t.processors in
     let same = ap (λ (gs : List ProducedTy). flat_map spell_produced_field gs) t.are
     ∙ spelled_are t.languages t.sdks t.processors in
-    neat_annotated (codes "producers") (flat_map spell_produced_field fs) producers_annotation refl
-    (subst (λ (d : List Tok). Neat d) (sym same)
-    (entries_neat (codes "language") refl t.languages (b ++ (c ++ [])) t.fit_languages
-    (entries_neat (codes "sdk") refl t.sdks (c ++ []) t.fit_sdks
-    (entries_neat (codes "processed-by") refl t.processors [] t.fit_processors nothing))))
+    well_formed_annotated (codes "producers") (flat_map spell_produced_field fs)
+    producers_annotation refl
+    (subst (λ (d : List Tok). WellFormed d) (sym same)
+    (entries_well_formed (codes "language") refl t.languages (b ++ (c ++ [])) t.printable_languages
+    (entries_well_formed (codes "sdk") refl t.sdks (c ++ []) t.printable_sdks
+    (entries_well_formed (codes "processed-by") refl t.processors []
+    t.printable_processors nothing))))
 
 -- ---- what a text spells can be written
 
-entry_only : OnlyFit producer_entry (λ e. fit_versioned e.1)
+entry_only : OnlyPrintable producer_entry (λ e. printable_versioned e.1)
 unfolding producer_entry
 entry_only =
-    only_paren (only_weaker (λ e. fit_versioned e.1) (λ v h. h)
+    only_paren (only_weaker (λ e. printable_versioned e.1) (λ v h. h)
     (only_seq (only_any field_word) (only_seq text_only text_only)))
 
-field_fit : (k : ProducerField) (es : List ProducerTy) → each (λ e. fit_versioned e.1) es ≡ true
-    → each fit_versioned (field_entries k es) ≡ true
-field_fit k [] h = refl
-field_fit k (e ∷ es) h =
-    let a = and_parts (fit_versioned e.1) (each (λ e. fit_versioned e.1) es) h in
-    by_test (same_field e.0 k) (λ s. (rw (s, a.0) (field_fit k es a.1)))
-    (λ s. (rw s (field_fit k es a.1)))
+field_printable : (k : ProducerField) (es : List ProducerTy)
+    → each (λ e. printable_versioned e.1) es ≡ true
+    → each printable_versioned (field_entries k es) ≡ true
+field_printable k [] h = refl
+field_printable k (e ∷ es) h =
+    let a = and_parts (printable_versioned e.1) (each (λ e. printable_versioned e.1) es) h in
+    by_test (same_field e.0 k) (λ s. (rw (s, a.0) (field_printable k es a.1)))
+    (λ s. (rw s (field_printable k es a.1)))
 
-turn_fit : (xs ys zs : List Versioned) → each fit_versioned xs ≡ true → each fit_versioned ys ≡ true
-    → each fit_versioned zs ≡ true
-    → fit_producers ((with_entries (codes "language") xs ++ with_entries (codes "sdk") ys)
+turn_printable : (xs ys zs : List Versioned) → each printable_versioned xs ≡ true
+    → each printable_versioned ys ≡ true
+    → each printable_versioned zs ≡ true
+    → printable_producers ((with_entries (codes "language") xs ++ with_entries (codes "sdk") ys)
     ++ with_entries (codes "processed-by") zs) ≡ true
-turn_fit [] [] [] a b c = refl
-turn_fit [] [] (z ∷ zs) a b c = rw c refl
-turn_fit [] (y ∷ ys) [] a b c = rw b refl
-turn_fit [] (y ∷ ys) (z ∷ zs) a b c = rw (b, c) refl
-turn_fit (x ∷ xs) [] [] a b c = rw a refl
-turn_fit (x ∷ xs) [] (z ∷ zs) a b c = rw (a, c) refl
-turn_fit (x ∷ xs) (y ∷ ys) [] a b c = rw (a, b) refl
-turn_fit (x ∷ xs) (y ∷ ys) (z ∷ zs) a b c = rw (a, b, c) refl
+turn_printable [] [] [] a b c = refl
+turn_printable [] [] (z ∷ zs) a b c = rw c refl
+turn_printable [] (y ∷ ys) [] a b c = rw b refl
+turn_printable [] (y ∷ ys) (z ∷ zs) a b c = rw (b, c) refl
+turn_printable (x ∷ xs) [] [] a b c = rw a refl
+turn_printable (x ∷ xs) [] (z ∷ zs) a b c = rw (a, c) refl
+turn_printable (x ∷ xs) (y ∷ ys) [] a b c = rw (a, b) refl
+turn_printable (x ∷ xs) (y ∷ ys) (z ∷ zs) a b c = rw (a, b, c) refl
 
-fields_fit : (es : List ProducerTy) → each (λ e. fit_versioned e.1) es ≡ true
-    → fit_producers (fields_of es) ≡ true
-fields_fit es h =
-    turn_fit (field_entries language es) (field_entries sdk es) (field_entries processor es)
-    (field_fit language es h) (field_fit sdk es h) (field_fit processor es h)
+fields_printable : (es : List ProducerTy) → each (λ e. printable_versioned e.1) es ≡ true
+    → printable_producers (fields_of es) ≡ true
+fields_printable es h =
+    turn_printable (field_entries language es) (field_entries sdk es) (field_entries processor es)
+    (field_printable language es h) (field_printable sdk es h) (field_printable processor es h)
 
-pub producers_only : OnlyFit producers fit_producers
+pub producers_only : OnlyPrintable producers printable_producers
 unfolding producers producer_entries
 producers_only =
-    only_annotated (codes "producers") (only_made (λ _. true) fields_of fit_producers
-    (only_weaker (λ es. fit_producers (fields_of es)) fields_fit
+    only_annotated (codes "producers") (only_made (λ _. true) fields_of printable_producers
+    (only_weaker (λ es. printable_producers (fields_of es)) fields_printable
     (only_many more producer_entry_consumes entry_only)))
 
 -- ---- the three words in turn
@@ -384,11 +395,11 @@ producers_only =
 module _ (fs gs hs ks : List ProducedTy) (a : gs ≡ fields_behind (codes "language") fs)
     (b : hs ≡ fields_behind (codes "sdk") gs) (c : ks ≡ fields_behind (codes "processed-by") hs)
   where
-    pub turns_fit : each fit_produced_field (field_of_word (codes "language") fs) ≡ true
-        → each fit_produced_field (field_of_word (codes "sdk") gs) ≡ true
-        → each fit_produced_field (field_of_word (codes "processed-by") hs) ≡ true
-        → fit_producers fs ≡ no_items ks
-    turns_fit x y z = rw (x, ← a, y, ← b, z, ← c) refl
+    pub turns_printable : each printable_produced_field (field_of_word (codes "language") fs) ≡ true
+        → each printable_produced_field (field_of_word (codes "sdk") gs) ≡ true
+        → each printable_produced_field (field_of_word (codes "processed-by") hs) ≡ true
+        → printable_producers fs ≡ no_items ks
+    turns_printable x y z = rw (x, ← a, y, ← b, z, ← c) refl
 
     pub turns_spelled : no_items ks ≡ true
         → flat_map spell_produced_field (field_of_word (codes "language") fs)

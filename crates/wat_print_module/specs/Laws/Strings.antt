@@ -1,6 +1,5 @@
 -- Laws: strings of bytes and annotations are read again, and what stands behind groups.
-use Rattle.std.specs.Prelude.{◌≡◌, ℕ, ◌<◌, Bool, true, false, List, [], ◌∷◌}
-use Rattle.std.specs.Prelude.{codes, slice_index}
+use Rattle.std.specs.Prelude.{◌≡◌, ℕ, ◌<◌, Bool, true, false, List, [], ◌∷◌, codes, slice_index}
 use Rattle.std.specs.Str.{is_utf8, bytes_eq}
 use Rattle.std.proofs.Common.{refl, rules}
 use Rattle.std.proofs.lemmas.Str.{is_utf8-from_IsUtf8, IsUtf8-from_ascii}
@@ -10,8 +9,8 @@ use Rattle.wat_tokens.specs.Parts.{annotation_token, annotation}
 use Rattle.wat_tokens.specs.Production.{Production}
 use Rattle.wat_tokens.specs.Spelled.{in_parens}
 use Rattle.wat_tokens.specs.Tests.{begins_lparen, more}
-use Rattle.wat_print.specs.Neat.{is_name, Neat, nothing, noted}
-use Rattle.wat_print.specs.Laws.Only.{OnlyFit, only_any, only_seq, only_made}
+use Rattle.wat_print.specs.WellFormed.{is_name, WellFormed, nothing, noted}
+use Rattle.wat_print.specs.Laws.Only.{OnlyPrintable, only_any, only_seq, only_made}
 use Rattle.wat_print_instr.specs.Laws.Places.{both_here}
 use Rattle.wat_print_module.specs.Laws.Folded.{no_word}
 
@@ -26,10 +25,11 @@ annotated_here n g v d r e s = (
   refl,
 )
 
-pub only_annotated : {A : Type 0} {g : Production A} {fit : A → Bool} (n : List ℕ) → OnlyFit g fit
-    → OnlyFit (annotation n g) fit
-only_annotated {fit = fit} n m =
-    only_made (λ _. true) (λ v. v.1) fit (only_seq (only_any (annotation_token n)) m)
+pub only_annotated : {A : Type 0} {g : Production A} {printable : A → Bool} (n : List ℕ)
+    → OnlyPrintable g printable
+    → OnlyPrintable (annotation n g) printable
+only_annotated {printable = printable} n m =
+    only_made (λ _. true) (λ v. v.1) printable (only_seq (only_any (annotation_token n)) m)
 
 ascii_name : (n : List ℕ) → ((i : ℕ) → slice_index n i < 128) → is_utf8 n ≡ true
 ascii_name n h = is_utf8-from_IsUtf8 n (IsUtf8-from_ascii n h)
@@ -52,9 +52,10 @@ dylink_ascii i = search (rules)
 pub dylink_annotation : is_name (codes "dylink.0") ≡ true
 dylink_annotation = ascii_name (codes "dylink.0") (λ i. (dylink_ascii i))
 
-pub neat_annotated : (n : List ℕ) (d : List Tok) → is_name n ≡ true → is_standard n ≡ true → Neat d
-    → Neat (in_parens (Annotation n ∷ d))
-neat_annotated n d f s m = noted n d [] f s m nothing
+pub well_formed_annotated : (n : List ℕ) (d : List Tok) → is_name n ≡ true → is_standard n ≡ true
+    → WellFormed d
+    → WellFormed (in_parens (Annotation n ∷ d))
+well_formed_annotated n d f s m = noted n d [] f s m nothing
 
 -- ---- what is in front
 

@@ -4,7 +4,7 @@ use Rattle.std.specs.Prelude.{[], ◌∷◌, ◌++◌, codes, decimal, flat_map,
 use Rattle.std.specs.Prelude.{get_or, ◌+◌, option_map}
 use Rattle.std.specs.Str.{bytes_eq}
 use Rattle.std.proofs.Common.{refl, ap, subst, sym, ◌∙◌, inl, inr}
-use Rattle.std.proofs.lemmas.Bool.{and_parts}
+use Rattle.std.proofs.lemmas.Bool.{and_parts, eqb-true}
 use Rattle.wat_lexer.specs.Token.{Tok, LParen, RParen, Keyword, Integer}
 use Rattle.wat_tokens.specs.Groups.{group}
 use Rattle.wat_tokens.specs.Index.{Idx, number, name}
@@ -29,35 +29,36 @@ use Rattle.wat_fields.specs.Payload.{by_index, by_item, of_type, listed}
 use Rattle.wat_fields.specs.Table.{TableKindTy, imported, normal, inline, TableFieldTy, table_of}
 use Rattle.wat_fields.specs.Table.{begins_inline_elems, begins_normal}
 use Rattle.wat_fields.specs.Table.{inline_table, normal_table, imported_table, table_kind, table}
-use Rattle.wat_print.specs.Index.{spell_index, fit_index}
-use Rattle.wat_print.specs.Limits.{spell_number, spell_table_type, fit_table_type}
-use Rattle.wat_print.specs.Neat.{Neat}
+use Rattle.wat_print.specs.Index.{spell_index, printable_index}
+use Rattle.wat_print.specs.Limits.{spell_number, spell_table_type, printable_table_type}
+use Rattle.wat_print.specs.WellFormed.{WellFormed}
 use Rattle.wat_print.specs.Parts.{grouped, spell_flag, spell_option, each, if_some}
-use Rattle.wat_print.specs.Reference.{short_word, spell_ref, fit_ref}
-use Rattle.wat_print.specs.Laws.Limits.{table_type_here, table_type_neat}
-use Rattle.wat_print.specs.Laws.Limits.{width_here}
-use Rattle.wat_print.specs.Laws.Parts.{flag_here, group_here, neat_word, neat_both, neat_group}
-use Rattle.wat_print.specs.Laws.Parts.{neat_flag, neat_option}
-use Rattle.wat_print.specs.Laws.Reference.{ref_here, ref_neat}
+use Rattle.wat_print.specs.Reference.{short_word, spell_ref, printable_ref}
+use Rattle.wat_print.specs.Laws.Limits.{table_type_here, table_type_well_formed, width_here}
+use Rattle.wat_print.specs.Laws.Parts.{flag_here, group_here, well_formed_word, well_formed_both}
+use Rattle.wat_print.specs.Laws.Parts.{well_formed_group, well_formed_flag, well_formed_option}
+use Rattle.wat_print.specs.Laws.Reference.{ref_here, ref_well_formed}
 use Rattle.wat_print.specs.Laws.Define.{after_here}
-use Rattle.wat_print_instr.specs.ExpressionForm.{HintedInstr, step_of, spell_step, fit_step}
+use Rattle.wat_print_instr.specs.ExpressionForm.{HintedInstr, step_of, spell_step, printable_step}
 use Rattle.wat_print_instr.specs.ExpressionForm.{steps_from, hint_for, hints_after}
-use Rattle.wat_print_instr.specs.ExpressionForm.{spell_expression, fit_expression}
+use Rattle.wat_print_instr.specs.ExpressionForm.{spell_expression, printable_expression}
 use Rattle.wat_print_instr.specs.InstructionForm.{passes}
-use Rattle.wat_print_instr.specs.Laws.Expression.{EndsExpression, expression_closed, expression_neat}
-use Rattle.wat_print_instr.specs.Laws.Numbers.{equal_by, same_number}
+use Rattle.wat_print_instr.specs.Laws.Expression.{EndsExpression, expression_closed}
+use Rattle.wat_print_instr.specs.Laws.Expression.{expression_well_formed, next_step}
+use Rattle.wat_print_instr.specs.Laws.Numbers.{same_number}
 use Rattle.wat_print_instr.specs.Laws.Places.{both_here}
-use Rattle.wat_print_module.specs.FieldHead.{spell_inline_import, fit_inline_import, spell_head}
-use Rattle.wat_print_module.specs.FieldHead.{fit_head}
+use Rattle.wat_print_module.specs.FieldHead.{spell_inline_import, printable_inline_import}
+use Rattle.wat_print_module.specs.FieldHead.{spell_head, printable_head}
 use Rattle.wat_print_module.specs.Table.{heap_number, same_flag, same_heap, same_ref}
-use Rattle.wat_print_module.specs.Table.{spell_elements, fit_elements, fit_initial}
-use Rattle.wat_print_module.specs.Table.{spell_table_kind, fit_table_kind, spell_table, fit_table}
+use Rattle.wat_print_module.specs.Table.{spell_elements, printable_elements, printable_initial}
+use Rattle.wat_print_module.specs.Table.{spell_table_kind, printable_table_kind, spell_table}
+use Rattle.wat_print_module.specs.Table.{printable_table}
 use Rattle.wat_print_module.specs.Laws.Elem.{of_ref, ref_not_word, ref_begins, items_here}
-use Rattle.wat_print_module.specs.Laws.Elem.{indices_here, items_neat, indices_neat}
-use Rattle.wat_print_module.specs.Laws.FieldHead.{EndsHead, head_here, head_neat}
-use Rattle.wat_print_module.specs.Laws.FieldHead.{inline_import_here, inline_import_neat}
-use Rattle.wat_print_module.specs.Laws.Folded.{next_is}
+use Rattle.wat_print_module.specs.Laws.Elem.{indices_here, items_well_formed, indices_well_formed}
+use Rattle.wat_print_module.specs.Laws.FieldHead.{EndsHead, head_here, head_well_formed}
+use Rattle.wat_print_module.specs.Laws.FieldHead.{inline_import_here, inline_import_well_formed}
 use Rattle.wat_print_module.specs.Laws.Fronts.{no_export}
+use Rattle.wat_print_module.specs.Laws.Folded.{Steps}
 
 -- ---- types that are the same
 
@@ -99,7 +100,7 @@ same_heaps (abstract_ a t) (abstract_ b u) e =
     let p = and_parts (same_flag a b) (heap_number t == heap_number u) e in
     let q : t ≡ u =
     sym (heap_back t)
-    ∙ ap (λ (n : ℕ). get_or heaps n word.Func) (equal_by (heap_number t) (heap_number u) p.1)
+    ∙ ap (λ (n : ℕ). get_or heaps n word.Func) (eqb-true (heap_number t) (heap_number u) p.1)
     ∙ heap_back u in
     ap (λ (c : Bool). abstract_ c t) (same_flags a b p.0)
     ∙ ap (λ (s : AbstractHeapType). abstract_ b s) q
@@ -157,7 +158,7 @@ indices_no_lparen (number n ∷ is) r = refl
 indices_no_lparen (name n ∷ is) r = refl
 
 exprs_listed : (t : RefTy) (es : List Expr) (r : List Tok)
-    → not (is_funcref t && no_items es) && each fit_expression es ≡ true
+    → not (is_funcref t && no_items es) && each printable_expression es ≡ true
     → Listing t (exprs t es) r
 unfolding listed
 exprs_listed t [] r f =
@@ -167,17 +168,17 @@ exprs_listed t [] r f =
       if_not (is_funcref t) (indices []) (exprs t []) (not_so (is_funcref t) a.0),
     )
 exprs_listed t (e ∷ es) r f =
-    let a = and_parts (not (is_funcref t && false)) (each fit_expression (e ∷ es)) f in (
+    let a = and_parts (not (is_funcref t && false)) (each printable_expression (e ∷ es)) f in (
       by_item (e ∷ es),
       inl (refl, (e ∷ es, items_here (e ∷ es) (RParen ∷ r) a.1 refl, refl, refl)),
       refl,
     )
 
-elements_listed : (t : RefTy) (p : PayloadTy) (r : List Tok) → fit_elements t p ≡ true
+elements_listed : (t : RefTy) (p : PayloadTy) (r : List Tok) → printable_elements t p ≡ true
     → Listing t p r
 unfolding listed
 elements_listed t (indices is) r f =
-    let a = and_parts (is_funcref t) (each fit_index is) f in (
+    let a = and_parts (is_funcref t) (each printable_index is) f in (
       by_index is,
       inr (
         indices_no_lparen is r,
@@ -227,7 +228,7 @@ inline_begins t false false p r e =
     rw (ref_begins t (grouped (codes "elem") (spell_elements p)) r) refl
 
 inline_here : (t : RefTy) (is64 shared : Bool) (p : PayloadTy) (r : List Tok)
-    → fit_ref t ≡ true → fit_elements t p ≡ true
+    → printable_ref t ≡ true → printable_elements t p ≡ true
     → inline_table.spells (inline t is64 shared p) (spell_table_kind (inline t is64 shared p)) r
 unfolding inline_table
 inline_here t is64 shared p r f g =
@@ -292,40 +293,37 @@ step_more (Some v) i s r = refl
 step_more None i s r = refl
 
 steps_more : (h : Option ℕ) (i : Instr) (o : Option (List HintedInstr)) (r : List Tok)
-    → passes (each fit_step) (option_map (λ xs. step_of h i ∷ xs) o) ≡ true
+    → passes (each printable_step) (option_map (λ xs. step_of h i ∷ xs) o) ≡ true
     → more (spell_option (flat_map spell_step) (option_map (λ xs. step_of h i ∷ xs) o) ++ r)
     ≡ true
 steps_more h i (Some xs) r f = step_more h i (flat_map spell_step xs) r
 steps_more h i None r f = absurd cc
 
-abbrev Steps : Type 0
-Steps = Option (List HintedInstr)
-
 instrs_more : (is : List Instr) (hs : List (ℕ × ℕ)) (r : List Tok) → not (no_items is) ≡ true
-    → passes (each fit_step) (steps_from 0 is hs) ≡ true
+    → passes (each printable_step) (steps_from 0 is hs) ≡ true
     → more (spell_option (flat_map spell_step) (steps_from 0 is hs) ++ r) ≡ true
 instrs_more [] hs r e f = absurd cc
 instrs_more (i ∷ is) hs r e f =
-    let same = next_is 0 i is hs in
+    let same = next_step 0 i is hs in
     subst (λ (o : Steps). more (spell_option (flat_map spell_step) o ++ r) ≡ true) (sym same)
     (steps_more (hint_for 0 hs) i (steps_from (0 + 1) is (hints_after 0 hs)) r
-    (subst (λ (o : Steps). passes (each fit_step) o ≡ true) same f))
+    (subst (λ (o : Steps). passes (each printable_step) o ≡ true) same f))
 
-initial_here : (o : Option Expr) (r : List Tok) → if_some fit_initial o ≡ true
+initial_here : (o : Option Expr) (r : List Tok) → if_some printable_initial o ≡ true
     → EndsExpression r
     → (opt more expression).spells o (spell_option spell_expression o) r
 initial_here (Some e) r f k =
-    let a = and_parts (not (no_items e.instrs)) (fit_expression e) f in
+    let a = and_parts (not (no_items e.instrs)) (printable_expression e) f in
     (instrs_more e.instrs e.hints r a.0 a.1, expression_closed e r a.1 k)
 initial_here None r f k = (refl, rw (k.0) refl)
 
 -- ---- kinds
 
-kind_here : (k : TableKindTy) (r : List Tok) → fit_table_kind k ≡ true → EndsExpression r
+kind_here : (k : TableKindTy) (r : List Tok) → printable_table_kind k ≡ true → EndsExpression r
     → table_kind.spells k (spell_table_kind k) r
 unfolding table_kind imported_table normal_table begins_shorthand
 kind_here (imported i t) r f e =
-    let a = and_parts (fit_inline_import i) (fit_table_type t) f in
+    let a = and_parts (printable_inline_import i) (printable_table_type t) f in
     let x = spell_table_type t in
     inr (
       refl,
@@ -341,7 +339,7 @@ kind_here (imported i t) r f e =
       ),
     )
 kind_here (normal t o) r f e =
-    let a = and_parts (fit_table_type t) (if_some fit_initial o) f in
+    let a = and_parts (printable_table_type t) (if_some printable_initial o) f in
     let x = spell_option spell_expression o in
     inr (
       type_no_inline t x r,
@@ -358,7 +356,7 @@ kind_here (normal t o) r f e =
     )
 kind_here (inline t is64 shared p) r f e =
     let a = and_parts (not (shared && is64)) _ f in
-    let b = and_parts (fit_ref t) (fit_elements t p) a.1 in
+    let b = and_parts (printable_ref t) (printable_elements t p) a.1 in
     inl (inline_begins t is64 shared p r a.0, inline_here t is64 shared p r b.0 b.1)
 
 -- what is behind a head
@@ -388,11 +386,11 @@ kind_ends_head k r = (
 -- ---- tables
 
 -- in front of an end, with none of the three words behind it
-pub table_here : (t : TableFieldTy) (r : List Tok) → fit_table t ≡ true → EndsExpression r
+pub table_here : (t : TableFieldTy) (r : List Tok) → printable_table t ≡ true → EndsExpression r
     → table.spells t (spell_table t) r
 unfolding table
 table_here t r f e =
-    let a = and_parts (fit_head t.head) (fit_table_kind t.kind) f in
+    let a = and_parts (printable_head t.head) (printable_table_kind t.kind) f in
     let k = spell_table_kind t.kind in
     after_here (codes "table") (made (λ v. table_of v.0 v.1) (seq head table_kind)) t
     (spell_head t.head ++ k) r refl (
@@ -405,41 +403,46 @@ table_here t r f e =
 
 -- ---- they can be written
 
-elements_neat : (t : RefTy) (p : PayloadTy) → fit_elements t p ≡ true → Neat (spell_elements p)
-elements_neat t (indices is) f =
-    indices_neat is (and_parts (is_funcref t) (each fit_index is) f).1
-elements_neat t (exprs u es) f =
+elements_well_formed : (t : RefTy) (p : PayloadTy) → printable_elements t p ≡ true
+    → WellFormed (spell_elements p)
+elements_well_formed t (indices is) f =
+    indices_well_formed is (and_parts (is_funcref t) (each printable_index is) f).1
+elements_well_formed t (exprs u es) f =
     let a = and_parts (same_ref t u) _ f in
-    items_neat es (and_parts (not (is_funcref t && no_items es)) (each fit_expression es) a.1).1
+    items_well_formed es
+    (and_parts (not (is_funcref t && no_items es)) (each printable_expression es) a.1).1
 
-initial_neat : (e : Expr) → fit_initial e ≡ true → Neat (spell_expression e)
-initial_neat e f =
-    expression_neat e (and_parts (not (no_items e.instrs)) (fit_expression e) f).1
+initial_well_formed : (e : Expr) → printable_initial e ≡ true → WellFormed (spell_expression e)
+initial_well_formed e f =
+    expression_well_formed e (and_parts (not (no_items e.instrs)) (printable_expression e) f).1
 
-kind_neat : (k : TableKindTy) → fit_table_kind k ≡ true → Neat (spell_table_kind k)
-kind_neat (imported i t) f =
-    let a = and_parts (fit_inline_import i) (fit_table_type t) f in
-    neat_both (spell_inline_import i) (spell_table_type t) (inline_import_neat i a.0)
-    (table_type_neat t a.1)
-kind_neat (normal t o) f =
-    let a = and_parts (fit_table_type t) (if_some fit_initial o) f in
-    neat_both (spell_table_type t) (spell_option spell_expression o) (table_type_neat t a.0)
-    (neat_option spell_expression fit_initial o initial_neat a.1)
-kind_neat (inline t is64 shared p) f =
+kind_well_formed : (k : TableKindTy) → printable_table_kind k ≡ true
+    → WellFormed (spell_table_kind k)
+kind_well_formed (imported i t) f =
+    let a = and_parts (printable_inline_import i) (printable_table_type t) f in
+    well_formed_both (spell_inline_import i) (spell_table_type t) (inline_import_well_formed i a.0)
+    (table_type_well_formed t a.1)
+kind_well_formed (normal t o) f =
+    let a = and_parts (printable_table_type t) (if_some printable_initial o) f in
+    well_formed_both (spell_table_type t) (spell_option spell_expression o)
+    (table_type_well_formed t a.0)
+    (well_formed_option spell_expression printable_initial o initial_well_formed a.1)
+kind_well_formed (inline t is64 shared p) f =
     let a = and_parts (not (shared && is64)) _ f in
-    let b = and_parts (fit_ref t) (fit_elements t p) a.1 in
+    let b = and_parts (printable_ref t) (printable_elements t p) a.1 in
     let x = spell_ref t in
     let y = grouped (codes "elem") (spell_elements p) in
     let w = spell_flag (codes "i64") is64 in
-    neat_both (spell_flag (codes "shared") shared) (w ++ (x ++ y))
-    (neat_flag (codes "shared") shared refl)
-    (neat_both w (x ++ y) (neat_flag (codes "i64") is64 refl)
-    (neat_both x y (ref_neat t b.0)
-    (neat_group (codes "elem") (spell_elements p) refl (elements_neat t p b.1))))
+    well_formed_both (spell_flag (codes "shared") shared) (w ++ (x ++ y))
+    (well_formed_flag (codes "shared") shared refl)
+    (well_formed_both w (x ++ y) (well_formed_flag (codes "i64") is64 refl)
+    (well_formed_both x y (ref_well_formed t b.0)
+    (well_formed_group (codes "elem") (spell_elements p) refl (elements_well_formed t p b.1))))
 
-pub table_neat : (t : TableFieldTy) → fit_table t ≡ true → Neat (spell_table t)
-table_neat t f =
-    let a = and_parts (fit_head t.head) (fit_table_kind t.kind) f in
+pub table_well_formed : (t : TableFieldTy) → printable_table t ≡ true → WellFormed (spell_table t)
+table_well_formed t f =
+    let a = and_parts (printable_head t.head) (printable_table_kind t.kind) f in
     let k = spell_table_kind t.kind in
-    neat_word (codes "table") (spell_head t.head ++ k) refl
-    (neat_both (spell_head t.head) k (head_neat t.head a.0) (kind_neat t.kind a.1))
+    well_formed_word (codes "table") (spell_head t.head ++ k) refl
+    (well_formed_both (spell_head t.head) k (head_well_formed t.head a.0)
+    (kind_well_formed t.kind a.1))

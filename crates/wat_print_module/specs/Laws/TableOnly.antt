@@ -22,19 +22,18 @@ use Rattle.wat_fields.specs.Payload.{by_index, by_item, of_type, item_list, list
 use Rattle.wat_fields.specs.Table.{TableKindTy, imported, normal, table_of}
 use Rattle.wat_fields.specs.Table.{begins_inline_elems, begins_normal, inline_table}
 use Rattle.wat_fields.specs.Table.{normal_table, imported_table, table_kind, table}
-use Rattle.wat_print.specs.Index.{fit_index}
-use Rattle.wat_print.specs.Neat.{is_given}
+use Rattle.wat_print.specs.Index.{printable_index}
+use Rattle.wat_print.specs.WellFormed.{is_given}
 use Rattle.wat_print.specs.Parts.{each, if_some}
-use Rattle.wat_print.specs.Reference.{fit_ref}
+use Rattle.wat_print.specs.Reference.{printable_ref}
 use Rattle.wat_print.specs.Laws.Limits.{table_type_only}
-use Rattle.wat_print.specs.Laws.Only.{OnlyFit, only_any, only_where, only_seq, only_made}
-use Rattle.wat_print.specs.Laws.Only.{only_after}
-use Rattle.wat_print.specs.Laws.Only.{only_group}
+use Rattle.wat_print.specs.Laws.Only.{OnlyPrintable, only_any, only_where, only_seq, only_made}
+use Rattle.wat_print.specs.Laws.Only.{only_after, only_group}
 use Rattle.wat_print.specs.Laws.Reference.{ref_only}
-use Rattle.wat_print_instr.specs.ExpressionForm.{fit_expression}
+use Rattle.wat_print_instr.specs.ExpressionForm.{printable_expression}
 use Rattle.wat_print_instr.specs.Laws.ExpressionOnly.{expression_only}
-use Rattle.wat_print_module.specs.Table.{fit_elements, fit_initial, fit_table_kind}
-use Rattle.wat_print_module.specs.Table.{fit_table}
+use Rattle.wat_print_module.specs.Table.{printable_elements, printable_initial}
+use Rattle.wat_print_module.specs.Table.{printable_table_kind, printable_table}
 use Rattle.wat_print_module.specs.Laws.Elem.{items_only, indices_only}
 use Rattle.wat_print_module.specs.Laws.FieldHead.{head_only, inline_import_only}
 use Rattle.wat_print_module.specs.Laws.Table.{ref_again}
@@ -56,54 +55,55 @@ some_items [] c r s t =
 some_items (e ∷ es) c r s t = refl
 
 -- not nothing where items are written
-abbrev fit_listed : ListedTy → Bool
-fit_listed (by_index is) = each fit_index is
-fit_listed (by_item es) = not (no_items es) && each fit_expression es
+abbrev printable_listed : ListedTy → Bool
+printable_listed (by_index is) = each printable_index is
+printable_listed (by_item es) = not (no_items es) && each printable_expression es
 
 by_items : (l : ListedTy) (es : List Expr) (c r : List Tok) → each is_given c ≡ true
     → begins_lparen (c ++ r) ≡ true → item_list.spells es c r → by_item es ≡ l
-    → fit_listed l ≡ true
+    → printable_listed l ≡ true
 by_items l es c r a t s e =
-    subst (λ (k : ListedTy). fit_listed k ≡ true) e
+    subst (λ (k : ListedTy). printable_listed k ≡ true) e
     (rw (some_items es c r s t, items_only.holds es c r a s) refl)
 
 listed_holds : (l : ListedTy) (c r : List Tok) → each is_given c ≡ true → listed.spells l c r
-    → fit_listed l ≡ true
+    → printable_listed l ≡ true
 unfolding listed
 listed_holds l c r a s =
     elim s [
       | inl p ↦ by_items l p.1.0 c r a p.0 p.1.1 p.1.3
-      | inr p ↦ (only_made (λ _. true) by_index fit_listed indices_only).holds l c r a p.1
+      | inr p ↦ (only_made (λ _. true) by_index printable_listed indices_only).holds l c r a p.1
     ]
 
-listed_only : OnlyFit listed fit_listed
+listed_only : OnlyPrintable listed printable_listed
 listed_only = record { holds = listed_holds }
 
-func_fits : (i : Idx) → fit_index i ≡ true → fit_expression (ref_func_of i) ≡ true
+func_fits : (i : Idx) → printable_index i ≡ true → printable_expression (ref_func_of i) ≡ true
 func_fits i f = rw f refl
 
-funcs_fit : (is : List Idx) → each fit_index is ≡ true
-    → each fit_expression (map ref_func_of is) ≡ true
-funcs_fit [] f = refl
-funcs_fit (i ∷ is) f =
-    let a = and_parts (fit_index i) (each fit_index is) f in
-    rw (func_fits i a.0) (funcs_fit is a.1)
+funcs_printable : (is : List Idx) → each printable_index is ≡ true
+    → each printable_expression (map ref_func_of is) ≡ true
+funcs_printable [] f = refl
+funcs_printable (i ∷ is) f =
+    let a = and_parts (printable_index i) (each printable_index is) f in
+    rw (func_fits i a.0) (funcs_printable is a.1)
 
-funcs_by : (t : RefTy) (is : List Idx) (b : Bool) → is_funcref t ≡ b → each fit_index is ≡ true
-    → fit_elements t (if b then indices is else exprs t (map ref_func_of is)) ≡ true
+funcs_by : (t : RefTy) (is : List Idx) (b : Bool) → is_funcref t ≡ b
+    → each printable_index is ≡ true
+    → printable_elements t (if b then indices is else exprs t (map ref_func_of is)) ≡ true
 funcs_by t is true e f = rw (e, f) refl
-funcs_by t is false e f = rw (ref_again t, e, funcs_fit is f) refl
+funcs_by t is false e f = rw (ref_again t, e, funcs_printable is f) refl
 
 items_by : (t : RefTy) (es : List Expr) (b : Bool) → is_funcref t ≡ b
-    → fit_listed (by_item es) ≡ true → fit_elements t (exprs t es) ≡ true
+    → printable_listed (by_item es) ≡ true → printable_elements t (exprs t es) ≡ true
 items_by t [] b e f = absurd cc
 items_by t (x ∷ es) true e f = rw (ref_again t, e, f) refl
 items_by t (x ∷ es) false e f = rw (ref_again t, e, f) refl
 
-listed_fit : (t : RefTy) (l : ListedTy) → fit_listed l ≡ true
-    → fit_elements t (of_type t l) ≡ true
-listed_fit t (by_index is) f = funcs_by t is (is_funcref t) refl f
-listed_fit t (by_item es) f = items_by t es (is_funcref t) refl f
+listed_printable : (t : RefTy) (l : ListedTy) → printable_listed l ≡ true
+    → printable_elements t (of_type t l) ≡ true
+listed_printable t (by_index is) f = funcs_by t is (is_funcref t) refl f
+listed_printable t (by_item es) f = items_by t es (is_funcref t) refl f
 
 -- ---- in line
 
@@ -177,21 +177,23 @@ wide_apart v c r t s e f =
     (subst (λ (l : List Tok). begins_word (codes "i64") l ≡ true) (sym behind) w) in
     absurd cc
 
-parts_only : OnlyFit (seq (flag (codes "shared")) (seq is_64 (seq ref_type
-    (group (codes "elem") listed)))) (λ v. fit_ref v.1.1.0 && fit_listed v.1.1.1)
+parts_only : OnlyPrintable (seq (flag (codes "shared")) (seq is_64 (seq ref_type
+    (group (codes "elem") listed)))) (λ v. printable_ref v.1.1.0 && printable_listed v.1.1.1)
 parts_only =
     only_seq (only_any (flag (codes "shared"))) (only_seq (only_any is_64)
     (only_seq ref_only (only_group (codes "elem") listed_only)))
 
 inline_fits : (k : TableKindTy) (c r : List Tok) → each is_given c ≡ true
-    → begins_inline_elems (c ++ r) ≡ true → inline_table.spells k c r → fit_table_kind k ≡ true
+    → begins_inline_elems (c ++ r) ≡ true → inline_table.spells k c r
+    → printable_table_kind k ≡ true
 unfolding inline_table
 inline_fits k c r a t s =
     let v = s.0 in
     let f = parts_only.holds v c r a s.1 in
-    let p = and_parts (fit_ref v.1.1.0) (fit_listed v.1.1.1) f in
-    subst (λ (w : TableKindTy). fit_table_kind w ≡ true) s.3
-    (rw (not_wide v.0 v.1.0 (wide_apart v c r t s.1), p.0, listed_fit v.1.1.0 v.1.1.1 p.1) refl)
+    let p = and_parts (printable_ref v.1.1.0) (printable_listed v.1.1.1) f in
+    subst (λ (w : TableKindTy). printable_table_kind w ≡ true) s.3
+    (rw (not_wide v.0 v.1.0 (wide_apart v c r t s.1), p.0, listed_printable v.1.1.0 v.1.1.1 p.1)
+    refl)
 
 -- ---- by its type
 
@@ -228,36 +230,37 @@ some_instrs e c r t s =
     (items_some s.0 (c ++ r) r s.1 t s.2)
 
 initial_holds : (o : Option Expr) (c r : List Tok) → each is_given c ≡ true
-    → (opt more expression).spells o c r → if_some fit_initial o ≡ true
+    → (opt more expression).spells o c r → if_some printable_initial o ≡ true
 initial_holds (Some e) c r a s =
     rw (some_instrs e c r s.0 s.1, expression_only.holds e c r a s.1) refl
 initial_holds None c r a s = refl
 
-initial_only : OnlyFit (opt more expression) (if_some fit_initial)
+initial_only : OnlyPrintable (opt more expression) (if_some printable_initial)
 initial_only = record { holds = initial_holds }
 
 -- ---- tables
 
-other_only : OnlyFit (where_else begins_normal normal_table imported_table) fit_table_kind
+other_only : OnlyPrintable (where_else begins_normal normal_table imported_table)
+    printable_table_kind
 unfolding normal_table imported_table
 other_only =
     only_where begins_normal
-    (only_made (λ _. true) (λ v. normal v.0 v.1) fit_table_kind
+    (only_made (λ _. true) (λ v. normal v.0 v.1) printable_table_kind
     (only_seq table_type_only initial_only))
-    (only_made (λ _. true) (λ v. imported v.0 v.1) fit_table_kind
+    (only_made (λ _. true) (λ v. imported v.0 v.1) printable_table_kind
     (only_seq inline_import_only table_type_only))
 
 kind_holds : (k : TableKindTy) (c r : List Tok) → each is_given c ≡ true
-    → table_kind.spells k c r → fit_table_kind k ≡ true
+    → table_kind.spells k c r → printable_table_kind k ≡ true
 unfolding table_kind
 kind_holds k c r a s =
     elim s [ inl p ↦ inline_fits k c r a p.0 p.1 | inr p ↦ other_only.holds k c r a p.1 ]
 
-kind_only : OnlyFit table_kind fit_table_kind
+kind_only : OnlyPrintable table_kind printable_table_kind
 kind_only = record { holds = kind_holds }
 
-pub table_only : OnlyFit table fit_table
+pub table_only : OnlyPrintable table printable_table
 unfolding table
 table_only =
-    only_after (codes "table") (only_made (λ _. true) (λ v. table_of v.0 v.1) fit_table
+    only_after (codes "table") (only_made (λ _. true) (λ v. table_of v.0 v.1) printable_table
     (only_seq head_only kind_only))

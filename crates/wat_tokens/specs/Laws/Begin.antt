@@ -37,3 +37,9 @@ module _ {A : Type 0} (table : List (List ℕ × A)) where
   reads_no_table [] e = refl
   reads_no_table (Keyword k ∷ t) e = absurd cc
   reads_no_table (_ ∷ t) e = refl
+
+-- whether a word of a table is in front, by the keyword in front
+pub ruleset table_begins = (begins_table, begins_no_table)
+
+-- what is read by a table, by the keyword in front
+pub ruleset table_reads = (reads_table, reads_no_table)

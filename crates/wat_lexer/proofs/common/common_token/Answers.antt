@@ -20,8 +20,8 @@ returns-then-b-eq41-clause-value c = λ behind lie. close_piece behind lie c.arg
 
 pub returns-in_ok-end-3-clause-value : goal.returns-in_ok-end-3-clause-value
 returns-in_ok-end-3-clause-value c = λ behind lie.
-    let word = c.in_ok-integer_end.ensures in
-    rw c.in_ok-end-3.ensures.0 (integer_piece behind lie c.args.at c.in_ok-integer_end.field-0 c.args.text.now word.within.0 word.within.1 word.integer word.all word.run)
+    let word = c.in_ok-integer_end.ensures.word in
+    rw c.in_ok-end-3.ensures.0 (integer_piece behind lie c.args.at c.in_ok-integer_end.field-0 c.args.text.now word.within.0 word.within.1 c.in_ok-integer_end.ensures.integer word.all word.run)
 
 pub returns-in_ok-end-4-clause-value : goal.returns-in_ok-end-4-clause-value
 returns-in_ok-end-4-clause-value c = λ behind lie.

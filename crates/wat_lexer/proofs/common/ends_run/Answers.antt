@@ -1,9 +1,8 @@
-use Rattle.std.proofs.Common.{◌∙◌, get_or}
+use Rattle.std.proofs.Common.{get_or}
 use Rattle.wat_lexer.proofs.Commons.{no_run_byte}
-use Rattle.wat_lexer.proofs.Tables.{idchar_at}
 use Rattle.wat_lexer.proofs.common.ends_run.Goals as goal
 
 pub returns-then-b-ne34-clause-ends : goal.returns-then-b-ne34-clause-ends
 returns-then-b-ne34-clause-ends c = λ h lt.
     let b = get_or c.args.text.now c.args.at 0 in
-    no_run_byte b c.is_marked.result (c.is_marked.ensures ∙ idchar_at b (c.type_inv.text c.args.at).fits) h c.if-b-ne34.true
+    no_run_byte b c.is_idchar.result c.is_idchar.ensures h c.if-b-ne34.true

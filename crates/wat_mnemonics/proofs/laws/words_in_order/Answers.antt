@@ -1,5 +1,5 @@
-use Rattle.wat_mnemonics.proofs.TableOrder.{mnemonics_in_order}
+use Rattle.wat_mnemonics.proofs.TableOrder.{ops_in_order}
 use Rattle.wat_mnemonics.proofs.laws.words_in_order.Goals as goal
 
 pub returns : goal.returns
-returns c = mnemonics_in_order
+returns c = ops_in_order

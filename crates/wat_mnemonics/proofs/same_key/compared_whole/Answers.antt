@@ -1,16 +1,15 @@
 use Rattle.std.proofs.Common.{◌≡◌, ℕ, List, [], length, get_or, nat_cmp, sym, ◌∙◌, ap, arith}
 use Rattle.std.specs.Cmp.{nat_cmp_is}
 use Rattle.std.specs.declared.cmp.Ordering.TheVariants.{Equal}
-use Rattle.wat_mnemonics.specs.Ops.{op_word}
-use Rattle.wat_mnemonics.specs.Laws.Places.{entry_at}
 use Rattle.wat_mnemonics.specs.Order.{cmp, words}
 use Rattle.wat_mnemonics.proofs.KeyOrder.{last_key, key_same, key_same_last}
+use Rattle.wat_mnemonics.proofs.TableOrder.{entry_word}
 use Rattle.wat_mnemonics.proofs.WordOrder.{same_so_far}
 use Rattle.wat_mnemonics.proofs.same_key.compared_whole.Goals as goal
 
 pub returns-then-text-le8 : goal.returns-then-text-le8
 returns-then-text-le8 c =
-    let word : c.word-word.result.now ≡ get_or words c.args.place [] = c.word-word.ensures ∙ ap op_word c.op_at.ensures ∙ sym (entry_at c.args.place c.requires.place) in
+    let word = c.word-word.ensures ∙ entry_word c.args.place _ c.requires.place c.op_at.ensures in
     let t : List ℕ = c.args.text.now in
     let long : length (get_or words c.args.place []) ≡ length t = sym (ap (λ (w : List ℕ). length w) word) ∙ c.if-word-text.true in
     nat_cmp_is (length (get_or words c.args.place [])) (length t) Equal long
@@ -18,7 +17,7 @@ returns-then-text-le8 c =
 
 pub returns-then-last_eight : goal.returns-then-last_eight
 returns-then-last_eight c =
-    let word : c.word-word.result.now ≡ get_or words c.args.place [] = c.word-word.ensures ∙ ap op_word c.op_at.ensures ∙ sym (entry_at c.args.place c.requires.place) in
+    let word = c.word-word.ensures ∙ entry_word c.args.place _ c.requires.place c.op_at.ensures in
     let t : List ℕ = c.args.text.now in
     let long : length (get_or words c.args.place []) ≡ length t = sym (ap (λ (w : List ℕ). length w) word) ∙ c.if-word-text.true in
     let ends : last_key (get_or words c.args.place []) ≡ last_key t =
@@ -29,12 +28,12 @@ returns-then-last_eight c =
 
 pub returns-then-text-le8-2 : goal.returns-then-text-le8-2
 returns-then-text-le8-2 c =
-    let word : c.word-word.result.now ≡ get_or words c.args.place [] = c.word-word.ensures ∙ ap op_word c.op_at.ensures ∙ sym (entry_at c.args.place c.requires.place) in
+    let word = c.word-word.ensures ∙ entry_word c.args.place _ c.requires.place c.op_at.ensures in
     let t : List ℕ = c.args.text.now in
     c.cmp.ensures ∙ ap (λ (w : List ℕ). nat_cmp (length w) (length t)) word
     ∙ sym (same_so_far 8 (get_or words c.args.place []) t c.if-text-le8-2.true (key_same c.args.place c.requires.place t (λ i. omega (arith, c.type_inv.text i)) c.requires.same))
 
 pub returns : goal.returns
 returns c =
-    let word : c.word-word.result.now ≡ get_or words c.args.place [] = c.word-word.ensures ∙ ap op_word c.op_at.ensures ∙ sym (entry_at c.args.place c.requires.place) in
+    let word = c.word-word.ensures ∙ entry_word c.args.place _ c.requires.place c.op_at.ensures in
     c.cmp-2.ensures ∙ ap (λ (w : List ℕ). cmp w c.args.text.now) word

@@ -1,13 +1,13 @@
 use Rattle.std.proofs.Common.{refl, false}
 use Rattle.wat_print.specs.Text.{put, blank_page}
-use Rattle.wat_print.specs.Laws.Nesting.{neat_cut, neat_visible}
+use Rattle.wat_print.specs.Laws.Nesting.{well_formed_cut, well_formed_visible}
 use Rattle.wat_print.specs.Laws.Written.{puts_put}
 use Rattle.wat_print.proofs.laws.text_is_cut.Goals as goal
 
 pub returns-clause-cut : goal.returns-clause-cut
 returns-clause-cut c ts n =
     let page = put (blank_page false) ts in
-    neat_cut ts false page n (puts_put ts (blank_page false) page refl)
+    well_formed_cut ts false page n (puts_put ts (blank_page false) page refl)
 
 pub returns-clause-visible : goal.returns-clause-visible
-returns-clause-visible c = neat_visible
+returns-clause-visible c = well_formed_visible

@@ -8,9 +8,9 @@ pub returns-clause-reads_back : goal.returns-clause-reads_back
 returns-clause-reads_back g c =
     let p = g.T.Print.printing in
     let v = g.T.Print.view c.args.value.now in
-    let fits = c.in_ok-write.ensures.fit in
+    let fits = c.in_ok-write.ensures.printable in
     reads_back g.T.Print.grammar v (p.spell v) (may_break c.args.layout) c.new-out.result
-    c.write.new.out _ (p.neat v fits) (p.spells v fits) c.new-out.ensures
+    c.write.new.out _ (p.well_formed v fits) (p.spells v fits) c.new-out.ensures
     c.in_ok-write.ensures.written c.into_text.ensures
 
 pub returns-clause-line : goal.returns-clause-line
@@ -24,5 +24,5 @@ returns-in_err-write-clause-refused g c =
     let p = g.T.Print.printing in
     let v = g.T.Print.view c.args.value.now in
     let h : c.in_err-write.field-0.0 ≢ Memory → NoneSpells g.T.Print.grammar v =
-    λ n. unspelled g.T.Print.grammar v (p.fit v) (c.in_err-write.ensures.refused n) (p.only v) in
+    λ n. unspelled g.T.Print.grammar v (p.printable v) (c.in_err-write.ensures.refused n) (p.only v) in
     search (rules, h)

@@ -1,6 +1,6 @@
 use Rattle.std.proofs.Common.{arith}
-use Rattle.wat_print.proofs.Bytes.{bytes_fit}
+use Rattle.wat_print.proofs.Bytes.{bytes_printable}
 use Rattle.wat_print.proofs.string.write_string.Goals as goal
 
-pub returns-clause-fit : goal.returns-clause-fit
-returns-clause-fit c = bytes_fit c.args.content.now (λ i. omega (arith, c.type_inv.content i))
+pub returns-clause-printable : goal.returns-clause-printable
+returns-clause-printable c = bytes_printable c.args.content.now (λ i. omega (arith, c.type_inv.content i))

@@ -5,17 +5,17 @@ use Rattle.wat_expr.specs.ExpressionProduction.{expression}
 use Rattle.wat_print.specs.Printed.{may_break, NoneSpells}
 use Rattle.wat_print.specs.declared.fault.Refused.TheVariants.{Memory}
 use Rattle.wat_print.specs.Laws.Printed.{on_one_line, reads_back, unspelled}
-use Rattle.wat_print_instr.specs.ExpressionForm.{spell_expression, fit_expression}
-use Rattle.wat_print_instr.specs.Laws.Expression.{expression_closed, expression_neat}
+use Rattle.wat_print_instr.specs.ExpressionForm.{spell_expression, printable_expression}
+use Rattle.wat_print_instr.specs.Laws.Expression.{expression_closed, expression_well_formed}
 use Rattle.wat_print_instr.specs.Laws.ExpressionOnly.{expression_only}
 use Rattle.wat_print_instr.proofs.expression.print_expression.Goals as goal
 
 pub returns-clause-reads_back : goal.returns-clause-reads_back
 returns-clause-reads_back c =
     let v = expression_view c.args.value.now in
-    let fits = c.in_ok-write_expression.ensures.fit in
+    let fits = c.in_ok-write_expression.ensures.printable in
     reads_back expression v (spell_expression v) (may_break c.args.layout) c.new-out.result
-    c.write_expression.new.out _ (expression_neat v fits)
+    c.write_expression.new.out _ (expression_well_formed v fits)
     (expression_closed v [] fits (refl, (refl, refl, refl))) c.new-out.ensures
     c.in_ok-write_expression.ensures.written c.into_text.ensures
 
@@ -30,6 +30,7 @@ pub returns-in_err-write_expression-clause-refused :
 returns-in_err-write_expression-clause-refused c =
     let v = expression_view c.args.value.now in
     let h : c.in_err-write_expression.field-0.0 ≢ Memory → NoneSpells expression v =
-    λ n. unspelled expression v (fit_expression v) (c.in_err-write_expression.ensures.refused n)
+    λ n. unspelled expression v (printable_expression v)
+    (c.in_err-write_expression.ensures.refused n)
     (expression_only.holds v) in
     search (rules, h)

@@ -4,7 +4,8 @@ use Rattle.wat_expr.specs.Expression.{hint_view}
 use Rattle.wat_instr.specs.Instruction.{instruction_view}
 use Rattle.wat_print.specs.Layout.{Writes}
 use Rattle.wat_print.specs.declared.fault.Refused.TheVariants.{Memory}
-use Rattle.wat_print_instr.specs.ExpressionForm.{step_of, spell_step, fit_step, fit_expression}
+use Rattle.wat_print_instr.specs.ExpressionForm.{step_of, spell_step, printable_step}
+use Rattle.wat_print_instr.specs.ExpressionForm.{printable_expression}
 use Rattle.wat_print_instr.proofs.Walked.{Walked, walk_goes, walk_stops, drop_step}
 use Rattle.wat_print_instr.proofs.expression.write_steps.Goals as goal
 
@@ -23,8 +24,8 @@ loop-index-preserved c =
     c.write_step.new.out d c.loop-index.invariant
     (subst (λ (h : Option ℕ). Writes (spell_step (step_of h i)) c.loop-index.out
     c.write_step.new.out) c.first_hint-hint.ensures.hint c.in_ok-write_step.ensures.written)
-    (subst (λ (h : Option ℕ). fit_step (step_of h i) ≡ true) c.first_hint-hint.ensures.hint
-    c.in_ok-write_step.ensures.fit))
+    (subst (λ (h : Option ℕ). printable_step (step_of h i) ≡ true) c.first_hint-hint.ensures.hint
+    c.in_ok-write_step.ensures.printable))
 
 pub returns-in_err-write_step-clause-refused : goal.returns-in_err-write_step-clause-refused
 returns-in_err-write_step-clause-refused c =
@@ -37,9 +38,9 @@ returns-in_err-write_step-clause-refused c =
     c.index-instrs-index.is in
     let k = c.in_err-write_step.ensures.refused in
     let h : c.in_err-write_step.field-0.0 ≢ Memory
-    → fit_expression (record { instrs = is; hints = hs }) ≡ false =
+    → printable_expression (record { instrs = is; hints = hs }) ≡ false =
     λ n. walk_stops is hs b (map hint_view c.loop-index.left.now) i c.args.out.now c.loop-index.out
     d c.loop-index.invariant
-    (subst (λ (h : Option ℕ). fit_step (step_of h i) ≡ false) c.first_hint-hint.ensures.hint
+    (subst (λ (h : Option ℕ). printable_step (step_of h i) ≡ false) c.first_hint-hint.ensures.hint
     (k n)) in
     search (rules, h)

@@ -4,8 +4,9 @@ use Rattle.wat_instr.specs.Instruction.{instruction_view}
 use Rattle.wat_print.specs.Parts.{each}
 use Rattle.wat_print.specs.declared.fault.Refused.TheVariants.{Memory}
 use Rattle.wat_print_instr.specs.FoldedForm.{first_apart}
-use Rattle.wat_print_instr.specs.InstructionForm.{fit_instruction}
-use Rattle.wat_print_instr.proofs.FoldedWritten.{apart_written, one_unfit, before_unfit, behind_unfit}
+use Rattle.wat_print_instr.specs.InstructionForm.{printable_instruction}
+use Rattle.wat_print_instr.proofs.FoldedWritten.{apart_written, one_unprintable, before_unprintable}
+use Rattle.wat_print_instr.proofs.FoldedWritten.{behind_unprintable}
 use Rattle.wat_print_instr.proofs.folded.write_apart.Goals as goal
 
 pub returns-clause-written : goal.returns-clause-written
@@ -23,8 +24,8 @@ returns-in_err-write-clause-refused c =
     let is = map instruction_view c.args.instrs.now in
     let k = c.in_err-write.ensures.refused in
     let h : c.in_err-write.field-0.0 ≢ Memory
-    → each fit_instruction is && is_some (first_apart [] is) ≡ false =
-    λ n. one_unfit instruction_view c.args.instrs.now s.before.now s.instr.now s.behind.now
+    → each printable_instruction is && is_some (first_apart [] is) ≡ false =
+    λ n. one_unprintable instruction_view c.args.instrs.now s.before.now s.instr.now s.behind.now
     s.ensures.all (is_some (first_apart [] is)) (k n) in
     search (rules, h)
 
@@ -34,8 +35,8 @@ returns-in_err-write_each_own-clause-refused c =
     let is = map instruction_view c.args.instrs.now in
     let k = c.in_err-write_each_own.ensures.refused in
     let h : c.in_err-write_each_own.field-0.0 ≢ Memory
-    → each fit_instruction is && is_some (first_apart [] is) ≡ false =
-    λ n. before_unfit instruction_view c.args.instrs.now s.before.now s.instr.now s.behind.now
+    → each printable_instruction is && is_some (first_apart [] is) ≡ false =
+    λ n. before_unprintable instruction_view c.args.instrs.now s.before.now s.instr.now s.behind.now
     s.ensures.all (is_some (first_apart [] is)) (k n) in
     search (rules, h)
 
@@ -46,7 +47,7 @@ returns-in_err-write_each_own-2-clause-refused c =
     let is = map instruction_view c.args.instrs.now in
     let k = c.in_err-write_each_own-2.ensures.refused in
     let h : c.in_err-write_each_own-2.field-0.0 ≢ Memory
-    → each fit_instruction is && is_some (first_apart [] is) ≡ false =
-    λ n. behind_unfit instruction_view c.args.instrs.now s.before.now s.instr.now s.behind.now
+    → each printable_instruction is && is_some (first_apart [] is) ≡ false =
+    λ n. behind_unprintable instruction_view c.args.instrs.now s.before.now s.instr.now s.behind.now
     s.ensures.all (is_some (first_apart [] is)) (k n) in
     search (rules, h)

@@ -1,10 +1,11 @@
 use Rattle.std.proofs.Common.{take}
 use Rattle.wat_links.specs.Dylink.{dylink_import_view}
-use Rattle.wat_print_module.specs.Dylink.{spell_import_flags, fit_import_flags}
+use Rattle.wat_print_module.specs.Dylink.{spell_import_flags, printable_import_flags}
 use Rattle.wat_print.specs.Parts.{Wrote}
 use Rattle.wat_print_module.proofs.dylink.write_imports.Given as goal
 
 abbrev pub invariant-loop-entry : goal.invariant-loop-entry
 invariant-loop-entry l =
-    Wrote dylink_import_view spell_import_flags fit_import_flags (take l.entry-index l.entries)
+    Wrote dylink_import_view spell_import_flags printable_import_flags
+    (take l.entry-index l.entries)
     l.fn.out l.out

@@ -8,4 +8,4 @@ loop-name-preserved c =
     wrote_more (λ n. n.now) spell_inline_name is_utf8 c.args.names.now c.loop-name.name-index _
     c.args.out.now c.loop-name.out c.write_inline_name.new.out c.loop-name-test.true
     c.loop-name.invariant c.in_ok-write_inline_name.ensures.written
-    c.in_ok-write_inline_name.ensures.fit
+    c.in_ok-write_inline_name.ensures.printable

@@ -1,15 +1,14 @@
 use Rattle.std.proofs.lemmas.Result.{on_ok_weaker}
 use Rattle.wat_expr.specs.Expression.{expression_view}
 use Rattle.wat_fields.specs.Local.{locals_view}
-use Rattle.wat_print.specs.Laws.Written.{puts_put, puts_both}
 use Rattle.wat_print_instr.specs.ExpressionForm.{spell_expression}
 use Rattle.wat_print_module.specs.Local.{spell_locals}
+use Rattle.wat_print_module.proofs.Grouped.{puts_first}
 use Rattle.wat_print_module.proofs.func.write_body.Goals as goal
 
 pub returns-clause-written : goal.returns-clause-written
 returns-clause-written c =
     let ls = spell_locals (locals_view c.args.locals.now) in
-    on_ok_weaker c.write_expression.result (λ done. puts_both ls
+    on_ok_weaker c.write_expression.result (λ done. puts_first ls
     (spell_expression (expression_view c.args.body.now)) c.args.out.now _ _
-    (puts_put ls _ _ c.in_ok-write_locals.ensures.wrote.written) done)
-    c.write_expression.ensures.written
+    c.in_ok-write_locals.ensures.wrote.written done) c.write_expression.ensures.written

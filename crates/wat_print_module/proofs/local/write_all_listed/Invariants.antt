@@ -1,9 +1,9 @@
 use Rattle.std.proofs.Common.{take}
 use Rattle.wat_fields.specs.Local.{local_view}
 use Rattle.wat_print.specs.Parts.{Wrote}
-use Rattle.wat_print_module.specs.Local.{spell_listed, fit_local}
+use Rattle.wat_print_module.specs.Local.{spell_listed, printable_local}
 use Rattle.wat_print_module.proofs.local.write_all_listed.Given as goal
 
 abbrev pub invariant-loop-local : goal.invariant-loop-local
 invariant-loop-local l =
-    Wrote local_view spell_listed fit_local (take l.local-index l.locals) l.fn.out l.out
+    Wrote local_view spell_listed printable_local (take l.local-index l.locals) l.fn.out l.out

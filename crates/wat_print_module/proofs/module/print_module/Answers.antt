@@ -4,15 +4,15 @@ use Rattle.wat_core.specs.Module.{module_view, module_}
 use Rattle.wat_print.specs.Printed.{may_break, NoneSpells}
 use Rattle.wat_print.specs.declared.fault.Refused.TheVariants.{Memory}
 use Rattle.wat_print.specs.Laws.Printed.{on_one_line, unspelled}
-use Rattle.wat_print_module.specs.Module.{spell_module_group, fit_module, NonePart}
+use Rattle.wat_print_module.specs.Module.{spell_module_group, printable_module, NonePart}
 use Rattle.wat_print_module.specs.Laws.Module.{module_reads_back, module_group_only}
-use Rattle.wat_print_module.specs.Laws.Module.{part_unfit, part_none}
+use Rattle.wat_print_module.specs.Laws.Module.{part_unprintable, part_none}
 use Rattle.wat_print_module.proofs.module.print_module.Goals as goal
 
 pub returns-clause-reads_back : goal.returns-clause-reads_back
 returns-clause-reads_back c =
     let v = module_view c.args.value.now in
-    let fits = c.in_ok-write_module.ensures.fit in
+    let fits = c.in_ok-write_module.ensures.printable in
     module_reads_back v (may_break c.args.layout) c.new-out.result c.write_module.new.out _ fits
     c.new-out.ensures c.in_ok-write_module.ensures.written c.into_text.ensures
 
@@ -27,7 +27,7 @@ returns-in_err-write_module-clause-refused c =
     let v = module_view c.args.value.now in
     let e = c.in_err-write_module in
     let h : e.field-0.0.reason ≢ Memory → NoneSpells (paren module_) v =
-    λ n. unspelled (paren module_) v (fit_module v) (part_unfit v e.field-0.0.field
+    λ n. unspelled (paren module_) v (printable_module v) (part_unprintable v e.field-0.0.field
     (e.ensures.refused n)) (module_group_only.holds v) in
     search (rules, h)
 

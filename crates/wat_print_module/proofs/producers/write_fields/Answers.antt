@@ -4,7 +4,7 @@ use Rattle.wat_lexer.specs.Token.{Tok}
 use Rattle.wat_print.specs.Text.{put}
 use Rattle.wat_print.specs.Laws.Written.{put_then}
 use Rattle.wat_print_module.specs.Producers.{produced_view, spell_produced_field, field_of_word}
-use Rattle.wat_print_module.specs.Laws.Producers.{turns_fit, turns_spelled}
+use Rattle.wat_print_module.specs.Laws.Producers.{turns_printable, turns_spelled}
 use Rattle.wat_print_module.proofs.Produced.{empty_seen}
 use Rattle.wat_print_module.proofs.producers.write_fields.Goals as goal
 
@@ -13,9 +13,9 @@ returns-then-not-is_empty-clause-refused c n =
     let l = c.in_ok-behind_languages in
     let s = c.in_ok-behind_sdks in
     let p = c.in_ok-behind_all in
-    turns_fit (map produced_view c.args.fields.now) (map produced_view l.behind_languages.now)
+    turns_printable (map produced_view c.args.fields.now) (map produced_view l.behind_languages.now)
     (map produced_view s.behind_sdks.now) (map produced_view p.behind_all.now) l.ensures.behind
-    s.ensures.behind p.ensures.behind l.ensures.fit s.ensures.fit p.ensures.fit
+    s.ensures.behind p.ensures.behind l.ensures.printable s.ensures.printable p.ensures.printable
     ∙ sym (empty_seen produced_view p.behind_all.now) ∙ sym c.is_empty.ensures
     ∙ c.if-not-is_empty.true
 
@@ -38,13 +38,13 @@ returns-clause-written c =
     (sym (empty_seen produced_view p.behind_all.now) ∙ sym c.is_empty.ensures
     ∙ c.if-not-is_empty.false))
 
-pub returns-clause-fit : goal.returns-clause-fit
-returns-clause-fit c =
+pub returns-clause-printable : goal.returns-clause-printable
+returns-clause-printable c =
     let l = c.in_ok-behind_languages in
     let s = c.in_ok-behind_sdks in
     let p = c.in_ok-behind_all in
-    turns_fit (map produced_view c.args.fields.now) (map produced_view l.behind_languages.now)
+    turns_printable (map produced_view c.args.fields.now) (map produced_view l.behind_languages.now)
     (map produced_view s.behind_sdks.now) (map produced_view p.behind_all.now) l.ensures.behind
-    s.ensures.behind p.ensures.behind l.ensures.fit s.ensures.fit p.ensures.fit
+    s.ensures.behind p.ensures.behind l.ensures.printable s.ensures.printable p.ensures.printable
     ∙ sym (empty_seen produced_view p.behind_all.now) ∙ sym c.is_empty.ensures
     ∙ c.if-not-is_empty.false

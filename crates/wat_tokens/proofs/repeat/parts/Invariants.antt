@@ -1,7 +1,7 @@
 use Rattle.std.proofs.Common.{◌≡◌, length}
 use Rattle.std.specs.Prelude.{map, ◌≤◌, ◌+◌}
 use Rattle.wat_tokens.specs.Cost.{Costs}
-use Rattle.wat_tokens.specs.Counts.{Carries}
+use Rattle.wat_tokens.specs.Counts.{Carries, SameSettings}
 use Rattle.wat_tokens.specs.Many.{after_front, Extends}
 use Rattle.wat_tokens.specs.ManySpells.{many_reads}
 use Rattle.wat_tokens.proofs.repeat.parts.Given as goal
@@ -12,7 +12,7 @@ invariant-parts g l = record {
   counts : Carries l.fn.parser l.parser;
   turned : l.parser.turns + l.fn.parser.taken ≤ l.fn.parser.turns + l.parser.taken;
   cost : Costs g.P.Part.cost l.fn.parser l.parser;
-  settings : (l.parser.known ≡ l.fn.parser.known) × (l.parser.tracks ≡ l.fn.parser.tracks);
+  settings : SameSettings l.fn.parser l.parser;
   kept : Extends l.fn.out.items l.out.items;
 }
 

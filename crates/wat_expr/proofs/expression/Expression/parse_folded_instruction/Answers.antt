@@ -2,7 +2,8 @@ use Rattle.std.proofs.Common.{rules, Ok, ap, ◌∙◌}
 use Rattle.std.proofs.lemmas.Result.{err_from_is_err_and}
 use Rattle.wat_expr.specs.Flat.{no_output}
 use Rattle.wat_expr.specs.FoldedProduction.{folded_instruction}
-use Rattle.wat_expr.proofs.FoldedLoop.{is_some, is_none, going_begins, going_on, going_smaller, innermost, going_halts, going_ends, folded_found, refused_first, refused_later, begun, not_begun, no_word, read_folded, read_not_bare}
+use Rattle.wat_expr.proofs.FoldedLoop.{is_some, is_none, going_begins, going_on, going_smaller, innermost, going_halts, going_ends, folded_found, refused_first, begun, not_begun, no_word, read_folded, read_not_bare}
+use Rattle.wat_expr.proofs.Heights.{refused_turns}
 use Rattle.wat_expr.proofs.Whole.{read_accepted}
 use Rattle.wat_expr.proofs.expression.Expression.parse_folded_instruction.Goals as goal
 
@@ -45,7 +46,7 @@ pub returns-in_err-turn-clause-counts : goal.returns-in_err-turn-clause-counts
 returns-in_err-turn-clause-counts c =
     let p = err_from_is_err_and c.from_residual-in_err-turn.result c.from_residual-in_err-turn.ensures.1 in
     let g = c.groups.invariant in
-    ((λ s n. c.in_err-turn.ensures.steady.counts s (c.tick.ensures.counts s (g.counts s n))), rw p.1 (refused_later c.args.parser.now c.groups.parser c.tick.new.self c.turn.new.parser g.turned c.tick.ensures.only c.in_err-turn.ensures.steady.counts c.in_err-turn.ensures.steady.stays.0))
+    ((λ s n. c.in_err-turn.ensures.steady.counts s (c.tick.ensures.counts s (g.counts s n))), rw p.1 (refused_turns c.args.parser.now c.groups.parser c.tick.new.self c.turn.new.parser g.turned c.tick.ensures.only c.in_err-turn.ensures.steady.counts c.in_err-turn.ensures.steady.stays.0))
 
 pub groups-init : goal.groups-init
 groups-init c =

@@ -1,14 +1,14 @@
 use Rattle.std.proofs.Common.{refl, sym, ◌∙◌}
 use Rattle.wat_expr.proofs.Instructions.{none_whole}
-use Rattle.wat_expr.proofs.Turns.{no_item, refused_as}
+use Rattle.wat_expr.proofs.Turns.{no_item}
 use Rattle.wat_expr.proofs.ReadTurns.{block_read, group_read}
 use Rattle.wat_expr.proofs.reader.Reader.open_item.Goals as goal
 
 pub returns-in-Err-clause-turned : goal.returns-in-Err-clause-turned
-returns-in-Err-clause-turned c = refused_as _ _ _ _ c.refuse.ensures (λ n. no_item _ _ _ _ c.requires.place c.if-take_hint_name.ensures.exact.1 c.requires.no_then (rw c.if-take_hint_name.ensures.exact.0 at c.in-Err.ensures.exact))
+returns-in-Err-clause-turned c = rw c.refuse.ensures (λ n. no_item _ _ _ _ c.requires.place c.if-take_hint_name.ensures.exact.1 c.requires.no_then (rw c.if-take_hint_name.ensures.exact.0 at c.in-Err.ensures.exact))
 
 pub returns-in-Err-read-clause-turned : goal.returns-in-Err-read-clause-turned
-returns-in-Err-read-clause-turned c = refused_as _ _ _ _ c.refuse-in-Err-read.ensures (λ n.
+returns-in-Err-read-clause-turned c = rw c.refuse-in-Err-read.ensures (λ n.
     no_item _ _ _ _ c.requires.place c.if-take_hint_name.ensures.exact.1 c.requires.no_then (λ i m r s. none_whole _ _ _ (rw c.if-take_hint_name.ensures.exact.0 at c.in-Ok.ensures.exact.0) (c.in-Err-read.ensures.exact n) i m r))
 
 pub returns-in-Ok-read-clause-turned : goal.returns-in-Ok-read-clause-turned

@@ -4,4 +4,4 @@ use Rattle.wat_fields.proofs.data.DataParse.parse.Goals as goal
 
 pub returns-clause-spans : goal.returns-clause-spans
 returns-clause-spans c =
-    same_data_spans _ _ _ _ c.in_ok-kind.kind (offset_behind_front _ _ _ _ _ _ c.in_ok-span.ensures.reads.exact c.in_ok-id.ensures.reads.exact c.in_ok-name.ensures.reads.exact) (c.in_ok-name.ensures.reads.settings.1 ∙ c.in_ok-id.ensures.reads.settings.1 ∙ c.in_ok-span.ensures.reads.settings.1) c.in_ok-kind.ensures.spans
+    same_data_spans _ _ _ _ c.in_ok-kind.kind (offset_behind_front _ _ _ _ c.in_ok-span.ensures.reads.exact c.in_ok-id.ensures.reads.exact) (c.in_ok-id.ensures.reads.settings.1 ∙ c.in_ok-span.ensures.reads.settings.1) c.in_ok-kind.ensures.spans

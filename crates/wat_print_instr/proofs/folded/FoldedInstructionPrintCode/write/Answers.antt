@@ -4,10 +4,9 @@ use Rattle.std.proofs.Common.{rules, sym, ◌∙◌}
 use Rattle.wat_expr.specs.Expression.{expression_view, hint_view}
 use Rattle.wat_instr.specs.Instruction.{instruction_view}
 use Rattle.wat_print.specs.declared.fault.Refused.TheVariants.{Memory}
-use Rattle.wat_print_instr.specs.FoldedForm.{fit_folded}
-use Rattle.wat_print_instr.proofs.FoldedWritten.{folded_written, folded_fit}
-use Rattle.wat_print_instr.proofs.FoldedWritten.{last_unfit, others_unfit}
-use Rattle.wat_print_instr.proofs.FoldedWritten.{seen_last, hints_none}
+use Rattle.wat_print_instr.specs.FoldedForm.{printable_folded}
+use Rattle.wat_print_instr.proofs.FoldedWritten.{folded_written, folded_printable, last_unprintable}
+use Rattle.wat_print_instr.proofs.FoldedWritten.{others_unprintable, seen_last, hints_none}
 use Rattle.wat_print_instr.proofs.folded.FoldedInstructionPrintCode.write.Goals as goal
 
 pub returns-clause-written : goal.returns-clause-written
@@ -18,26 +17,26 @@ returns-clause-written c =
     (instruction_view s.last.now) (seen_last instruction_view _ _ s.others.now s.last.now
     c.deref.ensures.value s.ensures.cases.0) _ _ _ _ _ c.in_ok-open.ensures.written
     c.in_ok-write.ensures.written c.in_ok-write_behind.ensures.written done
-    c.in_ok-write_behind.ensures.fit) c.close.ensures.written
+    c.in_ok-write_behind.ensures.printable) c.close.ensures.written
 
-pub returns-clause-fit : goal.returns-clause-fit
-returns-clause-fit c =
+pub returns-clause-printable : goal.returns-clause-printable
+returns-clause-printable c =
     let s = c.in-Some in
     let e = expression_view c.args.self.now.0 in
     on_ok_weaker c.close.result
-    (λ done. folded_fit e (map instruction_view s.others.now) (instruction_view s.last.now)
+    (λ done. folded_printable e (map instruction_view s.others.now) (instruction_view s.last.now)
     (seen_last instruction_view _ _ s.others.now s.last.now c.deref.ensures.value s.ensures.cases.0)
     (hints_none hint_view _ c.deref-hints.result.now c.deref-hints.ensures.value
     (sym c.is_empty.ensures ∙ c.if-not-is_empty.false))
-    c.in_ok-write.ensures.fit c.in_ok-write_behind.ensures.fit) c.close.ensures.written
+    c.in_ok-write.ensures.printable c.in_ok-write_behind.ensures.printable) c.close.ensures.written
 
 pub returns-in_err-write-clause-refused : goal.returns-in_err-write-clause-refused
 returns-in_err-write-clause-refused c =
     let s = c.in-Some in
     let e = expression_view c.args.self.now.0 in
     let k = c.in_err-write.ensures.refused in
-    let h : c.in_err-write.field-0.0 ≢ Memory → fit_folded e ≡ false =
-    λ n. last_unfit e (map instruction_view s.others.now) (instruction_view s.last.now)
+    let h : c.in_err-write.field-0.0 ≢ Memory → printable_folded e ≡ false =
+    λ n. last_unprintable e (map instruction_view s.others.now) (instruction_view s.last.now)
     (seen_last instruction_view _ _ s.others.now s.last.now c.deref.ensures.value s.ensures.cases.0)
     (k n) in
     search (rules, h)
@@ -47,8 +46,8 @@ returns-in_err-write_behind-clause-refused c =
     let s = c.in-Some in
     let e = expression_view c.args.self.now.0 in
     let k = c.in_err-write_behind.ensures.refused in
-    let h : c.in_err-write_behind.field-0.0 ≢ Memory → fit_folded e ≡ false =
-    λ n. others_unfit e (map instruction_view s.others.now) (instruction_view s.last.now)
+    let h : c.in_err-write_behind.field-0.0 ≢ Memory → printable_folded e ≡ false =
+    λ n. others_unprintable e (map instruction_view s.others.now) (instruction_view s.last.now)
     (seen_last instruction_view _ _ s.others.now s.last.now c.deref.ensures.value s.ensures.cases.0)
     (k n) in
     search (rules, h)

@@ -5,8 +5,8 @@ use Rattle.wat_instr.specs.Instruction.{op_in, operand_in, instruction_view}
 use Rattle.wat_print.specs.Text.{put}
 use Rattle.wat_print.specs.declared.fault.Refused.TheVariants.{Memory}
 use Rattle.wat_print.specs.Laws.Written.{put_then}
-use Rattle.wat_print_instr.specs.InstructionForm.{operand_form, fit_instruction}
-use Rattle.wat_print_instr.specs.Laws.Instruction.{spell_of, fit_of}
+use Rattle.wat_print_instr.specs.InstructionForm.{operand_form, printable_instruction}
+use Rattle.wat_print_instr.specs.Laws.Instruction.{spell_of, printable_of}
 use Rattle.wat_print_instr.proofs.instruction.InstructionPrintCode.write.Goals as goal
 
 pub returns-clause-written : goal.returns-clause-written
@@ -19,15 +19,15 @@ returns-clause-written c =
     c.mnemonic.ensures
     ∙ ap (λ (l : List Tok). put c.args.out.now l) (sym (spell_of h o))
 
-pub returns-clause-fit : goal.returns-clause-fit
-returns-clause-fit c =
-    fit_of (op_in c.args.self.now) (operand_in c.args.self.now)
-    ∙ c.in_ok-write_operand.ensures.fit
+pub returns-clause-printable : goal.returns-clause-printable
+returns-clause-printable c =
+    printable_of (op_in c.args.self.now) (operand_in c.args.self.now)
+    ∙ c.in_ok-write_operand.ensures.printable
 
 pub returns-in_err-write_operand-clause-refused : goal.returns-in_err-write_operand-clause-refused
 returns-in_err-write_operand-clause-refused c =
     let k = c.in_err-write_operand.ensures.refused in
     let h : c.in_err-write_operand.field-0.0 ≢ Memory
-    → fit_instruction (instruction_view c.args.self.now) ≡ false =
-    λ n. (fit_of (op_in c.args.self.now) (operand_in c.args.self.now) ∙ k n) in
+    → printable_instruction (instruction_view c.args.self.now) ≡ false =
+    λ n. (printable_of (op_in c.args.self.now) (operand_in c.args.self.now) ∙ k n) in
     search (rules, h)

@@ -21,20 +21,20 @@ is_name [] = false
 is_name (b ∷ r) = is_utf8 (b ∷ r)
 
 -- a token that can be written, parentheses and annotations aside
-abbrev pub is_fit : Tok → Bool
-is_fit (Keyword k) = is_keyword k
-is_fit (Id n) = is_name n
-is_fit (Integer k) = all_are is_idchar k && is_integer k
-is_fit (String s) = all_are is_byte s
-is_fit _ = false
+abbrev pub is_printable : Tok → Bool
+is_printable (Keyword k) = is_keyword k
+is_printable (Id n) = is_name n
+is_printable (Integer k) = all_are is_idchar k && is_integer k
+is_printable (String s) = all_are is_byte s
+is_printable _ = false
 
 -- tokens that can be written: parentheses nest, and annotations are behind a `(` and are standard
-pub data Neat : List Tok → Type 0 where
-  nothing : Neat []
-  token : (t : Tok) (r : List Tok) → is_fit t ≡ true → Neat r → Neat (t ∷ r)
-  group : (a r : List Tok) → Neat a → Neat r → Neat (LParen ∷ (a ++ RParen ∷ r))
-  noted : (n : List ℕ) (a r : List Tok) → is_name n ≡ true → is_standard n ≡ true → Neat a → Neat r
-      → Neat (LParen ∷ (Annotation n ∷ (a ++ RParen ∷ r)))
+pub data WellFormed : List Tok → Type 0 where
+  nothing : WellFormed []
+  token : (t : Tok) (r : List Tok) → is_printable t ≡ true → WellFormed r → WellFormed (t ∷ r)
+  group : (a r : List Tok) → WellFormed a → WellFormed r → WellFormed (LParen ∷ (a ++ RParen ∷ r))
+  noted : (n : List ℕ) (a r : List Tok) → is_name n ≡ true → is_standard n ≡ true → WellFormed a → WellFormed r
+      → WellFormed (LParen ∷ (Annotation n ∷ (a ++ RParen ∷ r)))
 
 -- a token that a text can give: names are UTF-8 and not empty, an integer is written as one, a
 -- string has bytes

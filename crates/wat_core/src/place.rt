@@ -13,7 +13,7 @@ use wat_lexer::tokens::Tokens;
 
 /// The place of the first token from a place on that is visible.
 #[tactic(auto, using(crate::proofs::Places::shown_from))]
-pub fn first_shown(tokens: &Tokens, at: usize, known: bool) -> usize
+pub(crate) fn first_shown(tokens: &Tokens, at: usize, known: bool) -> usize
     requires within { at ≤ length tokens.now }
     requires skips { AreSkips tokens.now }
     ensures value { drop result (placed tokens.now) ≡ shown known (drop at (placed tokens.now)) }
@@ -25,27 +25,27 @@ pub fn first_shown(tokens: &Tokens, at: usize, known: bool) -> usize
 
 /// Whether a `(` is at the place.
 #[tactic(auto, using(crate::proofs::Places::at_place))]
-pub fn opens_at(tokens: &Tokens, at: usize) -> bool
+pub(crate) fn opens_at(tokens: &Tokens, at: usize) -> bool
     ensures value { result ≡ begins_lparen (tokens_of (drop at (placed tokens.now))) }
-    ensures within { result ≡ true → (at < length tokens.now) × (at < 9223372036854775807) }
+    ensures within { result ≡ true → (at < length tokens.now) × (at < usize.MAX) }
 {
     at < tokens.len() && tokens.opens(at)
 }
 
 /// Whether a `)` is at the place.
 #[tactic(auto, using(crate::proofs::Places::at_place))]
-pub fn closes_at(tokens: &Tokens, at: usize) -> bool
+pub(crate) fn closes_at(tokens: &Tokens, at: usize) -> bool
     ensures value { result ≡ begins_rparen (tokens_of (drop at (placed tokens.now))) }
-    ensures within { result ≡ true → (at < length tokens.now) × (at < 9223372036854775807) }
+    ensures within { result ≡ true → (at < length tokens.now) × (at < usize.MAX) }
 {
     at < tokens.len() && tokens.closes(at)
 }
 
 /// Whether the keyword is at the place.
 #[tactic(auto, using(crate::proofs::Places::at_place))]
-pub fn word_at(tokens: &Tokens, at: usize, word: &str) -> bool
+pub(crate) fn word_at(tokens: &Tokens, at: usize, word: &str) -> bool
     ensures value { result ≡ begins_word word.now (tokens_of (drop at (placed tokens.now))) }
-    ensures within { result ≡ true → (at < length tokens.now) × (at < 9223372036854775807) }
+    ensures within { result ≡ true → (at < length tokens.now) × (at < usize.MAX) }
 {
     if at >= tokens.len() {
         return false;
@@ -58,9 +58,9 @@ pub fn word_at(tokens: &Tokens, at: usize, word: &str) -> bool
 
 /// Whether an identifier is at the place.
 #[tactic(auto, using(crate::proofs::Places::at_place))]
-pub fn id_at(tokens: &Tokens, at: usize) -> bool
+pub(crate) fn id_at(tokens: &Tokens, at: usize) -> bool
     ensures value { result ≡ begins_id (tokens_of (drop at (placed tokens.now))) }
-    ensures within { result ≡ true → (at < length tokens.now) × (at < 9223372036854775807) }
+    ensures within { result ≡ true → (at < length tokens.now) × (at < usize.MAX) }
 {
     if at >= tokens.len() {
         return false;
@@ -69,11 +69,11 @@ pub fn id_at(tokens: &Tokens, at: usize) -> bool
 }
 
 /// Whether a group that begins with the annotation `@name` is at the place.
-#[tactic(auto, using(crate::proofs::Places::at_place, crate::proofs::Places::no_open, crate::proofs::Places::one_left, crate::proofs::Places::two_left))]
-pub fn name_at(tokens: &Tokens, at: usize) -> bool
+#[tactic(auto, using(crate::proofs::Places::name_steps))]
+pub(crate) fn name_at(tokens: &Tokens, at: usize) -> bool
     ensures value { result ≡ begins_annotation (codes "name")
         (tokens_of (drop at (placed tokens.now))) }
-    ensures within { result ≡ true → (at < length tokens.now) × (at < 9223372036854775807) }
+    ensures within { result ≡ true → (at < length tokens.now) × (at < usize.MAX) }
 {
     if at >= tokens.len() {
         return false;

@@ -1,0 +1,37 @@
+-- What a parse answers and what it takes, by the tokens in front.
+use Rattle.std.specs.Prelude.{◌≡◌, ◌≢◌, ◌≤◌, ◌+◌, ◌++◌, List, length, max, Result, IfOk, IfErr}
+use Rattle.wat_lexer.specs.Token.{Tok}
+use Rattle.wat_tokens.specs.Counts.{Grows}
+use Rattle.wat_tokens.specs.Error.{Error, Memory}
+use Rattle.wat_tokens.specs.Parens.{nest}
+use Rattle.wat_tokens.specs.Parses.{Accepts}
+use Rattle.wat_tokens.specs.Production.{Production, Front}
+use Rattle.wat_tokens.specs.State.{State, behind}
+use Rattle.wat_tokens.specs.Views.{ViewOf}
+
+-- A call from a to b answered r: it reads exactly what a prefix of the tokens in front spells.
+-- sound: the tokens that were taken spell the value
+-- accepts: where tokens in front spell a value, it is that one, or memory ran out
+-- refused: a fault other than Memory means that no tokens in front spell a value
+pub record ReadsPrefix {X A : Type 0} (view : ViewOf X A) (g : Production A) (r : Result X Error)
+    (a b : State) : Type 0 where
+  pub sound : IfOk r (λ x. Front g.spells a.left (view.of x, b.left))
+  pub accepts : (v : A) (c d : List Tok) → a.left ≡ c ++ d → g.spells v c d
+      → Accepts view r v b.left d
+  pub refused : IfErr r (λ e. e.fault ≢ Memory → (v : A) (c d : List Tok) → a.left ≡ c ++ d
+      → g.spells v c d → ⊥)
+
+-- From a to b a prefix c of the tokens in front was taken, also on a refusal.
+-- end: what is left is an end of them
+-- position: the parser is directly behind the last token that was taken
+-- taken, within: `taken` rose by the number of tokens that were taken, and never by more than stood
+-- in front
+-- peak: the greatest height is at most what it was, or how the tokens that were taken nest
+-- grows: no count fell
+pub record TakesPrefix (a b : State) : Type 0 where
+  pub end : (c : List Tok) × (a.left ≡ c ++ b.left)
+  pub position : (c : List Tok) → a.left ≡ c ++ b.left → b.rest ≡ behind a.known (length c) a.rest
+  pub taken : (c : List Tok) → a.left ≡ c ++ b.left → b.taken ≡ a.taken + length c
+  pub within : b.taken + length b.left ≡ a.taken + length a.left
+  pub peak : (c : List Tok) → a.left ≡ c ++ b.left → b.peak ≤ max a.peak (nest c)
+  pub grows : Grows a b
