@@ -50,8 +50,8 @@ pub char_start_behind : (text : List ℕ) (mark offset : ℕ) → IsCharBoundary
 char_start_behind text mark offset boundary l = last_behind (begins_char text) mark (min offset (length text)) (omega (arith, boundary.0)) (char_at_boundary text mark boundary)
 
 -- behind a `(` the text may be cut
-pub boundary_behind : (text : List ℕ) (k : ℕ) → IsUtf8 text → 0 < k → k ≤ length text → get_or text (k - 1) 0 ≡ 40 → IsCharBoundary text k
-boundary_behind text k u l w h =
+pub at_paren : (text : List ℕ) (k : ℕ) → IsUtf8 text → 0 < k → k ≤ length text → get_or text (k - 1) 0 ≡ 40 → IsCharBoundary text k
+at_paren text k u l w h =
     let back : k - 1 + 1 ≡ k = omega arith in
     let ascii : get_or text (k - 1) 0 < 128 = omega (arith, h) in
     subst (IsCharBoundary text) back (IsCharBoundary-after_ascii text (k - 1) u (omega arith) ascii)

@@ -33,6 +33,8 @@ short (a ∷ b ∷ t) h = absurd (omega arith)
 pub escape_none : (i : ℕ) (s : List ℕ) → length s ≤ i + 1 → escapes_len (drop i s) ≡ 0
 escape_none i s h = short (drop i s) (omega (arith, length-drop i s))
 
+pub ruleset steps = (escape_step, escape_none)
+
 differs : (a b : ℕ) → a ≢ b → a == b ≡ false
 differs a b h = grind (arith, nat_tests)
 

@@ -26,8 +26,8 @@ pub no_more : (test : Tok → Bool) (es : List Entry) (i : ℕ) → i < length e
     → count_by test (take (i + 1) (tokens es)) ≡ count_by test (take i (tokens es))
 no_more test es i l h = count_by_more_no test (tokens es) i LParen (rw (as_many es) l) (rw (token_there es i) h)
 
-pub all_counted : (es : List Entry) (i : ℕ) → i ≡ length es → take i (tokens es) ≡ tokens es
-all_counted es i e = rw (e, ← as_many es) (take-length (tokens es))
+pub take_all : (es : List Entry) (i : ℕ) → i ≡ length es → take i (tokens es) ≡ tokens es
+take_all es i e = rw (e, ← as_many es) (take-length (tokens es))
 
 pub no_close : (t : Tok) → is_open t ≡ true → is_close t ≡ false
 no_close LParen h = refl

@@ -1,10 +1,10 @@
 pub mod Added
-pub mod Backslashes
-pub mod Boundaries
-pub mod Counted
+pub mod Cuts
 pub mod Distances
+pub mod Escape
 pub mod Fewest
 pub mod Groups
 pub mod Nearby
 pub mod Openings
+pub mod UpTo
 pub mod Words

@@ -11,6 +11,8 @@ pub count_more : (test : ℕ → Bool) (n : ℕ) → count_up_to test (n + 1) �
 unfolding count_up_to
 count_more test n = rw add-one
 
+pub ruleset count_steps = (count_first, count_more)
+
 pub last_first : (test : ℕ → Bool) (n : ℕ) → n ≡ 0 → last_up_to test n ≡ n
 unfolding last_up_to
 last_first test zero h = refl
@@ -25,3 +27,5 @@ pub last_before : (test : ℕ → Bool) (n : ℕ) → 0 < n → test n ≡ false
 unfolding last_up_to
 last_before test zero l h = absurd (omega arith)
 last_before test (suc n) l h = rw (h, sub-one)
+
+pub ruleset last_steps = (last_first, last_here, last_before)

@@ -22,7 +22,7 @@ escapes_len (b ∷ c ∷ t) =
     else if b == 34 then 0
     else escapes_len (c ∷ t) + 1
 
--- where in the string at the offset the first quote is, or the first backslash behind which no escape
--- is
+-- where in the string at the offset the first quote is, or the first backslash behind which no
+-- escape is
 unfoldable pub escapes_end : List ℕ → ℕ → ℕ
 escapes_end text at = at + 1 + escapes_len (drop (at + 1) text)

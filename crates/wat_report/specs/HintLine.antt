@@ -11,8 +11,8 @@ use Rattle.wat_report.specs.declared.hint.Hint.TheVariants.{ByteOrderMark, SeqCs
 use Rattle.wat_report.specs.declared.hint.Hint.TheVariants.{Nearest, OldWord, Semicolon}
 use Rattle.wat_report.specs.declared.hint.Hint.TheVariants.{SlashComment, Unclosed, OpenString}
 use Rattle.wat_report.specs.declared.hint.Hint.TheVariants.{Escapes, BehindModule, NoModule}
-use Rattle.wat_report.specs.declared.hint.Hint.TheVariants.{OtherQuote, Fraction, NearField, NearType}
-use Rattle.wat_report.specs.declared.hint.Hint.TheVariants.{BareName, WrongEscape}
+use Rattle.wat_report.specs.declared.hint.Hint.TheVariants.{OtherQuote, Fraction, NearField}
+use Rattle.wat_report.specs.declared.hint.Hint.TheVariants.{NearType, BareName, WrongEscape}
 use Rattle.wat_report.specs.declared.meant.TheConstants.{FIELD_WORDS, TYPE_WORDS}
 use Rattle.wat_report.specs.Escapes.{escapes_end}
 use Rattle.wat_report.specs.Found.{word_at}

@@ -1,7 +1,8 @@
 -- What may help whoever wrote the text.
-use Rattle.std.specs.Prelude.{ℕ, ◌+◌, ◌-◌, ◌==◌, ◌&&◌, ◌||◌, Bool, true, false, List, codes, count_by}
-use Rattle.std.specs.Prelude.{length, nat_le, nat_lt, take, slice_index, slice_range, Option, Some, None, is_some}
-use Rattle.std.specs.Prelude.{if◌then◌else◌}
+use Rattle.std.specs.Prelude.{ℕ, ◌+◌, ◌-◌, ◌==◌, ◌&&◌, ◌||◌, Bool, List, codes, count_by, length}
+use Rattle.std.specs.Prelude.{nat_le, nat_lt, take, slice_index, slice_range, Option, Some, None}
+use Rattle.std.specs.Prelude.{is_some, if◌then◌else◌}
+use Rattle.std.specs.List.{list_any}
 use Rattle.std.specs.Option.{option_or}
 use Rattle.std.specs.Str.{bytes_eq}
 use Rattle.wat_tokens.specs.Error.{Fault, LexChar, LexString, Unexpected, Operator}
@@ -10,32 +11,17 @@ use Rattle.wat_report.specs.Around.{past_word, list_start, opened_word}
 use Rattle.wat_report.specs.Escapes.{escapes_end}
 use Rattle.wat_report.specs.Found.{is_word_at, word_at, word_end}
 use Rattle.wat_report.specs.Front.{is_before_groups, is_behind_group, is_in_group, is_in_two}
+use Rattle.wat_report.specs.Meant.{keyword_text}
 use Rattle.wat_report.specs.Places.{line_stop}
-use Rattle.wat_report.specs.Rules.{names_token}
 use Rattle.wat_report.specs.declared.front.Groups.{Groups}
 use Rattle.wat_report.specs.declared.hint.Hint.{Hint}
 use Rattle.wat_report.specs.declared.hint.Hint.TheVariants.{ByteOrderMark, SeqCst, ModuleGroup}
 use Rattle.wat_report.specs.declared.hint.Hint.TheVariants.{Nearest, OldWord, Semicolon}
 use Rattle.wat_report.specs.declared.hint.Hint.TheVariants.{SlashComment, Unclosed, OpenString}
 use Rattle.wat_report.specs.declared.hint.Hint.TheVariants.{Escapes, BehindModule, NoModule}
-use Rattle.wat_report.specs.declared.hint.Hint.TheVariants.{OtherQuote, Fraction, NearField, NearType}
-use Rattle.wat_report.specs.declared.hint.Hint.TheVariants.{BareName, WrongEscape}
-
-abbrev pub is_lex_char : Fault → Bool
-is_lex_char LexChar = true
-is_lex_char _ = false
-
-abbrev pub is_lex_string : Fault → Bool
-is_lex_string LexString = true
-is_lex_string _ = false
-
-abbrev pub is_unexpected : Fault → Bool
-is_unexpected Unexpected = true
-is_unexpected _ = false
-
-abbrev pub is_operator : Fault → Bool
-is_operator Operator = true
-is_operator _ = false
+use Rattle.wat_report.specs.declared.hint.Hint.TheVariants.{OtherQuote, Fraction, NearField}
+use Rattle.wat_report.specs.declared.hint.Hint.TheVariants.{NearType, BareName, WrongEscape}
+use Rattle.wat_report.specs.declared.meant.TheConstants.{FIELD_WORDS}
 
 -- the text begins with a byte order mark: the character U+FEFF
 abbrev pub begins_with_mark : List ℕ → Bool
@@ -44,13 +30,7 @@ begins_with_mark text =
 
 -- a module's field begins with the word
 abbrev pub is_field_word : List ℕ → Bool
-is_field_word word =
-    bytes_eq word (codes "type") || (bytes_eq word (codes "rec")
-    || (bytes_eq word (codes "import") || (bytes_eq word (codes "func")
-    || (bytes_eq word (codes "table") || (bytes_eq word (codes "memory")
-    || (bytes_eq word (codes "global") || (bytes_eq word (codes "export")
-    || (bytes_eq word (codes "start") || (bytes_eq word (codes "elem")
-    || (bytes_eq word (codes "data") || bytes_eq word (codes "tag")))))))))))
+is_field_word word = list_any (λ field. bytes_eq (keyword_text field) word) FIELD_WORDS
 
 -- a field's word is at the offset, directly behind a `(` before which no other stands
 abbrev pub is_first_field : List ℕ → ℕ → Bool
@@ -112,8 +92,8 @@ char_hint text at =
     else if is_semicolon text at then Some Semicolon
     else None
 
--- where another token was needed, or an instruction: of `seq_cst`, of a word of old, of a comment as in
--- other languages, and of a text that ends too soon
+-- where another token was needed, or an instruction: of `seq_cst`, of a word of old, of a comment as
+-- in other languages, and of a text that ends too soon
 unfoldable pub token_hint : List ℕ → Option Groups → ℕ → Option Hint
 token_hint text groups at =
     if bytes_eq (word_at text at) (codes "seq_cst") then Some SeqCst
@@ -183,9 +163,9 @@ is_bare_name text at =
     && (nat_le (word_end text at) (at + 64)
     && is_head_word (opened_word text (past_word text at + 1)))))
 
--- Where another token was needed: of a module's first field where `module` was, of what stands behind
--- the module, of a text without one, of `'`, of a number that is no integer, and of words where one
--- of a field or of a type was.
+-- Where another token was needed: of a module's first field where `module` was, of what stands
+-- behind the module, of a text without one, of `'`, of a number that is no integer, and of words
+-- where one of a field or of a type was.
 unfoldable pub unexpected_hint : List ℕ → Option Groups → ℕ → Option Hint
 unexpected_hint text groups at =
     if is_first_field text at then Some ModuleGroup
@@ -206,17 +186,12 @@ operator_hint text at =
     else if is_word_at text at then Some Nearest
     else None
 
--- there too, by which of the two was needed
-abbrev pub place_hint : List ℕ → Option Groups → ℕ → Fault → Option Hint
-place_hint text groups at f =
-    if is_unexpected f then unexpected_hint text groups at
-    else if is_operator f then operator_hint text at
-    else None
-
--- the hint for a fault before whose place the groups are, if there is one
+-- The hint for a fault before whose place the groups are, if there is one. Where another token was
+-- needed, or an instruction, a hint that the token itself has comes first.
 abbrev pub hint_of : List ℕ → Option Groups → ℕ → Fault → Option Hint
-hint_of text groups at f =
-    if is_lex_char f then char_hint text at
-    else if is_lex_string f then string_hint text at
-    else if names_token f then option_or (token_hint text groups at) (place_hint text groups at f)
-    else None
+hint_of text groups at LexChar = char_hint text at
+hint_of text groups at LexString = string_hint text at
+hint_of text groups at Unexpected =
+    option_or (token_hint text groups at) (unexpected_hint text groups at)
+hint_of text groups at Operator = option_or (token_hint text groups at) (operator_hint text at)
+hint_of _ _ _ _ = None

@@ -7,7 +7,7 @@ use crate::found::{word_at, word_end};
 use wat_lexer::scan::is_space;
 
 /// Where the text goes on behind the last paren that stands before the offset, or where it begins.
-#[tactic(auto, unfolding(crate::specs::Around::list_start), using(crate::proofs::Counted::last_first, crate::proofs::Counted::last_here, crate::proofs::Counted::last_before))]
+#[tactic(auto, unfolding(crate::specs::Around::list_start), using(crate::proofs::UpTo::last_steps))]
 pub(crate) fn list_start(text: &str, at: usize) -> usize
     requires { at ≤ length text.now }
     ensures within { result ≤ at }
@@ -46,7 +46,7 @@ pub(crate) fn past_word(text: &str, at: usize) -> usize
 }
 
 /// The word at the offset if it is directly behind a `(`, else none.
-#[tactic(auto, unfolding(crate::specs::Around::opened_word), using(crate::proofs::Boundaries::boundary_behind))]
+#[tactic(auto, unfolding(crate::specs::Around::opened_word), using(crate::proofs::Cuts::at_paren))]
 pub(crate) fn opened_word(text: &str, at: usize) -> &str
     requires { at ≤ length text.now }
     ensures { result.now ≡ opened_word text.now at }

@@ -69,8 +69,8 @@ fn add_report_behind(
     front: &str,
     byte: u8,
 ) -> Result<(), AllocError>
-    ensures { OnOk result (out.new.items ≡ out.old.items ++ report_behind name.now bytes.now front.now
-        byte) }
+    ensures { OnOk result (out.new.items ≡ out.old.items
+        ++ report_behind name.now bytes.now front.now byte) }
 {
     add_heading(out, name, place_of_char(front, front.len()))?;
     add_wrong_byte(out, front, byte)?;
@@ -94,9 +94,10 @@ fn add_bytes_report(
 
 /// The text that the bytes are.
 ///
-/// If they aren't UTF-8, it answers None and adds the report of the first byte that is wrong: a line
-/// `NAME:LINE:COLUMN: error: MESSAGE`, the line up to that byte with `..` for the rest, a line with a
-/// caret below, and, if the bytes begin with the byte order mark of UTF-16, a line `hint: ..`.
+/// If they aren't UTF-8, it answers None and adds the report of the first byte that is wrong: a
+/// line `NAME:LINE:COLUMN: error: MESSAGE`, the line up to that byte with `..` for the rest, a line
+/// with a caret below, and, if the bytes begin with the byte order mark of UTF-16, a line
+/// `hint: ..`.
 ///
 /// It fails if memory runs out. Then a beginning of the report may have been added.
 pub fn text_or_report<'a>(

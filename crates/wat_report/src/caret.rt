@@ -29,7 +29,7 @@ fn first_shown(text: &str, start: usize, mark: usize) -> usize
 }
 
 /// Where what is shown of a line ends.
-#[tactic(auto, using(crate::proofs::Boundaries::char_start_behind))]
+#[tactic(auto, using(crate::proofs::Cuts::char_start_behind))]
 fn last_shown(text: &str, mark: usize, stop: usize) -> usize
     requires order { mark ≤ stop }
     requires within { stop ≤ length text.now }

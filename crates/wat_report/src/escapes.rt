@@ -21,7 +21,7 @@ fn byte_at(bytes: &[u8], at: usize) -> u8
 }
 
 /// Where a quote is, or a backslash behind which no escape is.
-#[tactic(auto, using(crate::proofs::Backslashes::escape_step, crate::proofs::Backslashes::escape_none))]
+#[tactic(auto, using(crate::proofs::Escape::steps))]
 fn escapes_end_from(bytes: &[u8], from: usize) -> usize
     requires { from ≤ length bytes.now }
     ensures { result ≡ from + escapes_len (drop from bytes.now) }
@@ -44,7 +44,7 @@ fn escapes_end_from(bytes: &[u8], from: usize) -> usize
 
 /// Where in the string at the offset the first quote is, or the first backslash behind which no
 /// escape is.
-#[tactic(auto, unfolding(crate::specs::Escapes::escapes_end), using(crate::proofs::Backslashes::escape_none))]
+#[tactic(auto, unfolding(crate::specs::Escapes::escapes_end), using(crate::proofs::Escape::steps))]
 pub(crate) fn escapes_end(text: &str, at: usize) -> usize
     requires { at ≤ length text.now }
     ensures { result ≡ escapes_end text.now at }

@@ -22,7 +22,7 @@ pub(crate) struct Groups {
 }
 
 /// How many groups begin and end among the tokens.
-#[tactic(auto, unfolding(crate::specs::Front::groups_in), using(crate::proofs::Groups::all_counted))]
+#[tactic(auto, unfolding(crate::specs::Front::groups_in), using(crate::proofs::Groups::take_all))]
 fn groups_in(tokens: &Tokens) -> Groups
     ensures { result ≡ groups_in (tokens_of (placed tokens.now)) }
 {

@@ -1,33 +1,30 @@
 //! What may help whoever wrote the text.
 
-ghost use Rattle.std.specs.Prelude.{◌≡◌, ◌≤◌, ◌==◌, ◌+◌, length, count_by, option_map, take};
+ghost use Rattle.std.specs.Prelude.{◌≡◌, ◌≤◌, ◌+◌, length, option_map};
 ghost use Rattle.std.specs.Str.{IsCharBoundary};
-ghost use Rattle.wat_report.specs.Found.{word_at};
-ghost use Rattle.wat_report.specs.Hints.{begins_with_mark, char_hint, count_in_line, count_of};
-ghost use Rattle.wat_report.specs.Hints.{hint_of, is_lex_string, string_hint};
-ghost use Rattle.wat_report.specs.Hints.{is_field_word, is_unclosed};
-ghost use Rattle.wat_report.specs.Hints.{is_first_field, is_lex_char, is_operator, is_semicolon};
-ghost use Rattle.wat_report.specs.Hints.{is_slash_comment, is_unexpected, new_word, place_hint};
 ghost use Rattle.wat_report.specs.Around.{past_word, opened_word};
-ghost use Rattle.wat_report.specs.Hints.{begins_number, has_no_group, has_wrong_escape};
-ghost use Rattle.wat_report.specs.Hints.{is_bare_name};
-ghost use Rattle.wat_report.specs.Hints.{is_field_place, is_fraction};
-ghost use Rattle.wat_report.specs.Hints.{is_fraction_at, is_head_word, is_other_quote};
-ghost use Rattle.wat_report.specs.Hints.{is_string_word, is_type_place, is_types_word};
-ghost use Rattle.wat_report.specs.Hints.{operator_hint, token_hint, unexpected_hint};
+ghost use Rattle.wat_report.specs.Found.{word_at};
+ghost use Rattle.wat_report.specs.Hints.{begins_number, begins_with_mark, char_hint};
+ghost use Rattle.wat_report.specs.Hints.{count_in_line, count_of, has_no_group, has_wrong_escape};
+ghost use Rattle.wat_report.specs.Hints.{hint_of, is_bare_name, is_field_place, is_field_word};
+ghost use Rattle.wat_report.specs.Hints.{is_first_field, is_fraction, is_fraction_at, is_head_word};
+ghost use Rattle.wat_report.specs.Hints.{is_other_quote, is_semicolon, is_slash_comment};
+ghost use Rattle.wat_report.specs.Hints.{is_string_word, is_type_place, is_types_word, is_unclosed};
+ghost use Rattle.wat_report.specs.Hints.{new_word, operator_hint, string_hint, token_hint};
+ghost use Rattle.wat_report.specs.Hints.{unexpected_hint};
 
 use crate::around::{list_start, opened_word, past_word};
 use crate::escapes::escapes_end;
 use crate::found::{is_word_at, word_at, word_end};
 use crate::front::{Groups, is_before_groups, is_behind_group, is_in_group, is_in_two};
 use crate::lines::line_stop;
+use crate::meant::FIELD_WORDS;
 use crate::nearest::LONGEST;
-use crate::rules::names_token;
 use wat_tokens::Fault;
 
 /// What may help whoever wrote the text.
 #[derive(Clone, Copy, Debug, PartialEq, Eq)]
-pub enum Hint {
+pub(crate) enum Hint {
     /// The text begins with a byte order mark.
     ByteOrderMark,
     /// `seq_cst` is written for `seqcst`.
@@ -66,34 +63,6 @@ pub enum Hint {
     BareName,
 }
 
-/// Whether the fault is a character that begins no token.
-fn is_lex_char(fault: Fault) -> bool
-    ensures { result ≡ is_lex_char fault }
-{
-    matches!(fault, Fault::LexChar)
-}
-
-/// Whether the fault is a string that is none.
-fn is_lex_string(fault: Fault) -> bool
-    ensures { result ≡ is_lex_string fault }
-{
-    matches!(fault, Fault::LexString)
-}
-
-/// Whether another token was needed.
-fn is_unexpected(fault: Fault) -> bool
-    ensures { result ≡ is_unexpected fault }
-{
-    matches!(fault, Fault::Unexpected)
-}
-
-/// Whether an instruction's word was needed.
-fn is_operator(fault: Fault) -> bool
-    ensures { result ≡ is_operator fault }
-{
-    matches!(fault, Fault::Operator)
-}
-
 /// Whether the text begins with a byte order mark.
 fn begins_with_mark(text: &str) -> bool
     ensures { result ≡ begins_with_mark text.now }
@@ -106,21 +75,7 @@ fn begins_with_mark(text: &str) -> bool
 fn is_field_word(word: &str) -> bool
     ensures { result ≡ is_field_word word.now }
 {
-    matches!(
-        word,
-        "type"
-            | "rec"
-            | "import"
-            | "func"
-            | "table"
-            | "memory"
-            | "global"
-            | "export"
-            | "start"
-            | "elem"
-            | "data"
-            | "tag"
-    )
+    FIELD_WORDS.iter().any(|field| field.word() == word)
 }
 
 /// The word that stands today for one of the time before the format was a standard.
@@ -424,35 +379,17 @@ fn operator_hint(text: &str, at: usize) -> Option<Hint>
     None
 }
 
-/// The hint where another token was needed, or an instruction.
-fn place_hint(text: &str, groups: Option<Groups>, at: usize, fault: Fault) -> Option<Hint>
-    requires within { at ≤ length text.now }
-    requires boundary { IsCharBoundary text.now at }
-    ensures { result ≡ place_hint text.now groups at fault }
-{
-    if is_unexpected(fault) {
-        return unexpected_hint(text, groups, at);
-    }
-    if is_operator(fault) {
-        return operator_hint(text, at);
-    }
-    None
-}
-
 /// The hint for a fault at the character that begins at the offset, before which the groups are.
 pub(crate) fn hint_of(text: &str, groups: Option<Groups>, at: usize, fault: Fault) -> Option<Hint>
     requires within { at ≤ length text.now }
     requires boundary { IsCharBoundary text.now at }
     ensures { result ≡ hint_of text.now groups at fault }
 {
-    if is_lex_char(fault) {
-        return char_hint(text, at);
+    match fault {
+        Fault::LexChar => char_hint(text, at),
+        Fault::LexString => string_hint(text, at),
+        Fault::Unexpected => token_hint(text, groups, at).or(unexpected_hint(text, groups, at)),
+        Fault::Operator => token_hint(text, groups, at).or(operator_hint(text, at)),
+        _ => None,
     }
-    if is_lex_string(fault) {
-        return string_hint(text, at);
-    }
-    if names_token(fault) {
-        return token_hint(text, groups, at).or(place_hint(text, groups, at, fault));
-    }
-    None
 }

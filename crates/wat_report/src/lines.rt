@@ -35,7 +35,7 @@ fn begins_line(bytes: &[u8], at: usize) -> bool
 }
 
 /// Where the character begins that holds the offset.
-#[tactic(auto, using(crate::proofs::Counted::last_first, crate::proofs::Counted::last_here, crate::proofs::Counted::last_before))]
+#[tactic(auto, using(crate::proofs::UpTo::last_steps))]
 pub(crate) fn char_start(text: &str, offset: usize) -> usize
     ensures within { result ≤ length text.now }
     ensures before { result ≤ offset }
@@ -51,7 +51,7 @@ pub(crate) fn char_start(text: &str, offset: usize) -> usize
 }
 
 /// Where the line begins that holds the offset.
-#[tactic(auto, using(crate::proofs::Counted::last_first, crate::proofs::Counted::last_here, crate::proofs::Counted::last_before))]
+#[tactic(auto, using(crate::proofs::UpTo::last_steps))]
 pub(crate) fn line_start(text: &str, at: usize) -> usize
     requires { at ≤ length text.now }
     ensures within { result ≤ at }
@@ -67,7 +67,7 @@ pub(crate) fn line_start(text: &str, at: usize) -> usize
 }
 
 /// How many lines begin up to the offset.
-#[tactic(auto, using(crate::proofs::Counted::count_first, crate::proofs::Counted::count_more))]
+#[tactic(auto, using(crate::proofs::UpTo::count_steps))]
 fn line_number(bytes: &[u8], at: usize) -> usize
     requires { at ≤ length bytes.now }
     ensures { result ≡ count_up_to (begins_line bytes.now) at }

@@ -78,41 +78,43 @@ pub static TYPE_WORDS: [Keyword; 19] = [
     Keyword::NullRef,
 ];
 
-/// The word.
-pub(crate) fn keyword_text(word: Keyword) -> &'static str
-    ensures { result.now ≡ keyword_text word }
-{
-    match word {
-        Keyword::TypeField => "type",
-        Keyword::Rec => "rec",
-        Keyword::Import => "import",
-        Keyword::Func => "func",
-        Keyword::Table => "table",
-        Keyword::Memory => "memory",
-        Keyword::Global => "global",
-        Keyword::Export => "export",
-        Keyword::Start => "start",
-        Keyword::Elem => "elem",
-        Keyword::Data => "data",
-        Keyword::Tag => "tag",
-        Keyword::I32 => "i32",
-        Keyword::I64 => "i64",
-        Keyword::F32 => "f32",
-        Keyword::F64 => "f64",
-        Keyword::V128 => "v128",
-        Keyword::FuncRef => "funcref",
-        Keyword::ExternRef => "externref",
-        Keyword::ExnRef => "exnref",
-        Keyword::ContRef => "contref",
-        Keyword::AnyRef => "anyref",
-        Keyword::EqRef => "eqref",
-        Keyword::StructRef => "structref",
-        Keyword::ArrayRef => "arrayref",
-        Keyword::I31Ref => "i31ref",
-        Keyword::NullFuncRef => "nullfuncref",
-        Keyword::NullExternRef => "nullexternref",
-        Keyword::NullExnRef => "nullexnref",
-        Keyword::NullContRef => "nullcontref",
-        Keyword::NullRef => "nullref",
+impl Keyword {
+    /// The word.
+    pub fn word(self) -> &'static str
+        ensures { result.now ≡ keyword_text self }
+    {
+        match self {
+            Keyword::TypeField => "type",
+            Keyword::Rec => "rec",
+            Keyword::Import => "import",
+            Keyword::Func => "func",
+            Keyword::Table => "table",
+            Keyword::Memory => "memory",
+            Keyword::Global => "global",
+            Keyword::Export => "export",
+            Keyword::Start => "start",
+            Keyword::Elem => "elem",
+            Keyword::Data => "data",
+            Keyword::Tag => "tag",
+            Keyword::I32 => "i32",
+            Keyword::I64 => "i64",
+            Keyword::F32 => "f32",
+            Keyword::F64 => "f64",
+            Keyword::V128 => "v128",
+            Keyword::FuncRef => "funcref",
+            Keyword::ExternRef => "externref",
+            Keyword::ExnRef => "exnref",
+            Keyword::ContRef => "contref",
+            Keyword::AnyRef => "anyref",
+            Keyword::EqRef => "eqref",
+            Keyword::StructRef => "structref",
+            Keyword::ArrayRef => "arrayref",
+            Keyword::I31Ref => "i31ref",
+            Keyword::NullFuncRef => "nullfuncref",
+            Keyword::NullExternRef => "nullexternref",
+            Keyword::NullExnRef => "nullexnref",
+            Keyword::NullContRef => "nullcontref",
+            Keyword::NullRef => "nullref",
+        }
     }
 }

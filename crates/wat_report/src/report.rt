@@ -55,8 +55,8 @@ fn add_parts(
 ) -> Result<(), AllocError>
     requires within { at ≤ length text.now }
     requires boundary { IsCharBoundary text.now at }
-    ensures { OnOk result (out.new.items ≡ out.old.items ++ placed_report name.now text.now groups at
-        fault) }
+    ensures { OnOk result (out.new.items ≡ out.old.items
+        ++ placed_report name.now text.now groups at fault) }
 {
     add_heading(out, name, place_of_char(text, at))?;
     add_message(out, text, at, fault)?;

@@ -1,4 +1,4 @@
--- Reports, one behind the other.
+-- Diagnostics, one behind the other.
 use Rattle.std.proofs.Common.{◌≡◌, ℕ, ◌+◌, ◌-◌, ◌<◌, Bool, false, List, [], ◌∷◌, ◌++◌, length, drop, take, get_or, refl, subst, sym, ap, ◌∙◌, append_assoc, add-one, drop-cons, Ok, Err, inl, inr}
 use Rattle.std.proofs.lemmas.List.{append-nil, take_more}
 use Rattle.std.specs.List.{list_any}
@@ -9,13 +9,13 @@ use Rattle.wat_report.specs.Report.{AddsReport}
 use Rattle.wat_core.specs.Error.{Error, Memory, Operator, Unexpected}
 use Rattle.wat_core.specs.Module.{ModuleTy}
 use Rattle.wat_core.specs.Text.{SpellsModule}
-use Rattle.wat_text.specs.Checked.{AddsLine, AddsReports, AddsTold, IsTold, MayExpect, AreFaults, IsSaidOf, Reports, SaysOfChecked, SaysOfFaults, SaysOfTwin, none, more, beside_of, lead_of, more_line}
+use Rattle.wat_text.specs.Checked.{AddsLine, AddsDiagnostics, AddsDiagnostic, IsDiagnostic, MayExpect, AreFaults, IsSaidOf, Diagnostics, SaysOfChecked, SaysOfFaults, SaysOfTwin, none, more, beside_of, lead_of, more_line}
 use Rattle.wat_twin.specs.Text.{IsTwin}
 use Rattle.wat_core.specs.declared.wrong_fields.FieldFaults.{FieldFaults}
 
 -- an item that doesn't pass decides nothing
-pub none_told : {X : Type 0} (p : X → Bool) (xs : List X) (i : ℕ) (d : X) → i < length xs → p (get_or xs i d) ≡ false → list_any p (drop i xs) ≡ list_any p (drop (i + 1) xs)
-none_told p xs i d l e = rw (add-one, drop-cons xs i d, e) refl
+pub no_error_at : {X : Type 0} (p : X → Bool) (xs : List X) (i : ℕ) (d : X) → i < length xs → p (get_or xs i d) ≡ false → list_any p (drop i xs) ≡ list_any p (drop (i + 1) xs)
+no_error_at p xs i d l e = rw (add-one, drop-cons xs i d, e) refl
 
 pub no_line : (old : List ℕ) → AddsLine old old
 unfolding MayExpect
@@ -23,36 +23,36 @@ no_line old = ([], inl refl, sym (append-nil old))
 
 module _ (name text : List ℕ) where
   -- the report, with no line behind it
-  pub told_alone : (e : Error) (old new : List ℕ) → AddsReport name text (offset_of e.span) e.fault old new → AddsTold name text e old new
-  unfolding IsTold MayExpect
-  told_alone e old new (said, is, added) = (said, (said, [], is, inl refl, inl refl, sym (append-nil said)), added)
+  pub diagnostic_alone : (e : Error) (old new : List ℕ) → AddsReport name text (offset_of e.span) e.fault old new → AddsDiagnostic name text e old new
+  unfolding IsDiagnostic MayExpect
+  diagnostic_alone e old new (said, is, added) = (said, (said, [], is, inl refl, inl refl, sym (append-nil said)), added)
 
   -- with a line
-  pub told_more : {T E : Type 0} (r : Result T E) (e : Error) (old mid new : List ℕ) → ((e.fault ≡ Unexpected) ⊎ (e.fault ≡ Operator)) → AddsReport name text (offset_of e.span) e.fault old mid → OnOk r (AddsLine mid new) → OnOk r (AddsTold name text e old new)
-  unfolding IsTold
-  told_more (Ok _) e old mid new which (said, is, added) (line, may, went) = (
+  pub diagnostic_with_line : {T E : Type 0} (r : Result T E) (e : Error) (old mid new : List ℕ) → ((e.fault ≡ Unexpected) ⊎ (e.fault ≡ Operator)) → AddsReport name text (offset_of e.span) e.fault old mid → OnOk r (AddsLine mid new) → OnOk r (AddsDiagnostic name text e old new)
+  unfolding IsDiagnostic
+  diagnostic_with_line (Ok _) e old mid new which (said, is, added) (line, may, went) = (
     said ++ line,
     (said, line, is, may, inr which, refl),
     went ∙ ap (λ (xs : List ℕ). xs ++ line) added ∙ append_assoc old said line,
   )
-  told_more (Err _) e old mid new which added went = tt
+  diagnostic_with_line (Err _) e old mid new which added went = tt
 
-  pub adds_none : (old : List ℕ) → AddsReports name text [] old old
+  pub adds_none : (old : List ℕ) → AddsDiagnostics name text [] old old
   adds_none old = ([], none, sym (append-nil old))
 
-  pub adds_one : {T E : Type 0} (r : Result T E) (e : Error) (old new : List ℕ) → OnOk r (AddsTold name text e old new) → OnOk r (AddsReports name text (e ∷ []) old new)
+  pub adds_one : {T E : Type 0} (r : Result T E) (e : Error) (old new : List ℕ) → OnOk r (AddsDiagnostic name text e old new) → OnOk r (AddsDiagnostics name text (e ∷ []) old new)
   adds_one (Ok _) e old new (said, is, added) = (said, more [] e [] said none is, added)
   adds_one (Err _) e old new added = tt
 
-  pub adds_more : (es : List Error) (i : ℕ) (d : Error) (old mid new : List ℕ) → i < length es → AddsReports name text (take i es) old mid → AddsTold name text (get_or es i d) mid new → AddsReports name text (take (i + 1) es) old new
+  pub adds_more : (es : List Error) (i : ℕ) (d : Error) (old mid new : List ℕ) → i < length es → AddsDiagnostics name text (take i es) old mid → AddsDiagnostic name text (get_or es i d) mid new → AddsDiagnostics name text (take (i + 1) es) old new
   adds_more es i d old mid new l (front, before, begun) (said, is, added) = (
     front ++ said,
-    subst (λ (xs : List Error). Reports name text xs (front ++ said)) (sym (take_more es i d l)) (more (take i es) (get_or es i d) front said before is),
+    subst (λ (xs : List Error). Diagnostics name text xs (front ++ said)) (sym (take_more es i d l)) (more (take i es) (get_or es i d) front said before is),
     added ∙ ap (λ (xs : List ℕ). xs ++ said) begun ∙ append_assoc old front said,
   )
 
   -- es are the faults of the fields, o1 is what is added up to the first of them, and so on
-  pub found_said : (first : Error) (f : FieldFaults) (es : List Error) (lead beside : Option Error) (n : ℕ) (o0 o1 o2 o3 o4 : List ℕ) → es ≡ f.faults.items → lead ≡ lead_of first es → beside ≡ beside_of first es f.beside → n ≡ f.count - length es → o0 ≡ [] → AddsReports name text (option_to_list lead) o0 o1 → AddsReports name text es o1 o2 → o3 ≡ o2 ++ more_line name n → AddsReports name text (option_to_list beside) o3 o4 → IsSaidOf name text first f o4
+  pub found_said : (first : Error) (f : FieldFaults) (es : List Error) (lead beside : Option Error) (n : ℕ) (o0 o1 o2 o3 o4 : List ℕ) → es ≡ f.faults.items → lead ≡ lead_of first es → beside ≡ beside_of first es f.beside → n ≡ f.count - length es → o0 ≡ [] → AddsDiagnostics name text (option_to_list lead) o0 o1 → AddsDiagnostics name text es o1 o2 → o3 ≡ o2 ++ more_line name n → AddsDiagnostics name text (option_to_list beside) o3 o4 → IsSaidOf name text first f o4
   unfolding IsSaidOf
   found_said first f es lead beside n o0 o1 o2 o3 o4 same l b m z (x, led, e) (y, told, g) h (w, besides, k) =
       let line = more_line name n in
@@ -64,9 +64,9 @@ module _ (name text : List ℕ) where
         x,
         y,
         w,
-        subst (λ (o : Option Error). Reports name text (option_to_list o) x) told_lead led,
-        subst (λ (xs : List Error). Reports name text xs y) same told,
-        subst (λ (o : Option Error). Reports name text (option_to_list o) w) told_beside besides,
+        subst (λ (o : Option Error). Diagnostics name text (option_to_list o) x) told_lead led,
+        subst (λ (xs : List Error). Diagnostics name text xs y) same told,
+        subst (λ (o : Option Error). Diagnostics name text (option_to_list o) w) told_beside besides,
         all ∙ ap (λ (xs : List ℕ). x ++ (y ++ (xs ++ w))) more_is,
       )
 

@@ -1,2 +1,2 @@
-mod Reporting
+mod Diagnostics
 mod Saying

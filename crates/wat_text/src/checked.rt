@@ -5,9 +5,9 @@ ghost use Rattle.std.specs.Option.{option_to_list};
 ghost use Rattle.wat_core.specs.Cut.{IsCut};
 ghost use Rattle.wat_core.specs.LexerPlace.{offset_of};
 ghost use Rattle.wat_core.specs.Token.{Placed};
-ghost use Rattle.wat_text.specs.Checked.{AddsLine, AddsReports, AddsTold};
+ghost use Rattle.wat_text.specs.Checked.{AddsLine, AddsDiagnostics, AddsDiagnostic};
 ghost use Rattle.wat_text.specs.Checked.{SaysOfChecked, SaysOfFaults, SaysOfTwin};
-ghost use Rattle.wat_text.specs.Checked.{IsSaidOf, beside_of, is_told, lead_of, more_line};
+ghost use Rattle.wat_text.specs.Checked.{IsSaidOf, beside_of, has_error_at, lead_of, more_line};
 
 use crate::expected::add_expected;
 use crate::outcome::{module_of, refused};
@@ -21,9 +21,9 @@ use wat_twin::twin::twin;
 const MOST: usize = 20;
 
 /// Whether one of the errors is at the offset.
-#[tactic(auto, using(crate::proofs::Reporting::none_told))]
-fn is_told(errors: &[Error], offset: usize) -> bool
-    ensures { result ≡ is_told errors.now offset }
+#[tactic(auto, using(crate::proofs::Diagnostics::no_error_at))]
+fn has_error_at(errors: &[Error], offset: usize) -> bool
+    ensures { result ≡ has_error_at errors.now offset }
 {
     for error in errors {
         if error.span.offset() == offset {
@@ -37,19 +37,19 @@ fn is_told(errors: &[Error], offset: usize) -> bool
 fn lead_of(first: Error, errors: &[Error]) -> Option<Error>
     ensures { result ≡ lead_of first errors.now }
 {
-    if is_told(errors, first.span.offset()) {
+    if has_error_at(errors, first.span.offset()) {
         return None;
     }
     Some(first)
 }
 
-/// What is wrong beside the fields, unless it is told already.
+/// What is wrong beside the fields, unless an error at its place is reported already.
 fn beside_of(first: Error, errors: &[Error], beside: Option<Error>) -> Option<Error>
     ensures { result ≡ beside_of first errors.now beside }
 {
     let error = beside?;
     let offset = error.span.offset();
-    if first.span.offset() == offset || is_told(errors, offset) {
+    if first.span.offset() == offset || has_error_at(errors, offset) {
         return None;
     }
     Some(error)
@@ -66,7 +66,7 @@ fn ends_in_hint(out: &[u8]) -> bool {
 }
 
 /// Adds a line of what could stand at an offset, if no hint is behind the report.
-#[tactic(auto, unfolding(crate::specs::Checked::MayExpect), using(crate::proofs::Reporting::no_line))]
+#[tactic(auto, using(crate::proofs::Diagnostics::no_line))]
 fn add_line(out: &mut Vec<u8>, read: &str, offset: usize) -> Result<(), AllocError>
     ensures { OnOk result (AddsLine out.old.items out.new.items) }
 {
@@ -76,15 +76,15 @@ fn add_line(out: &mut Vec<u8>, read: &str, offset: usize) -> Result<(), AllocErr
     add_expected(out, read, offset)
 }
 
-/// Adds the report of an error, and what could stand there if the report has no hint.
-fn add_told(
+/// Adds the diagnostic of an error: its report, and what could stand there if that has no hint.
+fn add_diagnostic(
     out: &mut Vec<u8>,
     name: &str,
     text: &str,
     read: &str,
     error: Error,
 ) -> Result<(), AllocError>
-    ensures { OnOk result (AddsTold name.now text.now error out.old.items out.new.items) }
+    ensures { OnOk result (AddsDiagnostic name.now text.now error out.old.items out.new.items) }
 {
     add_report(out, name, text, error)?;
     match error.fault {
@@ -94,37 +94,38 @@ fn add_told(
     }
 }
 
-/// Adds what is told of an error, if there is one.
-#[tactic(auto, using(crate::proofs::Reporting::adds_one))]
-fn add_one(
+/// Adds the diagnostic of an error, if there is one.
+#[tactic(auto, using(crate::proofs::Diagnostics::adds_one))]
+fn add_optional(
     out: &mut Vec<u8>,
     name: &str,
     text: &str,
     read: &str,
     error: Option<Error>,
 ) -> Result<(), AllocError>
-    ensures { OnOk result (AddsReports name.now text.now (option_to_list error) out.old.items
+    ensures { OnOk result (AddsDiagnostics name.now text.now (option_to_list error) out.old.items
         out.new.items) }
 {
     match error {
-        Some(error) => add_told(out, name, text, read, error),
+        Some(error) => add_diagnostic(out, name, text, read, error),
         None => Ok(()),
     }
 }
 
-/// Adds what is told of errors, one behind the other.
-#[tactic(auto, using(crate::proofs::Reporting::adds_none))]
-fn add_reports(
+/// Adds the diagnostics of errors, one behind the other.
+#[tactic(auto, using(crate::proofs::Diagnostics::adds_none))]
+fn add_diagnostics(
     out: &mut Vec<u8>,
     name: &str,
     text: &str,
     read: &str,
     errors: &[Error],
 ) -> Result<(), AllocError>
-    ensures { OnOk result (AddsReports name.now text.now errors.now out.old.items out.new.items) }
+    ensures { OnOk result (AddsDiagnostics name.now text.now errors.now out.old.items
+        out.new.items) }
 {
     for error in errors {
-        add_told(out, name, text, read, *error)?;
+        add_diagnostic(out, name, text, read, *error)?;
     }
     Ok(())
 }
@@ -153,11 +154,11 @@ fn said_of_found(
 {
     let faults = found.faults.as_slice();
     let mut out = Vec::new(alloc);
-    add_one(&mut out, name, text, read, lead_of(first, faults))?;
-    add_reports(&mut out, name, text, read, faults)?;
+    add_optional(&mut out, name, text, read, lead_of(first, faults))?;
+    add_diagnostics(&mut out, name, text, read, faults)?;
     add_more(&mut out, name, found.count.saturating_sub(faults.len()))?;
     let beside = beside_of(first, faults, found.beside);
-    add_one(&mut out, name, text, read, beside)?;
+    add_optional(&mut out, name, text, read, beside)?;
     Ok(out)
 }
 

@@ -11,6 +11,7 @@ use std::alloc::{AllocError, Global};
 use wat_core::wat_lexer::cut::cut;
 use wat_core::wat_lexer::tokens::Tokens;
 use wat_core::{Error, Fault, module_faults};
+use wat_report::FIELD_WORDS;
 
 /// What could stand there, but for groups.
 #[derive(Clone, Copy)]
@@ -66,25 +67,12 @@ impl Kind {
     }
 }
 
-/// How many bytes are read again with each thing behind them, at most: for a longer field nothing is
-/// told.
+/// How many bytes are read again with each thing behind them, at most: what could stand behind a
+/// longer field isn't looked for.
 const LONGEST: usize = 65_536;
 
-/// The words that begin a group somewhere, but for those of instructions.
-const GROUP_WORDS: [&str; 44] = [
-    "module",
-    "type",
-    "rec",
-    "import",
-    "func",
-    "table",
-    "memory",
-    "global",
-    "export",
-    "start",
-    "elem",
-    "data",
-    "tag",
+/// The words that begin a group within a field, but for those of instructions and of fields.
+const INNER_WORDS: [&str; 31] = [
     "param",
     "result",
     "local",
@@ -124,30 +112,30 @@ struct Opened {
     /// How many there are.
     depth: usize,
     /// Where the first group within another begins, in bytes, if one does.
-    first: Option<usize>,
+    first_field: Option<usize>,
     /// Where the last group that is within one other begins.
-    last: usize,
+    last_field: usize,
     /// Whether the last token is a `(`.
-    behind: bool,
+    behind_paren: bool,
 }
 
 /// The groups that tokens leave open.
 fn opened_by(tokens: &Tokens) -> Opened {
     let mut found = Opened {
         depth: 0,
-        first: None,
-        last: 0,
-        behind: false,
+        first_field: None,
+        last_field: 0,
+        behind_paren: false,
     };
     for at in 0..tokens.len() {
-        found.behind = tokens.opens(at);
+        found.behind_paren = tokens.opens(at);
         if tokens.closes(at) {
             found.depth = found.depth.saturating_sub(1);
         }
-        if found.behind {
+        if found.behind_paren {
             if found.depth == 1 {
-                found.last = tokens.offset(at);
-                found.first = found.first.or(Some(found.last));
+                found.last_field = tokens.offset(at);
+                found.first_field = found.first_field.or(Some(found.last_field));
             }
             found.depth = found.depth.saturating_add(1);
         }
@@ -162,7 +150,7 @@ struct Front {
     /// Whether the fault is in a field: then that one alone is in the text.
     in_field: bool,
     /// Whether the last token is a `(`.
-    behind: bool,
+    behind_paren: bool,
 }
 
 /// The text up to a fault that is in the field which begins at a place.
@@ -186,27 +174,27 @@ fn front_of(alloc: Global, read: &str, at: usize) -> Result<Option<Front>, Alloc
         Ok(tokens) => opened_by(&tokens),
         Err(error) => return none_or_memory(error),
     };
-    if opened.depth == 0 && opened.first.is_some() {
+    if opened.depth == 0 && opened.first_field.is_some() {
         return Ok(None);
     }
     let in_field = opened.depth > 1;
     let size = if in_field {
-        text.len().saturating_sub(opened.last)
+        text.len().saturating_sub(opened.last_field)
     } else {
-        opened.first.unwrap_or(text.len())
+        opened.first_field.unwrap_or(text.len())
     };
     if size > LONGEST {
         return Ok(None);
     }
     let text = if in_field {
-        field_front(alloc, text, opened.last)?
+        field_front(alloc, text, opened.last_field)?
     } else {
-        module_front(alloc, text, opened.first)?
+        module_front(alloc, text, opened.first_field)?
     };
     Ok(Some(Front {
         text,
         in_field,
-        behind: opened.behind,
+        behind_paren: opened.behind_paren,
     }))
 }
 
@@ -257,48 +245,58 @@ fn goes_on(alloc: Global, front: &Front, with: &str) -> Result<bool, AllocError>
     }
 }
 
-/// Adds one of what could stand there.
-fn add_one(said: &mut String, one: &str) -> Result<(), AllocError> {
-    if !said.is_empty() {
-        said.push_str(", ")?;
+/// Adds one of what could stand there to those in front.
+fn add_item(list: &mut String, item: &str) -> Result<(), AllocError> {
+    if !list.is_empty() {
+        list.push_str(", ")?;
     }
-    said.push_str(one)
+    list.push_str(item)
 }
 
 /// Adds what isn't a group's beginning word and could stand behind the text. A reference type is
 /// one of the value types.
-fn add_kinds(said: &mut String, front: &Front) -> Result<(), AllocError> {
+fn add_kinds(list: &mut String, front: &Front) -> Result<(), AllocError> {
     for kind in KINDS {
-        let is_told = matches!(kind, Kind::ReferenceType)
-            && said.as_str().ends_with("a value type");
-        if !is_told && goes_on(*said.allocator(), front, kind.one())? {
-            add_one(said, kind.name())?;
+        let is_named = matches!(kind, Kind::ReferenceType)
+            && list.as_str().ends_with("a value type");
+        if !is_named && goes_on(*list.allocator(), front, kind.one())? {
+            add_item(list, kind.name())?;
         }
     }
     Ok(())
 }
 
+/// Adds the word if it could begin a group behind the text, or go on with that which is begun.
+fn add_word(list: &mut String, front: &Front, word: &str) -> Result<(), AllocError> {
+    let alloc = *list.allocator();
+    let open = if front.behind_paren { "" } else { "(" };
+    let begun = format!(in alloc; "{open}{word}")?;
+    if goes_on(alloc, front, &begun)? {
+        add_item(list, format!(in alloc; "`{begun}`")?.as_str())?;
+    }
+    Ok(())
+}
+
 /// Adds the words that could begin a group behind the text, or go on with that which is begun.
-fn add_words(said: &mut String, front: &Front) -> Result<(), AllocError> {
-    let alloc = *said.allocator();
-    let open = if front.behind { "" } else { "(" };
-    for word in GROUP_WORDS {
-        let begun = format!(in alloc; "{open}{word}")?;
-        if goes_on(alloc, front, &begun)? {
-            add_one(said, format!(in alloc; "`{begun}`")?.as_str())?;
-        }
+fn add_words(list: &mut String, front: &Front) -> Result<(), AllocError> {
+    add_word(list, front, "module")?;
+    for field in FIELD_WORDS {
+        add_word(list, front, field.word())?;
+    }
+    for word in INNER_WORDS {
+        add_word(list, front, word)?;
     }
     Ok(())
 }
 
 /// What could stand at a fault, in words; nothing where that isn't known.
 fn expected_at(alloc: Global, read: &str, at: usize) -> Result<String, AllocError> {
-    let mut said = String::new(alloc);
+    let mut list = String::new(alloc);
     if let Some(front) = front_of(alloc, read, at)? {
-        add_kinds(&mut said, &front)?;
-        add_words(&mut said, &front)?;
+        add_kinds(&mut list, &front)?;
+        add_words(&mut list, &front)?;
     }
-    Ok(said)
+    Ok(list)
 }
 
 /// Adds a line of what could stand at a fault, if that is known.
@@ -306,10 +304,10 @@ fn expected_at(alloc: Global, read: &str, at: usize) -> Result<String, AllocErro
 pub(crate) fn add_expected(out: &mut Vec<u8>, read: &str, at: usize) -> Result<(), AllocError>
     ensures { OnOk result (AddsLine out.old.items out.new.items) }
 {
-    let said = expected_at(*out.allocator(), read, at)?;
-    if said.is_empty() {
+    let list = expected_at(*out.allocator(), read, at)?;
+    if list.is_empty() {
         return Ok(());
     }
-    let line = format!(in *out.allocator(); "expected: {said}\n")?;
+    let line = format!(in *out.allocator(); "expected: {list}\n")?;
     out.extend_from_slice(line.as_bytes())
 }

@@ -118,7 +118,8 @@ fn said_of_text(
     }
 }
 
-/// What is said of bytes of that name, and their status: 0 if they are the text of a module, else 1.
+/// What is said of bytes of that name, and their status: 0 if they are the text of a module, else
+/// 1.
 #[tactic(auto, unfolding(crate::specs::Outcomes::SaysOfBytes))]
 pub fn said_of_bytes(
     alloc: Global,

@@ -1,5 +1,5 @@
 use Rattle.std.proofs.Common.{arith}
-use Rattle.wat_report.proofs.Backslashes.{plain_step}
+use Rattle.wat_report.proofs.Escape.{plain_step}
 use Rattle.wat_report.proofs.escapes.escapes_end_from.Goals as goal
 
 pub loop-end-preserved : goal.loop-end-preserved

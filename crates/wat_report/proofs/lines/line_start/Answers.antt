@@ -1,5 +1,5 @@
 use Rattle.std.proofs.Common.{arith}
-use Rattle.wat_report.proofs.Boundaries.{boundary_first, boundary_line}
+use Rattle.wat_report.proofs.Cuts.{boundary_first, boundary_line}
 use Rattle.wat_report.proofs.lines.line_start.Goals as goal
 
 pub returns-else-not-begins_line-clause-boundary : goal.returns-else-not-begins_line-clause-boundary

@@ -1,4 +1,4 @@
-use Rattle.wat_text.proofs.Reporting.{by_twin}
+use Rattle.wat_text.proofs.Diagnostics.{by_twin}
 use Rattle.wat_text.proofs.checked.said_of_checked.Goals as goal
 
 pub returns-in-Ok : goal.returns-in-Ok

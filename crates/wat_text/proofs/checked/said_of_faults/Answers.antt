@@ -1,4 +1,4 @@
-use Rattle.wat_text.proofs.Reporting.{found_faults}
+use Rattle.wat_text.proofs.Diagnostics.{found_faults}
 use Rattle.wat_text.proofs.checked.said_of_faults.Goals as goal
 
 pub returns-in-Ok : goal.returns-in-Ok

@@ -1,4 +1,4 @@
-use Rattle.wat_text.proofs.Reporting.{faults_of_twin}
+use Rattle.wat_text.proofs.Diagnostics.{faults_of_twin}
 use Rattle.wat_text.proofs.checked.said_of_twin.Goals as goal
 
 pub returns : goal.returns
