@@ -1,23 +1,18 @@
 -- Operands that are read as their types are.
-use Rattle.std.proofs.Common.{◌≡◌, Bool, true, false, List, Some, None, Err, subst, ap, sym, ◌∙◌, refl}
+use Rattle.std.proofs.Common.{true, List, Err, subst, sym, refl}
 use Rattle.wat_tokens.specs.Cost.{Cost, Costs}
-use Rattle.wat_tokens.specs.Error.{Error, Fault}
+use Rattle.wat_tokens.specs.Error.{Error}
 use Rattle.wat_tokens.specs.Parses.{Refuses}
-use Rattle.wat_tokens.specs.Production.{Production, Read, bind}
+use Rattle.wat_tokens.specs.Production.{Production}
 use Rattle.wat_tokens.specs.Reads.{Call}
 use Rattle.wat_tokens.specs.State.{State}
+use Rattle.wat_tokens.specs.Laws.Refuses.{refused_as}
 use Rattle.wat_tokens.specs.Views.{ViewOf}
 use Rattle.wat_mnemonics.specs.declared.op.Op.{Op}
 use Rattle.wat_instr.specs.Instruction.{Instr, instr_of, bare_instruction}
 use Rattle.wat_instr.specs.Operand.{Operand, bare_operand, operand}
 use Rattle.wat_instr.specs.OperandOf.{IsOperandOf}
 use Rattle.wat_instr.specs.Reading.{ReadsOperand}
-
--- what a refusal means, for what is made of what is in front
-refused_as : {V W : Type 0} (own : Bool) (bare : V → Bool) (bare' : W → Bool) (make : V → W) → ((v : V) → bare' (make v) ≡ bare v) → (f : Fault) (read : Read V) → Refuses own bare f read → Refuses true bare' f (bind read (λ v r. Some (make v, r)))
-refused_as true bare bare' make same f (Some x) (n, m) = (λ k. absurd (let e = n k in cc), λ k. same x.0 ∙ m k)
-refused_as true bare bare' make same f None x = (λ _. refl, λ _. tt)
-refused_as false bare bare' make same f read (n, m) = (λ _. ap (λ q. bind q (λ v r. Some (make v, r))) n, λ k. absurd (m k))
 
 -- where none was read, no instruction is
 pub refused_operand : {X V : Type 0} {h : Op} {seen : X → Operand} {k : Cost} {view : ViewOf X V} {g : Production V} → IsOperandOf h seen k view g → (a b : State) (e : Error) (before : List Instr) → Call {X = X} k view (g.reads a.left) (Err e) a b → ReadsOperand {X = Unit {0}} h before before (Err e) a b

@@ -1,8 +1,8 @@
 -- Laws: what a refusal means, where it isn't known whether values may own memory.
-use Rattle.std.proofs.Common.{◌≡◌, ◌≢◌, Bool, true, false, None, refl}
+use Rattle.std.proofs.Common.{◌≡◌, ◌≢◌, Bool, true, false, None, Some, refl, ap, ◌∙◌}
 use Rattle.wat_tokens.specs.Error.{Fault, Memory}
 use Rattle.wat_tokens.specs.Parses.{NotBare, Refuses}
-use Rattle.wat_tokens.specs.Production.{Read}
+use Rattle.wat_tokens.specs.Production.{Read, bind}
 
 -- what it means in any case
 pub refuses_none : {A : Type 0} (own : Bool) (bare : A → Bool) (f : Fault) (read : Read A)
@@ -32,5 +32,15 @@ pub refuses_owning : {A B : Type 0} (own : Bool) (bare : A → Bool) (all : B �
     (read : Read A) (whole : Read B) → Refuses own bare f read → (read ≡ None → whole ≡ None)
     → (f ≡ Memory → NotBare all whole) → Refuses true all f whole
 refuses_owning own bare all f read whole p g h = (λ n. g (refused_read own bare f read p n), h)
+
+-- of what is made of what is read
+pub refused_as : {V W : Type 0} (own : Bool) (bare : V → Bool) (bare' : W → Bool) (make : V → W)
+    → ((v : V) → bare' (make v) ≡ bare v) → (f : Fault) (read : Read V)
+    → Refuses own bare f read → Refuses true bare' f (bind read (λ v r. Some (make v, r)))
+refused_as true bare bare' make same f (Some x) (n, m) =
+    (λ k. absurd (let e = n k in cc), λ k. same x.0 ∙ m k)
+refused_as true bare bare' make same f None x = (λ _. refl, λ _. tt)
+refused_as false bare bare' make same f read (n, m) =
+    (λ _. ap (λ q. bind q (λ v r. Some (make v, r))) n, λ k. absurd (m k))
 
 pub ruleset refusals = (refuses_none, refuses_whole)
