@@ -235,8 +235,7 @@ impl Print for InnerTypeKind<'_> {
 
     #[tactic(auto, using(crate::specs::Laws::Written::puts_put))]
     fn write(&self, out: &mut Output) -> Result<(), Refused> {
-        write_kind(out, self)?;
-        Ok(())
+        write_kind(out, self)
     }
 }
 
@@ -251,8 +250,7 @@ impl Print for Type<'_> {
 
     #[tactic(auto, using(crate::specs::Laws::Written::puts_put))]
     fn write(&self, out: &mut Output) -> Result<(), Refused> {
-        write_type(out, self)?;
-        Ok(())
+        write_type(out, self)
     }
 }
 
@@ -266,7 +264,6 @@ impl Print for Rec<'_> {
     ghost printing = { rec_printing };
 
     fn write(&self, out: &mut Output) -> Result<(), Refused> {
-        write_rec(out, self)?;
-        Ok(())
+        write_rec(out, self)
     }
 }

@@ -157,7 +157,7 @@ fn write_result_groups(out: &mut Output, types: &[ValType]) -> Result<(), Refuse
 
 /// Writes a function type (Text Format, Types, "Composite Types"): its parameters, and then its
 /// results.
-pub fn write_function(out: &mut Output, function: &FunctionType) -> Result<(), Refused>
+pub(crate) fn write_function(out: &mut Output, function: &FunctionType) -> Result<(), Refused>
     ensures written { OnOk result (out.new ≡ put out.old
         (spell_function (function_view function.now))) }
     ensures printable { OnOk result (printable_function (function_view function.now) ≡ true) }

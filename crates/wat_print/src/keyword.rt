@@ -80,7 +80,6 @@ impl Print for kw::tag {
 
     #[tactic(auto, using(crate::specs::Laws::Written::puts_put))]
     fn write(&self, out: &mut Output) -> Result<(), Refused> {
-        out.word("tag")?;
-        Ok(())
+        out.word("tag")
     }
 }

@@ -32,7 +32,7 @@ pub fn write_flag(out: &mut Output, word: &str, flag: bool) -> Result<(), Refuse
 /// Writes limits (Text Format, Types, "Limits"): `i64`, where addresses have 64 bits, and then the
 /// one or two numbers.
 #[tactic(auto, using(crate::specs::Laws::Written::put_both))]
-pub fn write_limits(out: &mut Output, limits: &Limits) -> Result<(), Refused>
+fn write_limits(out: &mut Output, limits: &Limits) -> Result<(), Refused>
     ensures written { OnOk result (out.new ≡ put out.old (spell_limits limits.now)) }
     ensures printable { OnOk result (printable_limits limits.now ≡ true) }
     ensures refused { IfErr result (λ e. e ≡ Memory) }
@@ -122,8 +122,7 @@ impl Print for MemoryType {
 
     #[tactic(auto, using(crate::specs::Laws::Written::puts_put))]
     fn write(&self, out: &mut Output) -> Result<(), Refused> {
-        write_memory_type(out, self)?;
-        Ok(())
+        write_memory_type(out, self)
     }
 }
 
@@ -138,7 +137,6 @@ impl Print for TableType<'_> {
 
     #[tactic(auto, using(crate::specs::Laws::Written::puts_put))]
     fn write(&self, out: &mut Output) -> Result<(), Refused> {
-        write_table_type(out, self)?;
-        Ok(())
+        write_table_type(out, self)
     }
 }

@@ -19,7 +19,7 @@ use crate::traits::Print;
 use wat_types::{ArrayType, GlobalType, StorageType};
 
 /// Writes a storage type (Text Format, Types, "Composite Types").
-pub fn write_storage(out: &mut Output, ty: &StorageType) -> Result<(), Refused>
+fn write_storage(out: &mut Output, ty: &StorageType) -> Result<(), Refused>
     ensures written { OnOk result (out.new ≡ put out.old (spell_storage (storage_view ty.now))) }
     ensures printable { OnOk result (printable_storage (storage_view ty.now) ≡ true) }
     ensures refused { IfErr result (λ e. e ≢ Memory
@@ -52,7 +52,7 @@ pub fn write_field(out: &mut Output, mutable: bool, ty: &StorageType) -> Result<
 }
 
 /// Writes an array type (Text Format, Types, "Composite Types").
-pub fn write_array(out: &mut Output, array: &ArrayType) -> Result<(), Refused>
+pub(crate) fn write_array(out: &mut Output, array: &ArrayType) -> Result<(), Refused>
     ensures written { OnOk result (out.new ≡ put out.old (spell_field (array_view array.now))) }
     ensures printable { OnOk result (printable_field (array_view array.now) ≡ true) }
     ensures refused { IfErr result (λ e. e ≢ Memory
@@ -91,8 +91,7 @@ impl Print for StorageType<'_> {
 
     #[tactic(auto, using(crate::specs::Laws::Written::puts_put))]
     fn write(&self, out: &mut Output) -> Result<(), Refused> {
-        write_storage(out, self)?;
-        Ok(())
+        write_storage(out, self)
     }
 }
 
@@ -107,8 +106,7 @@ impl Print for ArrayType<'_> {
 
     #[tactic(auto, using(crate::specs::Laws::Written::puts_put))]
     fn write(&self, out: &mut Output) -> Result<(), Refused> {
-        write_array(out, self)?;
-        Ok(())
+        write_array(out, self)
     }
 }
 
@@ -123,7 +121,6 @@ impl Print for GlobalType<'_> {
 
     #[tactic(auto, using(crate::specs::Laws::Written::puts_put))]
     fn write(&self, out: &mut Output) -> Result<(), Refused> {
-        write_global(out, self)?;
-        Ok(())
+        write_global(out, self)
     }
 }

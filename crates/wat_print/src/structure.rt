@@ -108,7 +108,7 @@ fn write_fields(out: &mut Output, fields: &[StructField]) -> Result<(), Refused>
 }
 
 /// Writes a structure type (Text Format, Types, "Composite Types").
-pub fn write_struct(out: &mut Output, structure: &StructType) -> Result<(), Refused>
+pub(crate) fn write_struct(out: &mut Output, structure: &StructType) -> Result<(), Refused>
     ensures written { OnOk result (out.new ≡ put out.old
         (spell_struct (struct_view structure.now))) }
     ensures printable { OnOk result (printable_struct (struct_view structure.now) ≡ true) }

@@ -102,7 +102,7 @@ fn write_unnamed_inline(out: &mut Output, function: &FunctionTypeNoNames) -> Res
 
 /// Writes a use of a function type without names (Text Format, "Type Uses"). One whose inline type
 /// has a label is refused with Label.
-pub fn write_unnamed_use(out: &mut Output, ty: &TypeUse<FunctionTypeNoNames>) -> Result<(), Refused>
+fn write_unnamed_use(out: &mut Output, ty: &TypeUse<FunctionTypeNoNames>) -> Result<(), Refused>
     ensures written { OnOk result (out.new ≡ put out.old
         (spell_use (use_view unnamed_view ty.now))) }
     ensures printable { OnOk result (printable_unnamed_use (use_view unnamed_view ty.now) ≡ true) }
@@ -117,7 +117,7 @@ pub fn write_unnamed_use(out: &mut Output, ty: &TypeUse<FunctionTypeNoNames>) ->
 }
 
 /// Writes a function type without names. One that has a label is refused with Label.
-pub fn write_unnamed(out: &mut Output, function: &FunctionTypeNoNames) -> Result<(), Refused>
+fn write_unnamed(out: &mut Output, function: &FunctionTypeNoNames) -> Result<(), Refused>
     ensures written { OnOk result (out.new ≡ put out.old
         (spell_function (unnamed_view function.now))) }
     ensures printable { OnOk result (printable_unnamed (unnamed_view function.now) ≡ true) }
@@ -156,8 +156,7 @@ impl Print for TypeUse<'_, FunctionType<'_>> {
 
     #[tactic(auto, using(crate::specs::Laws::Written::puts_put))]
     fn write(&self, out: &mut Output) -> Result<(), Refused> {
-        write_use(out, self)?;
-        Ok(())
+        write_use(out, self)
     }
 }
 
@@ -172,8 +171,7 @@ impl Print for TypeUse<'_, FunctionTypeNoNames<'_>> {
 
     #[tactic(auto, using(crate::specs::Laws::Written::puts_put))]
     fn write(&self, out: &mut Output) -> Result<(), Refused> {
-        write_unnamed_use(out, self)?;
-        Ok(())
+        write_unnamed_use(out, self)
     }
 }
 
