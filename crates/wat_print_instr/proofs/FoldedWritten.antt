@@ -44,11 +44,11 @@ own_written is a b e = e ∙ ap (λ (l : List Tok). put a l) (own_spelled is)
 
 -- ---- what can be written
 
-pub part_fits : (xs : List Instr) (i : Instr) (ys : List Instr)
+pub part_printable : (xs : List Instr) (i : Instr) (ys : List Instr)
     → each printable_instruction xs ≡ true
     → printable_instruction i ≡ true → each printable_instruction ys ≡ true
     → each printable_instruction (xs ++ i ∷ ys) ≡ true
-part_fits xs i ys f g h = each_both printable_instruction xs (i ∷ ys) f (rw (g, h) refl)
+part_printable xs i ys f g h = each_both printable_instruction xs (i ∷ ys) f (rw (g, h) refl)
 
 unprintable_front : (xs ys : List Instr) → each printable_instruction xs ≡ false
     → each printable_instruction (xs ++ ys) ≡ false
@@ -110,7 +110,7 @@ module _ {X : Type 0} (v : X → Instr) where
         → o ≡ Some g
         → each printable_instruction (map v all) && is_some o ≡ true
     parts_printable o g f h k s =
-        rw (seen_parts, s, part_fits (map v before) (v x) (map v behind) f h k) refl
+        rw (seen_parts, s, part_printable (map v before) (v x) (map v behind) f h k) refl
 
     unprintable_parts : (b : Bool)
         → each printable_instruction (map v before ++ v x ∷ map v behind) ≡ false
@@ -194,7 +194,7 @@ module _ (e : Expr) (is : List Instr) (i : Instr) (s : e.instrs ≡ is ++ i ∷ 
   folded_printable n f m =
       let p = and_parts (each printable_instruction is) (is_some (groups_behind i is)) m in
       let a : each printable_instruction e.instrs ≡ true =
-      ap (each printable_instruction) s ∙ part_fits is i [] p.0 f refl in
+      ap (each printable_instruction) s ∙ part_printable is i [] p.0 f refl in
       let b : is_some (group_from [] e.instrs) ≡ true = some_is ∙ p.1 in
       rw (n, a, b) refl
 

@@ -28,7 +28,7 @@ pub record Walked (is : List Instr) (hs : List (ℕ × ℕ)) (b : ℕ) (left : L
   pub goes : steps_from 0 is hs
       ≡ option_map (λ xs. done ++ xs) (steps_from b (drop b is) left)
   pub written : Writes (flat_map spell_step done) p q
-  pub fits : each printable_step done ≡ true
+  pub printable : each printable_step done ≡ true
 
 same_option : (o : Option (List HintedInstr)) → o ≡ option_map (λ xs. [] ++ xs) o
 same_option (Some xs) = refl
@@ -39,7 +39,7 @@ walk_begins is hs p = record {
   done = [];
   goes = same_option (steps_from 0 is hs);
   written = puts_put [] p p refl;
-  fits = refl;
+  printable = refl;
 }
 
 -- an instruction more
@@ -67,7 +67,7 @@ walk_goes is hs b left i p q s e w v f =
           (sym (flat_map-append spell_step w.done (x ∷ [])
           ∙ ap (λ (l : List Tok). flat_map spell_step w.done ++ l) (append-nil (spell_step x))))
           (puts_both (flat_map spell_step w.done) (spell_step x) p q s w.written v);
-      fits = each_both printable_step w.done (x ∷ []) w.fits (rw f refl);
+      printable = each_both printable_step w.done (x ∷ []) w.printable (rw f refl);
     }
 
 -- ---- where it ends
@@ -78,14 +78,14 @@ all_steps is hs b p q e w =
     w.goes ∙ ap (λ (l : List Instr). option_map (λ xs. w.done ++ xs) (steps_from b l [])) e
 
 -- what was found is all, and it can be written
-pub walk_fits : (is : List Instr) (hs : List (ℕ × ℕ)) (b : ℕ) (p q : Page) → drop b is ≡ []
+pub walk_printable : (is : List Instr) (hs : List (ℕ × ℕ)) (b : ℕ) (p q : Page) → drop b is ≡ []
     → Walked is hs b [] p q
     → printable_expression (record { instrs = is; hints = hs }) ≡ true
-walk_fits is hs b p q e w =
+walk_printable is hs b p q e w =
     subst (λ (o : Option (List HintedInstr)). passes (each printable_step) o ≡ true)
     (sym (all_steps is hs b p q e w))
     (subst (λ (l : List HintedInstr). each printable_step l ≡ true)
-    (sym (append-nil w.done)) w.fits)
+    (sym (append-nil w.done)) w.printable)
 
 pub walk_written : (is : List Instr) (hs : List (ℕ × ℕ)) (b : ℕ) (p q : Page) → drop b is ≡ []
     → Walked is hs b [] p q

@@ -138,29 +138,29 @@ abbrev HintAt : Option ℕ → Instr → Type 0
 HintAt (Some v) i = (v < 2) × (is_branch i ≡ true)
 HintAt None i = Unit {0}
 
-one_fits : (p : Option ℕ) (i : Instr) → printable_instruction i ≡ true → HintAt p i
+one_printable : (p : Option ℕ) (i : Instr) → printable_instruction i ≡ true → HintAt p i
     → printable_step (step_of p i) ≡ true
-one_fits (Some v) i f h = rw (h.1, lt-ltb v 2 h.0, f) refl
-one_fits None i f h = f
+one_printable (Some v) i f h = rw (h.1, lt-ltb v 2 h.0, f) refl
+one_printable None i f h = f
 
-own_fits : (i : Instr) (c m : List Tok) → each is_given c ≡ true → instruction.spells i c m
+own_printable : (i : Instr) (c m : List Tok) → each is_given c ≡ true → instruction.spells i c m
     → printable_instruction i ≡ true
-own_fits i c m a s = instruction_only.holds i c m a s
+own_printable i c m a s = instruction_only.holds i c m a s
 
 -- an instruction in front, and then what is given up to the rest
-read_fits : (i : Instr) (ts m r : List Tok) → GivenTo ts r → reads i ts m → FrontOf m r
+read_printable : (i : Instr) (ts m r : List Tok) → GivenTo ts r → reads i ts m → FrontOf m r
     → (printable_instruction i ≡ true) × GivenTo m r
-read_fits i ts m r g s f =
+read_printable i ts m r g s f =
     let p = given_split ts r s.0 m g s.1 f in
-    (own_fits i s.0 m p.0 s.2, p.1)
+    (own_printable i s.0 m p.0 s.2, p.1)
 
 -- the same behind a `(`
-opened_fits : (i : Instr) (ts a m r : List Tok) → GivenTo ts r → ts ≡ LParen ∷ a → reads i a m
+opened_printable : (i : Instr) (ts a m r : List Tok) → GivenTo ts r → ts ≡ LParen ∷ a → reads i a m
     → FrontOf m r → (printable_instruction i ≡ true) × GivenTo m r
-opened_fits i ts a m r g e s f =
+opened_printable i ts a m r g e s f =
     let p = given_split ts r (LParen ∷ []) a g e
     (s.0 ++ f.0, s.1 ∙ ap (λ (l : List Tok). s.0 ++ l) f.1 ∙ sym (append_assoc s.0 f.0 r)) in
-    read_fits i a m r p.1 s f
+    read_printable i a m r p.1 s f
 
 sorted : (a b : Bool) → sort_of a b ≡ IsIf → b ≡ true
 sorted true b e = absurd cc
@@ -192,11 +192,11 @@ before_if : (p : Option ℕ) (i : Instr) (b : (v : ℕ) → p ≡ Some v → v <
 before_if (Some v) i b h = (b v refl, h)
 before_if None i b h = tt
 
-end_fits : printable_step (step_of None end_instr) ≡ true
-end_fits = refl
+end_printable : printable_step (step_of None end_instr) ≡ true
+end_printable = refl
 
-else_fits : printable_step (step_of None else_instr) ≡ true
-else_fits = refl
+else_printable : printable_step (step_of None else_instr) ≡ true
+else_printable = refl
 
 all_printable : (xs ys : List HintedInstr) → each printable_step xs ≡ true
     → each printable_step ys ≡ true
@@ -219,27 +219,27 @@ marked_printable : (p : Option ℕ) (xs : Items) (ts r : List Tok) → lists xs 
     → HintBefore p xs → each printable_step (marked p xs) ≡ true
 marked_printable p Nil ts r l g h = refl
 marked_printable p (Plain i xs) ts r l g h =
-    let a = read_fits i ts l.0 r g l.1 (front_of xs l.0 r l.2) in
+    let a = read_printable i ts l.0 r g l.1 (front_of xs l.0 r l.2) in
     and_printable (step_of p i) (marked None xs)
-    (one_fits p i a.0 (before_plain p i xs h)) (marked_printable None xs l.0 r l.2 a.1 tt)
+    (one_printable p i a.0 (before_plain p i xs h)) (marked_printable None xs l.0 r l.2 a.1 tt)
 marked_printable p (Folded i ys xs) ts r (a, b, d, e, s, k, ly, lx) g h =
     let fy = front_of ys b (RParen ∷ d) ly in
     let fx = front_of xs d r lx in
-    let o = opened_fits i ts a b r g e k (front_through b (RParen ∷ []) d r fy fx) in
+    let o = opened_printable i ts a b r g e k (front_through b (RParen ∷ []) d r fy fx) in
     let n = given_inside b (RParen ∷ []) d r o.1 fy fx in
     all_printable (marked None ys ++ step_of p i ∷ []) (marked None xs)
     (all_printable (marked None ys) (step_of p i ∷ [])
     (marked_printable None ys b (RParen ∷ d) ly n.0 tt)
-    (and_printable (step_of p i) [] (one_fits p i o.0 (before_folded p i ys xs h)) refl))
+    (and_printable (step_of p i) [] (one_printable p i o.0 (before_folded p i ys xs h)) refl))
     (marked_printable None xs d r lx n.1 tt)
 marked_printable p (Block i ys xs) ts r (a, b, d, e, s, k, ly, lx) g h =
     let fy = front_of ys b (RParen ∷ d) ly in
     let fx = front_of xs d r lx in
-    let o = opened_fits i ts a b r g e k (front_through b (RParen ∷ []) d r fy fx) in
+    let o = opened_printable i ts a b r g e k (front_through b (RParen ∷ []) d r fy fx) in
     let n = given_inside b (RParen ∷ []) d r o.1 fy fx in
     all_printable (step_of p i ∷ (marked None ys ++ group_end)) (marked None xs)
     (and_printable (step_of p i) (marked None ys ++ group_end)
-    (one_fits p i o.0 (before_block p i ys xs h))
+    (one_printable p i o.0 (before_block p i ys xs h))
     (all_printable (marked None ys) group_end
     (marked_printable None ys b (RParen ∷ d) ly n.0 tt) refl))
     (marked_printable None xs d r lx n.1 tt)
@@ -250,7 +250,7 @@ marked_printable p (IfThen i ops th xs) ts r (a, b, d, e, q, s, k, u, lo, lt, lx
     let ft = front_of th d (m ++ e) lt in
     let fx = front_of xs e r lx in
     let fd = front_through d m e r ft fx in
-    let o = opened_fits i ts a b r g q k (front_through b j d r fo fd) in
+    let o = opened_printable i ts a b r g q k (front_through b j d r fo fd) in
     let n = given_inside b j d r o.1 fo fd in
     let w = given_inside d m e r n.1 ft fx in
     let c = marked None th ++ group_end in
@@ -258,7 +258,8 @@ marked_printable p (IfThen i ops th xs) ts r (a, b, d, e, q, s, k, u, lo, lt, lx
     (all_printable (marked None ops) (step_of p i ∷ c)
     (marked_printable None ops b (j ++ d) lo n.0 tt)
     (and_printable (step_of p i) c
-    (one_fits p i o.0 (before_if p i (value_before p (IfThen i ops th xs) h) (is_branch_if i s)))
+    (one_printable p i o.0
+    (before_if p i (value_before p (IfThen i ops th xs) h) (is_branch_if i s)))
     (all_printable (marked None th) group_end
     (marked_printable None th d (m ++ e) lt w.0 tt) refl)))
     (marked_printable None xs e r lx w.1 tt)
@@ -272,7 +273,7 @@ marked_printable p (IfElse i ops th el xs) ts r (a, b, d, e, f, q, s, k, u, lo, 
     let fx = front_of xs f r lx in
     let fe = front_through e m f r fl fx in
     let fd = front_through d y e r ft fe in
-    let o = opened_fits i ts a b r g q k (front_through b j d r fo fd) in
+    let o = opened_printable i ts a b r g q k (front_through b j d r fo fd) in
     let n = given_inside b j d r o.1 fo fd in
     let w = given_inside d y e r n.1 ft fe in
     let z = given_inside e m f r w.1 fl fx in
@@ -282,7 +283,7 @@ marked_printable p (IfElse i ops th el xs) ts r (a, b, d, e, f, q, s, k, u, lo, 
     (all_printable (marked None ops) (step_of p i ∷ t)
     (marked_printable None ops b (j ++ d) lo n.0 tt)
     (and_printable (step_of p i) t
-    (one_fits p i o.0
+    (one_printable p i o.0
     (before_if p i (value_before p (IfElse i ops th el xs) h) (is_branch_if i s)))
     (all_printable (marked None th) (step_of None else_instr ∷ c)
     (marked_printable None th d (y ++ e) lt w.0 tt)

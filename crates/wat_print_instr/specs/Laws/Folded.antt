@@ -116,10 +116,10 @@ group_text : (s g h t : List Tok)
 group_text s g h t = simp append_assoc
 
 -- that of the group's instruction, and those of the groups in it
-own_fits : (gs : Groups) (i : Instr)
+own_printable : (gs : Groups) (i : Instr)
     → each printable_instruction (unfolded_groups gs ++ i ∷ []) ≡ true
     → (each printable_instruction (unfolded_groups gs) ≡ true) × (printable_instruction i ≡ true)
-own_fits gs i f =
+own_printable gs i f =
     let u = each_front printable_instruction (unfolded_groups gs) (i ∷ []) f in
     (u.0, (and_parts (printable_instruction i) true u.1).0)
 
@@ -132,7 +132,7 @@ groups_listed (Group i gs hs) r f k =
     let b = spell_groups gs ++ RParen ∷ d in
     let u =
     each_front printable_instruction (unfolded_groups gs ++ i ∷ []) (unfolded_groups hs) f in
-    let v = own_fits gs i u.0 in (
+    let v = own_printable gs i u.0 in (
       spell_instruction i ++ b,
       b,
       d,
@@ -152,7 +152,7 @@ groups_well_formed NoGroup f = nothing
 groups_well_formed (Group i gs hs) f =
     let u =
     each_front printable_instruction (unfolded_groups gs ++ i ∷ []) (unfolded_groups hs) f in
-    let v = own_fits gs i u.0 in
+    let v = own_printable gs i u.0 in
     well_formed_both (in_parens (spell_instruction i ++ spell_groups gs)) (spell_groups hs)
     (well_formed_paren (spell_instruction i ++ spell_groups gs)
     (well_formed_both (spell_instruction i) (spell_groups gs) (instruction_well_formed i v.1)
@@ -266,7 +266,7 @@ whole_spells e None r w n f s k = absurd cc
 whole_spells e (Some NoGroup) r w n f s k = absurd w
 whole_spells e (Some (Group i gs NoGroup)) r w n f s k =
     let b = spell_groups gs ++ RParen ∷ r in
-    let v = own_fits gs i
+    let v = own_printable gs i
     (subst (λ (l : List Instr). each printable_instruction l ≡ true) (sym w.0) f) in (
       i,
       gs,
@@ -287,13 +287,13 @@ whole_spells e (Some (Group i gs NoGroup)) r w n f s k =
     )
 whole_spells e (Some (Group i gs (Group j ks hs))) r w n f s k = absurd w
 
-abbrev Fits : Expr → Type 0
-Fits e =
+abbrev FoldedParts : Expr → Type 0
+FoldedParts e =
     (no_hints e.hints ≡ true) × (each printable_instruction e.instrs ≡ true)
     × (is_some (group_from [] e.instrs) ≡ true)
 
-fits_of : (e : Expr) → printable_folded e ≡ true → Fits e
-fits_of e f =
+folded_parts : (e : Expr) → printable_folded e ≡ true → FoldedParts e
+folded_parts e f =
     let some = is_some (group_from [] e.instrs) in
     let p = and_parts (no_hints e.hints) (each printable_instruction e.instrs && some) f in
     let q = and_parts (each printable_instruction e.instrs) some p.1 in
@@ -305,7 +305,7 @@ pub folded_here : (e : Expr) (r : List Tok) → printable_folded e ≡ true
     → folded_instruction.spells e (spell_folded e) r
 unfolding folded_instruction
 folded_here e r f k =
-    let p = fits_of e f in
+    let p = folded_parts e f in
     whole_spells e (group_from [] e.instrs) r (from_whole [] e.instrs) (unhinted e.hints p.0) p.1
     p.2 k
 
@@ -322,5 +322,5 @@ whole_well_formed is (Some (Group i gs (Group j ks hs))) w f = absurd w
 
 pub folded_well_formed : (e : Expr) → printable_folded e ≡ true → WellFormed (spell_folded e)
 folded_well_formed e f =
-    let p = fits_of e f in
+    let p = folded_parts e f in
     whole_well_formed e.instrs (group_from [] e.instrs) (from_whole [] e.instrs) p.1

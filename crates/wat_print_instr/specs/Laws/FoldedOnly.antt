@@ -167,11 +167,11 @@ some_group : (i : Instr) (o : Option Groups) → is_some o ≡ true
 some_group i (Some gs) e = refl
 some_group i None e = absurd cc
 
-value_fits : (i : Instr) (gs : Groups)
+value_printable : (i : Instr) (gs : Groups)
     → each printable_instruction (unfolded_groups (Group i gs NoGroup)) ≡ true
     → is_some (groups_behind i (unfolded_groups gs)) ≡ true
     → printable_folded (folded_value i gs) ≡ true
-value_fits i gs f s =
+value_printable i gs f s =
     let a = (each_front printable_instruction (unfolded_groups gs ++ i ∷ []) [] f).0 in
     let b : is_some (group_from [] (unfolded_groups gs ++ i ∷ [])) ≡ true =
     ap is_some (group_last [] (unfolded_groups gs) i)
@@ -182,10 +182,10 @@ folded_holds : (e : Expr) (c r : List Tok) → each is_given c ≡ true → fold
     → printable_folded e ≡ true
 folded_holds e c r g (i, gs, (a, b, q, h, l), k) =
     subst (λ (v : Expr). printable_folded v ≡ true) (sym k)
-    (value_fits i gs (groups_printable (Group i gs NoGroup) c r (a, b, r, q, h, l, refl) g)
+    (value_printable i gs (groups_printable (Group i gs NoGroup) c r (a, b, r, q, h, l, refl) g)
     (behind_some i (unfolded_groups gs)
     (λ t. (apart_in gs b (RParen ∷ r) l (behind_try i a b h t)))))
 
-pub folded_fits : OnlyPrintable folded_instruction printable_folded
+pub folded_only : OnlyPrintable folded_instruction printable_folded
 unfolding folded_instruction
-folded_fits = record { holds = folded_holds }
+folded_only = record { holds = folded_holds }

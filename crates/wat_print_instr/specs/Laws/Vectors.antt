@@ -100,16 +100,16 @@ module _ {A : Type 0} (spell : A → List Tok) (ok : A → Bool) where
 
   -- ---- what a text spells can be written
 
-  pair_fits : (p : A × A) → ok p.0 && ok p.1 ≡ true
+  pair_printable : (p : A × A) → ok p.0 && ok p.1 ≡ true
       → printable_number_of 2 ok (p.0 ∷ (p.1 ∷ [])) ≡ true
-  pair_fits p h = let a = and_parts (ok p.0) (ok p.1) h in rw (a.0, a.1) refl
+  pair_printable p h = let a = and_parts (ok p.0) (ok p.1) h in rw (a.0, a.1) refl
 
   two_only : (g : Production A) → OnlyPrintable g ok
       → OnlyPrintable (two g) (printable_number_of 2 ok)
   unfolding two
   two_only g m =
       only_made (λ _. true) (λ v. v.0 ∷ (v.1 ∷ [])) (printable_number_of 2 ok)
-      (only_weaker (λ v. printable_number_of 2 ok (v.0 ∷ (v.1 ∷ []))) pair_fits (only_seq m m))
+      (only_weaker (λ v. printable_number_of 2 ok (v.0 ∷ (v.1 ∷ []))) pair_printable (only_seq m m))
 
   both_printable : (n : ℕ) (p : List A × List A)
       → printable_number_of n ok p.0 && printable_number_of n ok p.1 ≡ true

@@ -119,9 +119,6 @@ place_group_here (After a) r e =
 
 pub place_group_well_formed : (p : CustomPlace) → WellFormed (spell_place_group p)
 place_group_well_formed AfterLast = nothing
-place_group_well_formed BeforeFirst =
-    well_formed_paren (spell_place BeforeFirst) (custom_place_well_formed BeforeFirst)
-place_group_well_formed (Before a) =
-    well_formed_paren (spell_place (Before a)) (custom_place_well_formed (Before a))
-place_group_well_formed (After a) =
-    well_formed_paren (spell_place (After a)) (custom_place_well_formed (After a))
+place_group_well_formed BeforeFirst = well_formed_paren _ (custom_place_well_formed BeforeFirst)
+place_group_well_formed (Before a) = well_formed_paren _ (custom_place_well_formed (Before a))
+place_group_well_formed (After a) = well_formed_paren _ (custom_place_well_formed (After a))

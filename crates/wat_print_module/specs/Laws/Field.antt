@@ -188,31 +188,20 @@ fields_here fs r f n e =
 
 pub field_group_well_formed : (f : ModuleFieldTy) → printable_module_field f ≡ true
     → WellFormed (spell_field_group f)
-field_group_well_formed (a_type t) f =
-    well_formed_paren (spell_module_field (a_type t)) (type_well_formed t f)
-field_group_well_formed (a_rec ts) f =
-    well_formed_paren (spell_module_field (a_rec ts)) (rec_well_formed ts f)
-field_group_well_formed (an_import i) f =
-    well_formed_paren (spell_module_field (an_import i)) (imports_well_formed i f)
-field_group_well_formed (a_func v) f =
-    well_formed_paren (spell_module_field (a_func v)) (func_well_formed v f)
-field_group_well_formed (a_table v) f =
-    well_formed_paren (spell_module_field (a_table v)) (table_well_formed v f)
-field_group_well_formed (a_memory v) f =
-    well_formed_paren (spell_module_field (a_memory v)) (memory_well_formed v f)
-field_group_well_formed (a_global v) f =
-    well_formed_paren (spell_module_field (a_global v)) (global_field_well_formed v f)
-field_group_well_formed (an_export v) f =
-    well_formed_paren (spell_module_field (an_export v)) (export_well_formed v f)
+field_group_well_formed (a_type t) f = well_formed_paren _ (type_well_formed t f)
+field_group_well_formed (a_rec ts) f = well_formed_paren _ (rec_well_formed ts f)
+field_group_well_formed (an_import i) f = well_formed_paren _ (imports_well_formed i f)
+field_group_well_formed (a_func v) f = well_formed_paren _ (func_well_formed v f)
+field_group_well_formed (a_table v) f = well_formed_paren _ (table_well_formed v f)
+field_group_well_formed (a_memory v) f = well_formed_paren _ (memory_well_formed v f)
+field_group_well_formed (a_global v) f = well_formed_paren _ (global_field_well_formed v f)
+field_group_well_formed (an_export v) f = well_formed_paren _ (export_well_formed v f)
 field_group_well_formed (a_start i) f =
-    well_formed_paren (spell_module_field (a_start i))
+    well_formed_paren _
     (well_formed_word (codes "start") (spell_index i) refl (index_well_formed i f))
-field_group_well_formed (an_elem v) f =
-    well_formed_paren (spell_module_field (an_elem v)) (elem_well_formed v f)
-field_group_well_formed (a_data v) f =
-    well_formed_paren (spell_module_field (a_data v)) (data_well_formed v f)
-field_group_well_formed (a_tag v) f =
-    well_formed_paren (spell_module_field (a_tag v)) (tag_well_formed v f)
+field_group_well_formed (an_elem v) f = well_formed_paren _ (elem_well_formed v f)
+field_group_well_formed (a_data v) f = well_formed_paren _ (data_well_formed v f)
+field_group_well_formed (a_tag v) f = well_formed_paren _ (tag_well_formed v f)
 field_group_well_formed (a_custom v) f = custom_well_formed v f
 
 -- ---- what a text spells can be written

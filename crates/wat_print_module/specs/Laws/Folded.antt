@@ -112,10 +112,10 @@ behind_printable i e f =
 
 -- ---- folded instructions
 
-value_fits : (i : Instr) (gs : Groups)
+value_printable : (i : Instr) (gs : Groups)
     → each printable_instruction (unfolded_groups (Group i gs NoGroup)) ≡ true
     → printable_expression (folded_value i gs) ≡ true
-value_fits i gs f =
+value_printable i gs f =
     plain_steps 0 (unfolded_groups gs ++ i ∷ [])
     (each_front printable_instruction (unfolded_groups gs ++ i ∷ []) [] f).0
 
@@ -123,7 +123,7 @@ folded_holds : (e : Expr) (c r : List Tok) → each is_given c ≡ true → fold
     → printable_expression e ≡ true
 folded_holds e c r g (i, gs, (a, b, q, h, l), k) =
     subst (λ (v : Expr). printable_expression v ≡ true) (sym k)
-    (value_fits i gs (groups_printable (Group i gs NoGroup) c r (a, b, r, q, h, l, refl) g))
+    (value_printable i gs (groups_printable (Group i gs NoGroup) c r (a, b, r, q, h, l, refl) g))
 
 pub folded_only : OnlyPrintable folded_instruction printable_expression
 unfolding folded_instruction

@@ -78,15 +78,15 @@ listed_holds l c r a s =
 listed_only : OnlyPrintable listed printable_listed
 listed_only = record { holds = listed_holds }
 
-func_fits : (i : Idx) → printable_index i ≡ true → printable_expression (ref_func_of i) ≡ true
-func_fits i f = rw f refl
+func_printable : (i : Idx) → printable_index i ≡ true → printable_expression (ref_func_of i) ≡ true
+func_printable i f = rw f refl
 
 funcs_printable : (is : List Idx) → each printable_index is ≡ true
     → each printable_expression (map ref_func_of is) ≡ true
 funcs_printable [] f = refl
 funcs_printable (i ∷ is) f =
     let a = and_parts (printable_index i) (each printable_index is) f in
-    rw (func_fits i a.0) (funcs_printable is a.1)
+    rw (func_printable i a.0) (funcs_printable is a.1)
 
 funcs_by : (t : RefTy) (is : List Idx) (b : Bool) → is_funcref t ≡ b
     → each printable_index is ≡ true
@@ -183,11 +183,11 @@ parts_only =
     only_seq (only_any (flag (codes "shared"))) (only_seq (only_any is_64)
     (only_seq ref_only (only_group (codes "elem") listed_only)))
 
-inline_fits : (k : TableKindTy) (c r : List Tok) → each is_given c ≡ true
+inline_printable : (k : TableKindTy) (c r : List Tok) → each is_given c ≡ true
     → begins_inline_elems (c ++ r) ≡ true → inline_table.spells k c r
     → printable_table_kind k ≡ true
 unfolding inline_table
-inline_fits k c r a t s =
+inline_printable k c r a t s =
     let v = s.0 in
     let f = parts_only.holds v c r a s.1 in
     let p = and_parts (printable_ref v.1.1.0) (printable_listed v.1.1.1) f in
@@ -254,7 +254,7 @@ kind_holds : (k : TableKindTy) (c r : List Tok) → each is_given c ≡ true
     → table_kind.spells k c r → printable_table_kind k ≡ true
 unfolding table_kind
 kind_holds k c r a s =
-    elim s [ inl p ↦ inline_fits k c r a p.0 p.1 | inr p ↦ other_only.holds k c r a p.1 ]
+    elim s [ inl p ↦ inline_printable k c r a p.0 p.1 | inr p ↦ other_only.holds k c r a p.1 ]
 
 kind_only : OnlyPrintable table_kind printable_table_kind
 kind_only = record { holds = kind_holds }

@@ -13,10 +13,10 @@ use Rattle.wat_print_instr.proofs.expression.print_expression.Goals as goal
 pub returns-clause-reads_back : goal.returns-clause-reads_back
 returns-clause-reads_back c =
     let v = expression_view c.args.value.now in
-    let fits = c.in_ok-write_expression.ensures.printable in
+    let printable = c.in_ok-write_expression.ensures.printable in
     reads_back expression v (spell_expression v) (may_break c.args.layout) c.new-out.result
-    c.write_expression.new.out _ (expression_well_formed v fits)
-    (expression_closed v [] fits (refl, (refl, refl, refl))) c.new-out.ensures
+    c.write_expression.new.out _ (expression_well_formed v printable)
+    (expression_closed v [] printable (refl, (refl, refl, refl))) c.new-out.ensures
     c.in_ok-write_expression.ensures.written c.into_text.ensures
 
 pub returns-clause-line : goal.returns-clause-line

@@ -12,8 +12,9 @@ use Rattle.wat_print_module.proofs.module.print_module.Goals as goal
 pub returns-clause-reads_back : goal.returns-clause-reads_back
 returns-clause-reads_back c =
     let v = module_view c.args.value.now in
-    let fits = c.in_ok-write_module.ensures.printable in
-    module_reads_back v (may_break c.args.layout) c.new-out.result c.write_module.new.out _ fits
+    let printable = c.in_ok-write_module.ensures.printable in
+    module_reads_back v (may_break c.args.layout) c.new-out.result
+    c.write_module.new.out _ printable
     c.new-out.ensures c.in_ok-write_module.ensures.written c.into_text.ensures
 
 pub returns-clause-line : goal.returns-clause-line
