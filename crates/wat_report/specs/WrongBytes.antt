@@ -1,17 +1,15 @@
 -- The report of bytes that aren't UTF-8.
-use Rattle.std.specs.Prelude.{◌≡◌, ℕ, ◌+◌, ◌/◌, ◌%◌, ◌==◌, ◌&&◌, ◌||◌, Bool, List, [], ◌∷◌, ◌++◌}
-use Rattle.std.specs.Prelude.{codes, length, nat_lt, slice_index, take, if◌then◌else◌}
+use Rattle.std.specs.Prelude.{◌≡◌, ℕ, ◌/◌, ◌%◌, ◌==◌, ◌&&◌, ◌||◌, Bool, List, [], ◌∷◌, ◌++◌}
+use Rattle.std.specs.Prelude.{codes, length, slice_index, take, if◌then◌else◌}
+use Rattle.std.specs.Char.{digit_char}
 use Rattle.std.specs.Str.{IsValidUpTo}
 use Rattle.wat_report.specs.Places.{line_start, place_of_char}
 use Rattle.wat_report.specs.Report.{heading_text}
 use Rattle.wat_report.specs.Shown.{open_line}
 
--- a digit, or a letter from `a` to `f`
-abbrev pub hex_digit : ℕ → ℕ
-hex_digit n = if nat_lt n 10 then 48 + n else 87 + n
-
+-- two hexadecimal digits
 abbrev pub hex_text : ℕ → List ℕ
-hex_text b = hex_digit (b / 16) ∷ hex_digit (b % 16) ∷ []
+hex_text b = digit_char (b / 16) ∷ digit_char (b % 16) ∷ []
 
 -- the bytes begin with the byte order mark of UTF-16
 abbrev pub begins_with_utf16_mark : List ℕ → Bool

@@ -1,9 +1,9 @@
 //! Bytes that are to be a text.
 
-ghost use Rattle.std.specs.Prelude.{◌≡◌, ◌++◌, ◌<◌, IfOk, MatchOption, OnOk};
+ghost use Rattle.std.specs.Prelude.{◌≡◌, ◌++◌, IfOk, MatchOption, OnOk};
 ghost use Rattle.std.specs.Str.{IsValidUpTo};
-ghost use Rattle.wat_report.specs.WrongBytes.{ReportsWrongByte, begins_with_utf16_mark, hex_digit};
-ghost use Rattle.wat_report.specs.WrongBytes.{hex_text, report_behind, utf16_line};
+ghost use Rattle.wat_report.specs.WrongBytes.{ReportsWrongByte, begins_with_utf16_mark, hex_text};
+ghost use Rattle.wat_report.specs.WrongBytes.{report_behind, utf16_line};
 ghost use Rattle.wat_report.specs.WrongBytes.{wrong_byte_report, wrong_byte_text};
 
 use crate::caret::add_open;
@@ -11,18 +11,7 @@ use crate::lines::{line_start, place_of_char};
 use crate::report::add_heading;
 use crate::write::add;
 use std::alloc::AllocError;
-
-/// A hexadecimal digit.
-fn hex_digit(value: u8) -> u8
-    requires { value < 16 }
-    ensures { result ≡ hex_digit value }
-{
-    if value < 10 {
-        b'0' + value
-    } else {
-        b'a' + (value - 10)
-    }
-}
+use wat_lexer::string::hex_digit;
 
 /// Adds a byte as two hexadecimal digits.
 fn add_hex(out: &mut Vec<u8>, byte: u8) -> Result<(), AllocError>
