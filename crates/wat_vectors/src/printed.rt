@@ -5,13 +5,14 @@ use bumpalo::Bump;
 use std::alloc::{AllocError, Global};
 use std::test::Fail;
 use wat_core::enclosed::Grouped;
+use wat_core::wat_tokens::whole_text::read_text;
 use wat_core::{
     BlockOp, BranchHint, Custom, Data, Dylink0, Error, Expression, F32, FoldedInstruction,
     FunctionType, FunctionTypeNoNames, Id, Instruction, LabelOp, MemArgOrdering, MemoryType,
     ModuleField, Ordering, Parse, Producers, RawCustomSection, ScalarOp, Span, Table, TableKind,
     Type, TypeUse, VisibleModule, read_module,
 };
-use wat_print::{Layout, Print, print, read_value};
+use wat_print::{Layout, Print, print};
 use wat_print_instr::expression::{expression_read_again, print_expression};
 use wat_print_instr::{Code, PrintCode};
 use wat_print_module::{ModulePart, PrintPart, print_module, read_again};
@@ -172,7 +173,7 @@ fn printed_group<'a, T: Parse<'a> + PrintPart + Drop>(
     text: &'a str,
     arena: &'a Bump,
 ) -> Result<String, Fail> {
-    let Grouped(value) = read_value::<Grouped<T>>(alloc, text, arena)?;
+    let Grouped(value) = read_text::<Grouped<T>>(alloc, text, arena, true)?;
     Ok(print(alloc, &ModulePart(&value), Layout::Line)?)
 }
 
