@@ -8,7 +8,7 @@ use Rattle.wat_tokens.specs.Groups.{group}
 use Rattle.wat_tokens.specs.NameAnnotation.{begins_name}
 use Rattle.wat_tokens.specs.Parts.{seq, made}
 use Rattle.wat_tokens.specs.Tests.{begins_word, begins_id, ends}
-use Rattle.wat_types.specs.Limits.{is_64, pagesize, pagesize_or_none, memory_type}
+use Rattle.wat_types.specs.Limits.{is_64, pagesize_or_none, memory_type}
 use Rattle.wat_types.specs.declared.limits.MemoryType.{MemoryType}
 use Rattle.wat_links.specs.Export.{begins_inline_export}
 use Rattle.wat_links.specs.FieldHead.{head}
