@@ -29,7 +29,7 @@ one_name ts ps i o e h c =
     let f : begins_annotation (codes "name") (seen true ts) ≡ true = sees (begins_annotation (codes "name")) (shown true ts) (drop i ps) e h in
     rw f (ap rest_by (sym c) ∙ ap (λ (l : List Placed). rest_by (closing 0 l)) (behind_first true ts ps i e))
 
--- THE HEAD
+-- ---- the head
 
 and_false : (a b : Bool) → b ≡ false → a && b ≡ false
 and_false true b h = h
@@ -70,7 +70,7 @@ is_head ps start word at next r p w e f h =
     let b : begins_word (codes "binary") (seen true (behind_head ps)) ≡ false = sees (begins_word (codes "binary")) (shown true (behind_head ps)) (drop next ps) (f ∙ ap (shown true) e) h in
     both a (both m (ap not b))
 
--- BEHIND THE GROUPS
+-- ---- behind the groups
 
 pub no_close : (size : ℕ) (ts ps : List Placed) (i : ℕ) → drop i ps ≡ shown true ts → begins_rparen (tokens_of (drop i ps)) ≡ false → wrong_end size ts ≡ Some (place_of size (drop i ps))
 no_close size ts ps i e h =

@@ -48,11 +48,11 @@ close_at (Some d) (y ∷ r) l e = elim (cases_Bool (shuts y d)) [
 pub record ClosesAlike (t : List Tok) : Type 0 where
   pub more : List Tok
   pub seen : visible_tokens false t ≡ RParen ∷ more
-  pub behind : behind false 1 t ≡ behind true 1 t
+  pub same_rest : behind false 1 t ≡ behind true 1 t
 
 pub closes_alike : (t l : List Tok) → visible_tokens true t ≡ RParen ∷ l → ClosesAlike t
 unfolding visible_tokens hidden_count behind
-closes_alike t l e = let p = close_at None t l e in record { more = p.more; seen = p.seen; behind = ap (λ (n : ℕ). drop (n + 1) t) p.at }
+closes_alike t l e = let p = close_at None t l e in record { more = p.more; seen = p.seen; same_rest = ap (λ (n : ℕ). drop (n + 1) t) p.at }
 
 -- ---- the end of the group
 
@@ -67,14 +67,14 @@ last_seen t e alone =
     let some : visible_tokens true t ≢ [] = λ none. (let f = none_seen t none in cc) in
     let (more, is) = ends_cases (visible_tokens true t) e some in
     let p = closes_alike t more is in
-    (more, is, ap (λ (s : List Tok). visible_tokens false s) (sym p.behind) ∙ seen_behind false t RParen [] alone)
+    (more, is, ap (λ (s : List Tok). visible_tokens false s) (sym p.same_rest) ∙ seen_behind false t RParen [] alone)
 
 -- and the other way
 pub alone_seen : (t more : List Tok) → visible_tokens true t ≡ RParen ∷ more → visible_tokens false (behind true 1 t) ≡ [] → visible_tokens false t ≡ RParen ∷ []
 alone_seen t more is none =
     let p = closes_alike t more is in
     let q = seen_behind false t RParen p.more p.seen in
-    let rest : p.more ≡ [] = sym q ∙ ap (λ (s : List Tok). visible_tokens false s) p.behind ∙ none in
+    let rest : p.more ≡ [] = sym q ∙ ap (λ (s : List Tok). visible_tokens false s) p.same_rest ∙ none in
     p.seen ∙ ap (λ (l : List Tok). RParen ∷ l) rest
 
 -- ---- the whole group

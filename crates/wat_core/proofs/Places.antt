@@ -32,7 +32,7 @@ at_place ls i h = drop-map placed_of i ls ∙ ap placed (drop_more ls i no_entry
 pub past : (ls : List Entry) (i : ℕ) → length ls ≤ i → drop i (placed ls) ≡ []
 past ls i h = drop_all i (placed ls) (omega (arith, length-map ls placed_of))
 
--- A GROUP THAT BEGINS WITH AN ANNOTATION
+-- ---- a group that begins with an annotation
 
 first_open : (name : List ℕ) (t : Tok) (r : List Tok) → is_open t ≡ false → begins_annotation name (t ∷ r) ≡ false
 first_open name LParen r h = cc
@@ -58,7 +58,7 @@ two_left name ls i h e = rw (at_place ls i (omega arith), at_place ls (i + 1) h,
 -- whether the group at a place begins so
 pub ruleset name_steps = (at_place, no_open, one_left, two_left)
 
--- CLOSING
+-- ---- where a group is closed
 
 pub closing_past : (ls : List Entry) (i depth : ℕ) → length ls ≤ i → closing depth (drop i (placed ls)) ≡ None
 unfolding closing
@@ -92,7 +92,7 @@ goes_on ls i depth h c o = let (s, d) = other_shuts (get_or ls i no_entry).token
 
 pub ruleset closing_steps = (closing_past, closes_here, closes_inner, opens_inner, goes_on)
 
--- GROUPS
+-- ---- the next group
 
 pub open_within : (ls : List Entry) (i : ℕ) → begins_lparen (tokens_of (drop i (placed ls))) ≡ true → i < length ls
 open_within ls i e = elim (cases_lt i (length ls)) [

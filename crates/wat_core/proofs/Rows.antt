@@ -24,7 +24,7 @@ use Rattle.wat_links.specs.Export.{export_kind, export_, inline_export}
 use Rattle.wat_links.specs.Forms.{import_items, imports}
 use Rattle.wat_links.specs.FieldHead.{head}
 use Rattle.wat_links.specs.Import.{single_item, import_choice}
-use Rattle.wat_links.specs.Item.{func_kind, item_sig}
+use Rattle.wat_links.specs.Item.{exact_use, func_kind, item_sig}
 use Rattle.wat_mnemonics.specs.declared.op.Op.TheVariants as word
 use Rattle.wat_instr.specs.Instruction.{instruction}
 use Rattle.wat_instr.specs.Laws.First.{instruction_read}
@@ -72,7 +72,7 @@ unfolding module_ module_kind fields module_field type_ rec types type_def maybe
 of_types = (spelled_whole module_ _ _ refl, spelled_whole module_ _ _ refl, spelled_whole module_ _ _ refl)
 
 pub of_links : Links
-unfolding module_ module_kind fields module_field func_or_later_field global_or_later_field start_or_later_field start imports import_items import_choice single_item item_sig func_kind export_ export_kind type_use function_groups func_groups label name_annotation many_at many_reads read is_utf8 chars encode_utf8
+unfolding module_ module_kind fields module_field func_or_later_field global_or_later_field start_or_later_field start imports import_items import_choice single_item item_sig func_kind exact_use export_ export_kind type_use function_groups func_groups label name_annotation many_at many_reads read is_utf8 chars encode_utf8
 of_links = (spelled_whole module_ _ _ refl, spelled_whole module_ _ _ refl, spelled_whole module_ _ _ refl)
 
 abbrev closed : List Tok

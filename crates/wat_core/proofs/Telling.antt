@@ -41,7 +41,7 @@ dropped_behind (suc most) [] (d ∷ es) g h le = absurd h
 dropped_behind (suc most) (w ∷ ws) [] g h le = absurd h
 dropped_behind (suc most) (w ∷ ws) (d ∷ es) g h le = (h.0, dropped_behind most ws es g h.1 (omega arith))
 
--- TELLING
+-- ---- what is told of the groups
 
 pub tells_none : {Good : List ℕ → Type 0} {text : List ℕ} (most : ℕ) (f : FieldFaults) → f.groups ≡ 0 → f.count ≡ 0 → f.faults.items ≡ [] → Tells Good text most [] f
 tells_none most f groups count items = record {

@@ -11,11 +11,11 @@ ghost use Rattle.wat_core.specs.Field.{func_or_later_field, module_field};
 use crate::field_of::read_as;
 use wat_fields::{Data, Elem, Func, Global, Memory, Table, Tag};
 use wat_links::{Custom, Export, Imports};
-use wat_tokens::enclosed::behind;
+use wat_tokens::enclosed::after_word;
 use wat_tokens::{Index, Parse, Parser, Result};
 use wat_types::{Rec, Type};
 
-/// A field of a module, generic in what each kind of field is: see [`ModuleField`].
+/// A field of a module, generic in the type of each kind of field. See [`ModuleField`].
 #[derive(Debug, Drop)]
 pub enum ModuleFieldOf<
     Type,
@@ -34,9 +34,9 @@ pub enum ModuleFieldOf<
 > {
     /// A type.
     Type(Type),
-    /// Types that may name one another.
+    /// A group of types that can refer to one another.
     Rec(Rec),
-    /// Imports of one module.
+    /// Imports from one module.
     Import(Imports),
     /// A function.
     Func(Func),
@@ -48,7 +48,7 @@ pub enum ModuleFieldOf<
     Global(Global),
     /// An export.
     Export(Export),
-    /// The function that is called first.
+    /// The index of the start function.
     Start(Index),
     /// An element segment.
     Elem(Elem),
@@ -83,7 +83,7 @@ fn read_start<'a>(parser: &mut Parser<'a>) -> Result<ModuleField<'a>>
     ensures reads { ReadsAt turns_too (owning field_view bare_field) (made a_start start) result
         parser.old parser.new }
 {
-    Ok(ModuleField::Start(behind(parser, "start")?))
+    Ok(ModuleField::Start(after_word(parser, "start")?))
 }
 
 /// The function to start with, an element or data segment, or a custom section.
@@ -143,9 +143,8 @@ fn read_func_or_later<'a>(parser: &mut Parser<'a>) -> Result<ModuleField<'a>>
     read_global_or_later(parser)
 }
 
-/// The field that the word in front names, or, where the annotation `custom`, `producers` or
-/// `dylink.0` is there, a custom section. Anything else in front is refused with Unexpected, at the
-/// token.
+/// Parses the field that the next keyword names. At an annotation `custom`, `producers` or
+/// `dylink.0` it parses a custom section. Any other token is the error Unexpected.
 impl<'a> Parse<'a> for ModuleField<'a> {
     ghost View = { ModuleFieldTy };
 

@@ -1,4 +1,4 @@
-//! Laws of the grammar: functions that do nothing, whose contracts say what holds of its
+//! Laws of the grammar: functions that do nothing, whose contracts state facts about its
 //! definitions.
 
 ghost use Rattle.std.specs.Prelude.{◌≡◌, ℕ, Bool, List, true};
@@ -17,9 +17,9 @@ pub use wat_expr::laws::{flat_again, flat_form, hints_in_order, no_more_than_tok
 pub use wat_mnemonics::laws::{no_prefix, one_mnemonic, words_in_order};
 use wat_tokens::Parse;
 
-/// No two prefixes of one token list spell values, unless they are one prefix and one value, spans
-/// aside: of any type that can be read, of a module, and of what the calls read that are no type's
-/// own.
+/// At most one prefix of a token list spells a value, and it spells one value, spans aside. The
+/// clauses state this of every type with [`Parse`], of modules, and of what is parsed by functions
+/// alone: folded instructions, page sizes, and memory accesses of each default alignment.
 #[tactic(auto, using(wat_tokens::specs::Laws::Once::reads_once))]
 pub fn one_reading<'a, T: Parse<'a>>()
     ensures value { HasOneReading T.grammar }
@@ -31,7 +31,8 @@ pub fn one_reading<'a, T: Parse<'a>>()
     ensures lane { (align : ℕ) → HasOneReading (lane_access align) }
 {}
 
-/// What follows a module doesn't count, as long as the module's group, or the text, ends there.
+/// Tokens that spell a module before one end spell it before every end, where an end is the end of
+/// the text or a `)`.
 pub fn any_rest()
     // What tokens spell a module in front of one end they spell in front of each end.
     ensures same { (m : ModuleTy) (c r s : List Tok) → module_.spells m c r → ends s ≡ true
@@ -40,8 +41,8 @@ pub fn any_rest()
     ensures ends { (m : ModuleTy) (c r : List Tok) → module_.spells m c r → ends r ≡ true }
 {}
 
-/// Texts that spell modules, as facts over the definitions alone: an error that the reader and its
-/// definition share would show here.
+/// Sample texts that spell modules. These are facts about the definitions alone, so an error that
+/// the parser shares with its definition would show here.
 pub fn module_rows()
     ensures named { NamedModule }
     ensures two_fields { TwoFields }

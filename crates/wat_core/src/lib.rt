@@ -1,14 +1,15 @@
 //! Modules of the WebAssembly text format (WebAssembly Core Specification, Text Format, "Modules"),
-//! and everything that is in them.
+//! and everything in them.
 //!
-//! [`read_module`] reads a text that is one module, and [`Module::parse`] takes a module from the
-//! tokens of a [`Parser`]. [`module_faults`] tells what is wrong with each field of a text that
-//! isn't one. Indices stay as they are written: nothing is resolved, and nothing is checked for
-//! validity.
+//! - [`read_module`] parses a text that is one module.
+//! - [`Module::parse`] parses a module from the tokens of a [`Parser`].
+//! - [`module_faults`] lists the first error of each invalid field of a text that isn't a module.
 //!
-//! This crate has the names of the parser, of the types of what is read, and of what reads them, so
-//! that a user needs it alone; what else is public in the crates that it uses is reached by the
-//! crate's own name, as `wat_core::wat_mnemonics::find`.
+//! Indices stay as they are written: nothing is resolved, and nothing is validated.
+//!
+//! A user needs this crate alone: it re-exports the parser, the types of what is parsed, and what
+//! parses them. Other public items of the crates below are reached by the crate's name, as
+//! `wat_core::wat_mnemonics::find`.
 #![tactic(auto)]
 
 pub mod field;

@@ -23,18 +23,18 @@ use wat_types::take_label;
 /// A module (WebAssembly Core Specification, Text Format, "Modules").
 #[derive(Debug)]
 pub struct Module<'a> {
-    /// Where the word `module` begins.
+    /// The place of the keyword `module`.
     pub span: Span,
-    /// Its identifier.
+    /// The identifier.
     pub id: Option<Id<'a>>,
-    /// The name that an annotation gives.
+    /// The name from a `(@name ..)` annotation.
     pub name: Option<NameAnnotation<'a>>,
-    /// What is in it.
+    /// The contents.
     pub kind: ModuleKind<'a>,
 }
 
-/// It is written out, and proved once, here. Were it derived, each crate that drops a module would
-/// prove the drop of each of its parts once more, which takes the prover minutes.
+/// Written by hand, and proved once, here. If it were derived, each crate that drops a module would
+/// prove the drop of each of its parts again, which takes the prover minutes.
 impl Drop for Module<'_> {
     fn drop(self) {
         let Module {
@@ -46,16 +46,16 @@ impl Drop for Module<'_> {
     }
 }
 
-/// What is in a module, generic in what a field and a piece are: see [`ModuleKind`].
+/// The contents of a module, generic in the types of a field and of a piece. See [`ModuleKind`].
 #[derive(Debug, Drop)]
 pub enum ModuleKindOf<Field, Piece> {
-    /// Its fields.
+    /// The fields of the module.
     Text(Vec<Field>),
-    /// The pieces of its binary form.
+    /// The strings after the keyword `binary`: pieces of the module's binary format.
     Binary(Vec<Piece>),
 }
 
-/// What is in a module.
+/// The contents of a module.
 pub type ModuleKind<'a> = ModuleKindOf<ModuleField<'a>, &'a [u8]>;
 
 /// A field in its group.
@@ -93,12 +93,12 @@ fn read_module_kind<'a>(parser: &mut Parser<'a>) -> Result<ModuleKind<'a>>
     Ok(ModuleKind::Text(all_parts::<_, FieldGroup>(parser)?))
 }
 
-/// A module, as a value that is read over the tokens that are visible now: a part of a text that is
-/// no module itself, as a script, can hold it. [`Module::parse`] turns the five standard
-/// annotations on for a module; here its hints, names and custom sections are read if they are
-/// known.
+/// A module that is parsed with the annotations that are known already, as a part of a larger text,
+/// such as a script. Its branch hints, name annotations and custom sections are parsed only if the
+/// parser knows the standard annotations. [`Module::parse`] turns them on itself.
 ///
-/// It is from the word `module` to the end of its group, whose parentheses are the caller's.
+/// It is parsed from the keyword `module` to the end of its group. The caller takes the
+/// parentheses.
 #[derive(Drop)]
 pub struct VisibleModule<'a>(pub Module<'a>);
 
@@ -126,14 +126,16 @@ impl<'a> Parse<'a> for VisibleModule<'a> {
 }
 
 impl<'a> Module<'a> {
-    /// Takes a module, from the word `module` to the end of its group, whose parentheses are the
-    /// caller's, with the five standard annotations known: `custom`, `producers`, `name`,
-    /// `dylink.0` and `metadata.code.branch_hint`. What was known of them before is known again.
+    /// Parses a module, from the keyword `module` to the end of its group. The caller takes the
+    /// parentheses.
     ///
-    /// Where no module is in front, it is refused with the first fault that is met. Another token
-    /// in front than the word `module` is refused with Unexpected, at the token, and so is one
-    /// behind it that begins no field's group. Memory may be answered where the module has a field
-    /// or a piece.
+    /// The five standard annotations are known meanwhile: `custom`, `producers`, `name`, `dylink.0`
+    /// and `metadata.code.branch_hint`. On return, also with an error, the parser knows the same
+    /// annotations as before.
+    ///
+    /// If the next tokens aren't a module, returns the first error that is met. Unexpected comes at
+    /// another token than `module`, and at a later one that begins neither a field's group nor
+    /// another part of a module. Memory never comes for a module without fields and pieces.
     #[tactic(auto, using(crate::proofs::Ends::module_steps))]
     pub fn parse(parser: &mut Parser<'a>) -> Result<Module<'a>>
         // Of the tokens that are visible with the five names: those that were taken spell the
@@ -163,8 +165,8 @@ impl<'a> Module<'a> {
         }
     }
 
-    /// Where the word `module` begins, its identifier, the name that an annotation gives, and what
-    /// is in it, each as the field was. A field can't be moved out of a module otherwise.
+    /// Returns the span, the identifier, the name and the contents, each as the field was. A field
+    /// can't be moved out of a module otherwise.
     pub fn into_parts(
         self,
     ) -> (

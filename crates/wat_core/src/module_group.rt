@@ -1,4 +1,4 @@
-//! The groups of a text, each from its `(` to behind its `)`.
+//! The groups of a text, each from its `(` to its `)`.
 
 ghost use Rattle.std.specs.Prelude.{◌≡◌, ◌≤◌, ◌<◌, ◌+◌, MatchOption, IfSome, None, Some, true};
 ghost use Rattle.std.specs.Prelude.{false, length, drop};
@@ -12,10 +12,15 @@ ghost use Rattle.wat_core.specs.ModuleGroups.{IsNext, IsPart};
 use crate::place::{first_shown, opens_at};
 use wat_lexer::tokens::Tokens;
 
-/// Where a group begins and ends, in bytes from the start of the text.
+/// The part of a text that is one group, in bytes from the start of the text.
+///
+/// It is public for the contracts of [`field_faults`](crate::field_faults) and
+/// [`module_faults`](crate::module_faults) alone. No public function takes or returns one.
 #[derive(Clone, Copy, Debug)]
 pub struct Group {
+    /// The offset of the group's `(`.
     pub from: usize,
+    /// The offset after the group's `)`, or the length of the text if the group isn't closed.
     pub end: usize,
 }
 

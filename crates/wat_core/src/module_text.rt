@@ -24,19 +24,23 @@ fn closed<T: Drop>(parser: &mut Parser<'_>, value: T) -> Result<T, Error>
     Ok(value)
 }
 
-/// Reads the module that the whole text spells, in its parentheses (WebAssembly Core Specification,
-/// Text Format, "Modules").
+/// Parses a whole text as one module in parentheses (WebAssembly Core Specification, Text Format,
+/// "Modules").
 ///
 /// Inside the parentheses the five standard annotations are known: `custom`, `producers`, `name`,
-/// `dylink.0` and `metadata.code.branch_hint`. Outside them none is, so an annotation's group
-/// before or behind the module is left out, whatever its name.
+/// `dylink.0` and `metadata.code.branch_hint`. Outside them no annotation is known, so an
+/// annotation's group before or after the module is skipped, whatever its name.
 ///
-/// Names and strings without escapes are slices of the text, the others lie in the arena.
+/// Names and strings without escapes are slices of the text. The others are in the arena.
 ///
-/// Where the text spells none, it is refused with the first fault that is met: the text's own where
-/// it isn't cut (see [`Parser::new`]), else the module's (see [`Module::parse`]). Unexpected comes
-/// at the first visible token where that is no `(`, at what is in the place of the module's `)`,
-/// and at a visible token behind that. Memory may be answered for any text.
+/// If the text isn't a module, returns the first error that is met:
+///
+/// - an error of the text's tokens (see [`Parser::new`]);
+/// - an error of the module (see [`Module::parse`]);
+/// - Unexpected at the first visible token if it isn't `(`, at a token in the place of the module's
+///   `)`, or at a visible token after that.
+///
+/// Memory can come for any text.
 pub fn read_module<'a>(alloc: Global, text: &'a str, arena: &'a Bump) -> Result<Module<'a>, Error>
     // The text spells the module that is answered.
     ensures found { IfOk result (λ m. SpellsModule text.now (module_view m)) }

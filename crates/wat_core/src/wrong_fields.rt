@@ -1,4 +1,4 @@
-//! The faults of a module's fields.
+//! The errors of a module's fields.
 
 ghost use Rattle.std.specs.Prelude.{◌≡◌, ◌≢◌, ◌≤◌, ◌<◌, ◌+◌, ℕ, List, [], ◌∷◌, ◌++◌, true, take};
 ghost use Rattle.std.specs.Prelude.{length, drop, IfOk, IfErr, OnOk, MatchOption, Option};
@@ -24,17 +24,17 @@ use wat_tokens::enclosed::Grouped;
 use wat_tokens::traits::Parse;
 use wat_tokens::whole_text::read_text;
 
-/// What is wrong with a module's fields, and beside them.
+/// The errors of a module's fields, and an error after them.
 #[derive(Debug, Drop)]
 pub struct FieldFaults {
-    /// The first fault of each of the first wrong groups, in their order.
+    /// The first error of each invalid group, in order, up to the number that the caller gave.
     pub faults: Vec<Error>,
-    /// How many groups are wrong.
+    /// The number of invalid groups.
     pub count: usize,
-    /// How many groups there are.
+    /// The number of groups.
     pub groups: usize,
-    /// What is wrong behind the groups, where the module's `)` and then the end of the text should
-    /// be.
+    /// The error after the groups, if the module's `)` and then the end of the text don't follow
+    /// them.
     pub beside: Option<Error>,
 }
 
@@ -174,25 +174,31 @@ fn check_all<'a, T: Parse<'a> + Drop>(
     }
 }
 
-/// Finds the fault of each field of a module that is none, in order, and what is wrong beside the
-/// fields. A field is what a `T` in parentheses is.
+/// Lists the first error of each invalid field of a module, in order, and an error after the
+/// fields. A group is valid if it is a `T` in parentheses.
 ///
-/// A field is each group behind the module's head, which is `(`, the word `module`, an identifier
-/// or none and a group `(@name ..)` or none. A group is read as a text of its own, up to its `)`,
-/// or to the end of the text where it isn't closed, with the five standard annotations known; so a
-/// fault never hides the next field. A text without that head, and one that has the word `binary`
-/// behind it, has no fields. Names and strings without escapes are slices of the text, the others
-/// lie in the arena.
+/// The groups are those after the module's head: `(`, the keyword `module`, an optional identifier,
+/// an optional group `(@name ..)`. What is in the group `(@name ..)` isn't checked. A text without
+/// that head has no groups, nor has one with the keyword `binary` after it (WebAssembly Core
+/// Specification, Text Format, "Modules").
 ///
-/// Of the wrong groups the first `most` have their fault kept, each at its offset in bytes from the
-/// start of the text, and all are counted. `beside` is Unexpected at the token that ends the
-/// groups, where it isn't a `)`, or at the one behind that `)`, or at the text's length where the
-/// `)` is missing. A text that has it, or a wrong group, spells no module; one that has neither may
-/// yet spell none, where it has no head.
+/// Each group is parsed as a text of its own, up to its `)`, or to the end of the text if it isn't
+/// closed. So an error never hides the next field. The five standard annotations are known. Names
+/// and strings without escapes are slices of the text. The others are in the arena.
 ///
-/// The errors are those of `cut`, where the text can't be cut: LexChar, LexString, LexComment and
-/// LexAnnotation, each at its offset; and Memory. WebAssembly Core Specification, Text Format,
-/// "Modules".
+/// All invalid groups are counted. `faults` has the errors of the first `most` of them, each with
+/// its offset in bytes from the start of the text. `beside` is Unexpected:
+///
+/// - at the token after the groups, if it isn't `)`;
+/// - at the token after that `)`, if there is one;
+/// - at the length of the text, if the `)` is missing.
+///
+/// A text without any of these errors can still not be a module: its head can be missing, or its
+/// name annotation be invalid, as in `(module (@name 1))`. [`read_module`](crate::read_module)
+/// decides whether a text is a module.
+///
+/// Returns an error if the text has invalid tokens, as [`cut`] does: LexChar, LexString, LexComment
+/// or LexAnnotation, at its offset; or Memory.
 pub fn field_faults<'a, T: Parse<'a> + Drop>(
     alloc: Global,
     text: &'a str,
@@ -223,7 +229,8 @@ pub fn field_faults<'a, T: Parse<'a> + Drop>(
     Ok(found)
 }
 
-/// What [`field_faults`] finds, where the fields are those of a module.
+/// Lists the first error of each invalid field of a module, and an error after the fields:
+/// [`field_faults`] for the type [`ModuleField`].
 pub fn module_faults<'a>(
     alloc: Global,
     text: &'a str,

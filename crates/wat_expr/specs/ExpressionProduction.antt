@@ -5,8 +5,6 @@ use Rattle.wat_expr.specs.Reading.{expression_reads}
 use Rattle.wat_expr.specs.Laws.Reading.{expression_sound, expression_complete, expression_takes}
 use Rattle.wat_expr.specs.Laws.Reading.{expression_balanced}
 
--- ---- the production
-
 -- items, to the end
 unfoldable pub expression : Production Expr
 expression = record {

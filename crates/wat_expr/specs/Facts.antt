@@ -1,8 +1,6 @@
--- What of instructions the items rest on, and what can be behind a list of items.
+-- Where a list of items ends.
 use Rattle.std.specs.Prelude.{◌≡◌, List, [], ◌∷◌, codes}
 use Rattle.wat_tokens.specs.Token.{Tok, LParen, RParen, Keyword}
-
--- ---- where a list of items ends
 
 -- nothing, `)`, or `( then`
 abbrev pub Stops : List Tok → Type 0

@@ -4,8 +4,6 @@ use Rattle.wat_expr.specs.Expression.{Expr}
 use Rattle.wat_expr.specs.Folded.{folded_reads, folded_spells}
 use Rattle.wat_expr.specs.Laws.Folded.{folded_sound, folded_complete, folded_takes, folded_balanced}
 
--- ---- the production
-
 -- ( i groups )
 unfoldable pub folded_instruction : Production Expr
 folded_instruction = record {

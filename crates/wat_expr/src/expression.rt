@@ -1,4 +1,4 @@
-//! Expressions.
+//! Expressions and branch hints.
 
 ghost use Rattle.std.specs.Prelude.{◌≡◌, ◌<◌, [], ◌∷◌, ◌++◌, List, Option, map, None, true};
 ghost use Rattle.std.specs.Vec.{vec_len, vec_capacity};
@@ -26,34 +26,36 @@ use wat_instr::{Instruction, LabelOp, Op};
 use wat_tokens::ownership::push_into;
 use wat_tokens::{Error, Fault, Parse, Parser, Result, Span};
 
-/// A hint whether a branch is likely to be taken (Branch Hinting, Custom Annotation
+/// A branch hint: whether a branch is likely to be taken (Branch Hinting, Custom Annotation
 /// `@metadata.code.branch_hint`).
 #[derive(Debug, Drop)]
 pub struct BranchHint {
-    /// The index of its instruction in the expression.
+    /// The index of the hint's instruction in [`Expression::instrs`].
     pub instr_index: usize,
-    /// 1 where the branch is likely, and else 0.
+    /// 1 if the branch is likely to be taken, 0 if it isn't.
     pub value: u32,
 }
 
 /// Instructions as one flat list (WebAssembly Core Specification, Text Format, Instructions,
 /// "Expressions").
 ///
-/// Folded instructions are behind their operands, and a block that was written as a group is
-/// followed by `end` (Text Format, "Folded Instructions").
+/// A folded instruction comes after its operands. `end` follows a block that was written as a group
+/// (Text Format, "Folded Instructions").
 #[derive(Debug)]
 pub struct Expression<'a> {
     /// The instructions, in order.
     pub instrs: Vec<Instruction<'a>>,
-    /// The hints, in rising order of their instructions.
+    /// The branch hints, in rising order of their instructions.
     pub branch_hints: Vec<BranchHint>,
-    /// Where each instruction's word begins, where the parser was told to keep it. An `end` that
-    /// was added begins at the `)` of its group.
+    /// The span of each instruction if the parser keeps spans
+    /// ([`Parser::track_instr_spans`]), else `None`. A span is where the instruction's keyword
+    /// begins, in bytes from the start of the text. The span of an `end` that was added is that of
+    /// the `)` of its group.
     pub instr_spans: Option<Vec<Span>>,
 }
 
-/// It is written out, and proved once, here. Were it derived, each crate that drops an expression
-/// would prove the drop of each of its parts once more.
+/// Written by hand, and proved once, here. If it were derived, each crate that drops an expression
+/// would prove the drop of each of its parts again.
 impl Drop for Expression<'_> {
     fn drop(self) {
         let Expression {
@@ -110,7 +112,7 @@ fn drop_span(spans: &mut Option<Vec<Span>>)
 }
 
 impl<'a> Expression<'a> {
-    /// An expression of one instruction, without hints and spans. Memory may be answered.
+    /// Returns an expression of one instruction, without hints and spans. The only error is Memory.
     pub fn one(alloc: Global, instr: Instruction<'a>) -> Result<Expression<'a>>
         ensures value { IfOk result (λ e. e.instrs.items ≡ instr.entry ∷ []) }
         ensures hints { IfOk result (λ e. e.branch_hints.items ≡ []) }
@@ -126,7 +128,8 @@ impl<'a> Expression<'a> {
         })
     }
 
-    /// Its instructions, its branch hints and its spans, each as the field was.
+    /// Returns the instructions, the branch hints and the spans, each as the field was. A field
+    /// can't be moved out of an expression otherwise.
     pub fn into_parts(self) -> (Vec<Instruction<'a>>, Vec<BranchHint>, Option<Vec<Span>>)
         ensures { result ≡ (self.entry.instrs, self.entry.branch_hints, self.entry.instr_spans) }
     {
@@ -138,8 +141,8 @@ impl<'a> Expression<'a> {
         (instrs, branch_hints, instr_spans)
     }
 
-    /// Puts an instruction behind the others, without a hint, and its span, where spans are kept.
-    /// Memory refuses it, and then the expression is as it was.
+    /// Appends an instruction without a hint, and its span if spans are kept. The only error is
+    /// Memory; the expression is then unchanged.
     pub fn put_last(&mut self, instr: Instruction<'a>, span: Span) -> Result<()>
         ensures instrs { MatchResult result (λ _. self.new.instrs.items
             ≡ self.old.instrs.items ++ instr.entry ∷ []) (λ _. self.new.instrs.items
@@ -235,21 +238,33 @@ impl<'a> Expression<'a> {
     }
 }
 
-/// Items up to the end of the group (WebAssembly Core Specification, Text Format, Instructions,
-/// "Expressions").
+/// Parses items up to the end of the group or of the text (WebAssembly Core Specification, Text
+/// Format, Instructions, "Expressions").
 ///
-/// An item is an instruction alone, or a group `(`, an instruction, items, `)`: a block, `if` with
-/// its groups, `( then` items `)` and `( else` items `)`, or a folded instruction. Where the
-/// standard annotations are known, an item of `br_if` or `if` may have a branch hint
-/// `(@metadata.code.branch_hint "v")` before it, `v` being the byte 0 or 1.
+/// An item is one of:
 ///
-/// Refused are, at the token in front: what is no instruction's word where one is needed, and the
-/// end of the text in an open `if`, but behind the `(` of an arm, with Operator; an `if` that
-/// closes without `( then`, with IfWithoutThen; a group behind its `( else .. )`, with IfTooMany;
-/// the string of a hint that isn't such a byte, with HintValue, or that has a hint directly before
-/// it, with HintTwice; a hint with no item behind it, with HintPlace; anything else, with
-/// Unexpected. An instruction behind a hint that is neither `br_if` nor `if` is refused with
-/// HintTarget, at its word; a fault in its operand comes before that.
+/// - an instruction;
+/// - a block: `(`, its instruction, items, `)`;
+/// - an `if`: `(`, its instruction, groups, `( then` items `)`, `( else` items `)` or nothing, `)`;
+/// - a folded instruction: `(`, the instruction, items, `)`.
+///
+/// If the standard annotations are known, a branch hint `(@metadata.code.branch_hint "v")` can
+/// precede an item whose instruction is `br_if` or `if`. `v` is the byte 0 or 1.
+///
+/// The errors, each at the next token if no other place is named:
+///
+/// - Operator: something else is next where an instruction's keyword is needed, or the text ends in
+///   an open group;
+/// - IfWithoutThen: an `if` closes without `( then`;
+/// - IfTooMany: a group follows the `( else .. )` of an `if`;
+/// - HintValue, at the string of a hint: it isn't the byte 0 or 1;
+/// - HintTwice, at the string of a hint: another hint directly precedes it;
+/// - HintPlace: no item follows a hint;
+/// - HintTarget, at the keyword of the instruction after a hint: it is neither `br_if` nor `if`. An
+///   error in its operand comes first;
+/// - the errors of operands (see [`Instruction`]);
+/// - Memory, but never for an expression without instructions;
+/// - Unexpected: anything else.
 impl<'a> Parse<'a> for Expression<'a> {
     ghost View = { Expr };
 

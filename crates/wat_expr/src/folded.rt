@@ -62,13 +62,16 @@ fn turn<'a>(
 }
 
 impl<'a> Expression<'a> {
-    /// Reads one folded instruction: `(`, an instruction of any kind, folded instructions, and `)`
-    /// (WebAssembly Core Specification, Text Format, "Folded Instructions", as the elements of a
-    /// segment are abbreviated).
+    /// Parses one folded instruction: `(`, an instruction of any kind, folded instructions, `)`
+    /// (WebAssembly Core Specification, Text Format, "Folded Instructions"). The elements of an
+    /// element segment are abbreviated in this way.
     ///
-    /// Each instruction is behind those of its group; a block gets no `end`, and there are no
-    /// hints. Where anything but a `(` or a `)` is between, it is refused with Unexpected at it;
-    /// where an instruction's word is needed, with Operator.
+    /// An instruction comes after the instructions of its group. A block gets no `end`, and no hint
+    /// is allowed.
+    ///
+    /// The errors, each at the next token: Operator if something else is next where an
+    /// instruction's keyword is needed; Unexpected if another token is next where `(` or `)` is
+    /// needed; the errors of operands; and Memory.
     pub fn parse_folded_instruction(parser: &mut Parser<'a>) -> Result<Expression<'a>>
         // What tokens in front spell is answered, and leaves what is behind them; memory alone may
         // refuse it.
@@ -101,8 +104,8 @@ impl<'a> Expression<'a> {
     }
 }
 
-/// An expression that one folded instruction of any kind spells, as
-/// [`parse_folded_instruction`](Expression::parse_folded_instruction) reads it.
+/// The expression of one folded instruction of any kind, parsed by
+/// [`Expression::parse_folded_instruction`].
 #[derive(Drop)]
 pub struct FoldedInstruction<'a>(pub Expression<'a>);
 

@@ -1,4 +1,5 @@
-//! Laws of expressions, and texts that spell them.
+//! Laws of expressions: functions that do nothing, whose contracts state facts about the
+//! definitions. Among the facts are sample texts that spell expressions.
 
 ghost use Rattle.std.specs.Prelude.{◌≡◌, ◌≤◌, ◌+◌, ◌∷◌, ◌++◌, Bool, List, [], length, true};
 ghost use Rattle.wat_expr.specs.Expression.{Expr};
@@ -18,7 +19,8 @@ ghost use Rattle.wat_tokens.specs.Token.{Tok, RParen};
 
 use wat_instr::laws::stands_before_what_may_follow;
 
-/// An expression has one reading, as items and as what these unfold to.
+/// The tokens of an expression have one reading as items, and so have those of a folded
+/// instruction.
 pub fn one_reading()
     // No two prefixes of one token list list items, each up to the end or a `)`, unless they are
     // one prefix and the same items.
@@ -32,7 +34,7 @@ pub fn one_reading()
         × (r ≡ s) × (c ≡ d) }
 {}
 
-/// The hints of an expression are in the order of its instructions, and none is lost.
+/// The branch hints of an expression are in the order of its instructions, and none is lost.
 pub fn hints_in_order()
     // Their indices rise strictly, each below the number of instructions.
     ensures rising { (v : Expr) (c r : List Tok) → expression.spells v c r
@@ -42,7 +44,8 @@ pub fn hints_in_order()
         → length (hints xs 0) ≡ count_hints xs }
 {}
 
-/// There are at most as many instructions as tokens, the added `else` and `end` included.
+/// An expression has at most as many instructions as tokens, including each `else` and `end` that
+/// is added.
 pub fn no_more_than_tokens()
     ensures written { (v : Expr) (c r : List Tok) → expression.spells v c r
         → length v.instrs ≤ length c }
@@ -50,8 +53,9 @@ pub fn no_more_than_tokens()
         → length v.instrs ≤ length c }
 {}
 
-/// What is listed is listed again by its flat form: the instructions' own tokens, in the order in
-/// which they unfold, with the words `else` and `end` for those that are added.
+/// Items can be written in their flat form: the tokens of each instruction, in the order of the
+/// flat list, with the keywords `else` and `end` where these are added. The flat form lists the
+/// same instructions.
 pub fn flat_again()
     // Wherever items were listed, they are listed again, as instructions alone, in front of each
     // rest that may follow an instruction: one that is empty or begins with `)` or a mnemonic, and
@@ -78,7 +82,7 @@ pub fn flat_again()
     stands_before_what_may_follow();
 }
 
-/// What the flat form is made of.
+/// The flat form of items is unique, and has the tokens of their instructions.
 pub fn flat_form()
     // There is one, however the items are listed of the same tokens.
     ensures one { (xs : Items) (ts r : List Tok) (l k : lists xs ts r) → ends r ≡ true
@@ -99,8 +103,8 @@ pub fn flat_form()
         → flat_tokens xs ts r l ++ r ≡ ts }
 {}
 
-/// Texts that spell expressions and folded instructions, as facts over the definitions alone: an
-/// error that the reader and its definition share would show here.
+/// Sample texts that spell expressions and folded instructions. These are facts about the
+/// definitions alone, so an error that the parser shares with its definition would show here.
 pub fn expression_rows()
     ensures operands_first { OperandsFirst }
     ensures both_arms { BothArms }

@@ -1,5 +1,8 @@
-//! Expressions of the WebAssembly text format: their instructions as one flat list, with branch
-//! hints.
+//! Expressions of the WebAssembly text format (WebAssembly Core Specification, Text Format,
+//! Instructions, "Expressions").
+//!
+//! [`Expression::parse`] parses instructions, folded or not, into one flat list with branch hints.
+//! [`Expression::parse_folded_instruction`] parses one folded instruction.
 #![tactic(auto)]
 
 pub mod expression;

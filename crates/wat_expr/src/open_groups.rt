@@ -19,7 +19,7 @@ use wat_tokens::{Fault, Parser, Result, Span};
 
 /// What kind of group is open.
 #[derive(Clone, Copy, Debug)]
-pub enum Kind {
+pub(crate) enum Kind {
     /// A folded instruction, which is behind what the group holds.
     Folded,
     /// A block, which gets an `end`.
@@ -53,7 +53,7 @@ impl Kind {
 
 /// What is kept of an instruction that waits for the end of its operands, beside it.
 #[derive(Clone, Copy, Debug)]
-pub struct Mark {
+pub(crate) struct Mark {
     /// Where its word begins.
     pub span: Span,
     /// The hint that is directly before its item.
@@ -65,7 +65,7 @@ pub struct Mark {
 /// Most of them hold no instruction, so kinds and instructions are kept apart; and an instruction
 /// is made where it waits, so it is kept apart from its mark.
 #[derive(Drop)]
-pub struct OpenGroups<'a> {
+pub(crate) struct OpenGroups<'a> {
     kinds: Vec<Kind>,
     heads: Vec<Instruction<'a>>,
     marks: Vec<Mark>,

@@ -18,13 +18,13 @@ use crate::expression::Expression;
 use crate::open_groups::{Kind, Mark, OpenGroups};
 use crate::take::{refuse, take_close, take_hint_name, take_op, take_open, take_string, take_word};
 use std::alloc::Global;
-use wat_instr::{Instruction, LabelOp, Op, branches_if, opens_block, opens_if};
+use wat_instr::{Instruction, LabelOp, Op, is_block, is_br_if, is_if};
 use wat_tokens::ownership::discard;
 use wat_tokens::{Error, Fault, Parser, Result, Span};
 
 /// What the loop keeps from turn to turn.
 #[derive(Drop)]
-pub struct Reader<'a> {
+pub(crate) struct Reader<'a> {
     pub open_groups: OpenGroups<'a>,
     pub out: Expression<'a>,
     /// The hint that waits for the item behind it.
@@ -47,7 +47,7 @@ fn suits(hint: Option<u32>, op: Op) -> bool
     ensures { result ≡ suits_word hint op }
 {
     match hint {
-        Some(_) => branches_if(op) || opens_if(op),
+        Some(_) => is_br_if(op) || is_if(op),
         None => true,
     }
 }
@@ -92,7 +92,7 @@ fn take_suited<'a>(parser: &mut Parser<'a>, hint: Option<u32>) -> Result<Op>
 fn holder(op: Op) -> Kind
     ensures { result ≡ holder (is_if (op_row op)) }
 {
-    if opens_if(op) { Kind::If } else { Kind::Folded }
+    if is_if(op) { Kind::If } else { Kind::Folded }
 }
 
 impl<'a> Reader<'a> {
@@ -253,7 +253,7 @@ impl<'a> Reader<'a> {
         };
         let span = parser.prev_span();
         let hint = self.pending.take();
-        if opens_block(op) {
+        if is_block(op) {
             return match self.out.read(op, parser, hint, span) {
                 Ok(()) => self.open_groups.enter(Kind::Block),
                 Err(refused) => refuse(refused),

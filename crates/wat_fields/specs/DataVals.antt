@@ -6,8 +6,6 @@ use Rattle.wat_tokens.specs.Many.{many}
 use Rattle.wat_fields.specs.DataVal.{DataValTy, data_val}
 use Rattle.wat_fields.specs.Laws.DataVal.{data_val_consumes}
 
--- ---- the grammar
-
 -- DataVal*, to the end
 unfoldable pub data_vals : Production (List DataValTy)
 data_vals = many more data_val data_val_consumes

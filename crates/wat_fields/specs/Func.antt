@@ -1,9 +1,7 @@
 -- Functions.
-use Rattle.std.specs.Prelude.{ℕ, Bool, true, false, ◌&&◌, List, codes}
-use Rattle.wat_tokens.specs.Tests.{begins_word, second}
+use Rattle.std.specs.Prelude.{ℕ, Bool, true, ◌&&◌, List, codes}
 use Rattle.wat_tokens.specs.Production.{Production}
 use Rattle.wat_tokens.specs.Parts.{seq, made, where_else, after_word}
-use Rattle.wat_tokens.specs.Groups.{group}
 use Rattle.wat_tokens.specs.Views.{no_items}
 use Rattle.wat_types.specs.Label.{label_view}
 use Rattle.wat_types.specs.Function.{function_view, bare_function}
@@ -14,7 +12,7 @@ use Rattle.wat_types.specs.declared.type_use.TypeUse.{TypeUse}
 use Rattle.wat_links.specs.Export.{inline_export_view}
 use Rattle.wat_links.specs.FieldHead.{FieldHeadTy, field_head, bare_head, head}
 use Rattle.wat_links.specs.Import.{inline_import_view, inline_import, begins_inline_import}
-use Rattle.wat_links.specs.Item.{func_use}
+use Rattle.wat_links.specs.Item.{func_use, exact_use}
 use Rattle.wat_expr.specs.Expression.{Expr, expression_view, bare_expression}
 use Rattle.wat_expr.specs.ExpressionProduction.{expression}
 use Rattle.wat_fields.specs.Local.{LocalTy, locals_view}
@@ -77,13 +75,6 @@ abbrev pub bare_func : FuncFieldTy → Bool
 bare_func f = bare_head f.head && bare_defined_func (f.ty, f.kind)
 
 -- ---- the grammar
-
--- where the second token is `exact`, ( exact TypeUse ); else TypeUse
-unfoldable pub exact_use : Production (FuncUse × Bool)
-exact_use =
-    where_else (second (begins_word (codes "exact")))
-    (made (λ u. (u, true)) (group (codes "exact") func_use))
-    (made (λ u. (u, false)) func_use)
 
 -- InlineImport, and a type use, exact or not
 unfoldable pub func_import : Production DefinedFunc

@@ -8,8 +8,6 @@ use Rattle.wat_expr.specs.Expression.{Expr}
 use Rattle.wat_expr.specs.ExpressionProduction.{expression}
 use Rattle.wat_expr.specs.FoldedProduction.{folded_instruction}
 
--- ---- expressions
-
 -- where the second token is the word w, ( w Expression ); else a folded instruction
 unfoldable pub written_or_folded : List ℕ → Production Expr
 written_or_folded w = where_else (second (begins_word w)) (group w expression) folded_instruction

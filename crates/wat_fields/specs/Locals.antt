@@ -5,8 +5,6 @@ use Rattle.wat_tokens.specs.Joined.{joined}
 use Rattle.wat_fields.specs.Local.{LocalTy, local_group, local_follows}
 use Rattle.wat_fields.specs.Laws.Local.{local_group_consumes}
 
--- ---- the grammar
-
 -- ( LocalParser )*, as long as one has to follow; the locals of all, in order
 unfoldable pub locals : Production (List LocalTy)
 locals = joined local_follows local_group local_group_consumes

@@ -22,30 +22,32 @@ use wat_types::take_label;
 /// Segments").
 #[derive(Debug, Drop)]
 pub struct Data<'a> {
-    /// Where the word `data` begins.
+    /// The place of the keyword `data`.
     pub span: Span,
-    /// Its identifier.
+    /// The identifier.
     pub id: Option<Id<'a>>,
-    /// The name that an annotation gives.
+    /// The name from a `(@name ..)` annotation.
     pub name: Option<NameAnnotation<'a>>,
-    /// Whether it is put into a memory at first.
+    /// Whether the segment is active, that is, copied into a memory when the module is
+    /// instantiated.
     pub kind: DataKind<'a>,
-    /// Its values: its bytes are theirs, one value behind the other.
+    /// The values of the segment. Its bytes are the bytes of these, in order.
     pub data: Vec<DataVal<'a>>,
 }
 
-/// Whether a data segment is put into a memory at first (WebAssembly Core Specification, Text
-/// Format, Modules, "Data Segments").
+/// The mode of a data segment: passive or active (WebAssembly Core Specification, Text Format,
+/// Modules, "Data Segments").
 #[derive(Debug, Drop)]
 pub enum DataKind<'a> {
-    /// It isn't: instructions name it.
+    /// The segment is copied by instructions alone.
     Passive,
-    /// It is.
+    /// The segment is copied when the module is instantiated.
     Active {
-        /// The memory. Where it isn't written, it is memory 0, and is where the word `data`
-        /// does.
+        /// The memory: memory 0 if none is written. Only an index in `( memory idx )` has its own
+        /// span. The span of a number alone, and of memory 0 if none is written, is that of the
+        /// keyword `data`.
         memory: Index<'a>,
-        /// Where in the memory.
+        /// The offset in the memory.
         offset: Expression<'a>,
     },
 }
@@ -102,15 +104,21 @@ fn read_data_kind<'a>(parser: &mut Parser<'a>, span: Span) -> Result<DataKind<'a
     read_active(parser, span)
 }
 
-/// `data`, an identifier or none, a name or none, and values to the end. Where neither `)` nor a
-/// string nor a group of numbers stands before the values, it is active: a memory's number, or `(
-/// memory index )`, or nothing, and then `( offset` expression `)` or, as an abbreviation, `(` an
-/// instruction and items `)`, of which the instruction comes last; where there are no items, no
-/// span is kept of it.
+/// Parses `data`, an optional identifier, an optional name annotation, a mode, and values up to the
+/// end of the group.
 ///
-/// Refused are an index that is out of range, with Range, at the index; what isn't the word of an
-/// instruction where an offset is abbreviated, with Operator, at it; what an expression or a value
-/// refuses, as it does; anything else with Unexpected.
+/// The segment is passive if the values begin directly: `)`, a string or a group of numbers is
+/// next. Otherwise it is active, and these come first:
+///
+/// - the memory: its number, `( memory idx )`, or nothing;
+/// - the offset: `( offset` expression `)`, or its abbreviation, `(` instruction, items `)`.
+///
+/// In an abbreviated offset the instruction comes after its items. If it has no items, it has no
+/// span.
+///
+/// The errors: Range at an index that is out of range; Operator at a token that isn't an
+/// instruction's keyword, where an abbreviated offset needs one; the errors of [`Expression`] and
+/// of [`DataVal`]; Memory; and Unexpected for anything else.
 impl<'a> Parse<'a> for Data<'a> {
     ghost View = { DataTy };
 

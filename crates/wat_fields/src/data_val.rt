@@ -11,18 +11,19 @@ use crate::numbers::{append, read_numbers};
 use wat_tokens::repeat::all_to_end;
 use wat_tokens::{Fault, Parse, Parser, Result};
 
-/// A value of a data segment (WebAssembly Core Specification, Text Format, Modules, "Data
-/// Segments", with the numbers of the proposal "Numeric Values in WAT Data Segments").
+/// A value of a data segment: a string or a list of numbers (WebAssembly Core Specification, Text
+/// Format, Modules, "Data Segments"; the numbers are those of the proposal "Numeric Values in WAT
+/// Data Segments").
 #[derive(Debug, Drop)]
 pub enum DataVal<'a> {
     /// The bytes of a string.
     String(&'a [u8]),
-    /// The bytes of numbers, one number behind the other, each with its lowest byte first.
+    /// The bytes of numbers, in order. Each number is little-endian.
     Integral(Vec<u8>),
 }
 
 impl<'a> DataVal<'a> {
-    /// How many bytes it has.
+    /// Returns the number of bytes.
     pub fn len(&self) -> usize
         ensures { result ≡ length (bytes_in (data_val_view self.now)) }
     {
@@ -32,7 +33,7 @@ impl<'a> DataVal<'a> {
         }
     }
 
-    /// Whether it has no bytes.
+    /// Returns whether there are no bytes.
     pub fn is_empty(&self) -> bool
         ensures { result ≡ no_items (bytes_in (data_val_view self.now)) }
     {
@@ -42,8 +43,8 @@ impl<'a> DataVal<'a> {
         }
     }
 
-    /// Puts its bytes behind those of a list. Memory refuses it, where it has any, and then the
-    /// list is as it was.
+    /// Appends the bytes to a list. The only error is Memory; the list is then unchanged. It never
+    /// comes if there are no bytes.
     pub fn push_onto(&self, dst: &mut Vec<u8>) -> Result<()>
         ensures put { MatchResult result (λ _. dst.new.items ≡ dst.old.items ++ bytes_in
             (data_val_view self.now)) (λ e. (e.fault ≡ Fault.Memory)
@@ -60,13 +61,15 @@ impl<'a> DataVal<'a> {
     }
 }
 
-/// A string, or a group of numbers: `i8`, `i16`, `i32`, `i64`, `f32`, `f64` or `v128`, and numbers
-/// of that type. An integer is read with or without a sign, a vector as
-/// [`V128Const`](wat_operands::V128Const) is; no floating-point number is read.
+/// Parses a string, or a group of numbers: `(`, one of `i8`, `i16`, `i32`, `i64`, `f32`, `f64` and
+/// `v128`, numbers of that type, `)`.
 ///
-/// Refused are an integer that is out of range, with Range, and a floating-point number, with
-/// FloatLiteral, each at the number; another word behind the `(`, and anything else, with
-/// Unexpected.
+/// An integer can have a sign. A vector is parsed as [`V128Const`](wat_operands::V128Const) is. No
+/// floating-point number is parsed.
+///
+/// The errors: Range at an integer that is out of range; FloatLiteral at a floating-point number;
+/// the errors of [`V128Const`](wat_operands::V128Const); Memory, but never for a string or a group
+/// without numbers; and Unexpected for anything else.
 impl<'a> Parse<'a> for DataVal<'a> {
     ghost View = { DataValTy };
 

@@ -22,32 +22,32 @@ use wat_types::{RefType, take_label};
 /// Segments").
 #[derive(Debug, Drop)]
 pub struct Elem<'a> {
-    /// Where the word `elem` begins.
+    /// The place of the keyword `elem`.
     pub span: Span,
-    /// Its identifier.
+    /// The identifier.
     pub id: Option<Id<'a>>,
-    /// The name that an annotation gives.
+    /// The name from a `(@name ..)` annotation.
     pub name: Option<NameAnnotation<'a>>,
-    /// Where it is put.
+    /// The mode of the segment.
     pub kind: ElemKind<'a>,
-    /// What it holds.
+    /// The elements.
     pub payload: ElemPayload<'a>,
 }
 
-/// Where an element segment is put (WebAssembly Core Specification, Text Format, Modules, "Element
-/// Segments").
+/// The mode of an element segment: passive, declared or active (WebAssembly Core Specification,
+/// Text Format, Modules, "Element Segments").
 #[derive(Debug, Drop)]
 pub enum ElemKind<'a> {
-    /// Nowhere by itself.
+    /// The segment is copied by instructions alone.
     Passive,
-    /// Nowhere: it only declares references to functions.
+    /// The segment is never copied: it only declares references to functions.
     Declared,
-    /// Into a table, at first.
+    /// The segment is copied into a table when the module is instantiated.
     Active {
-        /// Which table, where one is written. A number without the word `table` is where the
-        /// word `elem` begins.
+        /// The table, if one is written. The span of a number without the keyword `table` is that
+        /// of the keyword `elem`.
         table: Option<Index<'a>>,
-        /// At which offset.
+        /// The offset in the table.
         offset: Expression<'a>,
     },
 }
@@ -166,17 +166,24 @@ fn read_segment<'a>(parser: &mut Parser<'a>, span: Span) -> Result<Segment<'a>>
     read_passive(parser)
 }
 
-/// `elem id? name?`, a kind, and what the segment holds.
+/// Parses `elem`, an optional identifier, an optional name annotation, a mode, and the elements up
+/// to the end of the group.
 ///
-/// It is declared where `declare` is in front; active where an integer, or a `(` that begins no
-/// reference type, does: in the table of the number, of `( table idx )`, or in one that isn't
-/// written, and at `( offset Expression )` or at a folded instruction; else it is passive. It holds
-/// `func` and indices, or a type and items, each `( item Expression )` or a folded instruction;
-/// behind an offset without `( table idx )` also indices alone.
+/// The next token decides the mode:
 ///
-/// Refused are, at the token in front: a number of a table that is too large or has a `-`, with
-/// Range; what is no instruction's word where one is needed, with Operator; what an expression
-/// refuses, with its fault; anything else, with Unexpected.
+/// - `declare`: the segment is declared;
+/// - an integer, or a `(` that doesn't begin a reference type: it is active. Its table is that of
+///   the number, that of `( table idx )`, or none is written. Its offset is `( offset Expression )`
+///   or a folded instruction;
+/// - anything else: it is passive.
+///
+/// The elements are `func` and indices, or a reference type and items. An item is
+/// `( item Expression )` or a folded instruction. After an offset without `( table idx )` the
+/// elements can also be indices alone.
+///
+/// The errors, each at the next token: Range for an index or a table's number that is out of range;
+/// Operator if something else is next where an instruction's keyword is needed; the errors of
+/// [`Expression`] and of a reference type; Memory; and Unexpected for anything else.
 impl<'a> Parse<'a> for Elem<'a> {
     ghost View = { ElemTy };
 

@@ -3,7 +3,7 @@
 ghost use Rattle.std.specs.Prelude.{◌≡◌, IfOk};
 ghost use Rattle.wat_tokens.specs.Cost.{turns_too};
 ghost use Rattle.wat_tokens.specs.Reads.{Reads, ReadsAt};
-ghost use Rattle.wat_fields.specs.Func.{FuncFieldTy, func_use_view, bare_func_use, exact_use};
+ghost use Rattle.wat_fields.specs.Func.{FuncFieldTy};
 ghost use Rattle.wat_tokens.specs.Views.{owning};
 ghost use Rattle.wat_fields.specs.Func.{defined_func_view, bare_defined_func, func_import};
 ghost use Rattle.wat_fields.specs.Func.{func_inline, func_defined, func_view, bare_func, func};
@@ -11,57 +11,44 @@ ghost use Rattle.wat_fields.specs.Spans.{FuncSpansAre};
 
 use crate::local::Local;
 use wat_expr::Expression;
-use wat_links::{FieldHead, InlineExport, InlineImport};
-use wat_tokens::enclosed::in_word_group;
+use wat_links::{FieldHead, InlineExport, InlineImport, take_exact_use};
 use wat_tokens::{Fault, Id, NameAnnotation, Parse, Parser, Result, Span};
 use wat_types::{FunctionType, TypeUse};
 
 /// A function of a module (WebAssembly Core Specification, Text Format, Modules, "Functions").
 #[derive(Debug, Drop)]
 pub struct Func<'a> {
-    /// Where the word `func` begins.
+    /// The place of the keyword `func`.
     pub span: Span,
-    /// Its identifier.
+    /// The identifier.
     pub id: Option<Id<'a>>,
-    /// The name that an annotation gives.
+    /// The name from a `(@name ..)` annotation.
     pub name: Option<NameAnnotation<'a>>,
-    /// The exports that are written in line.
+    /// The inline exports.
     pub exports: InlineExport<'a>,
-    /// How it is defined.
+    /// The definition.
     pub kind: FuncKind<'a>,
-    /// Its type.
+    /// The type of the function.
     pub ty: TypeUse<'a, FunctionType<'a>>,
 }
 
-/// How a function is defined.
+/// The definition of a function: an import or a body.
 #[derive(Debug, Drop)]
 pub enum FuncKind<'a> {
-    /// It is imported; true where it is of the type itself, and not of one below it: `(exact ..)`.
+    /// An inline import, and whether its type is exact: written `( exact .. )`, so that a function
+    /// of a proper subtype doesn't match.
     Import(InlineImport<'a>, bool),
-    /// By its body.
+    /// A body.
     Inline {
-        /// Its locals, without the parameters.
+        /// The locals, without the parameters.
         locals: Vec<Local<'a>>,
-        /// Its instructions.
+        /// The instructions.
         expression: Expression<'a>,
     },
 }
 
 /// What is behind a function's head: its type, and how it is defined.
 type Defined<'a> = (TypeUse<'a, FunctionType<'a>>, FuncKind<'a>);
-
-/// Where the second token is `exact`, a type use in `( exact .. )`, else a type use; and whether it
-/// is exact.
-#[tactic(auto, unfolding(crate::specs::Func::exact_use))]
-fn read_exact_use<'a>(parser: &mut Parser<'a>) -> Result<(TypeUse<'a, FunctionType<'a>>, bool)>
-    ensures reads { Reads (owning (λ u. (func_use_view u.0, u.1)) (λ u. bare_func_use u.0))
-        exact_use result parser.old parser.new }
-{
-    if !parser.second_is("exact") {
-        return Ok((TypeUse::parse(parser)?, false));
-    }
-    Ok((in_word_group(parser, "exact")?, true))
-}
 
 /// An import in line, and a type use, exact or not.
 #[tactic(auto, unfolding(crate::specs::Func::func_import))]
@@ -71,7 +58,7 @@ fn read_import<'a>(parser: &mut Parser<'a>) -> Result<Defined<'a>>
     ensures spans { IfOk result (λ d. FuncSpansAre parser.old.tracks d.1) }
 {
     let import = InlineImport::parse(parser)?;
-    let (ty, is_exact) = read_exact_use(parser)?;
+    let (ty, is_exact) = take_exact_use(parser)?;
     Ok((ty, FuncKind::Import(import, is_exact)))
 }
 
@@ -102,13 +89,17 @@ fn read_defined<'a>(parser: &mut Parser<'a>) -> Result<Defined<'a>>
     }
 }
 
-/// `func`, a head, and then, where `(`, `import`, two strings and `)` come next, an import in line
-/// and a type use, that in `( exact .. )` where the second token behind the import is `exact`; else
-/// a type use, groups of locals, as long as the second token is `local`, and an [`Expression`].
+/// Parses `func`, a [`FieldHead`], and then one of:
 ///
-/// Another token in front than the word is refused with Unexpected, at the token, and so is what is
-/// in the place of a `(` in front of `exact` or `local`. Behind the locals the faults are those of
-/// an expression: a group that is none of the above is refused with Operator, at its word.
+/// - if `(`, `import`, two strings and `)` are next: that inline import, and a type use or
+///   `( exact` type use `)`;
+/// - otherwise a type use, groups `( local .. )`, and an [`Expression`].
+///
+/// The second token decides: `exact` begins an exact type use, and groups of locals go on as long
+/// as it is `local`. If the token before it isn't `(`, that token is the error Unexpected.
+///
+/// The errors: Unexpected at another token than `func`; those of the parts. After the locals they
+/// are those of an expression: a group of another kind is the error Operator, at its keyword.
 impl<'a> Parse<'a> for Func<'a> {
     ghost View = { FuncFieldTy };
 

@@ -16,26 +16,26 @@ use wat_types::GlobalType;
 /// A global of a module (WebAssembly Core Specification, Text Format, Modules, "Globals").
 #[derive(Debug, Drop)]
 pub struct Global<'a> {
-    /// Where the word `global` begins.
+    /// The place of the keyword `global`.
     pub span: Span,
-    /// Its identifier.
+    /// The identifier.
     pub id: Option<Id<'a>>,
-    /// The name that an annotation gives.
+    /// The name from a `(@name ..)` annotation.
     pub name: Option<NameAnnotation<'a>>,
-    /// The exports that are written in line.
+    /// The inline exports.
     pub exports: InlineExport<'a>,
-    /// Its type.
+    /// The type of the global.
     pub ty: GlobalType<'a>,
-    /// How it is defined.
+    /// The definition.
     pub kind: GlobalKind<'a>,
 }
 
-/// How a global is defined.
+/// The definition of a global: an import or an initial value.
 #[derive(Debug, Drop)]
 pub enum GlobalKind<'a> {
-    /// It is imported.
+    /// An inline import.
     Import(InlineImport<'a>),
-    /// By the instructions that give the value which it has at first.
+    /// The instructions that compute the initial value.
     Inline(Expression<'a>),
 }
 
@@ -56,12 +56,14 @@ fn read_defined<'a>(parser: &mut Parser<'a>) -> Result<(GlobalType<'a>, GlobalKi
     Ok((ty, GlobalKind::Inline(expression)))
 }
 
-/// `global`, a head, and then, where `(`, `import`, two strings and `)` come next, an import in
-/// line and a global type; else a global type and an [`Expression`].
+/// Parses `global`, a [`FieldHead`], and then one of:
 ///
-/// Another token in front than the word is refused with Unexpected, at the token. Behind the type
-/// the faults are those of an expression: an import in line that is there is refused with Operator,
-/// at the word `import`.
+/// - if `(`, `import`, two strings and `)` are next: that inline import and a global type;
+/// - otherwise a global type and an [`Expression`].
+///
+/// The errors: Unexpected at another token than `global`; those of the parts. After the type they
+/// are those of an expression: an inline import there is the error Operator, at the keyword
+/// `import`.
 impl<'a> Parse<'a> for Global<'a> {
     ghost View = { GlobalFieldTy };
 

@@ -2,8 +2,8 @@
 //! memories, data segments, element segments and tables (WebAssembly Core Specification, Text
 //! Format, Modules).
 //!
-//! Each is read from tokens by [`wat_tokens::Parse`], from its word to what is in front of the `)`
-//! of its group. Indices stay as they are written: nothing is resolved.
+//! [`wat_tokens::Parse`] parses each field from its keyword to the end of its group. The caller
+//! takes the parentheses of the group. Indices stay as they are written: nothing is resolved.
 #![tactic(auto)]
 
 pub mod data;

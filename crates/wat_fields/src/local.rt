@@ -18,11 +18,11 @@ use wat_types::{ValType, take_label};
 /// A local of a function (WebAssembly Core Specification, Text Format, Modules, "Functions").
 #[derive(Clone, Debug, Drop)]
 pub struct Local<'a> {
-    /// Its identifier.
+    /// The identifier.
     pub id: Option<Id<'a>>,
-    /// The name that an annotation gives.
+    /// The name from a `(@name ..)` annotation.
     pub name: Option<NameAnnotation<'a>>,
-    /// Its type.
+    /// The type.
     pub ty: ValType<'a>,
 }
 
@@ -88,8 +88,12 @@ fn read_listed<'a>(parser: &mut Parser<'a>, out: &mut Vec<Local<'a>>) -> Result<
     parts::<_, PlainLocal>(parser, out)
 }
 
-/// `local`, and then an identifier, a name or both, and a value type; or, without a label, value
-/// types to the end. Another token in front than the word is refused with Unexpected, at the token.
+/// Parses `local`, and then one of:
+///
+/// - an identifier, a name annotation or both, and one value type;
+/// - value types up to the end of the group.
+///
+/// The errors: Unexpected at another token than `local`; those of the parts.
 impl<'a> Parse<'a> for LocalParser<'a> {
     ghost View = { List LocalTy };
 

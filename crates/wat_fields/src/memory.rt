@@ -16,38 +16,38 @@ use wat_types::{MemoryType, page_size};
 /// A memory of a module (WebAssembly Core Specification, Text Format, Modules, "Memories").
 #[derive(Debug, Drop)]
 pub struct Memory<'a> {
-    /// Where the word `memory` begins.
+    /// The place of the keyword `memory`.
     pub span: Span,
-    /// Its identifier.
+    /// The identifier.
     pub id: Option<Id<'a>>,
-    /// The name that an annotation gives.
+    /// The name from a `(@name ..)` annotation.
     pub name: Option<NameAnnotation<'a>>,
-    /// The exports that are written in line.
+    /// The inline exports.
     pub exports: InlineExport<'a>,
-    /// How it is defined.
+    /// The definition.
     pub kind: MemoryKind<'a>,
 }
 
-/// How a memory is defined (WebAssembly Core Specification, Text Format, Modules, "Memories",
+/// The definition of a memory (WebAssembly Core Specification, Text Format, Modules, "Memories",
 /// Abbreviations).
 #[derive(Debug, Drop)]
 pub enum MemoryKind<'a> {
-    /// It is imported.
+    /// An inline import.
     Import {
-        /// From where.
+        /// The module and the name of the import.
         import: InlineImport<'a>,
-        /// Its type.
+        /// The type of the memory.
         ty: MemoryType,
     },
-    /// By its type alone.
+    /// A type alone.
     Normal(MemoryType),
-    /// By what it holds at first, from address 0 on.
+    /// The initial contents, from address 0 on. They determine the size of the memory.
     Inline {
-        /// Whether its addresses have 64 bits.
+        /// Whether addresses have 64 bits.
         is64: bool,
-        /// What it holds.
+        /// The initial contents.
         data: Vec<DataVal<'a>>,
-        /// The k for which a page has 2 to the k bytes, where that is given.
+        /// The base-2 logarithm of the page size in bytes, if a page size is written.
         page_size_log2: Option<u32>,
     },
 }
@@ -103,12 +103,15 @@ fn read_memory_kind<'a>(parser: &mut Parser<'a>) -> Result<MemoryKind<'a>>
     Ok(MemoryKind::Normal(MemoryType::parse(parser)?))
 }
 
-/// `memory`, an identifier or none, a name or none, exports in line, and then: an import in line
-/// and a type; or, where `(` comes next, or `i32` or `i64` and then `(`, that word or neither, the
-/// size of a page or not, and `( data` values `)`; or a type.
+/// Parses `memory`, a [`FieldHead`], and then one of:
 ///
-/// A number that is out of range is refused with Range, a page size that is no power of two with
-/// PageSize, each at the number; what a value refuses, as it does; anything else with Unexpected.
+/// - if `(`, `import`, two strings and `)` are next: that inline import and a memory type;
+/// - if `(` is next, or `i32` or `i64` and then `(`: that keyword or none, an optional page size,
+///   and `( data` values `)`;
+/// - otherwise a memory type.
+///
+/// The errors: Range at a number that is out of range; PageSize at a page size that isn't a power
+/// of two; the errors of [`DataVal`]; Memory; and Unexpected for anything else.
 impl<'a> Parse<'a> for Memory<'a> {
     ghost View = { MemoryTy };
 

@@ -1,4 +1,4 @@
-//! What an element segment holds.
+//! The elements of an element segment.
 
 ghost use Rattle.std.specs.Prelude.{◌≡◌, ◌&&◌, false, map, All, IfOk, IfErr};
 ghost use Rattle.wat_tokens.specs.Cost.{tokens_alone, turns_too};
@@ -25,15 +25,15 @@ use wat_tokens::repeat::all_to_end;
 use wat_tokens::{Fault, Index, Parse, Parser, Result};
 use wat_types::{AbstractHeapType, HeapType, RefType};
 
-/// What an element segment holds (WebAssembly Core Specification, Text Format, Modules, "Element
-/// Segments").
+/// The elements of an element segment or of a table (WebAssembly Core Specification, Text Format,
+/// Modules, "Element Segments").
 #[derive(Debug, Drop)]
 pub enum ElemPayload<'a> {
     /// Functions, by their indices.
     Indices(Vec<Index<'a>>),
-    /// Expressions.
+    /// Expressions, one for each element.
     Exprs {
-        /// The type of each.
+        /// The type of each element.
         ty: RefType<'a>,
         /// The expressions.
         exprs: Vec<Expression<'a>>,
@@ -150,7 +150,7 @@ fn read_plain_indices<'a>(parser: &mut Parser<'a>) -> Result<ElemPayload<'a>>
     read_indices(parser).map(ElemPayload::Indices)
 }
 
-/// Whether it is the type that `funcref` is.
+/// Returns whether a reference type is `funcref`, that is, `(ref null func)`.
 pub fn is_funcref(ty: RefType<'_>) -> bool
     ensures { result ≡ is_funcref (ref_view ty.entry) }
 {

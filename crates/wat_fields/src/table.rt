@@ -20,45 +20,45 @@ use wat_types::{RefType, TableType};
 /// A table of a module (WebAssembly Core Specification, Text Format, Modules, "Tables").
 #[derive(Debug, Drop)]
 pub struct Table<'a> {
-    /// Where the word `table` begins.
+    /// The place of the keyword `table`.
     pub span: Span,
-    /// Its identifier.
+    /// The identifier.
     pub id: Option<Id<'a>>,
-    /// The name that an annotation gives.
+    /// The name from a `(@name ..)` annotation.
     pub name: Option<NameAnnotation<'a>>,
-    /// The exports that are written in line.
+    /// The inline exports.
     pub exports: InlineExport<'a>,
-    /// How it is defined.
+    /// The definition.
     pub kind: TableKind<'a>,
 }
 
-/// How a table is defined (WebAssembly Core Specification, Text Format, Modules, "Tables", with its
-/// abbreviations).
+/// The definition of a table (WebAssembly Core Specification, Text Format, Modules, "Tables", with
+/// its abbreviations).
 #[derive(Debug, Drop)]
 pub enum TableKind<'a> {
-    /// It is imported.
+    /// An inline import.
     Import {
-        /// From where.
+        /// The module and the name of the import.
         import: InlineImport<'a>,
-        /// Its type.
+        /// The type of the table.
         ty: TableType<'a>,
     },
-    /// By its type.
+    /// A type, with or without an initial value.
     Normal {
-        /// Its type.
+        /// The type of the table.
         ty: TableType<'a>,
-        /// What each element is at first, where that is written.
+        /// The initial value of each element, if it is written.
         init_expr: Option<Expression<'a>>,
     },
-    /// By what it holds at first, which says how many elements it has.
+    /// The initial elements. They determine the size of the table.
     Inline {
         /// The type of an element.
         elem: RefType<'a>,
-        /// Whether its addresses have 64 bits.
+        /// Whether addresses have 64 bits.
         is64: bool,
-        /// Whether it is shared among threads.
+        /// Whether the table is shared among threads.
         shared: bool,
-        /// What it holds.
+        /// The initial elements.
         payload: ElemPayload<'a>,
     },
 }
@@ -159,16 +159,18 @@ fn read_table_kind<'a>(parser: &mut Parser<'a>) -> Result<TableKind<'a>>
     read_imported(parser)
 }
 
-/// `table`, a head, and how it is defined.
+/// Parses `table`, a [`FieldHead`], and then one of:
 ///
-/// What it holds is written in line where a reference type is in front, or one of `shared`, `i32`
-/// and `i64` and then a reference type: the type, and `( elem .. )` with items or indices. Where
-/// one of these words or an integer is in front, it is a table type, and then an expression, unless
-/// nothing is left. Else it is `( import name name )` and a table type.
+/// - if a reference type is next, or one of `shared`, `i32` and `i64` and then a reference type:
+///   that keyword or none, the reference type, and `( elem` items or indices `)`;
+/// - if one of these keywords or an integer is next: a table type, and an [`Expression`] if the
+///   group goes on;
+/// - otherwise `( import` string string `)` and a table type.
 ///
-/// Refused are, at the token in front: a number that is too large or has a `-`, with Range; what is
-/// no instruction's word where one is needed, with Operator; what an expression refuses, with its
-/// fault; anything else, with Unexpected: also, at its `(`, what is no import of two names.
+/// The errors, each at the next token: Range for a number that is too large or has a `-`; Operator
+/// if something else is next where an instruction's keyword is needed; the errors of
+/// [`Expression`]; Memory; and Unexpected for anything else, also at the `(` of a group that isn't
+/// an import of two strings.
 impl<'a> Parse<'a> for Table<'a> {
     ghost View = { TableFieldTy };
 

@@ -12,26 +12,26 @@ use wat_types::TagType;
 /// A tag of a module (WebAssembly Core Specification, Text Format, Modules, "Tags").
 #[derive(Debug, Drop)]
 pub struct Tag<'a> {
-    /// Where the word `tag` begins.
+    /// The place of the keyword `tag`.
     pub span: Span,
-    /// Its identifier.
+    /// The identifier.
     pub id: Option<Id<'a>>,
-    /// The name that an annotation gives.
+    /// The name from a `(@name ..)` annotation.
     pub name: Option<NameAnnotation<'a>>,
-    /// The exports that are written in line.
+    /// The inline exports.
     pub exports: InlineExport<'a>,
-    /// Its type.
+    /// The type of the tag.
     pub ty: TagType<'a>,
-    /// How it is defined.
+    /// The definition.
     pub kind: TagKind<'a>,
 }
 
-/// How a tag is defined.
+/// The definition of a tag: an import, or nothing but its type.
 #[derive(Debug, Drop)]
 pub enum TagKind<'a> {
-    /// It is imported.
+    /// An inline import.
     Import(InlineImport<'a>),
-    /// By its type alone.
+    /// The type alone.
     Inline(),
 }
 
@@ -45,8 +45,10 @@ fn kind_of(import: Option<InlineImport<'_>>) -> TagKind<'_>
     }
 }
 
-/// `tag`, a head, an import in line, where `(`, `import`, two strings and `)` come next, and a
-/// [`TagType`]. Another token in front than the word is refused with Unexpected, at the token.
+/// Parses `tag`, a [`FieldHead`], an inline import if `(`, `import`, two strings and `)` are next,
+/// and a [`TagType`].
+///
+/// The errors: Unexpected at another token than `tag`; those of the parts.
 impl<'a> Parse<'a> for Tag<'a> {
     ghost View = { TagTy };
 

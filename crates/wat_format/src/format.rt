@@ -1,7 +1,7 @@
 //! Formats a text.
 //!
-//! Its pieces, tokens and comments, are read one after another and written with other white space
-//! between them. Of what was read only the open groups are kept.
+//! It reads tokens and comments one by one and writes them with other white space between them. It
+//! keeps only the open groups in memory.
 
 ghost use Rattle.std.specs.Prelude.{◌≡◌, ◌+◌, ◌≤◌, ◌<◌, IfOk, IfErr, ℕ, List, length, string_bytes};
 ghost use Rattle.std.specs.Prelude.{slice_range};
@@ -20,16 +20,6 @@ use std::alloc::Global;
 use wat_lexer::cut::cut;
 use wat_lexer::fault::Error;
 use wat_lexer::scan::spaces_end;
-
-/// Part of a text.
-fn part(text: &str, from: usize, end: usize) -> &str
-    requires order { from ≤ end }
-    requires begins { IsCharBoundary text.now from }
-    requires ends { IsCharBoundary text.now end }
-    ensures { result.now ≡ slice_range text.now from end }
-{
-    &text[from..end]
-}
 
 /// What was written, and how many groups are open at its end.
 #[derive(Drop)]
@@ -59,10 +49,10 @@ fn write(alloc: Global, text: &str) -> Result<Written, Error>
             Err(e) => return Err(e),
             Ok(piece) => piece,
         };
-        let blanks = part(text, end, at);
+        let blanks = &text[end..at];
         let gap = layout.gap(bytes, blanks.as_bytes(), at, piece);
         put_blanks(&mut out, gap, blanks, last, bytes[at])?;
-        out.push_str(part(text, at, piece.end))?;
+        out.push_str(&text[at..piece.end])?;
         layout.pass(bytes, at, piece)?;
         last = piece.shape;
         end = piece.end;
@@ -76,13 +66,13 @@ fn write(alloc: Global, text: &str) -> Result<Written, Error>
     })
 }
 
-/// Formats a text: its tokens and comments stay, byte for byte and in their order, and only the
-/// white space between them changes. The author's line breaks stay, lines are indented by the
-/// groups and flat blocks that are open, and an answer that isn't empty ends in one LF.
+/// Returns a text with other white space. Tokens and comments stay, byte for byte and in order. Line
+/// breaks stay where the author put them. Lines are indented by the number of open groups and open
+/// flat blocks. A result that isn't empty ends in one LF.
 ///
-/// The faults are those of `cut`, each with its place: LexChar, LexString, LexComment,
-/// LexAnnotation and Memory. A text is read once, or twice if it ends in an open group. WebAssembly
-/// Core Specification, Text Format, Lexical Format ("White Space", "Comments", "Annotations").
+/// Errors are those of `cut`, with the same offsets: LexChar, LexString, LexComment, LexAnnotation
+/// and Memory. It reads the text once, or twice if a group is open at the end. WebAssembly Core
+/// Specification, Text Format, Lexical Format, White Space, Comments and Annotations.
 pub fn format(alloc: Global, text: &str) -> Result<String, Error>
     ensures same { IfOk result (λ a. SameButSpaces text.now (string_bytes a)) }
     // Both texts are cut, into the same tokens.

@@ -5,8 +5,8 @@ ghost use Rattle.wat_lexer.specs.Cut.{IsCut};
 ghost use Rattle.wat_lexer.specs.Token.{Placed, tokens_of};
 ghost use Rattle.wat_format.specs.Parts.{Part, HasParts, SameButSpaces, toks_in};
 
-/// A text is read in one way at most, and where it has a cut in one: its tokens are those of the
-/// cut.
+/// A text splits into tokens and comments in at most one way. A text with a cut has such a split,
+/// and its tokens are those of the cut.
 pub fn one_reading()
     ensures one { (text : List ℕ) (ps qs : List Part) → HasParts false text ps
         → HasParts false text qs → ps ≡ qs }
@@ -14,14 +14,15 @@ pub fn one_reading()
         → (ps : List Part) × HasParts false text ps × (toks_in ps ≡ tokens_of ts) }
 {}
 
-/// Texts that differ in spaces alone are cut into the same tokens.
+/// If two texts differ only in white space and one has a cut, the other has a cut with the same
+/// tokens.
 pub fn same_tokens()
     ensures { (text answer : List ℕ) (ts : List Placed) → SameButSpaces text answer
         → IsCut text ts → (us : List Placed) × IsCut answer us × (tokens_of us ≡ tokens_of ts) }
 {}
 
-/// Texts that differ in spaces alone have the same tokens and comments, byte for byte, each comment
-/// between the same two tokens.
+/// Texts that differ only in white space have the same tokens and comments, byte for byte, with each
+/// comment between the same two tokens.
 pub fn same_parts()
     ensures { (text answer : List ℕ) (ps qs : List Part) → SameButSpaces text answer
         → HasParts false text ps → HasParts false answer qs → ps ≡ qs }

@@ -1,7 +1,7 @@
-//! A formatter for texts in the WebAssembly text format: modules, scripts and anything else that
-//! is cut into tokens (WebAssembly Core Specification, Text Format, Lexical Format).
+//! A formatter for texts in the WebAssembly text format: modules, scripts and any other text with
+//! valid tokens (WebAssembly Core Specification, Text Format, Lexical Format).
 //!
-//! [`format::format`] changes nothing but white space. Which it writes is in docs/FORMAT.md.
+//! [`format::format`] changes white space only. docs/FORMAT.md has the rules of the layout.
 #![tactic(auto)]
 
 pub mod format;

@@ -119,7 +119,7 @@ heap_fresh v c r s =
 ref_fresh : BeginsFresh ref_type
 unfolding ref_type shorthand
 ref_fresh v c r s =
-    either s (λ a. group a.1.1) (λ s. either s (λ a. group a.1.1) (λ a. one (word_in shorthand_words) (refl, refl, refl) a.1))
+    either s (λ a. group a.1.1) (λ s. either s (λ a. group a.1.1) (λ a. one (word_in shorthand_words) (refl, refl, refl) a.1.1))
 
 label_fresh : BeginsFresh label
 unfolding label name_annotation
@@ -255,7 +255,7 @@ call_fresh : BeginsFresh call_indirect
 unfolding call_indirect
 call_fresh v c r s =
     let q = s.1 in
-    in_both q.2 (maybe begins_index index index_fresh s.0.0 q.0 (q.1 ++ r) q.3) (signature_fresh s.0.1 q.1 r q.4)
+    in_both q.2 (index_or_0_fresh s.0.0 q.0 (q.1 ++ r) q.3) (signature_fresh s.0.1 q.1 r q.4)
 
 cast_fresh : BeginsFresh cast_branch
 unfolding cast_branch

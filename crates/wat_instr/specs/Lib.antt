@@ -6,5 +6,4 @@ pub mod MemoryAccess
 pub mod Operand
 pub mod OperandOf
 pub mod Reading
-pub mod Rows
 pub mod Same

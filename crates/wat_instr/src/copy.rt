@@ -1,4 +1,4 @@
-//! The same instruction once more.
+//! Copies of instructions.
 
 ghost use Rattle.wat_tokens.specs.Copies.{Copies};
 ghost use Rattle.wat_tokens.specs.Views.{owning};
@@ -16,8 +16,8 @@ use wat_operands::{
 use wat_tokens::{Error, Id, Index, Result};
 
 impl<'a> Instruction<'a> {
-    /// The same instruction once more; a block of which nothing is said has no box in it. Memory
-    /// may be answered where the operand is in a box or has a list that isn't empty.
+    /// Returns a copy. In it, a block with neither a label nor a name nor a type has no box. It can
+    /// fail with Memory only if the operand is in a box or has a list that isn't empty.
     pub fn clone(&self) -> Result<Instruction<'a>>
         ensures copies { Copies SameInstruction (owning instruction_view bare_instruction) result
             self.now }

@@ -1,4 +1,4 @@
-//! The operands of instructions that share their kind of operand.
+//! Operands of instructions that share their kind of operand.
 #![tactic(auto, unfolding(crate::specs::Reading::ReadsOperand, crate::specs::Operand::operand))]
 
 ghost use Rattle.std.specs.Prelude.{◌≡◌, IfOk, IfErr, refl, true};

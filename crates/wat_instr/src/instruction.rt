@@ -1,4 +1,4 @@
-//! Instructions.
+//! The type of instructions.
 
 ghost use Rattle.std.specs.Borrow.{sem};
 ghost use Rattle.std.specs.Option.{option_map};
@@ -12,13 +12,12 @@ use wat_types::HeapType;
 
 /// An instruction (WebAssembly Core Specification, Text Format, "Instructions").
 ///
-/// An instruction that shares its kind of operand with others is a value of an enumeration of words
-/// and the operand; one that is alone in its kind has its own variant. Words are written with `_`
-/// for `.`.
+/// Instructions with the same kind of operand share a variant, which holds an enumeration of their
+/// mnemonics and the operand. An instruction that has its kind of operand alone is a variant of its
+/// own, named as its mnemonic with `_` in place of `.`.
 ///
-/// It is generic in the types that hold a part of a text: an index's, in which the operands of
-/// indices and numbers alone are generic too, and those of other operands. [`Instruction`] is that
-/// of a text.
+/// The type parameters are the types that borrow from the text: indices, identifiers and operands.
+/// [`Instruction`] is the type that the parser returns.
 #[derive(Drop)]
 #[allow(non_camel_case_types)]
 pub enum InstructionOf<
@@ -38,32 +37,32 @@ pub enum InstructionOf<
     BrOnCastDescEq,
     BrOnCastDescEqFail,
 > {
-    /// `block`, `loop`, `if` or `try`, and what is said of the block; None where nothing is: it has
-    /// neither a label nor a name nor a type.
+    /// `block`, `loop`, `if` or `try`, and its block type; None if the block has neither a label
+    /// nor a name nor a type.
     Block(BlockOp, Option<Box<BlockType>>),
-    /// `else` or `end`, and the label that may follow.
+    /// `else` or `end`, and the label, if one is written.
     Label(LabelOp, Option<Id>),
-    /// An instruction without an operand that is none of vectors.
+    /// An instruction without an operand that is not a vector instruction.
     Scalar(ScalarOp),
-    /// An instruction with an index.
+    /// An instruction whose operand is an index.
     Indexed(IndexedOp, Index),
     /// An indirect call.
     CallIndirect(CallIndirectOp, Box<CallIndirect>),
-    /// An instruction with a table.
+    /// An instruction whose operand is a table.
     Table(TableOp, TableArgOf<Index>),
-    /// A load, a store or a wait.
+    /// A load, a store, a wait or a notify.
     Access(AccessOp, MemArg),
-    /// An instruction with a memory.
+    /// An instruction whose operand is a memory.
     Memory(MemoryOp, MemoryArgOf<Index>),
-    /// A field of a structure.
+    /// An access to a field of a structure.
     Struct(StructOp, StructAccessOf<Index>),
-    /// An array, and the segment that it is filled from.
+    /// `array.init_data` or `array.init_elem`, with an array type and a segment.
     ArrayInit(ArrayInitOp, ArrayInitOf<Index>),
     /// An atomic load or store.
     AtomicAccess(AtomicAccessOp, MemArg),
-    /// An atomic read, change and write.
+    /// An atomic read-modify-write instruction.
     RmwAccess(RmwAccessOp, MemArg),
-    /// An atomic access to what an index names.
+    /// An atomic access to a global or to an element of an array.
     OrderedIndex(OrderedIndexOp, Ordered<Index>),
     /// An atomic access to a table.
     OrderedTable(OrderedTableOp, Ordered<TableArgOf<Index>>),
@@ -71,9 +70,9 @@ pub enum InstructionOf<
     OrderedStruct(OrderedStructOp, Ordered<StructAccessOf<Index>>),
     /// A load or store of one lane.
     LaneAccess(LaneAccessOp, LaneOf<MemArg>),
-    /// A lane that is taken out or replaced.
+    /// A lane to extract or to replace.
     Lane(LaneOp, LaneArg),
-    /// An instruction of vectors without an operand.
+    /// A vector instruction without an operand.
     Vector(VectorOp),
     /// `br_table`.
     br_table(BrTableIndicesOf<Index>),
@@ -111,9 +110,9 @@ pub enum InstructionOf<
     i32_const(i32),
     /// `i64.const`.
     i64_const(i64),
-    /// `f32.const`; no literal is read.
+    /// `f32.const`. The parser never returns it: a float literal is an error.
     f32_const(F32),
-    /// `f64.const`; no literal is read.
+    /// `f64.const`. The parser never returns it: a float literal is an error.
     f64_const(F64),
     /// `atomic.fence`.
     atomic_fence(Option<Ordering>),
@@ -141,8 +140,8 @@ pub enum InstructionOf<
     br_on_cast_desc_eq_fail(Box<BrOnCastDescEqFail>),
 }
 
-/// An instruction of a text that lives for `'a` (WebAssembly Core Specification, Text Format,
-/// "Instructions").
+/// An instruction whose identifiers are borrowed from a text with the lifetime `'a` (WebAssembly
+/// Core Specification, Text Format, "Instructions").
 pub type Instruction<'a> = InstructionOf<
     BlockType<'a>,
     Id<'a>,
@@ -196,8 +195,8 @@ impl<
     BrOnCastDescEq,
     BrOnCastDescEqFail,
 > {
-    /// The access of an instruction that accesses a memory, also of one to a lane, and else None.
-    /// What is written through it changes the access alone.
+    /// Returns the memory access of the operand, also that of a load or store of one lane; None if
+    /// the operand has no memory access. A write through the reference changes only the access.
     pub fn memarg_mut(&mut self) -> Option<&mut MemArg>
         ensures* writes_back { sem 𝓛 (LendsAccess BlockType.row Id.row Index.row CallIndirect.row
             MemArg.row SelectTypes.row HeapType.row RefTest.row RefCast.row BrOnCast.row

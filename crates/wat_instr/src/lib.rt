@@ -1,4 +1,5 @@
-//! The instructions of the WebAssembly text format.
+//! The instructions of the WebAssembly text format (WebAssembly Core Specification, Text Format,
+//! "Instructions"): their type, and a parser of one instruction.
 #![tactic(auto)]
 
 mod copy;
@@ -12,7 +13,7 @@ mod singles;
 mod sink;
 
 pub use instruction::{Instruction, InstructionOf};
-pub use ops::{branches_if, opens_block, opens_if};
+pub use ops::{is_block, is_br_if, is_if};
 pub use sink::Sink;
 pub use wat_mnemonics::{
     AccessOp, ArrayInitOp, AtomicAccessOp, BlockOp, CallIndirectOp, IndexedOp, LabelOp,

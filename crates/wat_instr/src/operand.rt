@@ -1,4 +1,4 @@
-//! Operands that are read as their types are.
+//! Operands whose parser is that of their type.
 #![tactic(auto, unfolding(crate::specs::Reading::ReadsOperand))]
 
 ghost use Rattle.std.specs.Prelude.{◌≡◌};

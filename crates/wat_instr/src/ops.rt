@@ -1,4 +1,4 @@
-//! An instruction without its operand, its word, its opcode, and what it opens.
+//! The mnemonic and the opcode of an instruction, and tests for blocks, `if` and `br_if`.
 
 ghost use Rattle.std.specs.Prelude.{◌≡◌};
 ghost use Rattle.wat_mnemonics.specs.Ops.{op_row, op_word, op_opcode};
@@ -43,7 +43,7 @@ impl<
     BrOnCastDescEq,
     BrOnCastDescEqFail,
 > {
-    /// The instruction without its operand.
+    /// Returns the instruction without its operand.
     pub fn op(&self) -> Op
         ensures { result ≡ op_in self.now }
     {
@@ -101,7 +101,7 @@ impl<
         }
     }
 
-    /// The word that it begins with.
+    /// Returns the mnemonic.
     pub fn mnemonic(&self) -> &'static str
         ensures { result.now ≡ op_word (op_in self.now) }
     {
@@ -110,11 +110,12 @@ impl<
 }
 
 impl Instruction<'_> {
-    /// Appends the bytes that stand for it in a binary module, and answers how many they are;
-    /// answers None and appends nothing where it has an operand, or is none of Core Specification
-    /// 2.0 ("Index of Instructions").
+    /// Appends the bytes of the opcode to `out`, and returns their number (WebAssembly Core
+    /// Specification 2.0, "Index of Instructions"). If the instruction has an operand or isn't in
+    /// that version, it appends nothing and returns None.
     ///
-    /// Where memory is refused, nothing is appended. It isn't where there is nothing to append.
+    /// The error is Memory, if `out` can't grow; then nothing was appended. It never fails if there
+    /// is nothing to append.
     pub fn write_opcode(&self, out: &mut Vec<u8>) -> Result<Option<usize>>
         ensures { Appends (bytes (op_opcode (op_in self.now))) out.old.items out.new.items
             result }
@@ -122,25 +123,26 @@ impl Instruction<'_> {
         self.op().opcode().write(out)
     }
 
-    /// Whether it is `if`.
+    /// Returns whether the instruction is `if`.
     pub fn is_if(&self) -> bool
         ensures { result ≡ is_if (instruction_view self.now).row }
     {
-        opens_if(self.op())
+        is_if(self.op())
     }
 
-    /// Whether it is `br_if`.
+    /// Returns whether the instruction is `br_if`.
     pub fn is_br_if(&self) -> bool
         ensures { result ≡ is_br_if (instruction_view self.now).row }
     {
-        branches_if(self.op())
+        is_br_if(self.op())
     }
 }
 
-/// Whether it is `block`, `loop` or `try_table`, which stand before the items of a block.
+/// Returns whether the instruction is `block`, `loop` or `try_table`. Folded, its group holds the
+/// instructions of the block.
 #[inline(always)]
 #[tactic(auto, using(crate::proofs::RowFamilies::block_rows))]
-pub fn opens_block(op: Op) -> bool
+pub fn is_block(op: Op) -> bool
     ensures { result ≡ is_block (op_row op) }
 {
     match op {
@@ -155,10 +157,10 @@ pub fn opens_block(op: Op) -> bool
     }
 }
 
-/// Whether it is `if`.
+/// Returns whether the instruction is `if`.
 #[inline(always)]
 #[tactic(auto, using(crate::proofs::RowFamilies::if_rows))]
-pub fn opens_if(op: Op) -> bool
+pub fn is_if(op: Op) -> bool
     ensures { result ≡ is_if (op_row op) }
 {
     match op {
@@ -172,10 +174,10 @@ pub fn opens_if(op: Op) -> bool
     }
 }
 
-/// Whether it is `br_if`.
+/// Returns whether the instruction is `br_if`.
 #[inline(always)]
 #[tactic(auto, using(crate::proofs::RowFamilies::br_if_rows))]
-pub fn branches_if(op: Op) -> bool
+pub fn is_br_if(op: Op) -> bool
     ensures { result ≡ is_br_if (op_row op) }
 {
     match op {
@@ -187,7 +189,7 @@ pub fn branches_if(op: Op) -> bool
     }
 }
 
-/// Prints the word.
+/// Prints the mnemonic.
 impl<
     BlockType,
     Id,

@@ -1,4 +1,4 @@
-//! Instructions as they are read.
+//! The parser of instructions.
 
 ghost use Rattle.std.specs.Prelude.{◌≡◌, ◌+◌, ◌≤◌, ◌∷◌, ℕ, List, None, IfErr};
 ghost use Rattle.wat_tokens.specs.Cost.{words_too};
@@ -27,11 +27,11 @@ use wat_tokens::{F32, F64, Fault, Index, Parse, Parser, Result};
 use wat_types::HeapType;
 
 impl<'a> Instruction<'a> {
-    /// Takes the operand of the instruction whose word was taken, and puts the instruction into a
-    /// place that has room for it.
+    /// Parses the operand of an instruction after its mnemonic, and appends the instruction to
+    /// `out`, which has room for it.
     ///
-    /// Where no operand is in front, it is refused with the first fault that is met; Memory may be
-    /// answered where the instruction isn't bare. Then nothing was put.
+    /// The error is the first one in the operand. It can be Memory only if the operand owns memory:
+    /// a box, or a list that isn't empty. After an error, `out` is as it was.
     #[inline(always)]
     pub fn read_operand<P: Sink<'a>>(op: Op, parser: &mut Parser<'a>, out: &mut P) -> Result<()>
         requires { P.has_room out.old }
@@ -96,9 +96,10 @@ impl<'a> Instruction<'a> {
     }
 }
 
-/// The word of an instruction, and then its operand.
+/// A mnemonic, and then the operand.
 ///
-/// A word that is no mnemonic, or any other token, is refused with Operator at it.
+/// The error is Operator, at the next token, if that is not a mnemonic; otherwise the first error
+/// of the operand.
 impl<'a> Parse<'a> for Instruction<'a> {
     ghost View = { Instr };
 
@@ -110,10 +111,10 @@ impl<'a> Parse<'a> for Instruction<'a> {
 
     #[tactic(auto, unfolding(crate::specs::Reading::ReadsOperand, crate::specs::Instruction::instruction))]
     fn parse(parser: &mut Parser<'a>) -> Result<Self>
-        // No turn and no height is counted.
+        // It counts no turn and no height.
         ensures reads { ReadsAt words_too (owning instruction_view bare_instruction) instruction
             result parser.old parser.new }
-        // The word is compared at most ten times, and at least once where a keyword is in front.
+        // It makes at most ten comparisons of mnemonics, and at least one if a keyword is next.
         ensures probes { AtMostTen parser.old parser.new }
         ensures probed { (w : List ℕ) (r : List Tok) → parser.old.left ≡ Keyword w ∷ r
             → parser.old.probes + 1 ≤ parser.new.probes }

@@ -1,4 +1,4 @@
-//! The operands of instructions that are alone in their kind.
+//! Operands of instructions that have their kind of operand alone.
 
 ghost use Rattle.std.specs.Prelude.{Some, None, refl};
 ghost use Rattle.wat_instr.specs.Instruction.{operand_in};

@@ -1,4 +1,4 @@
-//! Where an instruction is put that is read.
+//! Destinations of parsed instructions.
 
 ghost use Rattle.std.specs.Prelude.{◌≡◌, ◌<◌, ◌++◌, ◌∷◌, [], List, None, map};
 ghost use Rattle.std.specs.Vec.{vec_len, vec_capacity};
@@ -7,23 +7,23 @@ ghost use Rattle.wat_instr.specs.Reading.{in_slot};
 
 use crate::instruction::Instruction;
 
-/// Where an instruction is put that is read, so that it is made where it stays.
+/// A destination of parsed instructions. An instruction is built in place, without a move.
 ///
-/// Memory isn't asked for here: the caller sees to it that there is room.
+/// [`put`](Sink::put) doesn't allocate: the caller makes room first.
 pub trait Sink<'a> {
-    /// The instructions that are there, in order.
+    /// The instructions in the destination, in order.
     ghost seen: { Self → List Instr };
 
-    /// Whether there is room for one more.
+    /// There is room for one more instruction.
     ghost has_room: { Self → Type 0 };
 
-    /// Puts an instruction behind those that are there.
+    /// Appends an instruction.
     fn put(&mut self, instr: Instruction<'a>)
         requires { has_room self.old }
         ensures { seen self.new ≡ seen self.old ++ instruction_view instr.entry ∷ [] };
 }
 
-/// A list has room where [`reserve`](Vec::reserve) made some.
+/// A list has room after a call of [`reserve`](Vec::reserve).
 impl<'a> Sink<'a> for Vec<Instruction<'a>> {
     ghost seen = { λ v. map instruction_view v.items };
 
@@ -35,7 +35,7 @@ impl<'a> Sink<'a> for Vec<Instruction<'a>> {
     }
 }
 
-/// A slot has room for one instruction.
+/// An option has room if it is None.
 impl<'a> Sink<'a> for Option<Instruction<'a>> {
     ghost seen = { in_slot };
 

@@ -10,11 +10,10 @@ use Rattle.std.proofs.lemmas.Bool.Decides.{nat_tests}
 use Rattle.wat_lexer.specs.Bytes.{is_idchar, between}
 use Rattle.wat_lexer.specs.Cut.{begins, in_no_run, is_hex}
 use Rattle.wat_lexer.specs.Number.{read, begins_hex, is_integer}
-use Rattle.wat_lexer.specs.Token.{Keyword, Id, Integer}
+use Rattle.wat_lexer.specs.Token.{Keyword, Id, Integer, Placed}
 use Rattle.wat_lexer.specs.Scan.{all_idchars, class, string_at, with_front, rest_at, behind_run, front, run_front, TokenTo, Between, Ends, Raw}
 use Rattle.wat_lexer.specs.View.{PieceIs}
 use Rattle.wat_lexer.specs.declared.lexeme.Kind.TheVariants as kinds
-use Rattle.wat_lexer.specs.declared.lexeme.SideEntry.{SideEntry}
 use Rattle.wat_lexer.specs.Laws.Classes.{idchars_sound, class_complete}
 use Rattle.wat_lexer.specs.Laws.Fronts.{in_run_front}
 use Rattle.wat_lexer.specs.Laws.Pieces.{ends_here}
@@ -121,14 +120,14 @@ token_here behind at end s order within first run =
 first_idchar : (at end : ℕ) (s : List ℕ) → at < end → end ≤ length s → all_idchars (slice_range s at end) ≡ true → is_idchar (get_or s at 0) ≡ true
 first_idchar at end s order within all = (all_tail (get_or s at 0) (slice_range s (at + 1) end) (rw (slice_front at end s order within) at all)).0
 
-pub keyword_piece : (behind : Bool) (lie : List SideEntry) (at end : ℕ) (s : List ℕ) → at < end → end ≤ length s → between 97 122 (get_or s at 0) ≡ true → all_idchars (slice_range s at end) ≡ true → behind_run Between (drop at s) ≡ Ends (drop end s)
+pub keyword_piece : (behind : Bool) (lie : List Placed) (at end : ℕ) (s : List ℕ) → at < end → end ≤ length s → between 97 122 (get_or s at 0) ≡ true → all_idchars (slice_range s at end) ≡ true → behind_run Between (drop at s) ≡ Ends (drop end s)
     → PieceIs s lie lie at (record { kind = Some kinds.Keyword; end = end }) (front behind (drop at s))
 keyword_piece behind lie at end s order within low all run =
     let x = slice_range s at end in
     let is : class behind x ≡ Keyword x = class_complete behind x (Keyword x) (refl, idchars_sound x all, get_or s at 0, slice_range s (at + 1) end, slice_front at end s order within, low) in
     (token_here behind at end s order within (inl (first_idchar at end s order within all)) run ∙ ap (λ t. TokenTo t (drop end s)) is, (omega arith, within, all), refl)
 
-pub id_piece : (behind : Bool) (lie : List SideEntry) (at end : ℕ) (s : List ℕ) → at + 1 < end → end ≤ length s → get_or s at 0 ≡ 36 → all_idchars (slice_range s at end) ≡ true → behind_run Between (drop at s) ≡ Ends (drop end s)
+pub id_piece : (behind : Bool) (lie : List Placed) (at end : ℕ) (s : List ℕ) → at + 1 < end → end ≤ length s → get_or s at 0 ≡ 36 → all_idchars (slice_range s at end) ≡ true → behind_run Between (drop at s) ≡ Ends (drop end s)
     → PieceIs s lie lie at (record { kind = Some kinds.Id; end = end }) (front behind (drop at s))
 id_piece behind lie at end s order within mark all run =
     let x = slice_range s at end in
@@ -139,25 +138,25 @@ id_piece behind lie at end s order within mark all run =
     let is : class behind x ≡ Id n = class_complete behind x (Id n) (n, front ∙ ap (λ b. b ∷ n) mark, omega (arith, length-take (end - (at + 1)) (drop (at + 1) s), length-drop (at + 1) s), inl (refl, idchars_sound n rest)) in
     (token_here behind at end s short within (inl (first_idchar at end s short within all)) run ∙ ap (λ t. TokenTo t (drop end s)) is, (order, within, all), refl)
 
-pub integer_piece : (behind : Bool) (lie : List SideEntry) (at end : ℕ) (s : List ℕ) → at < end → end ≤ length s → is_integer (slice_range s at end) ≡ true → all_idchars (slice_range s at end) ≡ true → behind_run Between (drop at s) ≡ Ends (drop end s)
+pub integer_piece : (behind : Bool) (lie : List Placed) (at end : ℕ) (s : List ℕ) → at < end → end ≤ length s → is_integer (slice_range s at end) ≡ true → all_idchars (slice_range s at end) ≡ true → behind_run Between (drop at s) ≡ Ends (drop end s)
     → PieceIs s lie lie at (record { kind = Some kinds.Integer; end = end }) (front behind (drop at s))
 integer_piece behind lie at end s order within integer all run =
     let x = slice_range s at end in
     let is : class behind x ≡ Integer x = class_complete behind x (Integer x) (refl, idchars_sound x all, integer) in
     (token_here behind at end s order within (inl (first_idchar at end s order within all)) run ∙ ap (λ t. TokenTo t (drop end s)) is, (omega arith, within, all), refl)
 
-pub string_piece : (behind : Bool) (lie : List SideEntry) (at end : ℕ) (s : List ℕ) → at + 1 < end → end ≤ length s → get_or s at 0 ≡ 34 → string_at Raw (drop (at + 1) s) ≡ Some (slice_range s (at + 1) (end - 1), drop end s) → behind_run Between (drop at s) ≡ Ends (drop end s)
+pub string_piece : (behind : Bool) (lie : List Placed) (at end : ℕ) (s : List ℕ) → at + 1 < end → end ≤ length s → get_or s at 0 ≡ 34 → string_at Raw (drop (at + 1) s) ≡ Some (slice_range s (at + 1) (end - 1), drop end s) → behind_run Between (drop at s) ≡ Ends (drop end s)
     → PieceIs s lie lie at (record { kind = Some kinds.String; end = end }) (front behind (drop at s))
 string_piece behind lie at end s order within mark content run =
     let short : at < end = omega arith in
     let is = class_string behind at end (slice_range s (at + 1) (end - 1)) s short within mark content in
     (token_here behind at end s short within (inr mark) run ∙ ap (λ t. TokenTo t (drop end s)) is, (order, within), refl)
 
-pub open_piece : (behind : Bool) (lie : List SideEntry) (at : ℕ) (s : List ℕ) → at < length s → get_or s at 0 ≡ 40 → begins 59 (drop (at + 1) s) ≡ false
+pub open_piece : (behind : Bool) (lie : List Placed) (at : ℕ) (s : List ℕ) → at < length s → get_or s at 0 ≡ 40 → begins 59 (drop (at + 1) s) ≡ false
     → PieceIs s lie lie at (record { kind = Some kinds.LParen; end = at + 1 }) (front behind (drop at s))
 open_piece behind lie at s lt mark none = (front_step behind at s lt ∙ rw (mark, none), tt, refl)
 
-pub close_piece : (behind : Bool) (lie : List SideEntry) (at : ℕ) (s : List ℕ) → at < length s → get_or s at 0 ≡ 41
+pub close_piece : (behind : Bool) (lie : List Placed) (at : ℕ) (s : List ℕ) → at < length s → get_or s at 0 ≡ 41
     → PieceIs s lie lie at (record { kind = Some kinds.RParen; end = at + 1 }) (front behind (drop at s))
 close_piece behind lie at s lt mark = (front_step behind at s lt ∙ rw mark, tt, refl)
 

@@ -2,39 +2,20 @@
 use Rattle.std.proofs.Common.{◌≡◌, ℕ, zero, suc, ◌+◌, ◌<◌, ◌≤◌, List, [], ◌∷◌, ◌++◌, length, refl, ap, sym, subst, ◌∙◌, append-nil, ◌-◌, arith, drop}
 use Rattle.std.specs.Prelude.{◌≢◌, Bool, true, false, ◌||◌}
 use Rattle.std.specs.List.{AllByRecursion}
-use Rattle.std.proofs.Math.Bool.{or_assoc, or-false}
+use Rattle.std.proofs.Math.Bool.{or_assoc, or-false, or-true}
 use Rattle.std.proofs.Math.ListN.{get_or, set, drop_of_length-le}
 use Rattle.std.proofs.Math.Seq.{get_or-append_seam}
-use Rattle.std.proofs.lemmas.List.{get_or-map, map-append, length-append, get_or_append_left, get_or-set_same, get_or-set_other}
-use Rattle.wat_lexer.specs.Token.{Entry, Tok, Annotation, is_annotation, has_annotation}
+use Rattle.std.proofs.lemmas.List.{get_or-map, map-append, length-append, get_or_append_left, get_or_default, get_or-set_same, get_or-set_other}
+use Rattle.wat_lexer.specs.Token.{Entry, Placed, Tok, Annotation, is_annotation, has_annotation}
 use Rattle.std.proofs.lemmas.List.{drop_more}
 use Rattle.std.proofs.lemmas.List.Elements.{All-get_or, All-from_recursion}
-use Rattle.wat_lexer.specs.View.{view, is_paren, lying, is_annotation_kind, is_word, no_side_entry, lies_from, stands_at, skips_of, no_skips, lying_skips, number_of, wide, own_number, Apart, AllApart, tok_at, Readable, lies, last_in_side_table, CanBeRead, AllCanBeRead, WasKept, PutInSideTable, FoundFits, found_tok, entry_of, entries_of, entry_tok, skip_in_front, skipping, no_entry}
+use Rattle.wat_lexer.specs.View.{is_paren, lying, is_annotation_kind, is_word, HasSkips, no_side_entry, lies_from, stands_at, skips_of, no_skips, lying_skips, number_of, wide, own_number, Apart, AllApart, tok_at, Readable, lies, last_in_side_table, CanBeRead, AllCanBeRead, WasKept, PutInSideTable, FoundFits, found_tok, entry_of, entries_of, entry_tok, skip_in_front, skipping, no_entry}
 use Rattle.wat_lexer.specs.declared.lexeme.Kind.{Kind}
 use Rattle.wat_lexer.specs.declared.lexeme.Kind.TheVariants as kinds
 use Rattle.wat_lexer.specs.declared.lexeme.Skips.{Skips}
 use Rattle.wat_lexer.specs.declared.lexeme.Lexeme.{Lexeme}
-use Rattle.wat_lexer.specs.declared.lexeme.SideEntry.{SideEntry}
 
 -- LEAPS ARE TOLD
-
--- other skips lie there
-abbrev pub with_skips : List SideEntry → ℕ → Skips → List SideEntry
-with_skips side_table n skips = set side_table n (record (get_or side_table n no_side_entry) { skips = skips })
-
--- what lies in the side table is the same token at the same place
-same_side_table : (side_table : List SideEntry) (n : ℕ) (skips : Skips) (i : ℕ) → (lies (with_skips side_table n skips) i ≡ lies side_table i) × (lies_from (with_skips side_table n skips) i ≡ lies_from side_table i)
-same_side_table [] n skips i = (refl, refl)
-same_side_table (x ∷ side_table) zero skips zero = (refl, refl)
-same_side_table (x ∷ side_table) zero skips (suc i) = (refl, refl)
-same_side_table (x ∷ side_table) (suc n) skips zero = (refl, refl)
-same_side_table (x ∷ side_table) (suc n) skips (suc i) = same_side_table side_table n skips i
-
-skips_there : (side_table : List SideEntry) (n : ℕ) (skips : Skips) → n < length side_table → lying_skips (with_skips side_table n skips) n ≡ skips
-skips_there side_table n skips lt = ap (λ (a : SideEntry). a.skips) (get_or-set_same side_table n (record (get_or side_table n no_side_entry) { skips = skips }) no_side_entry lt)
-
-skips_elsewhere : (side_table : List SideEntry) (n : ℕ) (skips : Skips) (i : ℕ) → i ≢ n → lying_skips (with_skips side_table n skips) i ≡ lying_skips side_table i
-skips_elsewhere side_table n skips i other = ap (λ (a : SideEntry). a.skips) (get_or-set_other side_table n i (record (get_or side_table n no_side_entry) { skips = skips }) no_side_entry other)
 
 annotation_skips : (kind : Kind) (a : Skips) → is_annotation_kind kind ≡ true → skips_of kind a ≡ a
 annotation_skips kinds.Annotation a is = refl
@@ -45,55 +26,71 @@ skips_at kinds.Annotation a b h = h refl
 skips_at _ a b h = refl
 
 -- an annotation's skips are told there
-told_here : (text : List ℕ) (side_table : List SideEntry) (skips : Skips) (x : Lexeme) → is_annotation_kind x.kind ≡ true → own_number x < length side_table → entry_of text (with_skips side_table (own_number x) skips) x ≡ record (entry_of text side_table x) { skips = skips }
-told_here text side_table skips x is lt =
+told_here : (text : List ℕ) (side_table : List Placed) (told : List Skips) (skips : Skips) (x : Lexeme) → is_annotation_kind x.kind ≡ true → own_number x < length told → entry_of text side_table (set told (own_number x) skips) x ≡ record (entry_of text side_table told x) { skips = skips }
+told_here text side_table told skips x is lt =
     let n = own_number x in
-    let same = same_side_table side_table n skips n in
-    let here : skips_of x.kind (lying_skips (with_skips side_table n skips) n) ≡ skips = annotation_skips x.kind (lying_skips (with_skips side_table n skips) n) is ∙ skips_there side_table n skips lt in
-    λ i. record { token = tok_at x.kind text n (n + x.size) (same.0 i); offset = stands_at x.kind n (same.1 i); skips = here i }
+    let here : skips_of x.kind (lying_skips (set told n skips) n) ≡ skips = annotation_skips x.kind (lying_skips (set told n skips) n) is ∙ get_or-set_same told n skips no_skips lt in
+    λ i. record (entry_of text side_table told x) { skips = here i }
 
 -- and no others
-told_elsewhere : (text : List ℕ) (side_table : List SideEntry) (n : ℕ) (skips : Skips) (x : Lexeme) → (is_annotation_kind x.kind ≡ true → own_number x ≢ n) → entry_of text (with_skips side_table n skips) x ≡ entry_of text side_table x
-told_elsewhere text side_table n skips x other =
+told_elsewhere : (text : List ℕ) (side_table : List Placed) (told : List Skips) (n : ℕ) (skips : Skips) (x : Lexeme) → (is_annotation_kind x.kind ≡ true → own_number x ≢ n) → entry_of text side_table (set told n skips) x ≡ entry_of text side_table told x
+told_elsewhere text side_table told n skips x other =
     let m = own_number x in
-    let same = same_side_table side_table n skips m in
-    let here : skips_of x.kind (lying_skips (with_skips side_table n skips) m) ≡ skips_of x.kind (lying_skips side_table m) = skips_at x.kind _ _ (λ is. skips_elsewhere side_table n skips m (other is)) in
-    λ i. record { token = tok_at x.kind text m (m + x.size) (same.0 i); offset = stands_at x.kind m (same.1 i); skips = here i }
+    let here : skips_of x.kind (lying_skips (set told n skips) m) ≡ skips_of x.kind (lying_skips told m) = skips_at x.kind _ _ (λ is. get_or-set_other told n m skips no_skips (other is)) in
+    λ i. record (entry_of text side_table told x) { skips = here i }
 
-all_elsewhere : (text : List ℕ) (side_table : List SideEntry) (skips : Skips) (x : Lexeme) (ls : List Lexeme) → is_annotation_kind x.kind ≡ true → AllByRecursion (Apart x) ls → entries_of text (with_skips side_table (own_number x) skips) ls ≡ entries_of text side_table ls
-all_elsewhere text side_table skips x [] is apart = refl
-all_elsewhere text side_table skips x (y ∷ ls) is (here, apart) =
-    let first = told_elsewhere text side_table (own_number x) skips y (λ too same. here is too (sym same)) in
-    let rest = all_elsewhere text side_table skips x ls is apart in
+all_elsewhere : (text : List ℕ) (side_table : List Placed) (told : List Skips) (skips : Skips) (x : Lexeme) (ls : List Lexeme) → is_annotation_kind x.kind ≡ true → AllByRecursion (Apart x) ls → entries_of text side_table (set told (own_number x) skips) ls ≡ entries_of text side_table told ls
+all_elsewhere text side_table told skips x [] is apart = refl
+all_elsewhere text side_table told skips x (y ∷ ls) is (here, apart) =
+    let first = told_elsewhere text side_table told (own_number x) skips y (λ too same. here is too (sym same)) in
+    let rest = all_elsewhere text side_table told skips x ls is apart in
     λ i. first i ∷ rest i
 
 apart_there : (x : Lexeme) (ls : List Lexeme) (i : ℕ) (d : Lexeme) → i < length ls → AllByRecursion (Apart x) ls → Apart x (get_or ls i d)
 apart_there x ls i d lt apart = All-get_or (Apart x) ls i d lt (All-from_recursion (Apart x) ls apart)
 
-pub skips_told : (text : List ℕ) (side_table : List SideEntry) (ls : List Lexeme) (i : ℕ) (skips : Skips) (x d : Lexeme) → i < length ls → get_or ls i d ≡ x → AllApart ls → is_annotation_kind x.kind ≡ true → own_number x < length side_table
-    → entries_of text (with_skips side_table (own_number x) skips) ls ≡ set (entries_of text side_table ls) i (skipping (entries_of text side_table ls) i skips)
-skips_told text side_table [] i skips x d lt e apart is within = absurd (omega arith)
-skips_told text side_table (y ∷ ls) zero skips x d lt e (here, apart) is within =
-    rw e (let first = told_here text side_table skips x is within in
-    let rest = all_elsewhere text side_table skips x ls is (rw e at here) in
+pub skips_told : (text : List ℕ) (side_table : List Placed) (told : List Skips) (ls : List Lexeme) (i : ℕ) (skips : Skips) (x d : Lexeme) → i < length ls → get_or ls i d ≡ x → AllApart ls → is_annotation_kind x.kind ≡ true → own_number x < length told
+    → entries_of text side_table (set told (own_number x) skips) ls ≡ set (entries_of text side_table told ls) i (skipping (entries_of text side_table told ls) i skips)
+skips_told text side_table told [] i skips x d lt e apart is within = absurd (omega arith)
+skips_told text side_table told (y ∷ ls) zero skips x d lt e (here, apart) is within =
+    rw e (let first = told_here text side_table told skips x is within in
+    let rest = all_elsewhere text side_table told skips x ls is (rw e at here) in
     λ i. first i ∷ rest i)
-skips_told text side_table (y ∷ ls) (suc i) skips x d lt e (here, apart) is within =
+skips_told text side_table told (y ∷ ls) (suc i) skips x d lt e (here, apart) is within =
     let other : Apart y x = rw e at (apart_there y ls i d (omega arith) here) in
-    let first = told_elsewhere text side_table (own_number x) skips y (λ too. other too is) in
-    let rest = skips_told text side_table ls i skips x d (omega arith) e apart is within in
+    let first = told_elsewhere text side_table told (own_number x) skips y (λ too. other too is) in
+    let rest = skips_told text side_table told ls i skips x d (omega arith) e apart is within in
     λ i. first i ∷ rest i
 
+-- where no skips are told it is as if there were no room for any
+pub untold : (text : List ℕ) (side_table : List Placed) (told : List Skips) (ls : List Lexeme) → ((i : ℕ) → lying_skips told i ≡ no_skips) → entries_of text side_table told ls ≡ entries_of text side_table [] ls
+untold text side_table told [] none = refl
+untold text side_table told (x ∷ ls) none =
+    let here : skips_of x.kind (lying_skips told (own_number x)) ≡ skips_of x.kind no_skips = ap (skips_of x.kind) (none (own_number x)) in
+    let rest = untold text side_table told ls none in
+    λ i. record (entry_of text side_table [] x) { skips = here i } ∷ rest i
+
 -- what is put into the side table at once is one token at most
-pub put_few : (kind : Kind) (old new : List SideEntry) → PutInSideTable kind old new → length new ≤ length old + 1
+pub put_few : (kind : Kind) (old new : List Placed) → PutInSideTable kind old new → length new ≤ length old + 1
 put_few kinds.Annotation old new (t, e) = omega (arith, ap length e, length-append old (t ∷ []))
 put_few kinds.InSideTable old new (t, e) = omega (arith, ap length e, length-append old (t ∷ []))
 put_few _ old new e = omega (arith, ap length e)
 
--- what is an annotation is so by its kind, and lies in the side table
-annotation_kind : (kind : Kind) (text : List ℕ) (from end : ℕ) {P : Type 0} (other : Tok) → Readable kind text from end P other → is_annotation (tok_at kind text from end other) ≡ true → (is_annotation_kind kind ≡ true) × P
-annotation_kind kinds.Annotation text from end other h e = (refl, h.0)
-annotation_kind kinds.InSideTable text from end other h e = absurd (let f : true ≡ false = sym e ∙ h.1 in cc)
-annotation_kind _ text from end other h e = cc
+-- what is an annotation is so by its kind
+annotation_kind : (kind : Kind) (text : List ℕ) (from end : ℕ) (P : Type 0) (other : Tok) → Readable kind text from end P other → is_annotation (tok_at kind text from end other) ≡ true → is_annotation_kind kind ≡ true
+annotation_kind kinds.Annotation text from end P other h e = refl
+annotation_kind kinds.InSideTable text from end P other h e = absurd (let f : true ≡ false = sym e ∙ h.1 in cc)
+annotation_kind _ text from end P other h e = cc
+
+-- and lies in the side table
+annotation_lies : (kind : Kind) (text : List ℕ) (from end : ℕ) {P : Type 0} (other : Tok) → Readable kind text from end P other → is_annotation_kind kind ≡ true → P × (is_annotation other ≡ true)
+annotation_lies kinds.Annotation text from end other h is = h
+annotation_lies _ text from end other h is = cc
+
+any_there : (side_table : List Placed) (i : ℕ) → i < length side_table → is_annotation (lies side_table i) ≡ true → has_annotation (lying side_table) ≡ true
+any_there [] i lt e = absurd (omega arith)
+any_there (x ∷ side_table) zero lt e = rw e
+any_there (x ∷ side_table) (suc i) lt e = rw (any_there side_table i (omega arith) e) (or-true (is_annotation (x.token)))
 
 annotation_wide : (kind : Kind) (low size : ℕ) → is_annotation_kind kind ≡ true → wide low size ≡ number_of kind low size
 annotation_wide kinds.Annotation low size is = refl
@@ -102,13 +99,27 @@ annotation_wide _ low size is = cc
 pub annotation_number : (x : Lexeme) → is_annotation_kind x.kind ≡ true → wide x.low x.size ≡ own_number x
 annotation_number x is = annotation_wide x.kind x.low x.size is
 
-pub annotation_there : (text : List ℕ) (side_table : List SideEntry) (ls : List Lexeme) (i : ℕ) (x d : Lexeme) → i < length ls → get_or ls i d ≡ x → AllCanBeRead text side_table ls → is_annotation (entry_tok (get_or (entries_of text side_table ls) i no_entry)) ≡ true
-    → (is_annotation_kind x.kind ≡ true) × (own_number x < length side_table)
-annotation_there text side_table ls i x d lt e all is =
-    let fit : CanBeRead text side_table x = subst (CanBeRead text side_table) e (All-get_or (CanBeRead text side_table) ls i d lt (All-from_recursion (CanBeRead text side_table) ls all)) in
-    let here : get_or (entries_of text side_table ls) i no_entry ≡ entry_of text side_table x = rw (get_or-map (entry_of text side_table) ls i d no_entry lt, e) in
-    let (kind, there) = annotation_kind x.kind text (own_number x) (own_number x + x.size) (lies side_table (own_number x)) fit (rw here at is) in
-    (kind, there.0)
+readable_there : (text : List ℕ) (side_table : List Placed) (ls : List Lexeme) (i : ℕ) (x d : Lexeme) → i < length ls → get_or ls i d ≡ x → AllCanBeRead text side_table ls → CanBeRead text side_table x
+readable_there text side_table ls i x d lt e all = subst (CanBeRead text side_table) e (All-get_or (CanBeRead text side_table) ls i d lt (All-from_recursion (CanBeRead text side_table) ls all))
+
+-- there is room for its skips
+pub annotation_room : (text : List ℕ) (side_table : List Placed) (told : List Skips) (ls : List Lexeme) (i : ℕ) (x d : Lexeme) → i < length ls → get_or ls i d ≡ x → AllCanBeRead text side_table ls → HasSkips side_table told → is_annotation_kind x.kind ≡ true → own_number x < length told
+annotation_room text side_table told ls i x d lt e all room is =
+    let n = own_number x in
+    let (there, note) = annotation_lies x.kind text n (n + x.size) (lies side_table n) (readable_there text side_table ls i x d lt e all) is in
+    omega (arith, there.0, room (any_there side_table n there.0 note))
+
+pub annotation_there : (text : List ℕ) (side_table : List Placed) (told : List Skips) (ls : List Lexeme) (i : ℕ) (x d : Lexeme) → i < length ls → get_or ls i d ≡ x → AllCanBeRead text side_table ls → is_annotation (entry_tok (get_or (entries_of text side_table told ls) i no_entry)) ≡ true → is_annotation_kind x.kind ≡ true
+annotation_there text side_table told ls i x d lt e all is =
+    let n = own_number x in
+    let here : get_or (entries_of text side_table told ls) i no_entry ≡ entry_of text side_table told x = rw (get_or-map (entry_of text side_table told) ls i d no_entry lt, e) in
+    annotation_kind x.kind text n (n + x.size) _ (lies side_table n) (readable_there text side_table ls i x d lt e all) (rw here at is)
+
+-- what its entry tells lies at its number
+pub annotation_told : (text : List ℕ) (side_table : List Placed) (told : List Skips) (ls : List Lexeme) (i n : ℕ) (skips : Skips) (x d : Lexeme) → i < length ls → get_or ls i d ≡ x → is_annotation_kind x.kind ≡ true → n ≡ own_number x → n < length told → skips ≡ get_or told n skips → skips ≡ (get_or (entries_of text side_table told ls) i no_entry).skips
+annotation_told text side_table told ls i n skips x d lt e is number room here =
+    let there : get_or (entries_of text side_table told ls) i no_entry ≡ entry_of text side_table told x = rw (get_or-map (entry_of text side_table told) ls i d no_entry lt, e) in
+    here ∙ get_or_default told n skips no_skips room ∙ ap (lying_skips told) number ∙ sym (annotation_skips x.kind (lying_skips told (own_number x)) is) ∙ ap (λ (a : Entry). a.skips) (sym there)
 
 -- where fewer than two tokens are left, none skips
 pub skip_few : (known : Bool) (ls : List Entry) → length ls ≤ 1 → skip_in_front known ls ≡ 0
@@ -119,21 +130,22 @@ skip_few known (x ∷ y ∷ ls) h = absurd (omega arith)
 -- WHAT WAS KEPT STAYS
 
 -- what a kind reads of what lies in the side table, where that is the same
-still : (kind : Kind) (text : List ℕ) (from end own : ℕ) {P Q : Type 0} (s t : Tok) (i j : ℕ) (a b : Skips) → (P → Q × (s ≡ t) × (i ≡ j) × (a ≡ b)) → Readable kind text from end P t
-    → Readable kind text from end Q s × (tok_at kind text from end s ≡ tok_at kind text from end t) × (stands_at kind own i ≡ stands_at kind own j) × (skips_of kind a ≡ skips_of kind b)
-still kinds.Annotation text from end own s t i j a b more (h, note) = let (there, same, place, skips) = more h in ((there, rw same note), same, place, skips)
-still kinds.InSideTable text from end own s t i j a b more (h, none) = let (there, same, place, skips) = more h in ((there, rw same none), same, place, refl)
-still _ text from end own s t i j a b more h = (h, refl, refl, refl)
+still : (kind : Kind) (text : List ℕ) (from end own : ℕ) {P Q : Type 0} (s t : Tok) (i j : ℕ) → (P → Q × (s ≡ t) × (i ≡ j)) → Readable kind text from end P t
+    → Readable kind text from end Q s × (tok_at kind text from end s ≡ tok_at kind text from end t) × (stands_at kind own i ≡ stands_at kind own j)
+still kinds.Annotation text from end own s t i j more (h, note) = let (there, same, place) = more h in ((there, rw same note), same, place)
+still kinds.InSideTable text from end own s t i j more (h, none) = let (there, same, place) = more h in ((there, rw same none), same, place)
+still _ text from end own s t i j more h = (h, refl, refl)
 
-still_fits : (text : List ℕ) (old m : List SideEntry) (x : Lexeme) → CanBeRead text old x → CanBeRead text (old ++ m) x × (entry_of text (old ++ m) x ≡ entry_of text old x)
+still_fits : (text : List ℕ) (old m : List Placed) (x : Lexeme) → CanBeRead text old x → CanBeRead text (old ++ m) x × (entry_of text (old ++ m) [] x ≡ entry_of text old [] x)
 still_fits text old m x h =
     let n = own_number x in
-    let (fits, token, place, skips) = still x.kind text n (n + x.size) n (lies (old ++ m) n) (lies old n) (lies_from (old ++ m) n) (lies_from old n) (lying_skips (old ++ m) n) (lying_skips old n) (λ (lt, none).
+    let (fits, token, place) = still x.kind text n (n + x.size) n (lies (old ++ m) n) (lies old n) (lies_from (old ++ m) n) (lies_from old n) (λ (lt, none).
     let same : get_or (old ++ m) n no_side_entry ≡ get_or old n no_side_entry = get_or_append_left old m no_side_entry n lt in
-    ((omega (arith, length-append old m), rw same none), ap (λ (a : SideEntry). view a.token) same, ap (λ (a : SideEntry). a.offset) same, ap (λ (a : SideEntry). a.skips) same)) h
-    in (fits, λ i. record { token = token i; offset = place i; skips = skips i })
+    let token : lies (old ++ m) n ≡ lies old n = ap (λ (a : Placed). a.token) same in
+    ((omega (arith, length-append old m), rw token none), token, ap (λ (a : Placed). a.offset) same)) h
+    in (fits, λ i. record { token = token i; offset = place i; skips = skips_of x.kind no_skips })
 
-pub still_all : (text : List ℕ) (old m : List SideEntry) (ls : List Lexeme) → AllCanBeRead text old ls → AllCanBeRead text (old ++ m) ls × (entries_of text (old ++ m) ls ≡ entries_of text old ls)
+pub still_all : (text : List ℕ) (old m : List Placed) (ls : List Lexeme) → AllCanBeRead text old ls → AllCanBeRead text (old ++ m) ls × (entries_of text (old ++ m) [] ls ≡ entries_of text old [] ls)
 still_all text old m [] h = (tt, refl)
 still_all text old m (x ∷ ls) (h, t) =
     let (first, kept) = still_fits text old m x h in
@@ -144,12 +156,12 @@ all_push : (P : Lexeme → Type 0) (ls : List Lexeme) (x : Lexeme) → AllByRecu
 all_push P [] x h f = (f, tt)
 all_push P (y ∷ ls) x (h, t) f = (h, all_push P ls x t f)
 
-annotation_within : (text : List ℕ) (side_table : List SideEntry) (low size : ℕ) (kind : Kind) → is_annotation_kind kind ≡ true → CanBeRead text side_table (record { low = low; size = size; kind = kind }) → own_number (record { low = low; size = size; kind = kind }) < length side_table
+annotation_within : (text : List ℕ) (side_table : List Placed) (low size : ℕ) (kind : Kind) → is_annotation_kind kind ≡ true → CanBeRead text side_table (record { low = low; size = size; kind = kind }) → own_number (record { low = low; size = size; kind = kind }) < length side_table
 annotation_within text side_table low size kinds.Annotation is h = h.0.0
 annotation_within text side_table low size _ is h = cc
 
 -- an annotation that lies behind all others lies apart from them
-apart_behind : (text : List ℕ) (old : List SideEntry) (ls : List Lexeme) (x : Lexeme) → AllCanBeRead text old ls → (is_annotation_kind x.kind ≡ true → length old ≤ own_number x) → AllByRecursion (λ y. Apart y x) ls
+apart_behind : (text : List ℕ) (old : List Placed) (ls : List Lexeme) (x : Lexeme) → AllCanBeRead text old ls → (is_annotation_kind x.kind ≡ true → length old ≤ own_number x) → AllByRecursion (λ y. Apart y x) ls
 apart_behind text old [] x h far = tt
 apart_behind text old (y ∷ ls) x (h, t) far = (λ is too. let lt = annotation_within text old y.low y.size y.kind is h in let le = far too in λ same. absurd (omega (arith, same)), apart_behind text old ls x t far)
 
@@ -158,17 +170,17 @@ apart_more [] x all behind = (tt, tt)
 apart_more (y ∷ ls) x (here, all) (last, behind) = (all_push (Apart y) ls x here last, apart_more ls x all behind)
 
 -- one more is kept
-pub record KeptMore (text : List ℕ) (old new : List SideEntry) (ls more : List Lexeme) (e : Entry) : Type 0 where
+pub record KeptMore (text : List ℕ) (old new : List Placed) (ls more : List Lexeme) (e : Entry) : Type 0 where
   pub fit : AllCanBeRead text new more
   pub apart : AllApart more
-  pub entries : entries_of text new more ≡ entries_of text old ls ++ e ∷ []
+  pub entries : entries_of text new [] more ≡ entries_of text old [] ls ++ e ∷ []
 
-put_more : (kind : Kind) (old new : List SideEntry) → PutInSideTable kind old new → (m : List SideEntry) × (new ≡ old ++ m) × (is_annotation_kind kind ≡ true → length m ≡ 1)
+put_more : (kind : Kind) (old new : List Placed) → PutInSideTable kind old new → (m : List Placed) × (new ≡ old ++ m) × (is_annotation_kind kind ≡ true → length m ≡ 1)
 put_more kinds.Annotation old new (t, e) = (t ∷ [], e, λ _. refl)
 put_more kinds.InSideTable old new (t, e) = (t ∷ [], e, λ _. refl)
 put_more _ old new e = ([], e ∙ sym (append-nil old), λ h. cc)
 
-pub kept_more : {text : List ℕ} {old new : List SideEntry} {ls more : List Lexeme} {at end : ℕ} {kind : Kind} {x : Lexeme} → AllCanBeRead text old ls → AllApart ls → PutInSideTable kind old new → WasKept text new at end kind x → more ≡ ls ++ x ∷ []
+pub kept_more : {text : List ℕ} {old new : List Placed} {ls more : List Lexeme} {at end : ℕ} {kind : Kind} {x : Lexeme} → AllCanBeRead text old ls → AllApart ls → PutInSideTable kind old new → WasKept text new at end kind x → more ≡ ls ++ x ∷ []
     → KeptMore text old new ls more (record { token = found_tok text new at end kind; offset = at; skips = no_skips })
 kept_more {text} {old} {new} {ls} {more} {at} {end} {kind} {x} all apart put kept is =
     let (m, longer, one) = put_more kind old new put in
@@ -178,43 +190,43 @@ kept_more {text} {old} {new} {ls} {more} {at} {end} {kind} {x} all apart put kep
     record {
       fit = rw is (all_push (CanBeRead text new) ls x (rw longer fit) kept.fits);
       apart = rw is (apart_more ls x apart (apart_behind text old ls x all far));
-      entries = rw (is, map-append (entry_of text new) ls (x ∷ []), kept.entry) (ap (λ l. l ++ e ∷ []) (rw longer same));
+      entries = rw (is, map-append (entry_of text new []) ls (x ∷ []), kept.entry) (ap (λ l. l ++ e ∷ []) (rw longer same));
     }
 
 -- WHAT IS FOUND
 
 -- the last that lies in the side table is the one that was put there
-pub last_put : (old new : List SideEntry) (t : SideEntry) → new ≡ old ++ t ∷ [] → (0 < length new) × (last_in_side_table new ≡ view t.token) × (lies_from new (length new - 1) ≡ t.offset) × (lying_skips new (length new - 1) ≡ t.skips)
+pub last_put : (old new : List Placed) (t : Placed) → new ≡ old ++ t ∷ [] → (0 < length new) × (last_in_side_table new ≡ t.token) × (lies_from new (length new - 1) ≡ t.offset)
 last_put old new t e =
     let longer : length new ≡ length old + 1 = omega (arith, ap length e, length-append old (t ∷ [])) in
     let place : length new - 1 ≡ length old = omega arith in
     let here : get_or new (length new - 1) no_side_entry ≡ t = rw (place, e, get_or-append_seam) in
-    (omega arith, ap (λ (a : SideEntry). view a.token) here, ap (λ (a : SideEntry). a.offset) here, ap (λ (a : SideEntry). a.skips) here)
+    (omega arith, ap (λ (a : Placed). a.token) here, ap (λ (a : Placed). a.offset) here)
 
 -- one token more is an annotation, or one was among those before
 pub has_more : (ts : List Tok) (t : Tok) → has_annotation (ts ++ t ∷ []) ≡ has_annotation ts || is_annotation t
 has_more [] t = or-false (is_annotation t)
 has_more (x ∷ ts) t = rw (has_more ts t, or_assoc)
 
-lying_more : (old new : List SideEntry) (t : SideEntry) → new ≡ old ++ t ∷ [] → has_annotation (lying new) ≡ has_annotation (lying old) || is_annotation (last_in_side_table new)
-lying_more old new t e = rw ((last_put old new t e).1, e, map-append (λ (a : SideEntry). view a.token) old (t ∷ [])) (has_more (lying old) (view t.token))
+lying_more : (old new : List Placed) (t : Placed) → new ≡ old ++ t ∷ [] → has_annotation (lying new) ≡ has_annotation (lying old) || is_annotation (last_in_side_table new)
+lying_more old new t e = rw ((last_put old new t e).1, e, map-append (λ (a : Placed). a.token) old (t ∷ [])) (has_more (lying old) (t.token))
 
 -- only what is put into the side table can be an annotation
-pub any_put : (kind : Kind) (text : List ℕ) (old new : List SideEntry) (at end : ℕ) → PutInSideTable kind old new → has_annotation (lying new) ≡ has_annotation (lying old) || is_annotation (found_tok text new at end kind)
+pub any_put : (kind : Kind) (text : List ℕ) (old new : List Placed) (at end : ℕ) → PutInSideTable kind old new → has_annotation (lying new) ≡ has_annotation (lying old) || is_annotation (found_tok text new at end kind)
 any_put kinds.Annotation text old new at end (t, e) = lying_more old new t e
 any_put kinds.InSideTable text old new at end (t, e) = lying_more old new t e
 any_put _ text old new at end e = rw e (sym (or-false (has_annotation (lying old))))
 
-pub any_step : (s : List SideEntry) (i : ℕ) (d : SideEntry) → i < length s → has_annotation (lying (drop i s)) ≡ is_annotation (view (get_or s i d).token) || has_annotation (lying (drop (i + 1) s))
+pub any_step : (s : List Placed) (i : ℕ) (d : Placed) → i < length s → has_annotation (lying (drop i s)) ≡ is_annotation (get_or s i d).token || has_annotation (lying (drop (i + 1) s))
 any_step s i d lt = rw (drop_more s i d lt)
 
-pub any_over : (s : List SideEntry) (i : ℕ) → length s ≤ i → has_annotation (lying (drop i s)) ≡ false
+pub any_over : (s : List Placed) (i : ℕ) → length s ≤ i → has_annotation (lying (drop i s)) ≡ false
 any_over s i le = rw (drop_of_length-le s le)
 
 pub ruleset annotation_steps = (any_step, any_over)
 
 -- a token that is read out of the text is put nowhere
-pub plain_found : (kind : Kind) (text : List ℕ) (side_table : List SideEntry) (at end : ℕ) (P : Type 0) (n : List ℕ) (t : Tok) → is_annotation_kind kind ≡ false → Readable kind text at end P (Annotation n) → tok_at kind text at end (Annotation n) ≡ t → (t ≡ found_tok text side_table at end kind) × FoundFits text side_table at end kind × PutInSideTable kind side_table side_table
+pub plain_found : (kind : Kind) (text : List ℕ) (side_table : List Placed) (at end : ℕ) (P : Type 0) (n : List ℕ) (t : Tok) → is_annotation_kind kind ≡ false → Readable kind text at end P (Annotation n) → tok_at kind text at end (Annotation n) ≡ t → (t ≡ found_tok text side_table at end kind) × FoundFits text side_table at end kind × PutInSideTable kind side_table side_table
 plain_found kinds.Annotation text side_table at end P n t plain h e = cc
 plain_found kinds.InSideTable text side_table at end P n t plain (there, note) e = cc
 plain_found _ text side_table at end P n t plain h e = (sym e, h, refl)
@@ -228,7 +240,7 @@ word_no_paren kinds.InSideTable text from end other a_word = cc
 word_no_paren _ text from end other a_word = refl
 
 -- a word is put nowhere
-pub word_nowhere : (kind : Kind) (old new : List SideEntry) → is_word kind ≡ true → PutInSideTable kind old new → new ≡ old
+pub word_nowhere : (kind : Kind) (old new : List Placed) → is_word kind ≡ true → PutInSideTable kind old new → new ≡ old
 word_nowhere kinds.LParen old new a_word e = cc
 word_nowhere kinds.RParen old new a_word e = cc
 word_nowhere kinds.Annotation old new a_word e = cc
@@ -236,7 +248,7 @@ word_nowhere kinds.InSideTable old new a_word e = cc
 word_nowhere _ old new a_word e = e
 
 -- what fits whatever the text is no word
-pub no_word : (kind : Kind) (side_table : List SideEntry) (at : ℕ) → FoundFits [] side_table at 0 kind → is_word kind ≡ true → ⊥
+pub no_word : (kind : Kind) (side_table : List Placed) (at : ℕ) → FoundFits [] side_table at 0 kind → is_word kind ≡ true → ⊥
 no_word kinds.LParen side_table at h a_word = cc
 no_word kinds.RParen side_table at h a_word = cc
 no_word kinds.Annotation side_table at h a_word = cc

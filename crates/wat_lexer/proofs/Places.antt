@@ -9,7 +9,7 @@ use Rattle.wat_lexer.specs.Token.{LParen, RParen}
 use Rattle.wat_lexer.specs.declared.fault.Fault.TheVariants.{LexChar}
 use Rattle.wat_lexer.specs.Scan.{all_idchars, class, behind_run, behind_comment, behind_line, front, run_front, comment_front, tail, BlankTo, TokenTo, Wrong, RunEnd, Ends, Between}
 use Rattle.wat_lexer.proofs.Plain.{plain_ascii}
-use Rattle.wat_lexer.proofs.Steps.{at_front, run_quote, run_char, run_over}
+use Rattle.wat_lexer.proofs.Steps.{at_front, run_quote, run_char, run_over, rest_is}
 
 pub front_step : (behind : Bool) (i : ℕ) (s : List ℕ) → i < length s → front behind (drop i s) ≡
     (if is_space (get_or s i 0) then BlankTo (drop (i + 1) s)
@@ -40,7 +40,7 @@ run_token behind i end s o h k e =
     let size : length (drop i s) - length (drop end s) ≡ end - i = omega (arith, length-drop end s, length-drop i s) in
     rw (e, longer, size)
 
-pub ruleset run_steps = (run_token, run_quote, run_char, run_over, nat_tests)
+pub ruleset run_steps = (run_token, run_quote, run_char, run_over, rest_is, nat_tests)
 
 pub run_first : (at quote : ℕ) (s : List ℕ) → at ≤ quote → quote < length s → get_or s quote 0 ≡ 34 → all_idchars (slice_range s at quote) ≡ true → get_or s at 0 < 128
 run_first at quote s h k e all = grind (arith, plain_ascii)

@@ -108,7 +108,13 @@ pub rest_is : (s : List ℕ) → rest_at s ≡ option_map (λ r. r.1) (string_at
 unfolding rest_at
 rest_is s = refl
 
+pub rest_found : (c r s : List ℕ) → Some (c, r) ≡ string_at Raw s → rest_at s ≡ Some r
+unfolding rest_at
+rest_found c r s h = rw (← h)
+
 pub ruleset string_steps = (rest_is, rest_front, closing_step, closing_over, string_over, append-nil, nat_tests)
+
+pub ruleset quote_steps = (string_step, append-nil, nat_tests)
 
 pub ruleset content_steps = (front_front, rest_is, closing_step, closing_over, append-nil, nat_tests)
 

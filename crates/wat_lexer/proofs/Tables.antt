@@ -1,6 +1,7 @@
 -- The tables of bytes, and how far a text goes on with bytes that one marks.
 use Rattle.std.proofs.Common.{◌≡◌, ℕ, zero, suc, ◌+◌, ◌<◌, ◌≤◌, List, Bool, true, false, length, drop, get_or, map, refl, ap, subst, sym, ◌∙◌, arith, inl, inr}
 use Rattle.std.specs.Prelude.{slice_range, ◌==◌, ◌||◌, not}
+use Rattle.std.specs.Char.{digit_value}
 use Rattle.std.specs.List.{range_with_len}
 use Rattle.std.proofs.lemmas.Bool.{cases_lt}
 use Rattle.std.proofs.lemmas.Bool.Decides.{nat_tests}
@@ -8,41 +9,47 @@ use Rattle.std.proofs.lemmas.List.FromFn.{get_or-map-range_with_len}
 use Rattle.wat_lexer.specs.Bytes.{is_idchar, is_space, is_line_end, between}
 use Rattle.wat_lexer.specs.Cut.{is_raw, is_hex}
 use Rattle.wat_lexer.specs.Scan.{Between, Raw, behind_run, behind_spaces, behind_line, behind_comment, all_idchars, string_at, with_front}
-use Rattle.wat_lexer.specs.declared.byte_table.TheConstants.{SPACES, IDCHARS, DIGITS, HEX_DIGITS, RAW, IN_LINE, IN_COMMENT}
+use Rattle.wat_lexer.specs.declared.byte_table.TheConstants.{SPACES, IDCHARS, DIGITS, HEX_DIGITS, DIGIT_VALUES, RAW, IN_LINE, IN_COMMENT}
 use Rattle.wat_lexer.proofs.Steps.{plain_none, plain_more, run_idchar, space_step, space_over, raw_none, raw_more, line_step, line_over, comment_step, comment_none}
 
 -- THE TABLES
 
--- what a table has at a byte, where it has at each what a test says
-table_at : (test : ℕ → Bool) (table : List Bool) → table ≡ map test (range_with_len 0 256) → (b : ℕ) → b < 256 → get_or table b false ≡ test b
-table_at test table same b lt = ap (λ (xs : List Bool). get_or xs b false) same ∙ get_or-map-range_with_len test 0 256 b b false lt (omega arith)
+-- what a table has at a byte, where it has at each what a function says
+table_at : {A : Type 0} (f : ℕ → A) (other : A) (table : List A) → table ≡ map f (range_with_len 0 256) → (b : ℕ) → b < 256 → get_or table b other ≡ f b
+table_at f other table same b lt = ap (λ (xs : List _). get_or xs b other) same ∙ get_or-map-range_with_len f 0 256 b b other lt (omega arith)
 
 pub space_at : (b : ℕ) → b < 256 → get_or SPACES b false ≡ is_space b
-space_at = table_at is_space SPACES refl
+space_at = table_at is_space false SPACES refl
 
 pub idchar_at : (b : ℕ) → b < 256 → get_or IDCHARS b false ≡ is_idchar b
-idchar_at = table_at is_idchar IDCHARS refl
+idchar_at = table_at is_idchar false IDCHARS refl
 
 pub digit_at : (b : ℕ) → b < 256 → get_or DIGITS b false ≡ between 48 57 b
-digit_at = table_at (between 48 57) DIGITS refl
+digit_at = table_at (between 48 57) false DIGITS refl
 
 pub hex_at : (b : ℕ) → b < 256 → get_or HEX_DIGITS b false ≡ is_hex b
-hex_at = table_at is_hex HEX_DIGITS refl
+hex_at = table_at is_hex false HEX_DIGITS refl
+
+pub digit_value_at : (b : ℕ) → b < 256 → get_or DIGIT_VALUES b 0 ≡ digit_value b
+digit_value_at = table_at digit_value 0 DIGIT_VALUES refl
+
+pub digit_small : (b : ℕ) → digit_value b ≤ 36
+digit_small b = grind (arith, nat_tests)
 
 pub raw_at : (b : ℕ) → b < 256 → get_or RAW b false ≡ is_raw b
-raw_at = table_at is_raw RAW refl
+raw_at = table_at is_raw false RAW refl
 
 abbrev pub in_line : ℕ → Bool
 in_line b = not (is_line_end b)
 
 pub line_at : (b : ℕ) → b < 256 → get_or IN_LINE b false ≡ in_line b
-line_at = table_at in_line IN_LINE refl
+line_at = table_at in_line false IN_LINE refl
 
 abbrev pub in_comment : ℕ → Bool
 in_comment b = not ((b == 40) || (b == 59))
 
 pub comment_at : (b : ℕ) → b < 256 → get_or IN_COMMENT b false ≡ in_comment b
-comment_at = table_at in_comment IN_COMMENT refl
+comment_at = table_at in_comment false IN_COMMENT refl
 
 -- BYTES THAT ONE MARKS
 

@@ -99,15 +99,9 @@ pub whole_here : (at quote end : ℕ) (c s : List ℕ) → at ≤ quote → quot
 whole_here at quote end c s h k within e f =
     rw (rest_here at quote end s h (omega arith), string_here quote end end c s k (omega arith) within e f, slice_none end s)
 
-content_of : (f : Option (List ℕ × List ℕ)) (r : List ℕ) → Some r ≡ option_map (λ r. r.1) f → (c : List ℕ) × (f ≡ Some (c, r))
-content_of None r h = cc
-content_of (Some p) r h = let same : r ≡ p.1 = cc in (p.0, rw same)
-
 -- a run in which something follows the first string
-pub class_more : (behind : Bool) (at quote after end : ℕ) (s : List ℕ) → at ≤ quote → quote < after → after < end → end ≤ length s → get_or s quote 0 ≡ 34 → all_idchars (slice_range s at quote) ≡ true → Some (drop after s) ≡ rest_at (drop (quote + 1) s) → class behind (slice_range s at end) ≡ Reserved (slice_range s at end)
-unfolding rest_at
-class_more behind at quote after end s h k l within e all f =
-    let (c, found) = content_of (string_at Raw (drop (quote + 1) s)) (drop after s) f in
+pub class_more : (behind : Bool) (at quote after end : ℕ) (c s : List ℕ) → at ≤ quote → quote < after → after < end → end ≤ length s → get_or s quote 0 ≡ 34 → all_idchars (slice_range s at quote) ≡ true → string_at Raw (drop (quote + 1) s) ≡ Some (c, drop after s) → class behind (slice_range s at end) ≡ Reserved (slice_range s at end)
+class_more behind at quote after end c s h k l within e all found =
     let rest = rest_here at quote end s h (omega arith) in
     let run = slice_range s at end in
     class_by behind (quote - at) run (rw (take-take (quote - at) (end - at) (drop at s) (omega arith)) all) (rw (rest, slice_front quote end s (omega arith) within, e))

@@ -3,9 +3,11 @@ use Rattle.std.specs.Prelude.{◌≡◌, ◌≢◌, ℕ, ◌≤◌, ◌<◌, ◌
 use Rattle.std.specs.Prelude.{map, Bool, true, false, ◌||◌, Result, Ok, Err, MatchOption}
 use Rattle.std.specs.Prelude.{slice_range}
 use Rattle.std.specs.List.{AllByRecursion}
+use Rattle.std.specs.Str.{IsUtf8}
 use Rattle.std.proofs.Math.ListN.{get_or}
 use Rattle.wat_lexer.specs.Token.{Tok, Placed, Entry, LParen, RParen, Keyword, Id, Annotation}
 use Rattle.wat_lexer.specs.Token.{Integer, String, Reserved, is_open, is_close, is_annotation}
+use Rattle.wat_lexer.specs.Token.{has_annotation}
 use Rattle.wat_lexer.specs.Cut.{Fails}
 use Rattle.wat_lexer.specs.Integer.{text_of}
 use Rattle.wat_lexer.specs.Place.{offset_of}
@@ -15,7 +17,6 @@ use Rattle.wat_lexer.specs.declared.token.Token.{Token}
 use Rattle.wat_lexer.specs.declared.token.Token.TheVariants as of
 use Rattle.wat_lexer.specs.declared.lexeme.Kind.{Kind}
 use Rattle.wat_lexer.specs.declared.lexeme.Kind.TheVariants as kinds
-use Rattle.wat_lexer.specs.declared.lexeme.SideEntry.{SideEntry}
 use Rattle.wat_lexer.specs.declared.lexeme.Skips.{Skips}
 use Rattle.wat_lexer.specs.declared.lexeme.Lexeme.{Lexeme}
 use Rattle.wat_lexer.specs.declared.cut.Piece.{Piece}
@@ -44,6 +45,23 @@ tok_at kinds.String text from end other = String (slice_range text (from + 1) (e
 tok_at kinds.Reserved text from end other = Reserved (slice_range text from end)
 tok_at kinds.InSideTable text from end other = other
 
+-- the token of a kind, by its content, its name or its text
+abbrev pub tok_of : Kind → List ℕ → Tok
+tok_of kinds.LParen content = LParen
+tok_of kinds.RParen content = RParen
+tok_of kinds.Keyword content = Keyword content
+tok_of kinds.Id content = Id content
+tok_of kinds.Annotation content = Annotation content
+tok_of kinds.Integer content = Integer content
+tok_of kinds.String content = String content
+tok_of kinds.Reserved content = Reserved content
+tok_of kinds.InSideTable content = Reserved content
+
+-- what isn't a string's content is text
+abbrev pub IsContent : Kind → List ℕ → Type 0
+IsContent kinds.String content = Unit {0}
+IsContent _ content = IsUtf8 content
+
 -- the text between the places, of which the prefix is left out, is a run of idchars
 abbrev pub Word : ℕ → List ℕ → ℕ → ℕ → Type 0
 Word front text from end =
@@ -70,47 +88,46 @@ abbrev pub no_skips : Skips
 no_skips = record { all = 0; unknown = 0 }
 
 -- what lies in the side table where nothing does
-abbrev pub no_side_entry : SideEntry
-no_side_entry = record { token = of.LParen; offset = 0; skips = no_skips }
+abbrev pub no_side_entry : Placed
+no_side_entry = record { token = LParen; offset = 0 }
 
 -- the token that lies in the side table at the place
-abbrev pub lies : List SideEntry → ℕ → Tok
-lies side_table i = view (get_or side_table i no_side_entry).token
+abbrev pub lies : List Placed → ℕ → Tok
+lies side_table i = (get_or side_table i no_side_entry).token
 
 -- the place in the text of the token that lies in the side table at the place
-abbrev pub lies_from : List SideEntry → ℕ → ℕ
+abbrev pub lies_from : List Placed → ℕ → ℕ
 lies_from side_table i = (get_or side_table i no_side_entry).offset
 
--- how far lookups go from the `(` in front of it
-abbrev pub lying_skips : List SideEntry → ℕ → Skips
-lying_skips side_table i = (get_or side_table i no_side_entry).skips
+-- how far lookups go from the `(` in front of it; where nothing is told yet, nowhere
+abbrev pub lying_skips : List Skips → ℕ → Skips
+lying_skips skips i = get_or skips i no_skips
 
 -- the tokens that lie in the side table
-abbrev pub lying : List SideEntry → List Tok
-lying side_table = map (λ x. view x.token) side_table
+abbrev pub lying : List Placed → List Tok
+lying side_table = map (λ x. x.token) side_table
 
 -- the last token that lies in the side table
-abbrev pub last_in_side_table : List SideEntry → Tok
+abbrev pub last_in_side_table : List Placed → Tok
 last_in_side_table side_table = lies side_table (length side_table - 1)
 
 -- What was found between two places of the text, by its kind. What can't be read out of the text
 -- was put into the side table last.
-abbrev pub found_tok : List ℕ → List SideEntry → ℕ → ℕ → Kind → Tok
+abbrev pub found_tok : List ℕ → List Placed → ℕ → ℕ → Kind → Tok
 found_tok text side_table at end kind = tok_at kind text at end (last_in_side_table side_table)
 
 -- it can be read there, or lies in the side table
-abbrev pub FoundFits : List ℕ → List SideEntry → ℕ → ℕ → Kind → Type 0
+abbrev pub FoundFits : List ℕ → List Placed → ℕ → ℕ → Kind → Type 0
 FoundFits text side_table at end kind =
     Readable kind text at end ((0 < length side_table)
     × (is_paren (last_in_side_table side_table) ≡ false)
-    × (lies_from side_table (length side_table - 1) ≡ at)
-    × (lying_skips side_table (length side_table - 1) ≡ no_skips)) (last_in_side_table side_table)
+    × (lies_from side_table (length side_table - 1) ≡ at)) (last_in_side_table side_table)
 
 -- of a kind that lies in the side table one token was put behind those that lay there, of any other
 -- none
-abbrev pub PutInSideTable : Kind → List SideEntry → List SideEntry → Type 0
-PutInSideTable kinds.Annotation old new = (t : SideEntry) × (new ≡ old ++ t ∷ [])
-PutInSideTable kinds.InSideTable old new = (t : SideEntry) × (new ≡ old ++ t ∷ [])
+abbrev pub PutInSideTable : Kind → List Placed → List Placed → Type 0
+PutInSideTable kinds.Annotation old new = (t : Placed) × (new ≡ old ++ t ∷ [])
+PutInSideTable kinds.InSideTable old new = (t : Placed) × (new ≡ old ++ t ∷ [])
 PutInSideTable _ old new = new ≡ old
 
 -- tokens of the kind are annotations
@@ -170,31 +187,36 @@ stands_at kinds.Annotation own other = other
 stands_at kinds.InSideTable own other = other
 stands_at _ own other = own
 
+-- where an annotation lies in the side table, each place there has room for skips
+abbrev pub HasSkips : List Placed → List Skips → Type 0
+HasSkips side_table skips =
+    has_annotation (lying side_table) ≡ true → length side_table ≤ length skips
+
 -- only annotations have skips
 abbrev pub skips_of : Kind → Skips → Skips
 skips_of kinds.Annotation other = other
 skips_of _ other = no_skips
 
 -- what is kept of a token of the text
-abbrev pub entry_of : List ℕ → List SideEntry → Lexeme → Entry
-entry_of text side_table x = record {
+abbrev pub entry_of : List ℕ → List Placed → List Skips → Lexeme → Entry
+entry_of text side_table skips x = record {
   token =
       tok_at x.kind text (own_number x) (own_number x + x.size) (lies side_table (own_number x));
   offset = stands_at x.kind (own_number x) (lies_from side_table (own_number x));
-  skips = skips_of x.kind (lying_skips side_table (own_number x));
+  skips = skips_of x.kind (lying_skips skips (own_number x));
 }
 
-abbrev pub entries_of : List ℕ → List SideEntry → List Lexeme → List Entry
-entries_of text side_table ls = map (entry_of text side_table) ls
+abbrev pub entries_of : List ℕ → List Placed → List Skips → List Lexeme → List Entry
+entries_of text side_table skips ls = map (entry_of text side_table skips) ls
 
 -- it can be read
-abbrev pub CanBeRead : List ℕ → List SideEntry → Lexeme → Type 0
+abbrev pub CanBeRead : List ℕ → List Placed → Lexeme → Type 0
 CanBeRead text side_table x =
     Readable x.kind text (own_number x) (own_number x + x.size)
     ((own_number x < length side_table) × (is_paren (lies side_table (own_number x)) ≡ false))
     (lies side_table (own_number x))
 
-abbrev pub AllCanBeRead : List ℕ → List SideEntry → List Lexeme → Type 0
+abbrev pub AllCanBeRead : List ℕ → List Placed → List Lexeme → Type 0
 AllCanBeRead text side_table ls = AllByRecursion (CanBeRead text side_table) ls
 
 -- the two aren't annotations that lie in the side table at one place
@@ -209,10 +231,10 @@ AllApart [] = Unit {0}
 AllApart (x ∷ ls) = AllByRecursion (Apart x) ls × AllApart ls
 
 -- what was found is kept
-pub record WasKept (text : List ℕ) (side_table : List SideEntry) (at end : ℕ) (kind : Kind)
+pub record WasKept (text : List ℕ) (side_table : List Placed) (at end : ℕ) (kind : Kind)
     (x : Lexeme)
     : Type 0 where
-  pub entry : entry_of text side_table x ≡ record {
+  pub entry : entry_of text side_table [] x ≡ record {
     token = found_tok text side_table at end kind;
     offset = at;
     skips = no_skips;
@@ -279,14 +301,14 @@ abbrev pub IfFault : Error → Type 0 → Type 0
 IfFault e p = e.fault ≢ Memory → p
 
 -- the token was put into the side table as what begins at a place of a text and ends anywhere
-abbrev pub IsPut : List SideEntry → List SideEntry → ℕ → Tok → Kind → Type 0
+abbrev pub IsPut : List Placed → List Placed → ℕ → Tok → Kind → Type 0
 IsPut old new at t k =
     (text : List ℕ) (end : ℕ) → (t ≡ found_tok text new at end k) × FoundFits text new at end k
     × PutInSideTable k old new
 
 -- what was found at a place of the text is what is there, and was put into the side table where it
 -- has to be
-abbrev pub PieceIs : List ℕ → List SideEntry → List SideEntry → ℕ → Piece → Beginning → Type 0
+abbrev pub PieceIs : List ℕ → List Placed → List Placed → ℕ → Piece → Beginning → Type 0
 PieceIs text old new at p f =
     MatchOption p.kind ((f ≡ BlankTo (drop p.end text)) × (new ≡ old))
     (λ k. (f ≡ TokenTo (found_tok text new at p.end k) (drop p.end text))
@@ -299,7 +321,7 @@ WrongIs text e f =
 
 -- that, where something can stand; of a fault nothing is said of what lies in the side table
 abbrev pub FrontGives
-    : List ℕ → List SideEntry → List SideEntry → ℕ → Result Piece Error → Beginning → Type 0
+    : List ℕ → List Placed → List Placed → ℕ → Result Piece Error → Beginning → Type 0
 FrontGives text old new at (Ok p) f = PieceIs text old new at p f
 FrontGives text old new at (Err e) f = IfFault e (WrongIs text e f)
 

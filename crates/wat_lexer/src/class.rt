@@ -10,11 +10,7 @@ ghost use Rattle.wat_lexer.specs.View.{view, tok_at, Readable, Word, is_paren};
 
 use crate::lexeme::Kind;
 use crate::number::Integer;
-use crate::string::{Escaped, escape, raw_end};
 use crate::token::Token;
-use bumpalo::Bump;
-use bumpalo::collections::into_bump_slice;
-use std::alloc::AllocError;
 
 /// Part of a text, which begins and ends with ASCII.
 #[inline(always)]
@@ -59,63 +55,6 @@ pub(crate) fn plain_kind(text: &str, from: usize, end: usize, behind: bool) -> K
             Some(_) => Kind::Integer,
             None => Kind::Reserved,
         }
-    }
-}
-
-/// Adds what an escape stands for.
-fn add(out: &mut Vec<u8, &Bump>, escaped: Escaped) -> Result<(), AllocError>
-    ensures { OnOk result (out.new.items ≡ out.old.items ++ spelled escaped) }
-{
-    match escaped {
-        Escaped::Byte(b) => out.push(b)?,
-        Escaped::Char(c) => out.extend_from_slice(c.encode_utf8(&mut [0; 4]).as_bytes())?,
-    }
-    Ok(())
-}
-
-/// The content of a string that has escapes, from behind its opening quote to behind its closing
-/// one.
-// Inlined it slows the cut of texts without strings.
-#[inline(never)]
-#[tactic(auto, using(crate::proofs::Steps::content_steps))]
-fn decode<'a>(text: &[u8], from: usize, end: usize, arena: &'a Bump) -> Result<&'a [u8], AllocError>
-    requires order { from ≤ end }
-    requires within { end ≤ length text.now }
-    requires a_string { Some (drop end text.now) ≡ rest_at (drop from text.now) }
-    ensures { IfOk result (λ v. string_at Raw (drop from text.now) ≡ Some
-        (v.now, drop end text.now)) }
-{
-    let mut out = Vec::with_capacity(arena, end - from)?;
-    let mut i = raw_end(text, from);
-    out.extend_from_slice(&text[from..i])?;
-    while let Some((escaped, behind)) = escape(text, i) {
-        add(&mut out, escaped)?;
-        i = raw_end(text, behind);
-        out.extend_from_slice(&text[behind..i])?;
-    }
-    Ok(into_bump_slice(out))
-}
-
-/// The content of a string, from behind its opening quote to behind its closing one.
-pub(crate) fn content<'a>(
-    text: &'a [u8],
-    from: usize,
-    end: usize,
-    plain: bool,
-    arena: &'a Bump,
-) -> Result<&'a [u8], AllocError>
-    requires order { from < end }
-    requires within { end ≤ length text.now }
-    requires a_string { Some (drop end text.now) ≡ rest_at (drop from text.now) }
-    requires plain { IsTrue plain → string_at Raw (drop from text.now) ≡ Some
-        (slice_range text.now from (end - 1), drop end text.now) }
-    ensures { IfOk result (λ v. string_at Raw (drop from text.now) ≡ Some
-        (v.now, drop end text.now)) }
-{
-    if plain {
-        Ok(&text[from..end - 1])
-    } else {
-        decode(text, from, end, arena)
     }
 }
 

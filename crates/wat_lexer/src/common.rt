@@ -7,8 +7,8 @@ ghost use Rattle.wat_lexer.specs.Cut.{begins, in_no_run};
 ghost use Rattle.wat_lexer.specs.Number.{is_integer};
 ghost use Rattle.wat_lexer.specs.Scan.{front, behind_run, string_at, IsWholeWord};
 ghost use Rattle.wat_lexer.specs.Scan.{Between, Ends, Raw};
+ghost use Rattle.wat_lexer.specs.Token.{Placed};
 ghost use Rattle.wat_lexer.specs.View.{PieceIs, HasRoom, is_word, near_limit, word_limit};
-ghost use Rattle.wat_lexer.specs.declared.lexeme.SideEntry.{SideEntry};
 
 use crate::byte_table::{DIGITS, HEX_DIGITS, marked_end};
 use crate::lexeme::{Kind, NEAR_LIMIT, WORD_LIMIT};
@@ -148,7 +148,7 @@ pub(crate) fn common_token(text: &[u8], at: usize) -> Option<(Kind, usize)>
     ensures within { IfSome result (λ f. (at < f.1) × (f.1 ≤ length text.now)) }
     ensures near { IfSome result (λ f. f.1 < near_limit) }
     ensures room { IfSome result (λ f. is_word f.0 ≡ true → HasRoom at f.1) }
-    ensures value { IfSome result (λ f. (behind : Bool) (lie : List SideEntry)
+    ensures value { IfSome result (λ f. (behind : Bool) (lie : List Placed)
         → PieceIs text.now lie lie at (record { kind = Some f.0; end = f.1 })
         (front behind (drop at text.now))) }
 {

@@ -1,7 +1,7 @@
 //! Cuts a text into tokens.
 
 ghost use Rattle.std.specs.Prelude.{◌≡◌, ◌&&◌, ◌==◌, ◌+◌, ◌-◌, ◌≤◌, ◌<◌};
-ghost use Rattle.std.specs.Prelude.{IfOk, IfErr, IfSome, ℕ, List};
+ghost use Rattle.std.specs.Prelude.{IfOk, IfErr, IfSome, IsTrue, ℕ, List};
 ghost use Rattle.std.specs.Prelude.{true, false, length, drop, slice_range, slice_index, nat_lt};
 ghost use Rattle.std.specs.Prelude.{if◌then◌else◌};
 ghost use Rattle.wat_lexer.specs.Cut.{Cuts, FirstFault, IsCut};
@@ -10,26 +10,28 @@ ghost use Rattle.wat_lexer.specs.Scan.{front, run_front, behind_run, all_idchars
 ghost use Rattle.wat_lexer.specs.Token.{Placed, has_annotation, is_annotation, is_open};
 ghost use Rattle.wat_lexer.specs.View.{view, toks, placed, is_paren, lying, AreSkips, IsPut};
 ghost use Rattle.wat_lexer.specs.View.{FrontGives, IfFault, FailsAt, HasRoom, is_word};
-ghost use Rattle.wat_lexer.specs.View.{FoundFits, found_tok, text_limit};
+ghost use Rattle.wat_lexer.specs.View.{FoundFits, found_tok, text_limit, lying_skips, no_skips};
 ghost use Rattle.wat_lexer.specs.declared.fault.Fault.{Fault};
-ghost use Rattle.wat_lexer.specs.declared.lexeme.SideEntry.{SideEntry};
 
-use crate::class::{content, part, plain_kind, string_token};
+use crate::class::{part, plain_kind, string_token};
 use crate::common::common_token;
+use crate::decode::Decoder;
 use crate::fault::{Error, Fault, fault_at};
 use crate::groups::tell_skips;
 use crate::lexeme::{
-    Kind, SideEntry, Skips, TEXT_LIMIT, has_room, is_annotation_kind, is_open, is_word, kept,
-    kept_near,
+    Kind, Skips, TEXT_LIMIT, has_room, is_annotation_kind, is_open, is_word, kept, kept_near,
 };
 use crate::scan::{comment_end, is_space, line_end, plain_end, run_end, spaces_end};
-use crate::string::string_end;
-use crate::token::{Token, is_annotation};
+use crate::side_entry::SideEntry;
+use crate::token::Token;
 use crate::tokens::{Tokens, read};
 use bumpalo::Bump;
 use std::alloc::{AllocError, Global};
 
-/// What is in front, a token of the kind or a blank, and where it ends.
+/// The kind of the next token, or `None` for a blank, and the offset in bytes where it ends.
+///
+/// It is public because definitions of specs/View.antt name it. No public function takes or returns
+/// one.
 #[derive(Clone, Copy, Debug)]
 pub struct Piece {
     pub kind: Option<Kind>,
@@ -44,17 +46,15 @@ fn put<'a>(
     at: usize,
     side_table: &mut Vec<SideEntry<'a>>,
 ) -> Result<Kind, AllocError>
-    requires { is_paren (view token) ≡ false }
+    requires fits { at < text_limit }
+    requires no_paren { is_paren (view token) ≡ false }
     ensures { IfOk result (λ k. IsPut side_table.old.items side_table.new.items at
         (view token.entry) k) }
 {
-    let skips = Skips { all: 0, unknown: 0 };
-    side_table.push(SideEntry {
-        token,
-        offset: at,
-        skips,
-    })?;
-    if is_annotation(token) {
+    let entry = SideEntry::of(token, at);
+    let annotates = entry.annotates();
+    side_table.push(entry)?;
+    if annotates {
         Ok(Kind::Annotation)
     } else {
         Ok(Kind::InSideTable)
@@ -67,10 +67,11 @@ fn run<'a>(
     text: &'a str,
     at: usize,
     behind: bool,
-    arena: &'a Bump,
+    decoder: &mut Decoder<'a>,
     side_table: &mut Vec<SideEntry<'a>>,
 ) -> Result<Piece, Error>
-    requires { at < length text.now }
+    requires fits { length text.now < text_limit }
+    requires place { at < length text.now }
     ensures within { IfOk result (λ p. (at < p.end) × (p.end ≤ length text.now)) }
     ensures value { FrontGives text.now side_table.old.items side_table.new.items at result
         (run_front behind (drop at text.now) (behind_run Between (drop at text.now))) }
@@ -78,7 +79,7 @@ fn run<'a>(
     let bytes = text.as_bytes();
     let plain = plain_end(bytes, at);
     if plain < bytes.len() && bytes[plain] == b'"' {
-        return string_run(text, at, plain, behind, arena, side_table);
+        return string_run(text, at, plain, behind, decoder, side_table);
     }
     if plain == at {
         return Err(fault_at(Fault::LexChar, at));
@@ -95,6 +96,7 @@ fn plain_run<'a>(
     behind: bool,
     side_table: &mut Vec<SideEntry<'a>>,
 ) -> Result<Piece, Error>
+    requires fits { length text.now < text_limit }
     requires order { at < end }
     requires within { end ≤ length text.now }
     requires all { all_idchars (slice_range text.now at end) ≡ true }
@@ -118,15 +120,18 @@ fn plain_run<'a>(
 }
 
 /// A run whose first string begins at quote.
+// Inlined it slows the cut of texts without escapes.
+#[inline(never)]
 #[tactic(auto, using(crate::proofs::Places::run_steps))]
 fn string_run<'a>(
     text: &'a str,
     at: usize,
     quote: usize,
     behind: bool,
-    arena: &'a Bump,
+    decoder: &mut Decoder<'a>,
     side_table: &mut Vec<SideEntry<'a>>,
 ) -> Result<Piece, Error>
+    requires fits { length text.now < text_limit }
     requires order { at ≤ quote }
     requires quote { quote < length text.now }
     requires mark { slice_index text.now quote ≡ 34 }
@@ -138,7 +143,7 @@ fn string_run<'a>(
         (run_front behind (drop at text.now) (behind_run Between (drop at text.now))) }
 {
     let bytes = text.as_bytes();
-    let (after, plain) = match string_end(bytes, quote + 1) {
+    let (after, plain) = match decoder.string_end(bytes, quote + 1)? {
         Some(string) => string,
         None => return Err(fault_at(Fault::LexString, quote)),
     };
@@ -154,7 +159,7 @@ fn string_run<'a>(
     }
     let run = part(text, at, end);
     let token = if end == after {
-        let content = content(bytes, quote + 1, end, plain, arena)?;
+        let content = decoder.content(bytes, quote + 1, end, plain)?;
         string_token(run, quote - at, behind, content)
     } else {
         Token::Reserved(run)
@@ -172,10 +177,11 @@ fn front<'a>(
     text: &'a str,
     at: usize,
     behind: bool,
-    arena: &'a Bump,
+    decoder: &mut Decoder<'a>,
     side_table: &mut Vec<SideEntry<'a>>,
 ) -> Result<Piece, Error>
-    requires { at < length text.now }
+    requires fits { length text.now < text_limit }
+    requires place { at < length text.now }
     ensures within { IfOk result (λ p. (at < p.end) × (p.end ≤ length text.now)) }
     ensures value { FrontGives text.now side_table.old.items side_table.new.items at result
         (front behind (drop at text.now)) }
@@ -214,7 +220,7 @@ fn front<'a>(
             Err(fault_at(Fault::LexChar, at))
         }
     } else {
-        run(text, at, behind, arena, side_table)
+        run(text, at, behind, decoder, side_table)
     }
 }
 
@@ -229,6 +235,7 @@ fn put_word<'a>(
     side_table: &mut Vec<SideEntry<'a>>,
 ) -> Result<Kind, AllocError>
     requires order { at < end }
+    requires place { at < text_limit }
     requires a_word { is_word kind ≡ true }
     requires fits { FoundFits text.now side_table.old.items at end kind }
     ensures { IfOk result (λ k. IsPut side_table.old.items side_table.new.items at
@@ -245,16 +252,17 @@ fn next_piece<'a>(
     text: &'a str,
     at: usize,
     behind: bool,
-    arena: &'a Bump,
+    decoder: &mut Decoder<'a>,
     side_table: &mut Vec<SideEntry<'a>>,
 ) -> Result<Piece, Error>
-    requires { at < length text.now }
+    requires fits { length text.now < text_limit }
+    requires place { at < length text.now }
     ensures within { IfOk result (λ p. (at < p.end) × (p.end ≤ length text.now)) }
     ensures value { FrontGives text.now side_table.old.items side_table.new.items at result
         (front behind (drop at text.now)) }
     ensures room { IfOk result (λ p. IfSome p.kind (λ k. is_word k ≡ true → HasRoom at p.end)) }
 {
-    let piece = match front(text, at, behind, arena, side_table) {
+    let piece = match front(text, at, behind, decoder, side_table) {
         Err(e) => return Err(e),
         Ok(piece) => piece,
     };
@@ -279,11 +287,23 @@ fn any_annotation(side_table: &[SideEntry]) -> bool
     ensures { result ≡ has_annotation (lying side_table.now) }
 {
     for one in side_table {
-        if is_annotation(one.token) {
+        if one.annotates() {
             return true;
         }
     }
     false
+}
+
+/// Room for the skips of so many places of the side table, where an annotation lies there. None is
+/// told yet.
+// Inlined it slows the cut.
+#[inline(never)]
+fn no_skips(alloc: Global, noted: bool, places: usize) -> Result<Vec<Skips>, AllocError>
+    ensures none { IfOk result (λ v. (i : ℕ) → lying_skips v.items i ≡ no_skips) }
+    ensures room { IfOk result (λ v. IsTrue noted → places ≤ length v.items) }
+{
+    let count = if noted { places } else { 0 };
+    vec![in alloc; Skips { all: 0, unknown: 0 }; count]
 }
 
 /// Whether a `(` is directly before a place, by where the last one ends, or 0 where there is none.
@@ -295,7 +315,7 @@ fn directly(opened: usize, at: usize) -> bool
 
 /// Where the last `(` ends, behind a token of the kind.
 fn last_opened(kind: Kind, end: usize, opened: usize) -> usize
-    ensures { (text : List ℕ) (side_table : List SideEntry) (at : ℕ)
+    ensures { (text : List ℕ) (side_table : List Placed) (at : ℕ)
         → FoundFits text side_table at end kind
         → result ≡ (if is_open (found_tok text side_table at end kind) then end else opened) }
 {
@@ -316,6 +336,7 @@ fn cut_pieces<'a>(
     let bytes = text.as_bytes();
     let mut tokens = Vec::with_capacity(alloc, text.len() / 4)?;
     let mut side_table = Vec::new(alloc);
+    let mut decoder = Decoder::new(alloc, arena);
     let mut opened = 0;
     let mut at = 0;
     while at < bytes.len() {
@@ -327,7 +348,7 @@ fn cut_pieces<'a>(
             }
             None => {
                 let behind = directly(opened, at);
-                let piece = match next_piece(text, at, behind, arena, &mut side_table) {
+                let piece = match next_piece(text, at, behind, &mut decoder, &mut side_table) {
                     Err(e) => return Err(e),
                     Ok(piece) => piece,
                 };
@@ -343,15 +364,16 @@ fn cut_pieces<'a>(
         }
     }
     let noted = any_annotation(&side_table);
-    Ok((Tokens::of(text, tokens, side_table), noted))
+    let skips = no_skips(alloc, noted, side_table.len())?;
+    Ok((Tokens::of(text, tokens, side_table, skips), noted))
 }
 
-/// Cuts a text into tokens, each of whose annotation groups is closed. Names and strings without
-/// escapes are slices of the text, the others lie in the arena.
+/// Cuts a text into tokens. Each annotation group must be closed. Names and strings without escapes
+/// are slices of the text. The others are decoded into the arena.
 ///
-/// The faults are LexChar, LexString, LexComment, LexAnnotation and Memory. A text of 2^48 bytes or
-/// more gets Memory, since what is kept of a token has no room for its numbers. WebAssembly Core
-/// Specification, Text Format, Lexical Format.
+/// Errors are LexChar, LexString, LexComment, LexAnnotation and Memory, with the offsets that
+/// [`Fault`] states. A text of 2^48 bytes or more gets Memory: offsets are stored in 48 bits.
+/// WebAssembly Core Specification, Text Format, Lexical Format.
 pub fn cut<'a>(alloc: Global, text: &'a str, arena: &'a Bump) -> Result<Tokens<'a>, Error>
     ensures found { IfOk result (λ ts. IsCut text.now (placed ts)) }
     ensures skips { IfOk result (λ ts. AreSkips ts) }
@@ -380,7 +402,7 @@ pub fn one_cut()
     ensures { (text : List ℕ) (ts us : List Placed) → IsCut text ts → IsCut text us → ts ≡ us }
 {}
 
-/// A text has at most one first fault, and one that has it has no cut.
+/// A text has at most one first fault. A text with a first fault has no cut.
 pub fn one_outcome()
     ensures fault { (text : List ℕ) (f g : Fault) (i j : ℕ) → FirstFault text f i
         → FirstFault text g j → (f ≡ g) × (i ≡ j) }

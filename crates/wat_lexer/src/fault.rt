@@ -1,4 +1,4 @@
-//! Why a text is refused.
+//! Errors of a text.
 
 ghost use Rattle.std.specs.Prelude.{◌≡◌};
 ghost use Rattle.wat_lexer.specs.Place.{offset_of};
@@ -8,69 +8,71 @@ use crate::span::Span;
 use std::alloc::{AllocError, AllocFailed};
 use thiserror::Error;
 
-/// What is wrong with a text. Each fault has a number, from 1 to 21.
+/// The kind of an error in a text. Each fault has a number from 1 to 21. Offsets are in bytes from
+/// the start of the text.
 #[derive(Clone, Copy, Debug, PartialEq, Eq, Hash)]
 pub enum Fault {
-    /// A growth was refused memory, or the text has 2^48 bytes or more; the offset is 0.
+    /// Out of memory, or a text of 2^48 bytes or more. The offset is 0.
     Memory = 1,
-    /// A character that begins no token and no blank, outside strings and comments; the offset is
-    /// its own.
+    /// A character outside strings and comments that begins no token and no blank. The offset is
+    /// that of the character.
     LexChar = 2,
-    /// A string that isn't closed, or with a raw character or an escape that none may have; the
-    /// offset is that of its opening quote.
+    /// A string that isn't closed, or that has an invalid character or escape. The offset is that
+    /// of its opening quote.
     LexString = 3,
-    /// A block comment that isn't closed; the offset is that of the outermost one's `(`.
+    /// A block comment that isn't closed. The offset is that of the `(` of the outermost comment.
     LexComment = 4,
-    /// A group that begins with an annotation and isn't closed; the offset is that of the first
-    /// such `(`.
+    /// An annotation group that isn't closed. The offset is that of the `(` of the first such
+    /// group.
     LexAnnotation = 5,
-    /// Another token was needed; the offset is that of the token, or the text's length at its end.
+    /// A token other than the expected one. The offset is that of the token, or the text's length
+    /// if the text ends there.
     Unexpected = 6,
-    /// A number out of range; the offset is that of the token.
+    /// A number out of range. The offset is that of its token.
     Range = 7,
-    /// A text that isn't UTF-8; the offset is that of the string.
+    /// A string that must be UTF-8 and isn't. The offset is that of the string.
     Utf8 = 8,
-    /// A literal of a floating-point number, which isn't read; the offset is that of the token.
+    /// A floating-point literal: the parser doesn't support them. The offset is that of its token.
     FloatLiteral = 9,
-    /// An alignment that is no power of two; the offset is that of the word `align=`.
+    /// An alignment that isn't a power of two. The offset is that of the word `align=`.
     Alignment = 10,
-    /// A page size that is no power of two; the offset is that of the number.
+    /// A page size that isn't a power of two. The offset is that of the number.
     PageSize = 11,
-    /// An instruction's word was needed; the offset is that of the token, or the text's length at
-    /// its end.
+    /// A token other than the mnemonic that is expected. The offset is that of the token, or the
+    /// text's length if the text ends there.
     Operator = 12,
-    /// A parameter behind a result; the offset is that of the word `param`.
+    /// A parameter after a result. The offset is that of the word `param`.
     ParamAfterResult = 13,
-    /// An `if` without a `then`; the offset is that of the `)` that closes the `if`.
+    /// An `if` without a `then`. The offset is that of the `)` that closes the `if`.
     IfWithoutThen = 14,
-    /// A further group behind `else`; the offset is that of the token behind its `(`.
+    /// Another group after the `else` of an `if`. The offset is that of the token after its `(`.
     IfTooMany = 15,
-    /// A branch hint whose string isn't one byte, 0 or 1; the offset is that of the string.
+    /// A branch hint whose string isn't one byte, 0 or 1. The offset is that of the string.
     HintValue = 16,
-    /// A second hint for one instruction; the offset is that of its string.
+    /// A second branch hint for one instruction. The offset is that of its string.
     HintTwice = 17,
-    /// A hint that no instruction follows; the offset is that of the `)`, the word `then`, or the
-    /// text's length.
+    /// A branch hint with no instruction after it. The offset is that of the `)` or the word `then`
+    /// there, or the text's length.
     HintPlace = 18,
-    /// Import items of two kinds in one import; the offset is that of the word `item` of the first
-    /// that differs.
+    /// Import items of two kinds in one import. The offset is that of the word `item` of the first
+    /// item of another kind.
     ImportMixed = 19,
-    /// An identifier where none may be in an import; the offset is its own.
+    /// An identifier where an import can't have one. The offset is that of the identifier.
     ImportId = 20,
-    /// An instruction behind a branch hint that is neither `br_if` nor `if`; the offset is that of
-    /// its word.
+    /// An instruction after a branch hint that is neither `br_if` nor `if`. The offset is that of
+    /// its mnemonic.
     HintTarget = 21,
 }
 
 impl Fault {
-    /// The number, from 1 to 21.
+    /// Returns the number of the fault, from 1 to 21.
     pub fn number(self) -> u8
         ensures { result ≡ fault_number self }
     {
         self as u8
     }
 
-    /// The name, which is the variant's.
+    /// Returns the name of the fault, which is that of the variant.
     pub fn name(self) -> &'static str
         ensures { result.now ≡ fault_name self }
     {
@@ -100,18 +102,18 @@ impl Fault {
     }
 }
 
-/// A fault and where it was met.
+/// An error: its kind and its position in the text.
 #[derive(Clone, Copy, Debug, Error)]
 #[error("{} at byte {}", .fault.name(), .span.offset())]
 pub struct Error {
-    /// What is wrong.
+    /// The kind of the error.
     pub fault: Fault,
-    /// Where; 0 for Memory.
+    /// The position, with offset 0 for Memory.
     pub span: Span,
 }
 
 impl Error {
-    /// The fault at a place.
+    /// Returns the error of this kind at this position.
     pub fn at(fault: Fault, span: Span) -> Error
         ensures fault { result.fault ≡ fault }
         ensures span { result.span ≡ span }
@@ -140,7 +142,7 @@ impl<T: Drop> From<AllocFailed<T>> for Error {
     }
 }
 
-/// The fault at an offset in bytes.
+/// Returns the error of this kind at this offset, in bytes.
 pub fn fault_at(fault: Fault, offset: usize) -> Error
     ensures fault { result.fault ≡ fault }
     ensures place { offset_of result.span ≡ offset }

@@ -1,4 +1,4 @@
-//! Which tokens are visible: groups of annotations that aren't known are left out.
+//! Which tokens are visible: annotation groups that aren't known are hidden.
 
 ghost use Rattle.std.specs.Prelude.{◌≡◌, ◌≤◌, ◌+◌, ◌∷◌, [], length, drop};
 ghost use Rattle.wat_lexer.specs.Sight.{is_standard, begins_hidden_group, hidden_count};
@@ -88,7 +88,10 @@ pub(crate) fn hidden_count(tokens: &Tokens, at: usize, known: bool) -> usize
     }
 }
 
-/// The place of the first token from a place on that is visible.
+/// Returns the index of the first visible token from an index on, or the number of tokens if none is
+/// visible. An annotation group is hidden unless its annotation is known: with `known` these are the
+/// five standard ones, without it none. The time doesn't depend on how many tokens are hidden.
+/// WebAssembly Core Specification, Text Format, Lexical Format, Annotations.
 #[inline(always)]
 #[tactic(auto, using(crate::proofs::Skips::skips_drop))]
 pub fn next_visible(tokens: &Tokens, at: usize, known: bool) -> usize

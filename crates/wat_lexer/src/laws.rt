@@ -1,10 +1,10 @@
-//! Small texts, and the tokens into which they are cut.
+//! Example texts with their tokens.
 
 ghost use Rattle.wat_lexer.specs.Rows.{Comments, Strings, QuotedNames, Spoiled, Integers, Values};
 ghost use Rattle.wat_lexer.specs.Rows.{HiddenGroups, Faults, UnclosedGroup};
 
-/// Texts with their tokens, groups with and without the known annotations, and faults, as facts
-/// over the definitions alone: an error that the code and its definition share would show here.
+/// Example texts with their tokens, their hidden groups and their faults, as facts about the
+/// definitions alone. An error that the code and its definition share would show here.
 pub fn cut_rows()
     ensures comments { Comments }
     ensures strings { Strings }

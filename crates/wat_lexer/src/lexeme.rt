@@ -1,14 +1,13 @@
 //! What is kept of a token: its kind, and where it stands.
 
 ghost use Rattle.std.specs.Prelude.{◌≡◌, ◌<◌, ◌≤◌, ◌+◌, List, ℕ, length, true, false, IsTrue, ◌↔◌};
-ghost use Rattle.wat_lexer.specs.Token.{is_open};
+ghost use Rattle.wat_lexer.specs.Token.{Placed, is_open};
 ghost use Rattle.wat_lexer.specs.View.{found_tok, is_annotation_kind, is_word, wide, own_number};
 ghost use Rattle.wat_lexer.specs.View.{FoundFits, HasRoom, WasKept, near_limit, text_limit};
-ghost use Rattle.wat_lexer.specs.declared.lexeme.SideEntry.{SideEntry};
 
-use crate::token::Token;
-
-/// How a token is read out of the text, or that it lies in the side table.
+/// The kind of a stored token: how to read it from the text, or that the side table has it.
+///
+/// It is public because definitions of specs/View.antt name it.
 #[derive(Clone, Copy, Debug)]
 pub enum Kind {
     /// `)`
@@ -40,17 +39,20 @@ pub struct Skips {
     pub unknown: usize,
 }
 
-/// A token that isn't read out of the text, and how many bytes of the text stand before it.
-#[derive(Clone, Copy, Debug)]
-pub struct SideEntry<'a> {
-    pub token: Token<'a>,
-    pub offset: usize,
-    /// Of the annotation of a group how far lookups go from the `(` in front of it.
-    pub skips: Skips,
+impl Skips {
+    ghost use Rattle.wat_lexer.specs.View.{skip};
+
+    /// How many it is where the standard names are known or none is.
+    pub(crate) fn told(self, known: bool) -> usize
+        ensures { result ≡ skip known self }
+    {
+        if known { self.unknown } else { self.all }
+    }
 }
 
-/// What is kept of a token. Its number is how many bytes of the text stand before it; where it lies
-/// in the side table, its place there.
+/// A stored token. Its number is its offset in bytes, or, if the side table has it, its index there.
+///
+/// It is public because definitions of specs/View.antt name it, and a benchmark measures its size.
 #[derive(Clone, Copy, Debug)]
 pub struct Lexeme {
     /// A word's number; of any other token the lower 32 bits of its number.
@@ -96,7 +98,7 @@ impl Lexeme {
 
 /// Whether a token of the kind is `(`.
 pub(crate) fn is_open(kind: Kind) -> bool
-    ensures { (text : List ℕ) (side_table : List SideEntry) (at end : ℕ)
+    ensures { (text : List ℕ) (side_table : List Placed) (at end : ℕ)
         → FoundFits text side_table at end kind
         → result ≡ is_open (found_tok text side_table at end kind) }
 {
@@ -128,11 +130,10 @@ pub(crate) fn has_room(at: usize, end: usize) -> bool
     at < NEAR_LIMIT && end - at < WORD_LIMIT
 }
 
-/// What is kept of a token that is no word, by its number.
-fn numbered(kind: Kind, number: usize) -> Lexeme
-    requires no_word { is_word kind ≡ false }
-    requires fits { number < text_limit }
-    ensures number { own_number result ≡ number }
+/// A kind and a number.
+pub(crate) fn split(kind: Kind, number: usize) -> Lexeme
+    requires { number < text_limit }
+    ensures number { wide result.low result.size ≡ number }
     ensures kind { result.kind ≡ kind }
 {
     Lexeme {
@@ -140,6 +141,16 @@ fn numbered(kind: Kind, number: usize) -> Lexeme
         size: (number / NEAR_LIMIT) as u16,
         kind,
     }
+}
+
+/// What is kept of a token that is no word, by its number.
+fn numbered(kind: Kind, number: usize) -> Lexeme
+    requires no_word { is_word kind ≡ false }
+    requires fits { number < text_limit }
+    ensures number { own_number result ≡ number }
+    ensures kind { result.kind ≡ kind }
+{
+    split(kind, number)
 }
 
 /// What is kept of a word between two places of a text.
@@ -165,7 +176,7 @@ pub(crate) fn kept(kind: Kind, at: usize, end: usize, side_table: usize) -> Lexe
     requires room { is_word kind ≡ true → HasRoom at end }
     requires fits { at < text_limit }
     requires few { side_table ≤ text_limit }
-    ensures { (text : List ℕ) (lie : List SideEntry) → length lie ≡ side_table
+    ensures { (text : List ℕ) (lie : List Placed) → length lie ≡ side_table
         → FoundFits text lie at end kind → WasKept text lie at end kind result }
 {
     match kind {
@@ -194,7 +205,7 @@ pub(crate) fn kept_near(kind: Kind, at: usize, end: usize, side_table: usize) ->
     requires near { end < near_limit }
     requires room { is_word kind ≡ true → HasRoom at end }
     requires few { side_table ≤ text_limit }
-    ensures { (text : List ℕ) (lie : List SideEntry) → length lie ≡ side_table
+    ensures { (text : List ℕ) (lie : List Placed) → length lie ≡ side_table
         → FoundFits text lie at end kind → WasKept text lie at end kind result }
 {
     match kind {

@@ -1,4 +1,4 @@
-//! Integers: their text, their sign and their values.
+//! Integer literals: their text, their sign and their values.
 
 ghost use Rattle.std.specs.Prelude.{◌≡◌, ◌+◌, ◌-◌, ◌*◌, ◌^◌, ◌≤◌, ◌<◌, IsTrue, IfSome, is_some};
 ghost use Rattle.std.specs.Prelude.{length, drop, pos, neg_ℤ, MatchOption};
@@ -8,7 +8,7 @@ ghost use Rattle.wat_lexer.specs.Number.{twos_complement, signed_value};
 
 use crate::string::digit_value;
 
-/// The sign that an integer is written with.
+/// The sign of an integer literal.
 #[derive(Clone, Copy, Debug, PartialEq, Eq)]
 pub enum Sign {
     /// `+`
@@ -17,9 +17,9 @@ pub enum Sign {
     Minus,
 }
 
-/// An integer as it is written: a sign, if there is one, and then decimal digits, or `0x` and hex
-/// digits, with single underscores between digits ('WebAssembly Core Specification, Text Format,
-/// Values, Integers').
+/// An integer literal: an optional sign, then decimal digits, or `0x` and hexadecimal digits, with
+/// single underscores between digits (WebAssembly Core Specification, Text Format, Values,
+/// Integers).
 #[derive(Clone, Copy, Debug)]
 pub struct Integer<'a> {
     text: &'a str,
@@ -28,8 +28,8 @@ pub struct Integer<'a> {
 impl<'a> Integer<'a> {
     ghost use Rattle.wat_lexer.specs.Integer.{text_of};
 
-    /// The integer that the text is, or `None` where the whole text is none
-    /// ('WebAssembly Core Specification, Text Format, Values, Integers').
+    /// Returns the text as an integer literal, or `None` if the whole text isn't one (WebAssembly
+    /// Core Specification, Text Format, Values, Integers).
     pub fn of(text: &'a str) -> Option<Integer<'a>>
         ensures whole { is_some result ≡ is_integer text.now }
         ensures same { IfSome result (λ i. text_of i ≡ text.now) }
@@ -48,25 +48,23 @@ impl<'a> Integer<'a> {
         Integer { text }
     }
 
-    /// The text, with its sign, its `0x` and its underscores
-    /// ('WebAssembly Core Specification, Text Format, Values, Integers').
+    /// Returns the text, with the sign, the `0x` and the underscores.
     pub fn text(self) -> &'a str
         ensures { result.now ≡ text_of self.entry }
     {
         self.text
     }
 
-    /// The sign that is written, or `None` where none is
-    /// ('WebAssembly Core Specification, Text Format, Values, Integers').
+    /// Returns the sign, or `None` if the literal has none.
     pub fn sign(self) -> Option<Sign>
         ensures { result ≡ sign_of (text_of self.entry) }
     {
         sign_of(self.text.as_bytes())
     }
 
-    /// The value as an unsigned number of so many bits: 8, 16, 32 or 64. `None` where a `-` is
-    /// written, also in `-0`, or the value is above 2^bits - 1 ('WebAssembly Core Specification,
-    /// Text Format, Values, Integers').
+    /// Returns the value as an unsigned number of 8, 16, 32 or 64 bits. `None` if the sign is `-`,
+    /// also for `-0`, or if the value is above 2^bits - 1 (WebAssembly Core Specification, Text
+    /// Format, Values, Integers).
     pub fn unsigned(self, bits: u32) -> Option<u64>
         requires { IsTrue (is_width bits) }
         ensures { result ≡ unsigned_value bits (text_of self.entry) }
@@ -78,10 +76,10 @@ impl<'a> Integer<'a> {
         }
     }
 
-    /// The value as a signed number of so many bits: 8, 16, 32 or 64. Without `-` it is that of the
-    /// unsigned number by two's complement, so `0xff` in 8 bits is -1. `None` where the value is
-    /// above 2^bits - 1, or, behind a `-`, above 2^(bits - 1) ('WebAssembly Core Specification,
-    /// Text Format, Values, Integers').
+    /// Returns the value as a signed number of 8, 16, 32 or 64 bits. Without a `-` the unsigned
+    /// value is converted by two's complement, so `0xff` in 8 bits is -1. `None` if the value is
+    /// above 2^bits - 1, or, after a `-`, above 2^(bits - 1) (WebAssembly Core Specification, Text
+    /// Format, Values, Integers).
     pub fn signed(self, bits: u32) -> Option<i64>
         requires { IsTrue (is_width bits) }
         ensures { result ≡ signed_value bits (text_of self.entry) }

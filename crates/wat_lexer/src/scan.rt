@@ -1,4 +1,4 @@
-//! Where a piece of the text ends.
+//! Where tokens, comments and white space end.
 
 ghost use Rattle.std.specs.Prelude.{◌≡◌, ◌+◌, ◌-◌, ◌≤◌, ◌<◌, true, false, option_map};
 ghost use Rattle.std.specs.Prelude.{IfOk, IfSome, length, drop, slice_range, slice_index};
@@ -9,7 +9,8 @@ ghost use Rattle.wat_lexer.specs.Scan.{all_idchars, Between, RunEndIs};
 use crate::byte_table::{IDCHARS, IN_COMMENT, IN_LINE, SPACES, is_marked, marked_end};
 use crate::string::string_end;
 
-/// Whether the byte is a space.
+/// Returns whether the byte is a space, a tab, LF or CR (WebAssembly Core Specification, Text
+/// Format, Lexical Format, White Space).
 #[inline(always)]
 #[tactic(auto, using(crate::proofs::Tables::space_at))]
 pub fn is_space(b: u8) -> bool
@@ -18,7 +19,8 @@ pub fn is_space(b: u8) -> bool
     is_marked(&SPACES, b)
 }
 
-/// Whether the byte is an idchar.
+/// Returns whether the byte is an `idchar`: a letter, a digit or one of the symbols that names have
+/// (WebAssembly Core Specification, Text Format, Values, Identifiers).
 #[inline(always)]
 #[tactic(auto, using(crate::proofs::Tables::idchar_at))]
 pub fn is_idchar(b: u8) -> bool
@@ -27,7 +29,9 @@ pub fn is_idchar(b: u8) -> bool
     is_marked(&IDCHARS, b)
 }
 
-/// The end of the block comment whose `(;` ends at from.
+/// Returns the offset after a block comment, or `None` if it isn't closed. `from` is the offset
+/// after its `(;`. Offsets are in bytes (WebAssembly Core Specification, Text Format, Lexical
+/// Format, Comments).
 #[tactic(auto, using(crate::proofs::Steps::comment_step, crate::proofs::Steps::comment_none))]
 pub fn comment_end(text: &[u8], from: usize) -> Option<usize>
     requires { from ≤ length text.now }
@@ -56,7 +60,9 @@ pub fn comment_end(text: &[u8], from: usize) -> Option<usize>
     None
 }
 
-/// Where a line comment ends.
+/// Returns the offset of the LF or CR that ends a line comment, or the text's length. `from` is the
+/// offset after its `;;`. Offsets are in bytes (WebAssembly Core Specification, Text Format, Lexical
+/// Format, Comments).
 pub fn line_end(text: &[u8], from: usize) -> usize
     requires { from ≤ length text.now }
     ensures within { (from ≤ result) × (result ≤ length text.now) }
@@ -65,7 +71,8 @@ pub fn line_end(text: &[u8], from: usize) -> usize
     marked_end(&IN_LINE, text, from)
 }
 
-/// Where the spaces end.
+/// Returns the offset, in bytes, of the first byte from `from` on that isn't a space, or the text's
+/// length. Tabs, LF and CR are spaces too.
 #[inline(always)]
 pub fn spaces_end(text: &[u8], from: usize) -> usize
     requires { from ≤ length text.now }
@@ -75,7 +82,8 @@ pub fn spaces_end(text: &[u8], from: usize) -> usize
     marked_end(&SPACES, text, from)
 }
 
-/// Where the idchars end.
+/// Returns the offset, in bytes, of the first byte from `from` on that isn't an `idchar`, or the
+/// text's length.
 #[inline(always)]
 pub fn plain_end(text: &[u8], from: usize) -> usize
     requires { from ≤ length text.now }
@@ -88,7 +96,9 @@ pub fn plain_end(text: &[u8], from: usize) -> usize
     marked_end(&IDCHARS, text, from)
 }
 
-/// Where a run ends, or the quote of the string in it that is none.
+/// Returns the offset after the longest run of `idchar`s and strings from `from` on. If the run has
+/// an invalid string, `Err` is the offset of its opening quote. Offsets are in bytes (WebAssembly
+/// Core Specification, Text Format, Lexical Format, Tokens).
 #[tactic(auto, using(crate::proofs::Steps::run_steps))]
 pub fn run_end(text: &[u8], from: usize) -> Result<usize, usize>
     requires { from ≤ length text.now }
@@ -101,7 +111,7 @@ pub fn run_end(text: &[u8], from: usize) -> Result<usize, usize>
         let b = text[i];
         if b == b'"' {
             match string_end(text, i + 1) {
-                Some((end, _)) => i = end,
+                Some(end) => i = end,
                 None => return Err(i),
             }
         } else if is_idchar(b) {

@@ -1,8 +1,8 @@
-//! Places in a text.
+//! Positions in a text.
 
 ghost use Rattle.std.specs.Prelude.{◌≡◌};
 
-/// A place in the text: an offset in bytes from its start.
+/// A position in a text: an offset in bytes from its start.
 #[derive(Clone, Copy, Debug, PartialEq, Eq, Hash)]
 pub struct Span {
     offset: usize,
@@ -11,14 +11,14 @@ pub struct Span {
 impl Span {
     ghost use Rattle.wat_lexer.specs.Place.{offset_of};
 
-    /// The place behind that many bytes.
+    /// Returns the position at this offset, in bytes.
     pub fn from_offset(offset: usize) -> Span
         ensures { offset_of result ≡ offset }
     {
         Span { offset }
     }
 
-    /// How many bytes of the text stand before the place.
+    /// Returns the offset, in bytes from the start of the text.
     pub fn offset(self) -> usize
         ensures { result ≡ offset_of self }
     {

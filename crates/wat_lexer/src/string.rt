@@ -1,4 +1,4 @@
-//! The strings of the text.
+//! Strings and their escapes.
 
 ghost use Rattle.std.specs.Prelude.{◌≡◌, ◌+◌, ◌-◌, ◌≤◌, ◌<◌, option_map, IfSome, IsTrue};
 ghost use Rattle.std.specs.Prelude.{MatchOption, None, Some, false, length, drop, encode_utf8};
@@ -8,30 +8,32 @@ ghost use Rattle.wat_lexer.specs.Cut.{is_raw, short_escape};
 ghost use Rattle.wat_lexer.specs.Scan.{string_at, rest_at, with_front, spelled, closing, Raw};
 ghost use Rattle.wat_lexer.specs.Scan.{Escape, Digits};
 
-use crate::byte_table::{RAW, marked_end};
+use crate::byte_table::{DIGIT_VALUES, RAW, marked_end};
 
-/// What an escape stands for.
+/// The bytes that an escape in a string stands for.
+///
+/// It is public because definitions of specs/Scan.antt name it. No public function takes or returns
+/// one.
 #[derive(Clone, Copy, Drop)]
 pub enum Escaped {
+    /// One byte.
     Byte(u8),
-    /// The bytes of the character.
+    /// The UTF-8 bytes of the character.
     Char(char),
 }
 
-/// What a digit or a letter stands for as a digit, below 36; 36 for any other byte.
+/// Returns the value of a byte as a digit: 0 to 9 for a digit, 10 to 35 for a letter of either case,
+/// 36 for any other byte.
+#[inline(always)]
+#[tactic(auto, using(crate::proofs::Tables::digit_value_at))]
 pub fn digit_value(b: u8) -> u8
     ensures value { result ≡ digit_value b }
     ensures small { result ≤ 36 }
 {
-    match b {
-        b'0'..=b'9' => b - b'0',
-        b'A'..=b'Z' => b - b'A' + 10,
-        b'a'..=b'z' => b - b'a' + 10,
-        _ => 36,
-    }
+    DIGIT_VALUES[usize::from(b)]
 }
 
-/// The hexadecimal digit of a number below 16, with a small letter.
+/// Returns the hexadecimal digit of a number below 16, from `0` to `9` or from `a` to `f`.
 pub fn hex_digit(value: u8) -> u8
     requires { value < 16 }
     ensures value { result ≡ digit_char value }
@@ -107,6 +109,7 @@ fn code_point(text: &[u8], from: usize) -> Option<(char, usize)>
 }
 
 /// What is behind a backslash, and the place behind it.
+#[inline(always)]
 #[tactic(auto, using(crate::proofs::Steps::escape_steps))]
 fn behind_backslash(text: &[u8], at: usize) -> Option<(Escaped, usize)>
     requires { at ≤ length text.now }
@@ -146,6 +149,7 @@ fn behind_backslash(text: &[u8], at: usize) -> Option<(Escaped, usize)>
 }
 
 /// What the escape that begins at a place stands for, and the place behind it.
+#[inline(always)]
 #[tactic(auto, using(crate::proofs::Steps::closing_steps))]
 pub(crate) fn escape(text: &[u8], at: usize) -> Option<(Escaped, usize)>
     requires within { at ≤ length text.now }
@@ -162,25 +166,20 @@ pub(crate) fn escape(text: &[u8], at: usize) -> Option<(Escaped, usize)>
     }
 }
 
-/// Where a string ends, from behind its opening quote on, and whether its content is the bytes
-/// between the quotes.
+/// Where a string ends, from behind its opening quote on.
 #[tactic(auto, using(crate::proofs::Steps::string_steps))]
-pub(crate) fn string_end(text: &[u8], from: usize) -> Option<(usize, bool)>
+pub(crate) fn string_end(text: &[u8], from: usize) -> Option<usize>
     requires { from ≤ length text.now }
-    ensures within { IfSome result (λ end. (from < end.0) × (end.0 ≤ length text.now)) }
-    ensures quote { IfSome result (λ end. slice_index text.now (end.0 - 1) ≡ 34) }
-    ensures rest { option_map (λ end. drop end.0 text.now) result ≡ rest_at (drop from text.now) }
-    ensures content { IfSome result (λ end. IsTrue end.1
-        → string_at Raw (drop from text.now) ≡ Some
-        (slice_range text.now from (end.0 - 1), drop end.0 text.now)) }
+    ensures within { IfSome result (λ end. (from < end) × (end ≤ length text.now)) }
+    ensures quote { IfSome result (λ end. slice_index text.now (end - 1) ≡ 34) }
+    ensures rest { option_map (λ end. drop end text.now) result ≡ rest_at (drop from text.now) }
 {
-    let raw = raw_end(text, from);
-    let mut i = raw;
+    let mut i = raw_end(text, from);
     while let Some((_, behind)) = escape(text, i) {
         i = raw_end(text, behind);
     }
     if i < text.len() && text[i] == b'"' {
-        Some((i + 1, i == raw))
+        Some(i + 1)
     } else {
         None
     }

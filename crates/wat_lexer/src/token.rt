@@ -1,36 +1,26 @@
 //! Tokens.
 
-ghost use Rattle.std.specs.Prelude.{◌≡◌};
-ghost use Rattle.wat_lexer.specs.Token.{is_annotation};
-ghost use Rattle.wat_lexer.specs.View.{view};
-
 use crate::number::Integer;
 
-/// A token of the text. Names and undecoded strings are slices of the text; what had escapes lies
-/// in the arena.
+/// A token of a text (WebAssembly Core Specification, Text Format, Lexical Format, Tokens). Names and
+/// strings without escapes are slices of the text. The arena has the others, decoded.
 #[derive(Clone, Copy, Debug)]
 pub enum Token<'a> {
     /// `(`
     LParen,
     /// `)`
     RParen,
-    /// A word that begins with a small letter.
+    /// A keyword: a word that begins with a lowercase letter.
     Keyword(&'a str),
-    /// An identifier, its name without the `$`.
+    /// The name of an identifier, without the `$`. A name that is written as a string is decoded.
     Id(&'a str),
-    /// `@` and a name directly behind a `(`; the name without the `@`.
+    /// The name of an annotation, without the `@`, directly after a `(`. A name that is written as
+    /// a string is decoded.
     Annotation(&'a str),
-    /// An integer.
+    /// An integer literal.
     Integer(Integer<'a>),
-    /// A string, decoded.
+    /// The bytes of a string, decoded.
     String(&'a [u8]),
-    /// Any other run of characters; it spells nothing.
+    /// Any other run of characters: a reserved token, which is valid nowhere.
     Reserved(&'a str),
-}
-
-/// Whether it is an annotation.
-pub(crate) fn is_annotation(token: Token) -> bool
-    ensures { result ≡ is_annotation (view token.entry) }
-{
-    matches!(token, Token::Annotation(_))
 }

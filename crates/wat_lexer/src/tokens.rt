@@ -4,12 +4,13 @@ ghost use Rattle.std.specs.Prelude.{◌≡◌, ◌≤◌, ◌<◌, ◌+◌, true
 ghost use Rattle.std.proofs.Math.ListN.{get_or, set};
 ghost use Rattle.wat_lexer.specs.Token.{is_open, is_close, is_annotation};
 ghost use Rattle.wat_lexer.specs.View.{view, tok_at, lies, entries_of, Readable, Word};
-ghost use Rattle.wat_lexer.specs.View.{AllCanBeRead, AllApart, skipping, no_entry, skip};
+ghost use Rattle.wat_lexer.specs.View.{AllCanBeRead, AllApart, HasSkips, skipping, no_entry, skip};
 ghost use Rattle.wat_lexer.specs.View.{most_items};
 
 use crate::class::part;
-use crate::lexeme::{Kind, Lexeme, SideEntry, Skips};
+use crate::lexeme::{Kind, Lexeme, Skips};
 use crate::number::Integer;
+use crate::side_entry::SideEntry;
 use crate::token::Token;
 use std::marker::Model;
 
@@ -21,19 +22,22 @@ pub struct Tokens<'a> {
     text: &'a str,
     lexemes: Vec<Lexeme>,
     side_table: Vec<SideEntry<'a>>,
+    /// How far lookups go, at the annotations' places in the side table.
+    skips: Vec<Skips>,
 }
 
 impl<'a> Model for Tokens<'a> {
     ghost use Rattle.std.specs.Prelude.{List, length, ◌≤◌};
     ghost use Rattle.wat_lexer.specs.Token.{Entry};
-    ghost use Rattle.wat_lexer.specs.View.{entries_of, most_items, AllCanBeRead, AllApart};
+    ghost use Rattle.wat_lexer.specs.View.{entries_of, most_items, AllCanBeRead, AllApart, HasSkips};
 
     ghost Value = { List Entry };
 
-    ghost view = { λ t. entries_of t.text.now t.side_table.items t.lexemes.items };
+    ghost view = { λ t. entries_of t.text.now t.side_table.items t.skips.items t.lexemes.items };
 
     ghost invariant = { λ t. AllCanBeRead t.text.now t.side_table.items t.lexemes.items
-        × AllApart t.lexemes.items × (length t.lexemes.items ≤ most_items) };
+        × AllApart t.lexemes.items × HasSkips t.side_table.items t.skips.items
+        × (length t.lexemes.items ≤ most_items) };
 }
 
 impl<'a> Tokens<'a> {
@@ -42,20 +46,24 @@ impl<'a> Tokens<'a> {
         text: &'a str,
         lexemes: Vec<Lexeme>,
         side_table: Vec<SideEntry<'a>>,
+        skips: Vec<Skips>,
     ) -> Tokens<'a>
         requires fit { AllCanBeRead text.now side_table.items lexemes.items }
         requires apart { AllApart lexemes.items }
+        requires skips { HasSkips side_table.items skips.items }
         requires small { length lexemes.items ≤ most_items }
-        ensures { result ≡ entries_of text.entry.now side_table.entry.items lexemes.items }
+        ensures { result ≡ entries_of text.entry.now side_table.entry.items skips.items
+            lexemes.items }
     {
         Tokens {
             text,
             lexemes,
             side_table,
+            skips,
         }
     }
 
-    /// How many there are.
+    /// Returns the number of tokens.
     pub fn len(&self) -> usize
         ensures value { result ≡ length self.now }
         ensures small { result ≤ most_items }
@@ -63,7 +71,7 @@ impl<'a> Tokens<'a> {
         self.lexemes.len()
     }
 
-    /// Whether the token is `(`.
+    /// Returns whether the token at an index is `(`.
     pub fn opens(&self, at: usize) -> bool
         requires { at < length self.now }
         ensures { result ≡ is_open ((get_or self.now at no_entry).token) }
@@ -71,7 +79,7 @@ impl<'a> Tokens<'a> {
         matches!(self.lexemes[at].kind, Kind::LParen)
     }
 
-    /// Whether the token is `)`.
+    /// Returns whether the token at an index is `)`.
     pub fn closes(&self, at: usize) -> bool
         requires { at < length self.now }
         ensures { result ≡ is_close ((get_or self.now at no_entry).token) }
@@ -79,7 +87,7 @@ impl<'a> Tokens<'a> {
         matches!(self.lexemes[at].kind, Kind::RParen)
     }
 
-    /// Whether the token is an annotation.
+    /// Returns whether the token at an index is an annotation.
     pub fn annotates(&self, at: usize) -> bool
         requires { at < length self.now }
         ensures { result ≡ is_annotation ((get_or self.now at no_entry).token) }
@@ -87,7 +95,7 @@ impl<'a> Tokens<'a> {
         matches!(self.lexemes[at].kind, Kind::Annotation)
     }
 
-    /// The token.
+    /// Returns the token at an index.
     // What asks for it needs one of its kinds, and inlined no other is made.
     #[inline(always)]
     pub fn token(&self, at: usize) -> Token<'a>
@@ -105,14 +113,14 @@ impl<'a> Tokens<'a> {
         )
     }
 
-    /// How many bytes of the text stand before it.
+    /// Returns the offset of the token at an index, in bytes from the start of the text.
     pub fn offset(&self, at: usize) -> usize
         requires { at < length self.now }
         ensures { result ≡ (get_or self.now at no_entry).offset }
     {
         let lexeme = self.lexemes[at];
         match lexeme.kind {
-            Kind::Annotation | Kind::InSideTable => self.side_table[lexeme.number()].offset,
+            Kind::Annotation | Kind::InSideTable => self.side_table[lexeme.number()].offset(),
             Kind::LParen | Kind::RParen => lexeme.number(),
             _ => lexeme.word_at(),
         }
@@ -126,10 +134,7 @@ impl<'a> Tokens<'a> {
     {
         let lexeme = self.lexemes[at];
         match lexeme.kind {
-            Kind::Annotation => {
-                let skips = self.side_table[lexeme.number()].skips;
-                if known { skips.unknown } else { skips.all }
-            }
+            Kind::Annotation => self.skips[lexeme.number()].told(known),
             _ => 0,
         }
     }
@@ -141,7 +146,7 @@ impl<'a> Tokens<'a> {
         ensures { self.new ≡ set self.old at (skipping self.old at skips) }
     {
         let number = self.lexemes[at].number();
-        self.side_table[number].skips = skips;
+        self.skips[number] = skips;
     }
 }
 
@@ -178,6 +183,6 @@ pub(crate) fn read<'a>(
         Kind::Integer => Token::Integer(Integer::over(word(text, from, 0, from + size))),
         Kind::String => Token::String(&text.as_bytes()[from + 1..from + size - 1]),
         Kind::Reserved => Token::Reserved(word(text, from, 0, from + size)),
-        Kind::Annotation | Kind::InSideTable => side_table[place].token,
+        Kind::Annotation | Kind::InSideTable => side_table[place].token(),
     }
 }

@@ -2,7 +2,7 @@ pub mod CustomRows
 pub mod Ends
 pub mod Fields
 pub mod FlagList
-pub mod FlagReads
+pub mod ItemKinds
 pub mod LinkRows
 pub mod Lookups
 pub mod Runs

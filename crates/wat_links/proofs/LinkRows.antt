@@ -14,11 +14,11 @@ use Rattle.wat_links.specs.InlineName.{inline_name}
 use Rattle.wat_links.specs.Forms.{import_items, imports}
 use Rattle.wat_links.specs.Import.{shared_sig, typed_list, named_list, typed_items, named_items, import_choice}
 use Rattle.wat_links.specs.ImportItem.{named_item}
-use Rattle.wat_links.specs.Item.{func_kind, item_sig}
+use Rattle.wat_links.specs.Item.{exact_use, func_kind, item_sig}
 use Rattle.wat_links.specs.LinkRows.{Imports, InlineNames}
 
 pub imports_of_texts : Imports
-unfolding imports import_items import_choice typed_items typed_list named_items named_list named_item shared_sig item_sig func_kind label name_annotation type_use function_groups func_groups many_at many_reads is_utf8 chars encode_utf8
+unfolding imports import_items import_choice typed_items typed_list named_items named_list named_item shared_sig item_sig func_kind exact_use label name_annotation type_use function_groups func_groups many_at many_reads is_utf8 chars encode_utf8
 imports_of_texts = (spelled_whole imports _ _ refl, spelled_whole imports _ _ refl, spelled_whole imports _ _ refl)
 
 pub inline_names : InlineNames

@@ -8,8 +8,6 @@ use Rattle.wat_links.specs.Subsections.{subsections}
 use Rattle.wat_links.specs.CutForm.{CutSpells}
 use Rattle.wat_links.specs.Laws.Cutting.{cut_to, cut_from}
 
--- ---- the section
-
 -- entries to the end, cut into subsections
 unfoldable pub cut_subsections : Production (List SubsectionTy)
 cut_subsections = restated subsections CutSpells cut_to cut_from

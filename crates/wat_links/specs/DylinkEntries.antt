@@ -6,8 +6,6 @@ use Rattle.wat_tokens.specs.Groups.{group}
 use Rattle.wat_tokens.specs.Strings.{text}
 use Rattle.wat_links.specs.Flags.{symbol_flags}
 
--- ---- entries of exports and of imports
-
 -- ( export-info name flags )
 unfoldable pub export_entry : Production (List ℕ × ℕ)
 export_entry = group (codes "export-info") (seq text symbol_flags)

@@ -1,24 +1,24 @@
 -- One flag of a symbol.
-use Rattle.std.specs.Prelude.{ℕ, List, [], ◌∷◌, codes, Option, None, refl}
-use Rattle.wat_tokens.specs.Token.{Tok, Integer, Keyword}
-use Rattle.wat_tokens.specs.Tests.{look_up}
-use Rattle.wat_tokens.specs.Integers.{unsigned_of}
+use Rattle.std.specs.Prelude.{ℕ, List, [], ◌∷◌, codes, refl}
+use Rattle.wat_tokens.specs.Tests.{word_in, begins_integer}
+use Rattle.wat_tokens.specs.Integers.{unsigned}
 use Rattle.wat_tokens.specs.Production.{Production}
-use Rattle.wat_tokens.specs.Parts.{one}
+use Rattle.wat_tokens.specs.Parts.{one, made, where_else}
+use Rattle.wat_links.specs.declared.flags.SymbolFlag.{SymbolFlag}
+
+abbrev pub flag_with : ℕ → SymbolFlag
+flag_with bit = record { 0 = bit }
 
 -- the words of flags, each with its bit
-abbrev pub flag_words : List (List ℕ × ℕ)
+abbrev pub flag_words : List (List ℕ × SymbolFlag)
 flag_words =
-    (codes "binding-weak", 1) ∷ (codes "binding-local", 2) ∷ (codes "visibility-hidden", 4)
-    ∷ (codes "undefined", 16) ∷ (codes "exported", 32) ∷ (codes "explicit-name", 64)
-    ∷ (codes "no-strip", 128) ∷ (codes "tls", 256) ∷ (codes "absolute", 512) ∷ []
+    (codes "binding-weak", flag_with 1) ∷ (codes "binding-local", flag_with 2)
+    ∷ (codes "visibility-hidden", flag_with 4) ∷ (codes "undefined", flag_with 16)
+    ∷ (codes "exported", flag_with 32) ∷ (codes "explicit-name", flag_with 64)
+    ∷ (codes "no-strip", flag_with 128) ∷ (codes "tls", flag_with 256)
+    ∷ (codes "absolute", flag_with 512) ∷ []
 
--- the number of 32 bits that the token is, or the bit that its word names
-abbrev pub flag_of : Tok → Option ℕ
-flag_of (Integer text) = unsigned_of 32 (Integer text)
-flag_of (Keyword w) = look_up flag_words w
-flag_of _ = None
-
--- u32 | a word of flags
+-- u32 | a word of flags, as its bit
 unfoldable pub flag_bits : Production ℕ
-flag_bits = one flag_of (refl, refl)
+flag_bits =
+    where_else begins_integer (unsigned 32) (made (λ f. f.0) (one (word_in flag_words) (refl, refl)))

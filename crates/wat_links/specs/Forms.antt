@@ -1,4 +1,4 @@
--- The three forms of imports, each by itself, and that the tokens in front tell them apart.
+-- Imports, by the three forms of their items.
 use Rattle.std.specs.Prelude.{codes}
 use Rattle.wat_tokens.specs.Production.{Production}
 use Rattle.wat_tokens.specs.Parts.{seq, made, after_word}
@@ -7,8 +7,6 @@ use Rattle.wat_tokens.specs.Strings.{text}
 use Rattle.wat_links.specs.Import.{ItemsTy, ImportsTy, imports_of, import_choice}
 use Rattle.wat_links.specs.ItemForms.{ItemsSpells}
 use Rattle.wat_links.specs.Laws.Forms.{items_to, items_from}
-
--- ---- imports
 
 -- one of the three forms
 unfoldable pub import_items : Production ItemsTy

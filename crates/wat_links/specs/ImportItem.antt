@@ -6,8 +6,6 @@ use Rattle.wat_tokens.specs.Groups.{paren, group}
 use Rattle.wat_tokens.specs.Strings.{text}
 use Rattle.wat_links.specs.Item.{SigTy, item_sig}
 
--- ---- the grammar
-
 -- ( ItemSig )
 abbrev pub sig_group : Production SigTy
 sig_group = paren item_sig

@@ -4,8 +4,6 @@ use Rattle.wat_tokens.specs.Production.{Production}
 use Rattle.wat_tokens.specs.Groups.{group}
 use Rattle.wat_tokens.specs.Strings.{text}
 
--- ---- exports in line
-
 -- ( export name )
 unfoldable pub inline_name : Production (List ℕ)
 inline_name = group (codes "export") text

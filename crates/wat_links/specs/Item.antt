@@ -1,5 +1,5 @@
 -- Signatures of items that are imported or exported.
-use Rattle.std.specs.Prelude.{◌≡◌, ℕ, Bool, true, List, codes}
+use Rattle.std.specs.Prelude.{◌≡◌, ℕ, Bool, true, false, List, codes}
 use Rattle.wat_tokens.specs.Tests.{begins_word, second}
 use Rattle.wat_tokens.specs.Production.{Production}
 use Rattle.wat_tokens.specs.Parts.{seq, made, where_else, after_word}
@@ -11,7 +11,9 @@ use Rattle.wat_types.specs.Limits.{TableTy, table_type_view, table_type, memory_
 use Rattle.wat_types.specs.Storage.{GlobalTy, global_type_view, global_type}
 use Rattle.wat_types.specs.Tag.{tag_type_view, tag_type, SameTag}
 use Rattle.wat_types.specs.Use.{UseTy, use_view, bare_use, type_use, SameFunction, SameUse}
+use Rattle.wat_types.specs.declared.function.FunctionType.{FunctionType}
 use Rattle.wat_types.specs.declared.limits.MemoryType.{MemoryType}
+use Rattle.wat_types.specs.declared.type_use.TypeUse.{TypeUse}
 use Rattle.wat_links.specs.declared.item.ItemKind.{ItemKind}
 use Rattle.wat_links.specs.declared.item.ItemKind.TheVariants as code
 use Rattle.wat_links.specs.declared.item.ItemSig.{ItemSig}
@@ -45,7 +47,14 @@ item_kind_view (code.FuncExact u) = exact_func (use_view function_view u)
 abbrev pub sig_view : ItemSig → SigTy
 sig_view s = sig_of (label_view s.id s.name) (item_kind_view s.kind)
 
+-- a type use, and whether it is exact
+abbrev pub exact_use_view : TypeUse FunctionType × Bool → UseTy FuncTy × Bool
+exact_use_view u = (use_view function_view u.0, u.1)
+
 -- no parameter and no result in line
+abbrev pub bare_exact_use : UseTy FuncTy × Bool → Bool
+bare_exact_use u = bare_use bare_function u.0
+
 abbrev pub bare_item_kind : ItemKindTy → Bool
 bare_item_kind (func u) = bare_use bare_function u
 bare_item_kind (table t) = true
@@ -64,10 +73,18 @@ abbrev pub func_use : Production (UseTy FuncTy)
 func_use = type_use begins_func function_type
 
 -- where the second token is `exact`, ( exact TypeUse ); else TypeUse
-unfoldable pub func_kind : Production ItemKindTy
-func_kind =
+unfoldable pub exact_use : Production (UseTy FuncTy × Bool)
+exact_use =
     where_else (second (begins_word (codes "exact")))
-    (made exact_func (group (codes "exact") func_use)) (made func func_use)
+    (made (λ u. (u, true)) (group (codes "exact") func_use)) (made (λ u. (u, false)) func_use)
+
+abbrev pub func_kind_of : UseTy FuncTy × Bool → ItemKindTy
+func_kind_of (u, true) = exact_func u
+func_kind_of (u, false) = func u
+
+-- the type use of a function, exact or not
+unfoldable pub func_kind : Production ItemKindTy
+func_kind = made func_kind_of exact_use
 
 -- the word, id? name?, and then k
 abbrev pub item_of : List ℕ → Production ItemKindTy → Production SigTy
@@ -79,7 +96,7 @@ global_or_tag =
     where_else (begins_word (codes "global")) (item_of (codes "global") (made global global_type))
     (item_of (codes "tag") (made tag tag_type))
 
--- `func id? name?`, and a function by func_kind | `table id? name?` TableType | `memory id? name?`
+-- `func id? name?`, and a type use, exact or not | `table id? name?` TableType | `memory id? name?`
 -- MemoryType | global or tag
 unfoldable pub item_sig : Production SigTy
 item_sig =

@@ -8,8 +8,6 @@ use Rattle.wat_tokens.specs.Strings.{text}
 use Rattle.wat_links.specs.declared.producers.Field.{Field}
 use Rattle.wat_links.specs.declared.producers.Field.TheVariants.{Language, Sdk, ProcessedBy}
 
--- ---- entries
-
 -- the fields, by their words
 abbrev pub field_words : List (List ℕ × Field)
 field_words =

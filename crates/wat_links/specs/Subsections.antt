@@ -6,8 +6,6 @@ use Rattle.wat_tokens.specs.Many.{many}
 use Rattle.wat_links.specs.Dylink.{SubsectionTy, subsection}
 use Rattle.wat_links.specs.Laws.Subsections.{subsection_consumes}
 
--- ---- subsections
-
 -- subsections, to the end
 unfoldable pub subsections : Production (List SubsectionTy)
 subsections = many more subsection subsection_consumes

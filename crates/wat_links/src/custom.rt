@@ -11,10 +11,10 @@ use crate::producers::Producers;
 use crate::raw::RawCustomSection;
 use wat_tokens::{Parse, Parser, Result};
 
-/// A custom section (WebAssembly Core Specification, Text Format, "Custom Annotation").
+/// A custom section of a module (WebAssembly Core Specification, Text Format, "Custom Annotation").
 #[derive(Debug, Drop)]
 pub enum Custom<'a> {
-    /// One of any name, as its bytes.
+    /// A section of any name, as bytes.
     Raw(RawCustomSection<'a>),
     /// The `producers` section.
     Producers(Producers<'a>),
@@ -23,8 +23,8 @@ pub enum Custom<'a> {
 }
 
 impl<'a> Custom<'a> {
-    /// Where it is: a `producers` section behind the last section, a `dylink.0` section before
-    /// the first.
+    /// Returns the place of the section. A `producers` section is after the last section, and a
+    /// `dylink.0` section before the first.
     pub fn place(&self) -> CustomPlace
         ensures { result ≡ place_of self.now }
     {
@@ -35,7 +35,7 @@ impl<'a> Custom<'a> {
         }
     }
 
-    /// Its name.
+    /// Returns the name of the section.
     pub fn name(&self) -> &'a str
         ensures { result.now ≡ custom_name self.now }
     {
@@ -47,7 +47,7 @@ impl<'a> Custom<'a> {
     }
 }
 
-/// Whether the annotation of the name, given without its `@`, is in front.
+/// Whether the next token is the annotation of the name, given without its `@`.
 fn annotation_next(parser: &Parser<'_>, name: &str) -> bool
     ensures { result ≡ begins_annotated name.now parser.now.left }
 {
@@ -57,8 +57,9 @@ fn annotation_next(parser: &Parser<'_>, name: &str) -> bool
     }
 }
 
-/// A [`Producers`] where the annotation `producers` is in front, a [`Dylink0`] where `dylink.0`
-/// does, else a [`RawCustomSection`]. The parser is behind the `(` of the annotation's group.
+/// Reads the rest of an annotation after its `(`. If the next token is `@producers`, it reads a
+/// [`Producers`], if it is `@dylink.0`, a [`Dylink0`], and otherwise a [`RawCustomSection`], which
+/// begins with `@custom`. The annotation has to be known to the parser.
 impl<'a> Parse<'a> for Custom<'a> {
     ghost View = { CustomTy };
 

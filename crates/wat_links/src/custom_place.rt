@@ -1,4 +1,4 @@
-//! Where a custom section is.
+//! Places of custom sections.
 
 ghost use Rattle.wat_links.specs.CustomPlace.{anchor_words, before, after};
 ghost use Rattle.wat_tokens.specs.Reads.{Reads};
@@ -7,22 +7,22 @@ ghost use Rattle.wat_tokens.specs.Views.{plain};
 use wat_tokens::words::{NamedByKeyword, take_named};
 use wat_tokens::{Parse, Parser, Result};
 
-/// Where among the sections of a binary module a custom section is (WebAssembly Core
+/// The place of a custom section among the sections of a binary module (WebAssembly Core
 /// Specification, Text Format, "Custom Annotation").
 #[derive(Clone, Copy, Debug, PartialEq)]
 pub enum CustomPlace {
     /// `before first`: before the first section.
     BeforeFirst,
-    /// `before`, and a known section: right before it.
+    /// `before` and a known section: directly before that section.
     Before(CustomPlaceAnchor),
-    /// `after`, and a known section: right behind it.
+    /// `after` and a known section: directly after that section.
     After(CustomPlaceAnchor),
-    /// `after last`: behind the last section.
+    /// `after last`: after the last section.
     AfterLast,
 }
 
 /// A known section of a binary module (WebAssembly Core Specification, Text Format, "Custom
-/// Annotation"). Each variant has the name of its word.
+/// Annotation"). Each variant is named after its keyword.
 #[derive(Clone, Copy, Debug, PartialEq, Eq)]
 pub enum CustomPlaceAnchor {
     /// `type`
@@ -51,7 +51,7 @@ pub enum CustomPlaceAnchor {
     Tag,
 }
 
-/// The section that a word names.
+/// The section that a keyword names.
 impl NamedByKeyword for CustomPlaceAnchor {
     ghost words = { anchor_words };
 
@@ -74,7 +74,7 @@ impl NamedByKeyword for CustomPlaceAnchor {
     }
 }
 
-/// Another word is refused with Unexpected, at the word.
+/// Reads the keyword of a section. Any other token is the error Unexpected, at the token.
 impl<'a> Parse<'a> for CustomPlaceAnchor {
     ghost use Rattle.wat_links.specs.declared.custom_place.CustomPlaceAnchor.{CustomPlaceAnchor};
     ghost use Rattle.wat_links.specs.CustomPlace.{section};
@@ -115,7 +115,8 @@ fn read_after<'a>(parser: &mut Parser<'a>) -> Result<CustomPlace>
     CustomPlaceAnchor::parse(parser).map(CustomPlace::After)
 }
 
-/// `before first`, `before` and a section, `after last`, or `after` and a section.
+/// Reads `before first`, `before` and a section, `after last`, or `after` and a section. Any other
+/// token is the error Unexpected, at the token.
 impl<'a> Parse<'a> for CustomPlace {
     ghost use Rattle.wat_links.specs.declared.custom_place.CustomPlace.{CustomPlace};
     ghost use Rattle.wat_links.specs.CustomPlace.{custom_place};

@@ -18,44 +18,44 @@ use wat_tokens::enclosed::in_word_group;
 use wat_tokens::repeat::{Part, parts, rest_of_group};
 use wat_tokens::{Parse, Parser, Result};
 
-/// The `dylink.0` section, which a dynamically linked module carries (WebAssembly Core
-/// Specification, Text Format, "Custom Annotation", and the tool conventions on dynamic linking).
+/// The `dylink.0` section of a dynamically linked module (WebAssembly Core Specification, Text
+/// Format, "Custom Annotation", and the tool conventions on dynamic linking).
 #[derive(Debug, Drop)]
 pub struct Dylink0<'a> {
-    /// Its subsections: export entries that stand side by side make one, and so do import entries;
-    /// every other entry is one of its own.
+    /// The subsections, in the order of the text. Adjacent export entries form one subsection, and
+    /// so do adjacent import entries. Every other entry is a subsection by itself.
     pub subsections: Vec<Dylink0Subsection<'a>>,
 }
 
 /// A subsection of the `dylink.0` section.
 #[derive(Debug, Drop)]
 pub enum Dylink0Subsection<'a> {
-    /// `mem-info`: what the module needs of the memory and of the table, 0 where that isn't
-    /// written.
+    /// `mem-info`: the memory and the table space that the module needs. Missing numbers are 0.
     MemInfo {
-        /// How many bytes of the memory.
+        /// The size in the memory, in bytes.
         memory_size: u32,
-        /// The k for which the place in the memory is aligned to 2 to the k bytes.
+        /// The alignment in the memory: the exponent k of 2^k bytes.
         memory_align: u32,
-        /// How many elements of the table.
+        /// The size in the table, in elements.
         table_size: u32,
-        /// The k for which the place in the table is aligned to 2 to the k elements.
+        /// The alignment in the table: the exponent k of 2^k elements.
         table_align: u32,
     },
-    /// `needed`: the names of the modules that it needs.
+    /// `needed`: the names of the modules that the module needs.
     Needed(Vec<&'a str>),
-    /// `export-info`: the names of exports, each with its flags.
+    /// `export-info`: export names, each with its flags.
     ExportInfo(Vec<(&'a str, u32)>),
-    /// `import-info`: the modules and names of imports, each with its flags.
+    /// `import-info`: module and name of imports, each with its flags.
     ImportInfo(Vec<(&'a str, &'a str, u32)>),
-    /// `runtime-path`: the paths where modules are looked for.
+    /// `runtime-path`: the paths on which needed modules are searched.
     RuntimePath(Vec<&'a str>),
-    /// `target-arch`: the architecture that it is for.
+    /// `target-arch`: the target architecture.
     TargetArch(&'a str),
 }
 
 impl Dylink0Subsection<'_> {
-    /// The number of its kind in a binary module: 1 to 6, in the order of the variants.
+    /// Returns the number of the subsection's kind in a binary module: 1 to 6, in the order of the
+    /// variants.
     pub fn id(&self) -> u8
         ensures { result ≡ id_of self.now }
     {
@@ -191,7 +191,7 @@ impl<'a> Part<'a, (&'a str, &'a str, u32)> for ImportEntry {
     }
 }
 
-/// An export entry, and all that are behind it.
+/// An export entry, and all export entries directly after it.
 #[tactic(auto, using(crate::proofs::Runs::run_steps))]
 fn read_exports<'a>(parser: &mut Parser<'a>) -> Result<Vec<(&'a str, u32)>>
     ensures reads { Reads (owning (λ v. map dylink_export_view v.items) no_items)
@@ -203,7 +203,7 @@ fn read_exports<'a>(parser: &mut Parser<'a>) -> Result<Vec<(&'a str, u32)>>
     Ok(entries)
 }
 
-/// An import entry, and all that are behind it.
+/// An import entry, and all import entries directly after it.
 #[tactic(auto, using(crate::proofs::Runs::run_steps))]
 fn read_imports<'a>(parser: &mut Parser<'a>) -> Result<Vec<(&'a str, &'a str, u32)>>
     ensures reads { Reads (owning (λ v. map dylink_import_view v.items) no_items)
@@ -243,10 +243,17 @@ impl<'a> Part<'a, Dylink0Subsection<'a>> for Subsection {
     }
 }
 
-/// `@dylink.0`, and entries up to the end of the group: `( mem-info ( memory u32 u32 ) ( table u32
-/// u32 ) )`, where each inner group may be left out, `( needed name* )`, `( export-info name flags
-/// )`, `( import-info module name flags )`, `( runtime-path name* )` and `( target-arch name )`.
-/// Flags are numbers and words, joined by or; another word is refused with Unexpected, at the word.
+/// Reads `@dylink.0`, and entries up to the end of the group:
+///
+/// - `( mem-info ( memory u32 u32 ) ( table u32 u32 ) )`, where each inner group is optional,
+/// - `( needed name* )`,
+/// - `( export-info name flags )`,
+/// - `( import-info module name flags )`,
+/// - `( runtime-path name* )`,
+/// - `( target-arch name )`.
+///
+/// Flags are 32-bit numbers and keywords, joined by bitwise or. An unknown keyword is the error
+/// Unexpected, at the keyword.
 impl<'a> Parse<'a> for Dylink0<'a> {
     ghost View = { List SubsectionTy };
 

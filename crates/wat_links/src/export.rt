@@ -21,18 +21,18 @@ use wat_tokens::{Cursor, Index, Parse, Parser, Peek, Result, Span, kw};
 /// An export of a module (WebAssembly Core Specification, Text Format, Modules, "Exports").
 #[derive(Debug, Drop)]
 pub struct Export<'a> {
-    /// Where the word `export` begins.
+    /// The byte offset of the keyword `export`.
     pub span: Span,
-    /// The name under which it is exported.
+    /// The name of the export.
     pub name: &'a str,
-    /// What kind of item is exported.
+    /// The kind of the exported item.
     pub kind: ExportKind,
-    /// Which item is exported.
+    /// The index of the exported item.
     pub item: Index<'a>,
 }
 
-/// A kind of item that can be exported (WebAssembly Core Specification, Text Format, Modules,
-/// "Exports"). Each variant has the name of its word.
+/// The kind of an exported item (WebAssembly Core Specification, Text Format, Modules, "Exports").
+/// Each variant is named after its keyword.
 #[derive(Clone, Copy, Debug, PartialEq, Eq, Hash)]
 pub enum ExportKind {
     /// `func`
@@ -47,26 +47,26 @@ pub enum ExportKind {
     Tag,
 }
 
-/// The type of an export: its name, and the signature of what is exported.
+/// The type of an export: its name, and the signature of the exported item.
 #[derive(Debug, Drop)]
 pub struct ExportType<'a> {
-    /// Where the word `export` begins.
+    /// The byte offset of the keyword `export`.
     pub span: Span,
-    /// The name under which it is exported.
+    /// The name of the export.
     pub name: &'a str,
-    /// The signature of the item.
+    /// The signature of the exported item.
     pub item: ItemSig<'a>,
 }
 
-/// The exports that are written in line with an item (WebAssembly Core Specification, Text Format,
-/// Modules, "Exports", Abbreviations).
+/// The inline exports of an item (WebAssembly Core Specification, Text Format, Modules, "Exports",
+/// Abbreviations).
 #[derive(Debug, Drop)]
 pub struct InlineExport<'a> {
-    /// The names under which the item is exported.
+    /// The names of the exports, in the order of the text.
     pub names: Vec<&'a str>,
 }
 
-/// The kind that a word names.
+/// The kind that a keyword names.
 impl NamedByKeyword for ExportKind {
     ghost words = { kind_words };
 
@@ -82,7 +82,7 @@ impl NamedByKeyword for ExportKind {
     }
 }
 
-/// Another token than one of the words is refused with Unexpected, at the token.
+/// Reads the keyword of a kind. Any other token is the error Unexpected, at the token.
 impl<'a> Parse<'a> for ExportKind {
     ghost use Rattle.wat_links.specs.declared.export.ExportKind.{ExportKind};
     ghost use Rattle.wat_links.specs.Export.{export_kind};
@@ -99,7 +99,7 @@ impl<'a> Parse<'a> for ExportKind {
     }
 }
 
-/// One of the words.
+/// An [`ExportKind`] begins at one of its keywords.
 impl Peek for ExportKind {
     ghost begins = { begins_kind };
 
@@ -113,6 +113,7 @@ impl Peek for ExportKind {
     }
 }
 
+/// The keyword `func` as a kind.
 impl From<kw::func> for ExportKind {
     ghost use Rattle.wat_links.specs.declared.export.ExportKind.TheVariants.{Func};
 
@@ -123,6 +124,7 @@ impl From<kw::func> for ExportKind {
     }
 }
 
+/// The keyword `table` as a kind.
 impl From<kw::table> for ExportKind {
     ghost use Rattle.wat_links.specs.declared.export.ExportKind.TheVariants.{Table};
 
@@ -133,6 +135,7 @@ impl From<kw::table> for ExportKind {
     }
 }
 
+/// The keyword `memory` as a kind.
 impl From<kw::memory> for ExportKind {
     ghost use Rattle.wat_links.specs.declared.export.ExportKind.TheVariants.{Memory};
 
@@ -143,6 +146,7 @@ impl From<kw::memory> for ExportKind {
     }
 }
 
+/// The keyword `global` as a kind.
 impl From<kw::global> for ExportKind {
     ghost use Rattle.wat_links.specs.declared.export.ExportKind.TheVariants.{Global};
 
@@ -153,6 +157,7 @@ impl From<kw::global> for ExportKind {
     }
 }
 
+/// The keyword `tag` as a kind.
 impl From<kw::tag> for ExportKind {
     ghost use Rattle.wat_links.specs.declared.export.ExportKind.TheVariants.{Tag};
 
@@ -163,7 +168,7 @@ impl From<kw::tag> for ExportKind {
     }
 }
 
-/// `export`, a name, and a kind and an index in parentheses.
+/// Reads `export`, a name, and an [`ExportKind`] and an index in parentheses.
 impl<'a> Parse<'a> for Export<'a> {
     ghost View = { ExportTy };
 
@@ -189,8 +194,8 @@ impl<'a> Parse<'a> for Export<'a> {
 }
 
 impl<'a> ExportType<'a> {
-    /// The same once more. Memory may be answered where a type in it has a parameter or a result in
-    /// line.
+    /// Returns a copy of the export type. Returns the error Memory only if the signature has an
+    /// inline parameter or result.
     pub fn clone(&self) -> Result<ExportType<'a>>
         ensures copies { Copies (λ x y. (y.span ≡ x.span) × (y.name ≡ x.name) ×
             (SameSig x.item y.item)) (owning export_type_view bare_export_type) result self.now }
@@ -203,7 +208,7 @@ impl<'a> ExportType<'a> {
     }
 }
 
-/// `export`, a name, and the signature in parentheses.
+/// Reads `export`, a name, and an [`ItemSig`] in parentheses.
 impl<'a> Parse<'a> for ExportType<'a> {
     ghost View = { ExportTypeTy };
 
@@ -221,7 +226,7 @@ impl<'a> Parse<'a> for ExportType<'a> {
 }
 
 impl<'a> InlineExport<'a> {
-    /// No names.
+    /// Returns inline exports without names.
     pub fn empty(alloc: Global) -> InlineExport<'a>
         ensures { result.names.items ≡ [] }
     {
@@ -231,7 +236,7 @@ impl<'a> InlineExport<'a> {
     }
 }
 
-/// `( export name )`, as long as `(`, `export`, a string and `)` are in front.
+/// `( export name )`, as long as `(`, `export`, a string and `)` are next.
 struct InlineName;
 
 impl<'a> Part<'a, &'a str> for InlineName {
@@ -253,7 +258,7 @@ impl<'a> Part<'a, &'a str> for InlineName {
     }
 }
 
-/// `( export name )`, as long as `(`, `export`, a string and `)` are in front.
+/// Reads `( export name )` as long as the next tokens are `(`, `export`, a string and `)`.
 impl<'a> Parse<'a> for InlineExport<'a> {
     ghost View = { List (List ℕ) };
 
@@ -269,7 +274,7 @@ impl<'a> Parse<'a> for InlineExport<'a> {
     }
 }
 
-/// `(`, `export`, a string and `)`.
+/// An [`InlineExport`] begins at `(`, `export`, a string and `)`. An empty one takes no token.
 impl<'p> Peek for InlineExport<'p> {
     ghost begins = { begins_inline_export };
 

@@ -1,4 +1,4 @@
-//! What is in front of a field's own part.
+//! Heads of fields: a label and inline exports.
 
 ghost use Rattle.wat_links.specs.FieldHead.{FieldHeadTy, head_view, bare_head, head};
 ghost use Rattle.wat_tokens.specs.Views.{owning};
@@ -7,20 +7,19 @@ use crate::export::InlineExport;
 use wat_tokens::{Fault, Id, NameAnnotation, Parse, Parser, Result};
 use wat_types::take_label;
 
-/// What is behind the word of a function, table, memory, global or tag: what names it, and its
-/// exports in line (WebAssembly Core Specification, Text Format, Modules, "Exports",
-/// Abbreviations).
+/// The head of a function, table, memory, global or tag field, after its keyword: a label and
+/// inline exports (WebAssembly Core Specification, Text Format, Modules, "Exports", Abbreviations).
 #[derive(Debug, Drop)]
 pub struct FieldHead<'a> {
-    /// Its identifier.
+    /// The identifier.
     pub id: Option<Id<'a>>,
-    /// The name that an annotation gives.
+    /// The name from a name annotation.
     pub name: Option<NameAnnotation<'a>>,
-    /// The exports that are written in line.
+    /// The inline exports.
     pub exports: InlineExport<'a>,
 }
 
-/// `id? name? ( export name )*`.
+/// Reads an optional identifier, an optional name annotation, and an [`InlineExport`].
 impl<'a> Parse<'a> for FieldHead<'a> {
     ghost View = { FieldHeadTy };
 

@@ -1,46 +1,50 @@
 //! Flags of symbols in the `dylink.0` section.
 
-ghost use Rattle.std.specs.Prelude.{◌≡◌};
 ghost use Rattle.wat_tokens.specs.Reads.{Reads};
-ghost use Rattle.wat_tokens.specs.Tests.{look_up, more};
+ghost use Rattle.wat_tokens.specs.Tests.{more};
 ghost use Rattle.wat_tokens.specs.Views.{plain};
 ghost use Rattle.wat_links.specs.Flags.{symbol_flags};
 ghost use Rattle.wat_links.specs.FlagBits.{flag_words, flag_bits};
 
-use wat_tokens::{Error, Fault, Parse, Parser, Result};
+use wat_tokens::words::{NamedByKeyword, take_named};
+use wat_tokens::{Parse, Parser, Result};
 
-/// The bit that a word names.
-fn bit_of(word: &str) -> Option<u32>
-    ensures { result ≡ look_up flag_words word.now }
-{
-    match word {
-        "binding-weak" => Some(1),
-        "binding-local" => Some(2),
-        "visibility-hidden" => Some(4),
-        "undefined" => Some(16),
-        "exported" => Some(32),
-        "explicit-name" => Some(64),
-        "no-strip" => Some(128),
-        "tls" => Some(256),
-        "absolute" => Some(512),
-        _ => None,
+/// A flag of a symbol, by its bit.
+#[derive(Clone, Copy)]
+struct SymbolFlag(u32);
+
+/// The flag that a keyword names.
+impl NamedByKeyword for SymbolFlag {
+    ghost words = { flag_words };
+
+    fn named(word: &str) -> Option<Self> {
+        match word {
+            "binding-weak" => Some(SymbolFlag(1)),
+            "binding-local" => Some(SymbolFlag(2)),
+            "visibility-hidden" => Some(SymbolFlag(4)),
+            "undefined" => Some(SymbolFlag(16)),
+            "exported" => Some(SymbolFlag(32)),
+            "explicit-name" => Some(SymbolFlag(64)),
+            "no-strip" => Some(SymbolFlag(128)),
+            "tls" => Some(SymbolFlag(256)),
+            "absolute" => Some(SymbolFlag(512)),
+            _ => None,
+        }
     }
 }
 
-/// A number of 32 bits without a sign, or the bit that a word names. Another word is refused with
-/// Unexpected, at the word, and a number that is too large or has a `-` with Range.
-#[tactic(auto, using(crate::proofs::FlagReads::flag_reads), unfolding(crate::specs::FlagBits::flag_bits))]
+/// Reads a 32-bit number, or the bit of a flag that a keyword names. Any other keyword is the error
+/// Unexpected, at the keyword. A number with a `-`, or one that needs more than 32 bits, is the
+/// error Range.
+#[tactic(auto, unfolding(crate::specs::FlagBits::flag_bits))]
 fn read_flag<'a>(parser: &mut Parser<'a>) -> Result<u32>
     ensures reads { Reads (plain (λ n. n)) flag_bits result parser.old parser.new }
 {
     if parser.peek::<u32>() {
         return u32::parse(parser);
     }
-    let span = parser.cur_span();
-    match bit_of(parser.take_keyword()?) {
-        Some(bit) => Ok(bit),
-        None => Err(Error::at(Fault::Unexpected, span)),
-    }
+    let SymbolFlag(bit) = take_named::<SymbolFlag>(parser)?;
+    Ok(bit)
 }
 
 /// The flags of a symbol, up to the end of the group: numbers and words, joined by or.

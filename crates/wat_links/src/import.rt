@@ -25,87 +25,88 @@ use wat_tokens::enclosed::in_parens;
 use wat_tokens::repeat::{Part, parts};
 use wat_tokens::{Cursor, Error, Fault, Parse, Parser, Peek, Result, Span};
 
-/// An import (WebAssembly Core Specification, Text Format, Modules, "Imports", with the compact
-/// forms of the proposal "Compact Import Section"), with its names as an N and its signatures as an
-/// S: see [`Imports`].
+/// An import field with names of type N and signatures of type S (WebAssembly Core Specification,
+/// Text Format, Modules, "Imports", with the compact forms of the proposal "Compact Import
+/// Section"). See [`Imports`].
 #[derive(Debug, Drop)]
 pub struct ImportsOf<N, S> {
-    /// Where the word `import` begins.
+    /// The byte offset of the keyword `import`.
     pub span: Span,
-    /// What is imported.
+    /// The module name and the imported items.
     pub items: ImportItemsOf<N, S>,
 }
 
-/// What is imported: see [`ImportItems`].
+/// The imported items, in one of three forms. See [`ImportItems`].
 #[derive(Debug, Drop)]
 pub enum ImportItemsOf<N, S> {
     /// One item: `(import "m" "a" (func))`.
     Single {
-        /// The name of the module.
+        /// The module name.
         module: N,
-        /// The name of the item in it.
+        /// The item name.
         name: N,
         /// The signature of the item.
         sig: S,
     },
-    /// Items, each with its signature: `(import "m" (item "a" (func)) (item "b" (func)))`.
+    /// Items with a signature each: `(import "m" (item "a" (func)) (item "b" (func)))`.
     Group1 {
-        /// The name of the module.
+        /// The module name.
         module: N,
-        /// The items.
+        /// The items, in the order of the text.
         items: Vec<ImportGroup1ItemOf<N, S>>,
     },
-    /// Items that share a signature: `(import "m" (item "a") (item "b") (func))`.
+    /// Items that share one signature: `(import "m" (item "a") (item "b") (func))`.
     Group2 {
-        /// The name of the module.
+        /// The module name.
         module: N,
-        /// The signature of each item.
+        /// The signature of every item.
         sig: S,
-        /// The items.
+        /// The items, in the order of the text.
         items: Vec<ImportGroup2ItemOf<N>>,
     },
 }
 
-/// An item with its signature: see [`ImportGroup1Item`].
+/// An imported item with its own signature. See [`ImportGroup1Item`].
 #[derive(Debug, Drop)]
 pub struct ImportGroup1ItemOf<N, S> {
-    /// Where the word `item` begins.
+    /// The byte offset of the keyword `item`.
     pub span: Span,
-    /// The name of the item in the module.
+    /// The item name.
     pub name: N,
     /// The signature of the item.
     pub sig: S,
 }
 
-/// An item that shares its signature: see [`ImportGroup2Item`].
+/// An imported item without its own signature. See [`ImportGroup2Item`].
 #[derive(Clone, Debug, Drop)]
 pub struct ImportGroup2ItemOf<N> {
-    /// Where the word `item` begins.
+    /// The byte offset of the keyword `item`.
     pub span: Span,
-    /// The name of the item in the module.
+    /// The item name.
     pub name: N,
 }
 
-/// An import (WebAssembly Core Specification, Text Format, Modules, "Imports", with the compact
-/// forms of the proposal "Compact Import Section").
+/// An import field, with names as slices of the text or the arena (WebAssembly Core Specification,
+/// Text Format, Modules, "Imports", with the compact forms of the proposal "Compact Import
+/// Section").
 pub type Imports<'a> = ImportsOf<&'a str, ItemSig<'a>>;
 
-/// What is imported.
+/// The imported items of an import field, in one of three forms.
 pub type ImportItems<'a> = ImportItemsOf<&'a str, ItemSig<'a>>;
 
-/// An item with its signature: `(item "a" (func))`.
+/// An imported item with its own signature: `(item "a" (func))`.
 pub type ImportGroup1Item<'a> = ImportGroup1ItemOf<&'a str, ItemSig<'a>>;
 
-/// An item that shares its signature with others: `(item "a")`.
+/// An imported item that shares a signature with other items: `(item "a")`.
 pub type ImportGroup2Item<'a> = ImportGroup2ItemOf<&'a str>;
 
-/// The import that is written in line with an item (WebAssembly Core Specification, Text Format,
-/// Modules, "Imports", Abbreviations).
+/// The inline import of an item (WebAssembly Core Specification, Text Format, Modules, "Imports",
+/// Abbreviations).
 #[derive(Clone, Copy, Debug)]
 pub struct InlineImport<'a> {
-    /// The name of the module.
+    /// The module name.
     pub module: &'a str,
-    /// The name of the item in it.
+    /// The item name.
     pub field: &'a str,
 }
 
@@ -163,7 +164,7 @@ fn repeated_sig<'s, S>(alloc: Global, sig: &'s S, count: usize) -> Result<Vec<&'
 }
 
 impl<N, S> ImportsOf<N, S> {
-    /// The import of one item.
+    /// Returns the import of one item.
     pub fn single(span: Span, module: N, name: N, sig: S) -> ImportsOf<N, S>
         ensures span { result.span ≡ span }
         ensures items { result.items ≡ ImportItemsOf.Single «module» name sig }
@@ -174,7 +175,7 @@ impl<N, S> ImportsOf<N, S> {
         }
     }
 
-    /// How many items are imported.
+    /// Returns the number of imported items.
     pub fn num_items(&self) -> usize
         ensures { result ≡ item_count self.now.items }
     {
@@ -185,7 +186,8 @@ impl<N, S> ImportsOf<N, S> {
         }
     }
 
-    /// How many signatures are written: one for each item, and one alone where the items share it.
+    /// Returns the number of signatures in the text: one for each item, or 1 if the items share
+    /// one.
     pub fn num_sigs(&self) -> usize
         ensures { result ≡ length (own_sigs self.now.items) }
     {
@@ -195,8 +197,8 @@ impl<N, S> ImportsOf<N, S> {
         }
     }
 
-    /// The signature of each item, in order; one that items share is there as often as there are
-    /// items. Memory may be answered where there is an item.
+    /// Returns the signature of each item, in order. A shared signature is repeated for each item.
+    /// Returns the error Memory only if there is an item.
     #[tactic(auto, using(crate::proofs::Sigs::one_each))]
     pub fn item_sigs(&self, alloc: Global) -> Result<Vec<&S>>
         ensures sigs { IfOk result (λ v. map (λ r. r.now) v.items ≡ item_sigs self.now.items) }
@@ -211,8 +213,8 @@ impl<N, S> ImportsOf<N, S> {
         }
     }
 
-    /// The signature number i of those that are written, to be changed; None from
-    /// [`num_sigs`](ImportsOf::num_sigs) on. What is written to it changes that signature alone.
+    /// Returns the signature number `i` in the text, counted from 0, for writing. Returns None if
+    /// `i` is at least [`num_sigs`](ImportsOf::num_sigs). A write changes that signature alone.
     #[tactic(auto, using(crate::proofs::Sigs::sig_is_own))]
     pub fn sig_mut(&mut self, i: usize) -> Option<&mut S>
         ensures* writes_back { sem 𝓛 (LendsImports N.row S.row i self.entry result) }
@@ -223,8 +225,8 @@ impl<N, S> ImportsOf<N, S> {
 }
 
 impl<'a> ImportGroup1Item<'a> {
-    /// The same once more. Memory may be answered where a type in it has a parameter or a result in
-    /// line.
+    /// Returns a copy of the item. Returns the error Memory only if the signature has an inline
+    /// parameter or result.
     pub fn clone(&self) -> Result<ImportGroup1Item<'a>>
         ensures copies { Copies SameTyped (owning typed_view (λ t. bare_sig t.1)) result self.now }
     {
@@ -236,7 +238,7 @@ impl<'a> ImportGroup1Item<'a> {
     }
 }
 
-/// The same items once more. Memory may be answered where there is an item.
+/// A copy of the items. Returns the error Memory only if there is an item.
 #[tactic(auto, using(crate::proofs::Same::clone_steps))]
 fn clone_items<'a>(items: &Vec<ImportGroup1Item<'a>>) -> Result<Vec<ImportGroup1Item<'a>>>
     ensures copies { Copies (λ x y. SameAll x.items y.items) (owning (λ v. map typed_view v.items)
@@ -249,7 +251,7 @@ fn clone_items<'a>(items: &Vec<ImportGroup1Item<'a>>) -> Result<Vec<ImportGroup1
     Ok(copies)
 }
 
-/// The same items once more. Memory may be answered where there is an item.
+/// A copy of the items. Returns the error Memory only if there is an item.
 fn clone_names<'a>(items: &Vec<ImportGroup2Item<'a>>) -> Result<Vec<ImportGroup2Item<'a>>>
     ensures copies { Copies (λ x y. y.items ≡ x.items) (owning (λ v. map named_view v.items)
         no_items) result items.now }
@@ -262,8 +264,8 @@ fn clone_names<'a>(items: &Vec<ImportGroup2Item<'a>>) -> Result<Vec<ImportGroup2
 }
 
 impl<'a> ImportItems<'a> {
-    /// The same once more. Memory may be answered where there is an item in a group, or where a
-    /// type has a parameter or a result in line.
+    /// Returns a copy of the items. Returns the error Memory only if an item is in a group, or a
+    /// signature has an inline parameter or result.
     pub fn clone(&self) -> Result<ImportItems<'a>>
         ensures copies { Copies SameItems (owning items_view bare_items) result self.now }
     {
@@ -287,8 +289,8 @@ impl<'a> ImportItems<'a> {
 }
 
 impl<'a> Imports<'a> {
-    /// The same once more. Memory may be answered where there is an item in a group, or where a
-    /// type has a parameter or a result in line.
+    /// Returns a copy of the import. Returns the error Memory only if an item is in a group, or a
+    /// signature has an inline parameter or result.
     pub fn clone(&self) -> Result<Imports<'a>>
         ensures copies { Copies (λ x y. (y.span ≡ x.span) × (SameItems x.items y.items))
             (owning imports_view bare_imports) result self.now }
@@ -331,7 +333,7 @@ impl<'a> Part<'a, ImportGroup1Item<'a>> for TypedItem {
     }
 }
 
-/// The fault ImportMixed, at the word `item`.
+/// The error ImportMixed at the keyword `item`.
 fn mixed(span: Span) -> Error
     ensures { result.fault ≡ Fault.ImportMixed }
 {
@@ -459,12 +461,17 @@ fn read_items<'a>(parser: &mut Parser<'a>, module: &'a str) -> Result<ImportItem
     read_single(parser, module)
 }
 
-/// `import`, the name of a module, and then one of three: a name and `( ItemSig )`; nothing, or `(
-/// item name ( ItemSig ) )` as long as the second token is `item`; or, where a `(` comes next, `(
-/// item name )` as long as the second token is `item`, and then `( ItemSig )` without an
-/// identifier. Where an item has a signature and the first has none, or the other way round, it is
-/// refused with ImportMixed, at its word `item`; an identifier of the signature that items share
-/// with ImportId, at the identifier.
+/// Reads `import`, a module name, and one of three forms:
+///
+/// - if the group ends next, or the first item has more than a name: `( item name ( ItemSig ) )`,
+///   as long as the second token is `item`,
+/// - if any other `(` is next: `( item name )`, as long as the second token is `item`, and then `(
+///   ItemSig )` without an identifier,
+/// - otherwise an item name and `( ItemSig )`.
+///
+/// An item with a signature after a first item without one, or the other way round, is the error
+/// ImportMixed, at its keyword `item`. An identifier of a shared signature is the error ImportId,
+/// at the identifier.
 impl<'a> Parse<'a> for Imports<'a> {
     ghost View = { ImportsTy };
 
@@ -481,7 +488,7 @@ impl<'a> Parse<'a> for Imports<'a> {
     }
 }
 
-/// `( import name name )`
+/// Reads `( import name name )`: the module name and the item name.
 impl<'a> Parse<'a> for InlineImport<'a> {
     ghost View = { List ℕ × List ℕ };
 
@@ -500,7 +507,7 @@ impl<'a> Parse<'a> for InlineImport<'a> {
     }
 }
 
-/// `(`, `import`, a string, a string and `)`.
+/// An [`InlineImport`] begins at `(`, `import`, two strings and `)`.
 impl<'p> Peek for InlineImport<'p> {
     ghost begins = { begins_inline_import };
 

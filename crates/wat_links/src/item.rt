@@ -1,19 +1,19 @@
-//! Signatures of items that are imported or exported.
+//! Signatures of imported and exported items.
 
 ghost use Rattle.std.specs.Prelude.{◌≡◌};
 ghost use Rattle.wat_tokens.specs.Copies.{Copies};
 ghost use Rattle.wat_tokens.specs.Reads.{Reads};
 ghost use Rattle.wat_tokens.specs.Views.{owning};
 ghost use Rattle.wat_links.specs.Item.{item_kind_view, bare_item_kind, SigTy, sig_view, bare_sig};
-ghost use Rattle.wat_links.specs.Item.{func_kind};
+ghost use Rattle.wat_links.specs.Item.{exact_use, exact_use_view, bare_exact_use, func_kind};
 ghost use Rattle.wat_links.specs.Item.{global_or_tag, item_sig, SameKind, SameSig};
 
 use wat_tokens::enclosed::in_word_group;
 use wat_tokens::{Fault, Id, NameAnnotation, Parse, Parser, Result, Span};
 use wat_types::{FunctionType, GlobalType, MemoryType, TableType, TagType, TypeUse, take_label};
 
-/// What an item is, that is imported or exported: its kind and its type (WebAssembly Core
-/// Specification, Text Format, Types, "External Types").
+/// The kind and the type of an imported or exported item (WebAssembly Core Specification, Text
+/// Format, Types, "External Types").
 #[derive(Debug, Drop)]
 pub enum ItemKind<'a> {
     /// A function.
@@ -26,27 +26,27 @@ pub enum ItemKind<'a> {
     Global(GlobalType<'a>),
     /// A tag.
     Tag(TagType<'a>),
-    /// A function of the type itself, and not of one below it: `(exact ..)`.
+    /// A function of exactly the type, and of no subtype: `(exact ..)`.
     FuncExact(TypeUse<'a, FunctionType<'a>>),
 }
 
-/// The signature of an item that is imported or exported (WebAssembly Core Specification, Text
-/// Format, Types, "External Types").
+/// The signature of an imported or exported item: a label, a kind and a type (WebAssembly Core
+/// Specification, Text Format, Types, "External Types").
 #[derive(Debug, Drop)]
 pub struct ItemSig<'a> {
-    /// Where the word of its kind begins.
+    /// The byte offset of the keyword of the kind.
     pub span: Span,
-    /// Its identifier.
+    /// The identifier.
     pub id: Option<Id<'a>>,
-    /// The name that an annotation gives.
+    /// The name from a name annotation.
     pub name: Option<NameAnnotation<'a>>,
-    /// Its kind and its type.
+    /// The kind and the type.
     pub kind: ItemKind<'a>,
 }
 
 impl<'a> ItemKind<'a> {
-    /// The same once more. Memory may be answered where a type in it has a parameter or a result in
-    /// line.
+    /// Returns a copy of the kind and the type. Returns the error Memory only if the type has an
+    /// inline parameter or result.
     pub fn clone(&self) -> Result<ItemKind<'a>>
         ensures copies { Copies SameKind (owning item_kind_view bare_item_kind) result self.now }
     {
@@ -62,8 +62,8 @@ impl<'a> ItemKind<'a> {
 }
 
 impl<'a> ItemSig<'a> {
-    /// The same signature once more. Memory may be answered where a type in it has a parameter or a
-    /// result in line.
+    /// Returns a copy of the signature. Returns the error Memory only if the type has an inline
+    /// parameter or result.
     pub fn clone(&self) -> Result<ItemSig<'a>>
         ensures copies { Copies SameSig (owning sig_view bare_sig) result self.now }
     {
@@ -76,16 +76,31 @@ impl<'a> ItemSig<'a> {
     }
 }
 
-/// Where the second token is `exact`, a type use in `( exact .. )`, else a type use.
-#[tactic(auto, unfolding(crate::specs::Item::func_kind))]
+/// Reads the type of a function, and returns whether it is exact. If the second token is `exact`,
+/// it reads a [`TypeUse`] in `( exact .. )`, and otherwise a [`TypeUse`] (WebAssembly Core
+/// Specification, Text Format, Types, "External Types").
+#[tactic(auto, unfolding(crate::specs::Item::exact_use))]
+pub fn take_exact_use<'a>(parser: &mut Parser<'a>) -> Result<(TypeUse<'a, FunctionType<'a>>, bool)>
+    ensures reads { Reads (owning exact_use_view bare_exact_use) exact_use result parser.old
+        parser.new }
+{
+    if !parser.second_is("exact") {
+        return Ok((TypeUse::parse(parser)?, false));
+    }
+    Ok((in_word_group(parser, "exact")?, true))
+}
+
+/// A function of the type, exact or not.
+#[tactic(auto, using(crate::proofs::ItemKinds::kind_not_bare), unfolding(crate::specs::Item::func_kind))]
 fn read_func_kind<'a>(parser: &mut Parser<'a>) -> Result<ItemKind<'a>>
     ensures reads { Reads (owning item_kind_view bare_item_kind) func_kind result parser.old
         parser.new }
 {
-    if !parser.second_is("exact") {
-        return TypeUse::parse(parser).map(ItemKind::Func);
+    let (ty, is_exact) = take_exact_use(parser)?;
+    if is_exact {
+        return Ok(ItemKind::FuncExact(ty));
     }
-    in_word_group(parser, "exact").map(ItemKind::FuncExact)
+    Ok(ItemKind::Func(ty))
 }
 
 /// `global` or `tag`, a label, and a type.
@@ -115,9 +130,9 @@ fn read_global_or_tag<'a>(parser: &mut Parser<'a>) -> Result<ItemSig<'a>>
     })
 }
 
-/// `func`, `table`, `memory`, `global` or `tag`, an identifier or none, a name or none, and the
-/// type: that of a function is a type use, in `( exact .. )` where the second token behind the
-/// label is `exact`. Another token in front is refused with Unexpected, at the token.
+/// Reads `func`, `table`, `memory`, `global` or `tag`, an optional identifier, an optional name
+/// annotation, and the type. Any other first token is the error Unexpected, at the token. The type
+/// of a function is read by [`take_exact_use`].
 impl<'a> Parse<'a> for ItemSig<'a> {
     ghost View = { SigTy };
 

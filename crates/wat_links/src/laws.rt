@@ -1,18 +1,20 @@
-//! Texts that spell imports, exports and custom sections.
+//! Texts that spell imports, exports and custom sections, as contracts. The functions here do
+//! nothing: they are public for their contracts alone.
 
 ghost use Rattle.wat_links.specs.CustomRows.{Places, Exports, Sizes};
 ghost use Rattle.wat_links.specs.LinkRows.{Imports, InlineNames};
 
-/// Texts that spell custom sections, as facts over the definitions alone: an error that a reader
-/// and its definition share would show here.
+/// Sample texts and the custom sections that they spell. The facts are about the definitions alone,
+/// so they show an error that a parser shares with its definition. The function does nothing.
 pub fn custom_rows()
     ensures places { Places }
     ensures exports { Exports }
     ensures sizes { Sizes }
 {}
 
-/// Texts that spell imports and exports, as facts over the definitions alone: an error that a
-/// reader and its definition share would show here.
+/// Sample texts and the imports and exports that they spell. The facts are about the definitions
+/// alone, so they show an error that a parser shares with its definition. The function does
+/// nothing.
 pub fn link_rows()
     ensures imports { Imports }
     ensures inline_names { InlineNames }

@@ -1,10 +1,9 @@
-//! What a module of the WebAssembly text format says to the outside: imports, exports and custom
-//! sections (WebAssembly Core Specification, Text Format, "Imports", "Exports" and "Custom
-//! Annotation").
+//! Imports, exports and custom sections of the WebAssembly text format (WebAssembly Core
+//! Specification, Text Format, "Imports", "Exports" and "Custom Annotation").
 //!
-//! Each is read from tokens by [`wat_tokens::Parse`]. Indices stay as they are written: nothing is
-//! resolved. Custom sections are written as annotations, which a parser sees only where they are
-//! known: it then is in front of the annotation, directly behind its `(`.
+//! Each type is read from tokens by [`wat_tokens::Parse`]. Names and indices aren't resolved. The
+//! text has custom sections as annotations. A parser sees an annotation only if it is known. The
+//! types of custom sections are read after the `(` of the annotation.
 #![tactic(auto)]
 
 pub mod custom;
@@ -28,6 +27,6 @@ pub use import::{
     ImportGroup1Item, ImportGroup1ItemOf, ImportGroup2Item, ImportGroup2ItemOf, ImportItems,
     ImportItemsOf, Imports, ImportsOf, InlineImport,
 };
-pub use item::{ItemKind, ItemSig};
+pub use item::{ItemKind, ItemSig, take_exact_use};
 pub use producers::Producers;
 pub use raw::RawCustomSection;

@@ -14,12 +14,12 @@ use wat_tokens::repeat::rest_of_group;
 use wat_tokens::words::{NamedByKeyword, take_named};
 use wat_tokens::{Error, Fault, Parse, Parser, Result};
 
-/// The `producers` section: by which languages and tools a module was made (WebAssembly Core
+/// The `producers` section: the languages and tools that made a module (WebAssembly Core
 /// Specification, Text Format, "Custom Annotation", and the tool conventions on this section).
 #[derive(Debug, Drop)]
 pub struct Producers<'a> {
-    /// The fields `language`, `sdk` and `processed-by`, in this order, each with its entries in the
-    /// order of the text: a name and a version. A field without an entry is left out.
+    /// The fields `language`, `sdk` and `processed-by`, in this order. Each has its entries, a name
+    /// and a version, in the order of the text. Fields without entries are left out.
     pub fields: Vec<(&'a str, Vec<(&'a str, &'a str)>)>,
 }
 
@@ -42,7 +42,7 @@ struct ProducerEntry<'a> {
     version: &'a str,
 }
 
-/// The field that a word names.
+/// The field that a keyword names.
 impl NamedByKeyword for Field {
     ghost words = { field_words };
 
@@ -139,7 +139,7 @@ fn field_entries<'a>(
     Ok(found)
 }
 
-/// Puts the field, with its entries, behind those that are there, where it has any.
+/// Appends the field with its entries, if it has entries.
 fn add_field<'a>(
     fields: &mut Vec<(&'a str, Vec<(&'a str, &'a str)>)>,
     entries: &[ProducerEntry<'a>],
@@ -157,7 +157,7 @@ fn add_field<'a>(
     Ok(())
 }
 
-/// The fields that the entries make. Memory may be answered where there is an entry.
+/// The fields of the entries. Returns the error Memory only if there is an entry.
 fn fields_of<'a>(
     alloc: Global,
     entries: &[ProducerEntry<'a>],
@@ -177,8 +177,9 @@ fn fields_of<'a>(
     Ok(fields)
 }
 
-/// `@producers`, and entries up to the end of the group. Each is the word of a field, a name and a
-/// version, in parentheses.
+/// Reads `@producers`, and entries up to the end of the group: `( language name version )`, `( sdk
+/// name version )` and `( processed-by name version )`, in any order. Any other keyword is the
+/// error Unexpected, at the keyword.
 impl<'a> Parse<'a> for Producers<'a> {
     ghost View = { List (List ℕ × List Versioned) };
 

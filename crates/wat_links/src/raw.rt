@@ -1,4 +1,4 @@
-//! Custom sections of any name, with their bytes.
+//! Custom sections of any name, as bytes.
 
 ghost use Rattle.std.specs.Prelude.{◌≡◌};
 ghost use Rattle.wat_links.specs.Raw.{RawTy, raw_view, bare_raw, raw_place, raw_custom};
@@ -10,21 +10,20 @@ use wat_tokens::enclosed::in_parens;
 use wat_tokens::repeat::rest_of_group;
 use wat_tokens::{Parse, Parser, Result, Span};
 
-/// A custom section, as its bytes (WebAssembly Core Specification, Text Format, "Custom
-/// Annotation").
+/// A custom section, as bytes (WebAssembly Core Specification, Text Format, "Custom Annotation").
 #[derive(Debug, Drop)]
 pub struct RawCustomSection<'a> {
-    /// Where the annotation begins.
+    /// The byte offset of `@custom`.
     pub span: Span,
     /// The name of the section.
     pub name: &'a str,
-    /// Where it is: behind the last section, where that isn't written.
+    /// The place of the section; after the last section if the text gives none.
     pub place: CustomPlace,
-    /// Its bytes, in pieces, each a string.
+    /// The bytes of the section: the strings of the text, in order, decoded.
     pub data: Vec<&'a [u8]>,
 }
 
-/// `( place )`, where a `(` is in front; else behind the last section.
+/// `( place )` if a `(` is next, and otherwise the place after the last section.
 #[tactic(auto, unfolding(crate::specs::Raw::raw_place))]
 fn read_place<'a>(parser: &mut Parser<'a>) -> Result<CustomPlace>
     ensures reads { Reads (plain (λ p. p)) raw_place result parser.old parser.new }
@@ -35,7 +34,8 @@ fn read_place<'a>(parser: &mut Parser<'a>) -> Result<CustomPlace>
     in_parens(parser)
 }
 
-/// `@custom`, a name, a place in parentheses or none, and strings up to the end of the group.
+/// Reads `@custom`, a name, an optional [`CustomPlace`] in parentheses, and strings up to the end
+/// of the group.
 impl<'a> Parse<'a> for RawCustomSection<'a> {
     ghost View = { RawTy };
 

@@ -101,17 +101,17 @@ by_number n a b p q s l =
       ]
     ]
 
--- lists whose first n elements are the same compare as what is behind these does
-behind : (n : ℕ) (a b : List ℕ) → n ≤ length a → n ≤ length b → ((k : ℕ) → k < n → get_or a k 0 ≡ get_or b k 0) → cmp a b ≡ cmp (drop n a) (drop n b)
-behind zero a b p q e = refl
-behind (suc n) [] b p q e = absurd (omega (arith, p))
-behind (suc n) (x ∷ a) [] p q e = absurd (omega (arith, q))
-behind (suc n) (x ∷ a) (y ∷ b) p q e =
+-- lists with the same first n elements compare as their remaining elements
+by_remaining : (n : ℕ) (a b : List ℕ) → n ≤ length a → n ≤ length b → ((k : ℕ) → k < n → get_or a k 0 ≡ get_or b k 0) → cmp a b ≡ cmp (drop n a) (drop n b)
+by_remaining zero a b p q e = refl
+by_remaining (suc n) [] b p q e = absurd (omega (arith, p))
+by_remaining (suc n) (x ∷ a) [] p q e = absurd (omega (arith, q))
+by_remaining (suc n) (x ∷ a) (y ∷ b) p q e =
     ap (λ (o : Ordering). ordering_then o (cmp a b)) (sym (nat_cmp_is x y Equal (e 0 (omega arith))))
-    ∙ behind n a b (omega (arith, p)) (omega (arith, q)) (λ k s. e (suc k) (omega (arith, s)))
+    ∙ by_remaining n a b (omega (arith, p)) (omega (arith, q)) (λ k s. e (suc k) (omega (arith, s)))
 
-bytes_behind : (n : ℕ) (a : List ℕ) → IsBytes a → IsBytes (drop n a)
-bytes_behind n a p i = omega (arith, get_or-drop n a i 0, p (n + i))
+remaining_bytes : (n : ℕ) (a : List ℕ) → IsBytes a → IsBytes (drop n a)
+remaining_bytes n a p i = omega (arith, get_or-drop n a i 0, p (n + i))
 
 -- the number of the last eight bytes
 abbrev pub last_key : List ℕ → ℕ
@@ -120,8 +120,8 @@ last_key a = key (drop (length a - 8) a)
 -- lists of one length, of 8 to 16 bytes of which the first eight are the same, compare as their last eight do
 by_last : (a b : List ℕ) → IsBytes a → IsBytes b → length a ≡ length b → 8 ≤ length b → length b ≤ 16 → ((k : ℕ) → k < 8 → get_or a k 0 ≡ get_or b k 0) → cmp a b ≡ nat_cmp (last_key a) (last_key b)
 by_last a b p q s l u e =
-    rw s (behind (length b - 8) a b (omega (arith, s)) (omega arith) (λ k v. e k (omega (arith, v, u)))
-    ∙ by_number 8 (drop (length b - 8) a) (drop (length b - 8) b) (bytes_behind _ a p) (bytes_behind _ b q)
+    rw s (by_remaining (length b - 8) a b (omega (arith, s)) (omega arith) (λ k v. e k (omega (arith, v, u)))
+    ∙ by_number 8 (drop (length b - 8) a) (drop (length b - 8) b) (remaining_bytes _ a p) (remaining_bytes _ b q)
     (omega (arith, length-drop (length b - 8) a, length-drop (length b - 8) b, s))
     (omega (arith, length-drop (length b - 8) b, l)))
 

@@ -15,12 +15,12 @@ bytes (o.Single b) = Some (b ∷ [])
 bytes (o.Saturating n) = Some (0xfc ∷ n ∷ [])
 bytes (o.Vector n) = Some (0xfd ∷ leb n)
 
--- what writing leaves behind the bytes before, and answers
+-- the bytes of an opcode are appended, and their number is returned
 abbrev pub Written : Option (List ℕ) → List ℕ → List ℕ → Option ℕ → Type 0
 Written None before after n = (after ≡ before) × (n ≡ None)
 Written (Some b) before after n = (after ≡ before ++ b) × (n ≡ Some (length b))
 
--- that, or nothing and memory is refused, which it isn't where nothing is to be appended
+-- that; or nothing is appended, and the error is Memory, which needs bytes to append
 abbrev pub Appends : Option (List ℕ) → List ℕ → List ℕ → Result (Option ℕ) Error → Type 0
 Appends b before after (Ok n) = Written b before after n
 Appends b before after (Err e) = (after ≡ before) × (e.fault ≡ Memory) × (IsSome b)

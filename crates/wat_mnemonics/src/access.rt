@@ -1,12 +1,12 @@
-//! Instructions that access a memory.
+//! Instructions with a memory access.
 
 ghost use Rattle.std.specs.Prelude.{◌≡◌};
 ghost use Rattle.wat_mnemonics.specs.Access.{access_word, access_align, atomic_access_word};
 ghost use Rattle.wat_mnemonics.specs.Access.{atomic_access_align, rmw_access_word};
 ghost use Rattle.wat_mnemonics.specs.Access.{rmw_access_align, lane_access_word, lane_access_align};
 
-/// An instruction whose operand is a memory access (Text Format, Instructions, "Memory
-/// Instructions").
+/// An instruction whose operand is a memory access: a load, a store, a wait or a notify
+/// (WebAssembly Core Specification, Text Format, Instructions, "Memory Instructions").
 #[derive(Clone, Copy, Debug, PartialEq, Eq)]
 #[allow(non_camel_case_types)]
 pub enum AccessOp {
@@ -53,7 +53,7 @@ pub enum AccessOp {
 }
 
 impl AccessOp {
-    /// The word that it begins with.
+    /// Returns the mnemonic.
     #[inline(always)]
     pub fn word(self) -> &'static str
         ensures { result.now ≡ access_word self }
@@ -102,7 +102,7 @@ impl AccessOp {
         }
     }
 
-    /// The alignment in bytes where none is written: as many as are accessed.
+    /// Returns the default alignment in bytes: the number of bytes that the instruction accesses.
     pub fn align(self) -> u64
         ensures { result ≡ access_align self }
     {
@@ -151,8 +151,9 @@ impl AccessOp {
     }
 }
 
-/// An instruction whose operand is an atomic memory access (Text Format, Instructions, "Memory
-/// Instructions").
+/// An instruction whose operand is an atomic memory access: an atomic load or store (WebAssembly
+/// Core Specification, Text Format, Instructions, "Memory Instructions", with the proposals on
+/// threads).
 #[derive(Clone, Copy, Debug, PartialEq, Eq)]
 #[allow(non_camel_case_types)]
 pub enum AtomicAccessOp {
@@ -173,7 +174,7 @@ pub enum AtomicAccessOp {
 }
 
 impl AtomicAccessOp {
-    /// The word that it begins with.
+    /// Returns the mnemonic.
     #[inline(always)]
     pub fn word(self) -> &'static str
         ensures { result.now ≡ atomic_access_word self }
@@ -196,7 +197,7 @@ impl AtomicAccessOp {
         }
     }
 
-    /// The alignment in bytes where none is written: as many as are accessed.
+    /// Returns the default alignment in bytes: the number of bytes that the instruction accesses.
     pub fn align(self) -> u64
         ensures { result ≡ atomic_access_align self }
     {
@@ -219,8 +220,8 @@ impl AtomicAccessOp {
     }
 }
 
-/// An instruction whose operand is an atomic memory access that reads, modifies and writes (Text
-/// Format, Instructions, "Memory Instructions").
+/// An atomic read-modify-write instruction on a memory (WebAssembly Core Specification, Text
+/// Format, Instructions, "Memory Instructions", with the proposals on threads).
 #[derive(Clone, Copy, Debug, PartialEq, Eq)]
 #[allow(non_camel_case_types)]
 pub enum RmwAccessOp {
@@ -276,7 +277,7 @@ pub enum RmwAccessOp {
 }
 
 impl RmwAccessOp {
-    /// The word that it begins with.
+    /// Returns the mnemonic.
     #[inline(always)]
     pub fn word(self) -> &'static str
         ensures { result.now ≡ rmw_access_word self }
@@ -284,7 +285,7 @@ impl RmwAccessOp {
         RMW_WORDS[self as usize]
     }
 
-    /// The alignment in bytes where none is written: as many as are accessed.
+    /// Returns the default alignment in bytes: the number of bytes that the instruction accesses.
     pub fn align(self) -> u64
         ensures { result ≡ rmw_access_align self }
     {
@@ -395,8 +396,8 @@ static RMW_WORDS: [&str; 49] = [
     "i64.atomic.rmw32.cmpxchg_u",
 ];
 
-/// An instruction whose operand is a memory access and a lane (Text Format, Instructions, "Memory
-/// Instructions").
+/// An instruction whose operand is a memory access and a lane: a load or store of one lane
+/// (WebAssembly Core Specification, Text Format, Instructions, "Memory Instructions").
 #[derive(Clone, Copy, Debug, PartialEq, Eq)]
 #[allow(non_camel_case_types)]
 pub enum LaneAccessOp {
@@ -411,7 +412,7 @@ pub enum LaneAccessOp {
 }
 
 impl LaneAccessOp {
-    /// The word that it begins with.
+    /// Returns the mnemonic.
     #[inline(always)]
     pub fn word(self) -> &'static str
         ensures { result.now ≡ lane_access_word self }
@@ -428,7 +429,7 @@ impl LaneAccessOp {
         }
     }
 
-    /// The alignment in bytes where none is written: as many as are accessed.
+    /// Returns the default alignment in bytes: the number of bytes that the instruction accesses.
     pub fn align(self) -> u64
         ensures { result ≡ lane_access_align self }
     {

@@ -1,4 +1,4 @@
-//! The search for a word.
+//! The lookup of a mnemonic.
 
 ghost use Rattle.std.specs.Prelude.{◌≡◌, ◌≢◌, ◌<◌, ◌≤◌, ◌+◌, ◌∷◌, ℕ, List, IfSome, IfNone, IfErr};
 ghost use Rattle.wat_tokens.specs.Token.{Tok, Keyword};
@@ -12,10 +12,10 @@ use crate::op::Op;
 use crate::same_key::find_whole;
 use wat_tokens::{Error, Fault, Parser, Result};
 
-/// The instruction with this word, or None if there is none.
+/// Returns the instruction with the mnemonic `text`, or None if there is none.
 ///
-/// The table of words, in strict order of their bytes, is searched by halves. The parser counts
-/// each comparison with an entry, of which there are 1 to 10, and changes in nothing else.
+/// It is a binary search of the table of mnemonics. It makes 1 to 10 comparisons with entries; the
+/// parser counts them, and doesn't change otherwise.
 pub fn find(parser: &mut Parser<'_>, text: &str) -> Option<Op>
     ensures found { IfSome result (λ op. op_word op ≡ text.now) }
     ensures missing { IfNone result ((op : AnyOp) → op_word op ≢ text.now) }
@@ -42,9 +42,9 @@ pub fn find(parser: &mut Parser<'_>, text: &str) -> Option<Op>
 }
 
 impl Op {
-    /// Takes the word of an instruction that is in front.
+    /// Parses a mnemonic.
     ///
-    /// A word that is no mnemonic, or any other token, is refused with Operator at it.
+    /// The error is Operator, at the next token, if that is not a mnemonic.
     #[inline(always)]
     #[tactic(auto, using(crate::proofs::WordReads::reads_nothing))]
     pub fn take(parser: &mut Parser<'_>) -> Result<Op>

@@ -1,11 +1,12 @@
-//! Blocks, labels, and instructions with indices or a lane.
+//! Instructions with a block type, a label, indices or a lane.
 
 ghost use Rattle.std.specs.Prelude.{◌≡◌};
 ghost use Rattle.wat_mnemonics.specs.Indexed.{block_word, label_word, indexed_word};
 ghost use Rattle.wat_mnemonics.specs.Indexed.{call_indirect_word, table_word, memory_word};
 ghost use Rattle.wat_mnemonics.specs.Indexed.{struct_word, array_init_word, lane_word};
 
-/// An instruction whose operand is a block type (Text Format, Instructions).
+/// An instruction whose operand is a block type (WebAssembly Core Specification, Text Format,
+/// Instructions, "Control Instructions").
 #[derive(Clone, Copy, Debug, PartialEq, Eq)]
 #[allow(non_camel_case_types)]
 pub enum BlockOp {
@@ -16,7 +17,7 @@ pub enum BlockOp {
 }
 
 impl BlockOp {
-    /// The word that it begins with.
+    /// Returns the mnemonic.
     #[inline(always)]
     pub fn word(self) -> &'static str
         ensures { result.now ≡ block_word self }
@@ -30,7 +31,8 @@ impl BlockOp {
     }
 }
 
-/// An instruction whose operand is an optional identifier (Text Format, Instructions).
+/// An instruction whose operand is an optional label: `else` or `end` (WebAssembly Core
+/// Specification, Text Format, Instructions, "Control Instructions").
 #[derive(Clone, Copy, Debug, PartialEq, Eq)]
 #[allow(non_camel_case_types)]
 pub enum LabelOp {
@@ -39,7 +41,7 @@ pub enum LabelOp {
 }
 
 impl LabelOp {
-    /// The word that it begins with.
+    /// Returns the mnemonic.
     #[inline(always)]
     pub fn word(self) -> &'static str
         ensures { result.now ≡ label_word self }
@@ -51,7 +53,8 @@ impl LabelOp {
     }
 }
 
-/// An instruction whose operand is an index (Text Format, Instructions).
+/// An instruction whose operand is an index (WebAssembly Core Specification, Text Format,
+/// "Instructions").
 #[derive(Clone, Copy, Debug, PartialEq, Eq)]
 #[allow(non_camel_case_types)]
 pub enum IndexedOp {
@@ -91,7 +94,7 @@ pub enum IndexedOp {
 }
 
 impl IndexedOp {
-    /// The word that it begins with.
+    /// Returns the mnemonic.
     #[inline(always)]
     pub fn word(self) -> &'static str
         ensures { result.now ≡ indexed_word self }
@@ -134,7 +137,8 @@ impl IndexedOp {
     }
 }
 
-/// An instruction whose operand is an optional table and a type use (Text Format, Instructions).
+/// An instruction whose operand is an optional table and a type use (WebAssembly Core
+/// Specification, Text Format, Instructions, "Control Instructions").
 #[derive(Clone, Copy, Debug, PartialEq, Eq)]
 #[allow(non_camel_case_types)]
 pub enum CallIndirectOp {
@@ -143,7 +147,7 @@ pub enum CallIndirectOp {
 }
 
 impl CallIndirectOp {
-    /// The word that it begins with.
+    /// Returns the mnemonic.
     #[inline(always)]
     pub fn word(self) -> &'static str
         ensures { result.now ≡ call_indirect_word self }
@@ -155,7 +159,8 @@ impl CallIndirectOp {
     }
 }
 
-/// An instruction whose operand is an optional table (Text Format, Instructions).
+/// An instruction whose operand is an optional table (WebAssembly Core Specification, Text Format,
+/// Instructions, "Table Instructions").
 #[derive(Clone, Copy, Debug, PartialEq, Eq)]
 #[allow(non_camel_case_types)]
 pub enum TableOp {
@@ -167,7 +172,7 @@ pub enum TableOp {
 }
 
 impl TableOp {
-    /// The word that it begins with.
+    /// Returns the mnemonic.
     #[inline(always)]
     pub fn word(self) -> &'static str
         ensures { result.now ≡ table_word self }
@@ -182,7 +187,8 @@ impl TableOp {
     }
 }
 
-/// An instruction whose operand is an optional memory (Text Format, Instructions).
+/// An instruction whose operand is an optional memory (WebAssembly Core Specification, Text Format,
+/// Instructions, "Memory Instructions").
 #[derive(Clone, Copy, Debug, PartialEq, Eq)]
 #[allow(non_camel_case_types)]
 pub enum MemoryOp {
@@ -193,7 +199,7 @@ pub enum MemoryOp {
 }
 
 impl MemoryOp {
-    /// The word that it begins with.
+    /// Returns the mnemonic.
     #[inline(always)]
     pub fn word(self) -> &'static str
         ensures { result.now ≡ memory_word self }
@@ -207,7 +213,8 @@ impl MemoryOp {
     }
 }
 
-/// An instruction whose operand is a type and a field (Text Format, Instructions).
+/// An instruction whose operand is a structure type and a field (WebAssembly Core Specification,
+/// Text Format, Instructions, "Aggregate Instructions").
 #[derive(Clone, Copy, Debug, PartialEq, Eq)]
 #[allow(non_camel_case_types)]
 pub enum StructOp {
@@ -218,7 +225,7 @@ pub enum StructOp {
 }
 
 impl StructOp {
-    /// The word that it begins with.
+    /// Returns the mnemonic.
     #[inline(always)]
     pub fn word(self) -> &'static str
         ensures { result.now ≡ struct_word self }
@@ -232,7 +239,8 @@ impl StructOp {
     }
 }
 
-/// An instruction whose operand is an array type and a segment (Text Format, Instructions).
+/// An instruction whose operand is an array type and a segment (WebAssembly Core Specification,
+/// Text Format, Instructions, "Aggregate Instructions").
 #[derive(Clone, Copy, Debug, PartialEq, Eq)]
 #[allow(non_camel_case_types)]
 pub enum ArrayInitOp {
@@ -241,7 +249,7 @@ pub enum ArrayInitOp {
 }
 
 impl ArrayInitOp {
-    /// The word that it begins with.
+    /// Returns the mnemonic.
     #[inline(always)]
     pub fn word(self) -> &'static str
         ensures { result.now ≡ array_init_word self }
@@ -253,7 +261,8 @@ impl ArrayInitOp {
     }
 }
 
-/// An instruction whose operand is a lane (Text Format, Instructions).
+/// An instruction whose operand is a lane (WebAssembly Core Specification, Text Format,
+/// Instructions, "Vector Instructions").
 #[derive(Clone, Copy, Debug, PartialEq, Eq)]
 #[allow(non_camel_case_types)]
 pub enum LaneOp {
@@ -274,7 +283,7 @@ pub enum LaneOp {
 }
 
 impl LaneOp {
-    /// The word that it begins with.
+    /// Returns the mnemonic.
     #[inline(always)]
     pub fn word(self) -> &'static str
         ensures { result.now ≡ lane_word self }

@@ -1,10 +1,10 @@
-//! Words by their first eight bytes.
+//! Keys of mnemonics: their first eight bytes as a number.
 
 ghost use Rattle.std.specs.Prelude.{◌≡◌, ◌+◌, ◌-◌, ◌*◌, ◌<◌, ◌≤◌, length, drop};
 ghost use Rattle.std.proofs.Common.{get_or};
 ghost use Rattle.wat_mnemonics.specs.Keys.{key, number_of};
 
-/// The number with the byte at a place of a text behind it, or with 0 where the text ends before.
+/// Appends the byte at an offset to a number, as its lowest eight bits; 0 if the text is shorter.
 fn with_byte(number: u64, bytes: &[u8], place: usize) -> u64
     requires room { number < 0x0100_0000_0000_0000 }
     ensures value { result ≡ number * 256 + get_or bytes.now place 0 }

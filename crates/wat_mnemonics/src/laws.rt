@@ -1,4 +1,4 @@
-//! Laws of the table.
+//! Laws of the table of mnemonics. The functions do nothing; their contracts are the laws.
 
 ghost use Rattle.std.specs.Prelude.{◌≡◌, ◌<◌, ◌++◌, ℕ, List, Some, IsTrue, map};
 ghost use Rattle.wat_mnemonics.specs.Ops.{op_word, op_row, op_opcode};
@@ -7,23 +7,24 @@ ghost use Rattle.wat_mnemonics.specs.Order.{rises};
 ghost use Rattle.wat_mnemonics.specs.declared.op.Op.{Op as AnyOp};
 ghost use Rattle.wat_mnemonics.specs.declared.table.TheConstants.{OPS};
 
-/// The words of the table are in strict order of their bytes.
+/// The mnemonics of the table are in strictly ascending byte order.
 pub fn words_in_order()
     ensures { IsTrue (rises (map op_word OPS)) }
 {}
 
-/// No two instructions have one word or one row, and each of the 623 rows has an instruction.
+/// Two different instructions have different mnemonics and different rows. Each of the 623 rows has
+/// an instruction.
 pub fn one_mnemonic()
-    // Two instructions with one word are one.
+    // Two instructions with the same mnemonic are the same.
     ensures word { (x y : AnyOp) → op_word x ≡ op_word y → x ≡ y }
-    // Two with one row are one.
+    // Two instructions with the same row are the same.
     ensures row { (x y : AnyOp) → op_row x ≡ op_row y → x ≡ y }
     // There are 623 rows, and each has an instruction.
     ensures below { (x : AnyOp) → op_row x < 623 }
     ensures each { (n : ℕ) → n < 623 → (x : AnyOp) × (op_row x ≡ n) }
 {}
 
-/// No opcode begins another's.
+/// No opcode is a prefix of another instruction's opcode.
 pub fn no_prefix()
     ensures { (x y : AnyOp) (b d : List ℕ) → bytes (op_opcode x) ≡ Some b
         → bytes (op_opcode y) ≡ Some (b ++ d) → x ≡ y }

@@ -1,7 +1,12 @@
-//! The words of the 623 instructions of the WebAssembly text format, without what follows them.
+//! The mnemonics and opcodes of the 623 instructions of the WebAssembly text format, without
+//! operands (WebAssembly Core Specification, Text Format, "Instructions").
 //!
-//! An [`Op`](op::Op) is an instruction without its operand. It has its word, and its opcode if Core
-//! Specification 2.0 gives it one. A word is looked up by binary search ([`find`](find::find)).
+//! An [`Op`](op::Op) is an instruction without its operand. It has a mnemonic, and an opcode if
+//! Core Specification 2.0 defines one and the instruction has no operand. [`find`](find::find)
+//! looks up a mnemonic by binary search.
+//!
+//! A variant is named as its mnemonic, with `_` in place of `.`, and with a `_` at the end if the
+//! mnemonic is a keyword of Rust.
 #![tactic(auto)]
 
 pub mod access;

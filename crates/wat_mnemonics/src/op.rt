@@ -12,8 +12,11 @@ use crate::ordered::{OrderedIndexOp, OrderedStructOp, OrderedTableOp};
 use crate::scalar::ScalarOp;
 use crate::vector::VectorOp;
 
-/// An instruction without its operand: one of several with an operand of one kind, or the only one
-/// of its kind.
+/// An instruction without its operand (WebAssembly Core Specification, Text Format,
+/// "Instructions").
+///
+/// Instructions with the same kind of operand share a variant, which holds an enumeration of their
+/// mnemonics. An instruction that has its kind of operand alone is a variant of its own.
 #[derive(Clone, Copy, Debug, PartialEq, Eq)]
 #[allow(non_camel_case_types)]
 pub enum Op {
@@ -70,7 +73,7 @@ pub enum Op {
 }
 
 impl Op {
-    /// The word that it begins with.
+    /// Returns the mnemonic.
     pub fn word(self) -> &'static str
         ensures { result.now ≡ op_word self }
     {
@@ -128,7 +131,8 @@ impl Op {
         }
     }
 
-    /// What stands for it in a binary module (Core Specification 2.0, "Index of Instructions").
+    /// Returns the opcode (WebAssembly Core Specification 2.0, "Index of Instructions"). It is
+    /// `Absent` if the instruction has an operand or isn't in that version.
     pub fn opcode(self) -> Opcode
         ensures { result ≡ op_opcode self }
     {

@@ -5,25 +5,25 @@ ghost use Rattle.wat_mnemonics.specs.Opcodes.{bytes, Appends};
 
 use wat_tokens::Result;
 
-/// How a binary module tells an instruction without an operand (Core Specification 2.0, "Index of
+/// The opcode of an instruction without an operand (WebAssembly Core Specification 2.0, "Index of
 /// Instructions").
 #[derive(Clone, Copy, Debug, PartialEq, Eq)]
 pub enum Opcode {
-    /// It has none there: the instruction has an operand, or is newer.
+    /// No opcode: the instruction has an operand, or isn't in Core Specification 2.0.
     Absent,
-    /// The one byte.
+    /// One byte.
     Single(u8),
-    /// The byte FC and this number.
+    /// The byte FC, and then this number in one byte.
     Saturating(u8),
-    /// The byte FD and this number in unsigned LEB128.
+    /// The byte FD, and then this number in unsigned LEB128.
     Vector(u8),
 }
 
 impl Opcode {
-    /// Appends the bytes and answers how many they are, or answers None and appends nothing where
-    /// there are none.
+    /// Appends the bytes of the opcode to `out` and returns their number. For `Absent` it appends
+    /// nothing and returns None.
     ///
-    /// Where memory is refused, nothing is appended. It isn't where there is nothing to append.
+    /// The error is Memory, if `out` can't grow; then nothing was appended. `Absent` never fails.
     pub fn write(self, out: &mut Vec<u8>) -> Result<Option<usize>>
         ensures { Appends (bytes self) out.old.items out.new.items result }
     {
@@ -42,7 +42,7 @@ impl Opcode {
     }
 }
 
-/// Appends the bytes and answers how many they are.
+/// Appends the bytes and returns their number.
 fn append(bytes: &[u8], out: &mut Vec<u8>) -> Result<Option<usize>>
     ensures { Appends (Some bytes.now) out.old.items out.new.items result }
 {

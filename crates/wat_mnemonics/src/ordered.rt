@@ -1,10 +1,11 @@
-//! Instructions with an ordering.
+//! Atomic instructions whose operand begins with an ordering.
 
 ghost use Rattle.std.specs.Prelude.{◌≡◌};
 ghost use Rattle.wat_mnemonics.specs.Ordered.{ordered_index_word, ordered_table_word};
 ghost use Rattle.wat_mnemonics.specs.Ordered.{ordered_struct_word};
 
-/// An instruction whose operand is an ordering and an index (Text Format, Instructions).
+/// An atomic instruction whose operand is an ordering and an index: of a global or of an array type
+/// (WebAssembly Core Specification, Text Format, "Instructions", with the proposals on threads).
 #[derive(Clone, Copy, Debug, PartialEq, Eq)]
 #[allow(non_camel_case_types)]
 pub enum OrderedIndexOp {
@@ -31,7 +32,7 @@ pub enum OrderedIndexOp {
 }
 
 impl OrderedIndexOp {
-    /// The word that it begins with.
+    /// Returns the mnemonic.
     #[inline(always)]
     pub fn word(self) -> &'static str
         ensures { result.now ≡ ordered_index_word self }
@@ -61,7 +62,8 @@ impl OrderedIndexOp {
     }
 }
 
-/// An instruction whose operand is an ordering and an optional table (Text Format, Instructions).
+/// An atomic instruction whose operand is an ordering and an optional table (WebAssembly Core
+/// Specification, Text Format, "Instructions", with the proposals on threads).
 #[derive(Clone, Copy, Debug, PartialEq, Eq)]
 #[allow(non_camel_case_types)]
 pub enum OrderedTableOp {
@@ -72,7 +74,7 @@ pub enum OrderedTableOp {
 }
 
 impl OrderedTableOp {
-    /// The word that it begins with.
+    /// Returns the mnemonic.
     #[inline(always)]
     pub fn word(self) -> &'static str
         ensures { result.now ≡ ordered_table_word self }
@@ -86,7 +88,8 @@ impl OrderedTableOp {
     }
 }
 
-/// An instruction whose operand is an ordering, a type and a field (Text Format, Instructions).
+/// An atomic instruction whose operand is an ordering, a structure type and a field (WebAssembly
+/// Core Specification, Text Format, "Instructions", with the proposals on threads).
 #[derive(Clone, Copy, Debug, PartialEq, Eq)]
 #[allow(non_camel_case_types)]
 pub enum OrderedStructOp {
@@ -104,7 +107,7 @@ pub enum OrderedStructOp {
 }
 
 impl OrderedStructOp {
-    /// The word that it begins with.
+    /// Returns the mnemonic.
     #[inline(always)]
     pub fn word(self) -> &'static str
         ensures { result.now ≡ ordered_struct_word self }

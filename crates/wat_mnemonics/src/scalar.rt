@@ -1,11 +1,12 @@
-//! Instructions without an operand, but for those on vectors.
+//! Instructions without an operand, except vector instructions.
 
 ghost use Rattle.std.specs.Prelude.{◌≡◌};
 ghost use Rattle.wat_mnemonics.specs.Scalar.{scalar_word, scalar_opcode};
 
 use crate::opcode::Opcode;
 
-/// An instruction without an operand (Text Format, Instructions), but for those on vectors.
+/// An instruction without an operand that is not a vector instruction (WebAssembly Core
+/// Specification, Text Format, "Instructions").
 #[derive(Clone, Copy, Debug, PartialEq, Eq)]
 #[allow(non_camel_case_types)]
 pub enum ScalarOp {
@@ -169,7 +170,7 @@ pub enum ScalarOp {
 }
 
 impl ScalarOp {
-    /// The word that it begins with.
+    /// Returns the mnemonic.
     #[inline(always)]
     pub fn word(self) -> &'static str
         ensures { result.now ≡ scalar_word self }
@@ -177,7 +178,7 @@ impl ScalarOp {
         WORDS[self as usize]
     }
 
-    /// What stands for it in a binary module (Core Specification 2.0, "Index of Instructions").
+    /// Returns the opcode (WebAssembly Core Specification 2.0, "Index of Instructions").
     pub fn opcode(self) -> Opcode
         ensures { result ≡ scalar_opcode self }
     {

@@ -1,4 +1,4 @@
-//! The table of words.
+//! The table of mnemonics.
 
 use crate::access::{AccessOp, AtomicAccessOp, LaneAccessOp, RmwAccessOp};
 use crate::indexed::{
@@ -9,7 +9,7 @@ use crate::ordered::{OrderedIndexOp, OrderedStructOp, OrderedTableOp};
 use crate::scalar::ScalarOp;
 use crate::vector::VectorOp;
 
-/// Each instruction without its operand, in the order of the bytes of its word.
+/// Every instruction without its operand, in the byte order of the mnemonics.
 #[rattlefmt::skip]
 pub static OPS: [Op; 623] = [
     Op::Scalar(ScalarOp::any_convert_extern),

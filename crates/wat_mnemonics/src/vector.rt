@@ -1,11 +1,12 @@
-//! Instructions on vectors without an operand.
+//! Vector instructions without an operand.
 
 ghost use Rattle.std.specs.Prelude.{◌≡◌};
 ghost use Rattle.wat_mnemonics.specs.Vector.{vector_word, vector_opcode};
 
 use crate::opcode::Opcode;
 
-/// An instruction on vectors without an operand (Text Format, Instructions, "Vector Instructions").
+/// A vector instruction without an operand (WebAssembly Core Specification, Text Format,
+/// Instructions, "Vector Instructions").
 #[derive(Clone, Copy, Debug, PartialEq, Eq)]
 #[allow(non_camel_case_types)]
 pub enum VectorOp {
@@ -230,7 +231,7 @@ pub enum VectorOp {
 }
 
 impl VectorOp {
-    /// The word that it begins with.
+    /// Returns the mnemonic.
     #[inline(always)]
     pub fn word(self) -> &'static str
         ensures { result.now ≡ vector_word self }
@@ -238,7 +239,7 @@ impl VectorOp {
         WORDS[self as usize]
     }
 
-    /// What stands for it in a binary module (Core Specification 2.0, "Index of Instructions").
+    /// Returns the opcode (WebAssembly Core Specification 2.0, "Index of Instructions").
     pub fn opcode(self) -> Opcode
         ensures { result ≡ vector_opcode self }
     {

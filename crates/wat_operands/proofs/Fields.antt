@@ -1,4 +1,4 @@
--- What is behind the prefix of a word.
+-- What is after the prefix of a word.
 use Rattle.std.proofs.Common.{◌≡◌, ◌≢◌, ℕ, ◌==◌, true, List, [], ◌∷◌, ◌++◌, drop, Option, Some, None, option_map, MatchOption, refl, ap, sym, ◌∙◌, Bor}
 use Rattle.std.specs.Cmp.{unsigned_Decides}
 use Rattle.std.specs.Str.Pattern.{LacksTextAt, FindsTextPrefix, StripsPrefix}
@@ -11,25 +11,25 @@ some_text u = Some u
 same : (b : ℕ) → (b == b) ≡ true
 same b = (unsigned_Decides b b).1 refl
 
--- behind a prefix is what was put there
-behind_front : (front rest : List ℕ) → past_front front (front ++ rest) ≡ Some rest
+-- after a prefix is what was put there
+past_own_front : (front rest : List ℕ) → past_front front (front ++ rest) ≡ Some rest
 unfolding past_front
-behind_front [] rest = refl
-behind_front (b ∷ front) rest = rw (same b) (behind_front front rest)
+past_own_front [] rest = refl
+past_own_front (b ∷ front) rest = rw (same b) (past_own_front front rest)
 
-behind_none : (front text : List ℕ) → ((rest : List ℕ) → text ≢ front ++ rest) → past_front front text ≡ None
+past_no_front : (front text : List ℕ) → ((rest : List ℕ) → text ≢ front ++ rest) → past_front front text ≡ None
 unfolding past_front
-behind_none [] text lacks = absurd (lacks text refl)
-behind_none (b ∷ front) [] lacks = refl
-behind_none (b ∷ front) (c ∷ text) lacks =
+past_no_front [] text lacks = absurd (lacks text refl)
+past_no_front (b ∷ front) [] lacks = refl
+past_no_front (b ∷ front) (c ∷ text) lacks =
     by_test (b == c)
     (λ t.
     (let e : b ≡ c = (unsigned_Decides b c).0 t in
-    rw t (behind_none front text (λ rest f. lacks rest (ap (λ (u : List ℕ). c ∷ u) f ∙ ap (λ (u : ℕ). u ∷ (front ++ rest)) (sym e))))))
+    rw t (past_no_front front text (λ rest f. lacks rest (ap (λ (u : List ℕ). c ∷ u) f ∙ ap (λ (u : ℕ). u ∷ (front ++ rest)) (sym e))))))
     (λ t. rw t refl)
 
 -- what `strip_prefix` answers
-pub behind_is : (front text : List ℕ) (r : Option (Bor (List ℕ))) → MatchOption r (LacksTextAt front text 0) (λ x. StripsPrefix (FindsTextPrefix front) text x.now) → option_map (λ x. x.now) r ≡ past_front front text
-behind_is front text None lacks = sym (behind_none front text lacks)
-behind_is front text (Some x) s =
-    ap (λ (u : List ℕ). some_text u) s.2 ∙ sym (ap (λ (u : List ℕ). past_front front u) s.1.1 ∙ behind_front front (drop s.0 text))
+pub past_front_is : (front text : List ℕ) (r : Option (Bor (List ℕ))) → MatchOption r (LacksTextAt front text 0) (λ x. StripsPrefix (FindsTextPrefix front) text x.now) → option_map (λ x. x.now) r ≡ past_front front text
+past_front_is front text None lacks = sym (past_no_front front text lacks)
+past_front_is front text (Some x) s =
+    ap (λ (u : List ℕ). some_text u) s.2 ∙ sym (ap (λ (u : List ℕ). past_front front u) s.1.1 ∙ past_own_front front (drop s.0 text))

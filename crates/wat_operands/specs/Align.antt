@@ -1,4 +1,4 @@
--- What an alignment spells.
+-- Keywords that hold a number, and what an alignment spells.
 use Rattle.std.specs.Prelude.{ℕ, ◌==◌, if◌then◌else◌, List, [], ◌∷◌, codes, Option, None, Some}
 use Rattle.std.specs.Prelude.{refl}
 use Rattle.std.specs.Int.{is_power_of_two}
@@ -8,9 +8,7 @@ use Rattle.wat_tokens.specs.Production.{Production}
 use Rattle.wat_tokens.specs.Parts.{one, made_where}
 use Rattle.wat_operands.specs.Power.{IsPowerOfTwo}
 
--- ---- words that hold a number
-
--- what is behind the front of a text, where it begins so
+-- the text after the prefix, if it begins with the prefix
 unfoldable pub past_front : List ℕ → List ℕ → Option (List ℕ)
 past_front [] text = Some text
 past_front (b ∷ bs) [] = None
@@ -20,8 +18,7 @@ abbrev pub number_in : Option (List ℕ) → Option ℕ
 number_in (Some text) = unsigned_value 64 text
 number_in None = None
 
--- a keyword that begins so and goes on with an integer: what this reads as without a sign, in 64
--- bits
+-- the unsigned number of 64 bits after the prefix of a keyword
 abbrev pub number_behind : List ℕ → Tok → Option ℕ
 number_behind front (Keyword w) = number_in (past_front front w)
 number_behind front _ = None

@@ -1,4 +1,4 @@
--- The labels of a table of branches.
+-- The labels of a `br_table`, and how they are split into labels and default.
 use Rattle.std.specs.Prelude.{◌≡◌, Bool, List, [], ◌∷◌, ◌++◌, map}
 use Rattle.std.proofs.Common.{lit≤}
 use Rattle.wat_tokens.specs.Token.{Tok}
@@ -34,8 +34,9 @@ abbrev pub BrTableSpells : BrTableTy → List Tok → List Tok → Type 0
 BrTableSpells b c r =
     (i : Idx) × (is : List Idx) × indices.spells (i, is) c r × (i ∷ is ≡ b.labels ++ b.default ∷ [])
 
--- ---- proofs: how the list is split
+-- ---- the same, as a production
 
+-- the labels and the default, by the first index and the others
 abbrev pub split : Idx → List Idx → BrTableTy
 split i [] = br_table_of [] i
 split i (j ∷ js) = br_table_of (i ∷ (split j js).labels) (split j js).default

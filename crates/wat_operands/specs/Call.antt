@@ -1,11 +1,12 @@
 -- Indirect calls.
-use Rattle.std.specs.Prelude.{◌≡◌, Bool, Option, Some, None}
+use Rattle.std.specs.Prelude.{◌≡◌, Bool}
 use Rattle.wat_tokens.specs.Production.{Production}
-use Rattle.wat_tokens.specs.Parts.{seq, made, opt}
-use Rattle.wat_tokens.specs.Index.{Idx, number, index_view, index, begins_index}
+use Rattle.wat_tokens.specs.Parts.{seq, made}
+use Rattle.wat_tokens.specs.Index.{Idx, index_view}
 use Rattle.wat_types.specs.Group.{FuncTy}
 use Rattle.wat_types.specs.Use.{UseTy, SameFunction, SameUse}
 use Rattle.wat_operands.specs.Block.{signature_view, bare_signature, signature}
+use Rattle.wat_operands.specs.Tables.{index_or_0}
 use Rattle.wat_operands.specs.declared.call.CallIndirect.{CallIndirect}
 
 -- an indirect call, without places
@@ -23,14 +24,9 @@ call_view c = call_of (index_view c.table) (signature_view c.ty)
 abbrev pub bare_call : CallTy → Bool
 bare_call c = bare_signature c.ty
 
--- the index, or 0
-abbrev pub or_zero : Option Idx → Idx
-or_zero (Some i) = i
-or_zero None = number 0
-
 -- idx? (table, default 0), TypeUse of FunctionTypeNoNames
 unfoldable pub call_indirect : Production CallTy
-call_indirect = made (λ v. call_of (or_zero v.0) v.1) (seq (opt begins_index index) signature)
+call_indirect = made (λ v. call_of v.0 v.1) (seq index_or_0 signature)
 
 -- the same table, and the same type
 abbrev pub SameCall : CallIndirect → CallIndirect → Type 0

@@ -6,8 +6,6 @@ use Rattle.wat_tokens.specs.Parts.{seq, made, where_else, word}
 use Rattle.wat_tokens.specs.Groups.{group}
 use Rattle.wat_tokens.specs.Index.{Idx, index}
 
--- ---- handlers
-
 -- a handler, without places: its tag, and the label where it has one
 pub data HandleTy : Type 0 where
   on_label : Idx → Idx → HandleTy

@@ -1,4 +1,4 @@
--- Powers of two, and the test of them.
+-- Powers of two.
 use Rattle.std.specs.Prelude.{◌≡◌, ℕ, ◌^◌}
 
 -- n is a power of two

@@ -1,4 +1,4 @@
-//! Operands of instructions on structures, arrays and continuations.
+//! Operands of instructions on structures, arrays and continuations: indices, and a length.
 
 ghost use Rattle.std.specs.Prelude.{ℕ};
 ghost use Rattle.wat_tokens.specs.Index.{Idx, index};
@@ -13,33 +13,33 @@ ghost use Rattle.wat_operands.specs.Tables.{index_pair};
 use crate::tables::index_pair;
 use wat_tokens::{Index, Parse, Parser, Result};
 
-/// The operands of `struct.get`, `struct.set` and the like, with each index as an `I` (WebAssembly
-/// Core Specification, Text Format, Instructions, "Aggregate Instructions").
+/// The operands of an instruction on a field of a structure, as `struct.get`, with indices of type
+/// `I` (WebAssembly Core Specification, Text Format, Instructions, "Aggregate Instructions").
 #[derive(Clone, Debug, Drop)]
 pub struct StructAccessOf<I> {
     /// The structure type.
     pub struct_: I,
-    /// Which of its fields.
+    /// The field.
     pub field: I,
 }
 
-/// The operands of `struct.get`, `struct.set` and the like.
+/// The operands of an instruction on a field of a structure, as `struct.get`.
 pub type StructAccess<'a> = StructAccessOf<Index<'a>>;
 
-/// The operands of `cont.bind`, with each index as an `I` (WebAssembly Core Specification, Text
+/// The operands of `cont.bind`, with indices of type `I` (WebAssembly Core Specification, Text
 /// Format, Instructions, "Control Instructions", with the proposal on stack switching).
 #[derive(Clone, Debug, Drop)]
 pub struct ContBindOf<I> {
-    /// The continuation type that is taken.
+    /// The type of the continuation argument.
     pub argument_index: I,
-    /// The continuation type that is made.
+    /// The type of the continuation result.
     pub result_index: I,
 }
 
 /// The operands of `cont.bind`.
 pub type ContBind<'a> = ContBindOf<Index<'a>>;
 
-/// The operands of `switch`, with each index as an `I` (WebAssembly Core Specification, Text
+/// The operands of `switch`, with indices of type `I` (WebAssembly Core Specification, Text
 /// Format, Instructions, "Control Instructions", with the proposal on stack switching).
 #[derive(Clone, Debug, Drop)]
 pub struct SwitchOf<I> {
@@ -52,7 +52,7 @@ pub struct SwitchOf<I> {
 /// The operands of `switch`.
 pub type Switch<'a> = SwitchOf<Index<'a>>;
 
-/// The operand of `array.fill`, with its index as an `I` (WebAssembly Core Specification, Text
+/// The operand of `array.fill`, with an index of type `I` (WebAssembly Core Specification, Text
 /// Format, Instructions, "Aggregate Instructions").
 #[derive(Clone, Debug, Drop)]
 pub struct ArrayFillOf<I> {
@@ -63,65 +63,65 @@ pub struct ArrayFillOf<I> {
 /// The operand of `array.fill`.
 pub type ArrayFill<'a> = ArrayFillOf<Index<'a>>;
 
-/// The operands of `array.copy`, with each index as an `I` (WebAssembly Core Specification, Text
+/// The operands of `array.copy`, with indices of type `I` (WebAssembly Core Specification, Text
 /// Format, Instructions, "Aggregate Instructions").
 #[derive(Clone, Debug, Drop)]
 pub struct ArrayCopyOf<I> {
-    /// The type of the array that is written.
+    /// The type of the destination array.
     pub dest_array: I,
-    /// The type of the array that is read.
+    /// The type of the source array.
     pub src_array: I,
 }
 
 /// The operands of `array.copy`.
 pub type ArrayCopy<'a> = ArrayCopyOf<Index<'a>>;
 
-/// The operands of `array.init_data` and `array.init_elem`, with each index as an `I` (WebAssembly
+/// The operands of `array.init_data` and `array.init_elem`, with indices of type `I` (WebAssembly
 /// Core Specification, Text Format, Instructions, "Aggregate Instructions").
 #[derive(Clone, Debug, Drop)]
 pub struct ArrayInitOf<I> {
     /// The array type.
     pub array: I,
-    /// The segment that is read.
+    /// The segment to read.
     pub segment: I,
 }
 
 /// The operands of `array.init_data` and `array.init_elem`.
 pub type ArrayInit<'a> = ArrayInitOf<Index<'a>>;
 
-/// The operands of `array.new_fixed`, with its index as an `I` (WebAssembly Core Specification,
+/// The operands of `array.new_fixed`, with an index of type `I` (WebAssembly Core Specification,
 /// Text Format, Instructions, "Aggregate Instructions").
 #[derive(Clone, Debug, Drop)]
 pub struct ArrayNewFixedOf<I> {
     /// The array type.
     pub array: I,
-    /// How many elements the array has.
+    /// The number of elements.
     pub length: u32,
 }
 
 /// The operands of `array.new_fixed`.
 pub type ArrayNewFixed<'a> = ArrayNewFixedOf<Index<'a>>;
 
-/// The operands of `array.new_data`, with each index as an `I` (WebAssembly Core Specification,
+/// The operands of `array.new_data`, with indices of type `I` (WebAssembly Core Specification,
 /// Text Format, Instructions, "Aggregate Instructions").
 #[derive(Clone, Debug, Drop)]
 pub struct ArrayNewDataOf<I> {
     /// The array type.
     pub array: I,
-    /// The data segment that is read.
+    /// The data segment to read.
     pub data_idx: I,
 }
 
 /// The operands of `array.new_data`.
 pub type ArrayNewData<'a> = ArrayNewDataOf<Index<'a>>;
 
-/// The operands of `array.new_elem`, with each index as an `I` (WebAssembly Core Specification,
+/// The operands of `array.new_elem`, with indices of type `I` (WebAssembly Core Specification,
 /// Text Format, Instructions, "Aggregate Instructions").
 #[derive(Clone, Debug, Drop)]
 pub struct ArrayNewElemOf<I> {
     /// The array type.
     pub array: I,
-    /// The element segment that is read.
+    /// The element segment to read.
     pub elem_idx: I,
 }
 
@@ -142,7 +142,7 @@ impl<'a> Parse<'a> for StructAccess<'a> {
     }
 }
 
-/// The continuation type that is taken, and the one that is made.
+/// The continuation type of the argument, and that of the result.
 impl<'a> Parse<'a> for ContBind<'a> {
     ghost View = { Idx × Idx };
 
@@ -190,7 +190,7 @@ impl<'a> Parse<'a> for ArrayFill<'a> {
     }
 }
 
-/// The type of the array that is written, and that of the one that is read.
+/// The destination array type, and the source array type.
 impl<'a> Parse<'a> for ArrayCopy<'a> {
     ghost View = { Idx × Idx };
 
@@ -221,8 +221,8 @@ impl<'a> Parse<'a> for ArrayInit<'a> {
     }
 }
 
-/// An array type, and a number, which is read without a sign in 32 bits: it is refused with Range,
-/// at the number, where it is too large or a `-` is written.
+/// An array type, and the length, an unsigned number of 32 bits. The error is Range, at the number,
+/// if it has a `-` or is too large.
 impl<'a> Parse<'a> for ArrayNewFixed<'a> {
     ghost View = { Idx × ℕ };
 

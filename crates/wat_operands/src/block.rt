@@ -1,4 +1,4 @@
-//! Types of blocks.
+//! Block types.
 
 ghost use Rattle.std.specs.Prelude.{◌≡◌};
 ghost use Rattle.wat_tokens.specs.Copies.{Copies};
@@ -10,19 +10,19 @@ ghost use Rattle.wat_operands.specs.Block.{block_view, bare_block, block_type, S
 use wat_tokens::{Fault, Id, NameAnnotation, Parse, Parser, Result};
 use wat_types::{FunctionType, FunctionTypeNoNames, TypeUse, take_label};
 
-/// What `block`, `loop`, `if` and `try` say of their block (WebAssembly Core Specification, Text
-/// Format, Instructions, "Control Instructions").
+/// The label and type of a block: of `block`, `loop`, `if`, `try` and `try_table` (WebAssembly Core
+/// Specification, Text Format, Instructions, "Control Instructions").
 #[derive(Debug, Drop)]
 pub struct BlockType<'a> {
-    /// The block's label.
+    /// The label, if one is written.
     pub label: Option<Id<'a>>,
-    /// The name that an annotation gives the label.
+    /// The name in the label's `@name` annotation, if there is one.
     pub label_name: Option<NameAnnotation<'a>>,
-    /// What the block takes and leaves. Its parameters have neither identifiers nor names.
+    /// The type of the block. Its parameters have neither identifiers nor names.
     pub ty: TypeUse<'a, FunctionType<'a>>,
 }
 
-/// A type use of a [`FunctionTypeNoNames`], as one of a [`FunctionType`].
+/// Parses a type use of a [`FunctionTypeNoNames`], and returns it as one of a [`FunctionType`].
 #[tactic(auto, using(crate::proofs::ViewWithNames::view_with_names))]
 pub(crate) fn read_signature<'a>(parser: &mut Parser<'a>) -> Result<TypeUse<'a, FunctionType<'a>>>
     ensures reads { Reads (owning signature_view bare_signature) signature result parser.old
@@ -33,8 +33,7 @@ pub(crate) fn read_signature<'a>(parser: &mut Parser<'a>) -> Result<TypeUse<'a, 
 }
 
 impl<'a> BlockType<'a> {
-    /// The same type once more. Memory may be answered where its inline type has a parameter or a
-    /// result.
+    /// Returns a copy. It can fail with Memory only if the inline type has a parameter or a result.
     pub fn clone(&self) -> Result<BlockType<'a>>
         ensures copies { Copies SameBlock (owning block_view bare_block) result self.now }
     {
@@ -46,7 +45,7 @@ impl<'a> BlockType<'a> {
     }
 }
 
-/// `id? name?`, and a type use of a [`FunctionTypeNoNames`].
+/// An optional label, an optional `@name` annotation, and a type use of a [`FunctionTypeNoNames`].
 impl<'a> Parse<'a> for BlockType<'a> {
     ghost View = { BlockTy };
 

@@ -1,4 +1,4 @@
-//! The labels of a table of branches.
+//! The operand of `br_table`.
 
 ghost use Rattle.std.specs.Prelude.{◌≡◌, ◌≢◌, [], ◌∷◌, ◌++◌};
 ghost use Rattle.wat_tokens.specs.Copies.{Copies};
@@ -9,21 +9,21 @@ ghost use Rattle.wat_operands.specs.BranchTable.{br_table};
 use wat_tokens::repeat::while_begun;
 use wat_tokens::{Fault, Index, Parse, Parser, Result};
 
-/// The labels that `br_table` may branch to, with each index as an `I` (WebAssembly Core
-/// Specification, Text Format, Instructions, "Control Instructions").
+/// The labels of a `br_table`, with indices of type `I` (WebAssembly Core Specification, Text
+/// Format, Instructions, "Control Instructions").
 #[derive(Debug, Drop)]
 pub struct BrTableIndicesOf<I> {
-    /// The labels that a number chooses from.
+    /// The labels of the numbers 0, 1, 2 ...
     pub labels: Vec<I>,
-    /// The label for any greater number.
+    /// The label of every greater number.
     pub default: I,
 }
 
-/// The labels that `br_table` may branch to.
+/// The labels of a `br_table`.
 pub type BrTableIndices<'a> = BrTableIndicesOf<Index<'a>>;
 
 impl<'a> BrTableIndices<'a> {
-    /// The same labels once more. Memory may be answered where there is one beside the default.
+    /// Returns a copy. It can fail with Memory only if `labels` isn't empty.
     pub fn clone(&self) -> Result<BrTableIndices<'a>>
         ensures copies { Copies (λ x y. (y.labels.items ≡ x.labels.items) × (y.default ≡ x.default))
             (owning br_table_view bare_br_table) result self.now }
@@ -37,7 +37,7 @@ impl<'a> BrTableIndices<'a> {
     }
 }
 
-/// Takes the last of the indices off.
+/// Removes the last index, and returns it.
 fn take_last<'a>(indices: &mut Vec<Index<'a>>) -> Index<'a>
     requires { indices.old.items ≢ [] }
     ensures { indices.old.items ≡ indices.new.items ++ result ∷ [] }
@@ -48,7 +48,7 @@ fn take_last<'a>(indices: &mut Vec<Index<'a>>) -> Index<'a>
     index
 }
 
-/// One or more indices: the last is the default, and the others are the labels.
+/// One or more indices. The last is `default`, and the others are `labels`.
 impl<'a> Parse<'a> for BrTableIndices<'a> {
     ghost View = { BrTableTy };
 

@@ -1,4 +1,4 @@
-//! Indirect calls.
+//! The operand of an indirect call.
 
 ghost use Rattle.std.specs.Prelude.{◌≡◌};
 ghost use Rattle.wat_tokens.specs.Copies.{Copies};
@@ -10,20 +10,19 @@ use crate::tables::index_or_0;
 use wat_tokens::{Fault, Index, Parse, Parser, Result};
 use wat_types::{FunctionType, TypeUse};
 
-/// What `call_indirect` and `return_call_indirect` call (WebAssembly Core Specification, Text
+/// The operand of `call_indirect` and `return_call_indirect` (WebAssembly Core Specification, Text
 /// Format, Instructions, "Control Instructions").
 #[derive(Debug, Drop)]
 pub struct CallIndirect<'a> {
-    /// The table that holds the function. Where none is written it is table 0, at the token before
-    /// the operand.
+    /// The table that holds the function. If none is written, it is table 0, and its span is that
+    /// of the token before the operand.
     pub table: Index<'a>,
-    /// The type that the function must have. Its parameters have neither identifiers nor names.
+    /// The type of the function. Its parameters have neither identifiers nor names.
     pub ty: TypeUse<'a, FunctionType<'a>>,
 }
 
 impl<'a> CallIndirect<'a> {
-    /// The same operand once more. Memory may be answered where its inline type has a parameter or
-    /// a result.
+    /// Returns a copy. It can fail with Memory only if the inline type has a parameter or a result.
     pub fn clone(&self) -> Result<CallIndirect<'a>>
         ensures copies { Copies SameCall (owning call_view bare_call) result self.now }
     {
@@ -34,7 +33,7 @@ impl<'a> CallIndirect<'a> {
     }
 }
 
-/// `idx?`, and a type use of a function type without names.
+/// An optional index, and a type use of a function type without parameter names.
 impl<'a> Parse<'a> for CallIndirect<'a> {
     ghost View = { CallTy };
 
@@ -42,7 +41,7 @@ impl<'a> Parse<'a> for CallIndirect<'a> {
 
     ghost grammar = { call_indirect };
 
-    #[tactic(auto, unfolding(crate::specs::Call::call_indirect, crate::specs::Tables::index_or_0))]
+    #[tactic(auto, unfolding(crate::specs::Call::call_indirect))]
     fn parse(parser: &mut Parser<'a>) -> Result<Self> {
         let table = index_or_0(parser)?;
         let ty = read_signature(parser)?;

@@ -11,68 +11,68 @@ ghost use Rattle.wat_tokens.specs.Views.{plain};
 use wat_tokens::{Index, Parse, Parser, Result};
 use wat_types::RefType;
 
-/// The operand of `ref.test`.
+/// The operand of `ref.test` ("Reference Instructions").
 #[derive(Clone, Debug, Drop)]
 pub struct RefTest<'a> {
-    /// The type that is tested for.
+    /// The type to test for.
     pub type_: RefType<'a>,
 }
 
-/// The operand of `ref.cast`.
+/// The operand of `ref.cast` ("Reference Instructions").
 #[derive(Clone, Debug, Drop)]
 pub struct RefCast<'a> {
-    /// The type that is cast to.
+    /// The type to cast to.
     pub type_: RefType<'a>,
 }
 
-/// The operand of `ref.cast_desc_eq`.
+/// The operand of `ref.cast_desc_eq` (proposal on custom descriptors).
 #[derive(Clone, Debug, Drop)]
 pub struct RefCastDescEq<'a> {
-    /// The type that is cast to.
+    /// The type to cast to.
     pub type_: RefType<'a>,
 }
 
-/// The operand of `br_on_cast`.
+/// The operand of `br_on_cast` ("Control Instructions").
 #[derive(Clone, Debug, Drop)]
 pub struct BrOnCast<'a> {
-    /// The label that it branches to.
+    /// The label to branch to.
     pub label: Index<'a>,
-    /// The type that is cast from.
+    /// The type to cast from.
     pub from_type: RefType<'a>,
-    /// The type that is cast to.
+    /// The type to cast to.
     pub to_type: RefType<'a>,
 }
 
-/// The operand of `br_on_cast_fail`.
+/// The operand of `br_on_cast_fail` ("Control Instructions").
 #[derive(Clone, Debug, Drop)]
 pub struct BrOnCastFail<'a> {
-    /// The label that it branches to.
+    /// The label to branch to.
     pub label: Index<'a>,
-    /// The type that is cast from.
+    /// The type to cast from.
     pub from_type: RefType<'a>,
-    /// The type that is cast to.
+    /// The type to cast to.
     pub to_type: RefType<'a>,
 }
 
-/// The operand of `br_on_cast_desc_eq`.
+/// The operand of `br_on_cast_desc_eq` (proposal on custom descriptors).
 #[derive(Clone, Debug, Drop)]
 pub struct BrOnCastDescEq<'a> {
-    /// The label that it branches to.
+    /// The label to branch to.
     pub label: Index<'a>,
-    /// The type that is cast from.
+    /// The type to cast from.
     pub from_type: RefType<'a>,
-    /// The type that is cast to.
+    /// The type to cast to.
     pub to_type: RefType<'a>,
 }
 
-/// The operand of `br_on_cast_desc_eq_fail`.
+/// The operand of `br_on_cast_desc_eq_fail` (proposal on custom descriptors).
 #[derive(Clone, Debug, Drop)]
 pub struct BrOnCastDescEqFail<'a> {
-    /// The label that it branches to.
+    /// The label to branch to.
     pub label: Index<'a>,
-    /// The type that is cast from.
+    /// The type to cast from.
     pub from_type: RefType<'a>,
-    /// The type that is cast to.
+    /// The type to cast to.
     pub to_type: RefType<'a>,
 }
 
@@ -121,7 +121,7 @@ impl<'a> Parse<'a> for RefCastDescEq<'a> {
     }
 }
 
-/// The label that a branch goes to, and the types that it casts from and to.
+/// Parses a label, the type to cast from and the type to cast to.
 #[tactic(auto, unfolding(crate::specs::Casts::cast_branch))]
 fn branch<'a>(parser: &mut Parser<'a>) -> Result<(Index<'a>, RefType<'a>, RefType<'a>)>
     ensures reads { Reads (plain (λ b. branch_between b.0 b.1 b.2)) cast_branch result parser.old
@@ -133,7 +133,7 @@ fn branch<'a>(parser: &mut Parser<'a>) -> Result<(Index<'a>, RefType<'a>, RefTyp
     Ok((label, from_type, to_type))
 }
 
-/// An index, and two reference types: the label, from, to.
+/// A label, the type to cast from and the type to cast to.
 impl<'a> Parse<'a> for BrOnCast<'a> {
     ghost View = { BranchTy };
 
@@ -151,7 +151,7 @@ impl<'a> Parse<'a> for BrOnCast<'a> {
     }
 }
 
-/// An index, and two reference types: the label, from, to.
+/// A label, the type to cast from and the type to cast to.
 impl<'a> Parse<'a> for BrOnCastFail<'a> {
     ghost View = { BranchTy };
 
@@ -169,7 +169,7 @@ impl<'a> Parse<'a> for BrOnCastFail<'a> {
     }
 }
 
-/// An index, and two reference types: the label, from, to.
+/// A label, the type to cast from and the type to cast to.
 impl<'a> Parse<'a> for BrOnCastDescEq<'a> {
     ghost View = { BranchTy };
 
@@ -187,7 +187,7 @@ impl<'a> Parse<'a> for BrOnCastDescEq<'a> {
     }
 }
 
-/// An index, and two reference types: the label, from, to.
+/// A label, the type to cast from and the type to cast to.
 impl<'a> Parse<'a> for BrOnCastDescEqFail<'a> {
     ghost View = { BranchTy };
 

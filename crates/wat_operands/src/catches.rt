@@ -1,4 +1,4 @@
-//! What a `try_table` catches.
+//! The operand of `try_table`, with its catch clauses.
 
 ghost use Rattle.std.specs.Borrow.{sem};
 ghost use Rattle.std.specs.Option.{option_map};
@@ -16,26 +16,26 @@ use crate::block::BlockType;
 use wat_tokens::repeat::{Part, parts};
 use wat_tokens::{Fault, Index, Parse, Parser, Result};
 
-/// What a clause catches, with its tag as an `I` (WebAssembly Core Specification, Text Format,
-/// Instructions, "Control Instructions").
+/// The exceptions that a catch clause catches, with a tag of type `I` (WebAssembly Core
+/// Specification, Text Format, Instructions, "Control Instructions").
 #[derive(Clone, Debug, Drop)]
 pub enum CatchKind<I> {
-    /// An exception of the tag, without a reference to it.
+    /// `catch`: exceptions with this tag, without a reference to the exception.
     Catch(I),
-    /// An exception of the tag, and a reference to it.
+    /// `catch_ref`: exceptions with this tag, with a reference to the exception.
     CatchRef(I),
-    /// Any exception, without a reference to it.
+    /// `catch_all`: every exception, without a reference to it.
     CatchAll,
-    /// Any exception, and a reference to it.
+    /// `catch_all_ref`: every exception, with a reference to it.
     CatchAllRef,
 }
 
-/// What a clause of a `try_table` catches.
+/// The exceptions that a clause of a `try_table` catches.
 pub type TryTableCatchKind<'a> = CatchKind<Index<'a>>;
 
 impl<I> CatchKind<I> {
-    /// The tag of `Catch` and `CatchRef`, and else None. What is written through it changes the tag
-    /// alone.
+    /// Returns the tag of `Catch` or `CatchRef`, or None for the other variants. A write through
+    /// the reference changes only the tag.
     pub fn tag_index_mut(&mut self) -> Option<&mut I>
         ensures* writes_back { sem 𝓛 (LendsTag I.row self.entry result) }
         ensures value { caught_tag self.old ≡ option_map (λ r. r.now) result }
@@ -49,27 +49,27 @@ impl<I> CatchKind<I> {
     }
 }
 
-/// A clause of a `try_table` (WebAssembly Core Specification, Text Format, Instructions, "Control
-/// Instructions").
+/// A catch clause of a `try_table` (WebAssembly Core Specification, Text Format, Instructions,
+/// "Control Instructions").
 #[derive(Clone, Debug, Drop)]
 pub struct TryTableCatch<'a> {
-    /// What it catches.
+    /// The exceptions that the clause catches.
     pub kind: TryTableCatchKind<'a>,
-    /// The label that it branches to.
+    /// The label that the clause branches to.
     pub label: Index<'a>,
 }
 
-/// The operand of `try_table`: its block, and what it catches (WebAssembly Core Specification, Text
+/// The operand of `try_table`: a block type and catch clauses (WebAssembly Core Specification, Text
 /// Format, Instructions, "Control Instructions").
 #[derive(Debug, Drop)]
 pub struct TryTable<'a> {
-    /// The block.
+    /// The block type.
     pub block: Box<BlockType<'a>>,
-    /// What it catches, in order.
+    /// The catch clauses, in order.
     pub catches: Vec<TryTableCatch<'a>>,
 }
 
-/// The word of a clause, and the tag where it has one.
+/// Parses the keyword of a clause, and the tag if it has one.
 #[tactic(auto, unfolding(crate::specs::CatchClause::catch_kind))]
 fn read_catch_kind<'a>(parser: &mut Parser<'a>) -> Result<TryTableCatchKind<'a>>
     ensures reads { Reads (plain (catch_kind_view index_view)) catch_kind result parser.old
@@ -117,7 +117,7 @@ impl<'a> Part<'a, TryTableCatch<'a>> for Clause {
 }
 
 impl<'a> TryTable<'a> {
-    /// The same operand once more. Memory may be answered, since the block is in a box.
+    /// Returns a copy. It can fail with Memory, because the block type is in a box.
     pub fn clone(&self) -> Result<TryTable<'a>>
         ensures copies { Copies SameTry (owning try_view (λ _. false)) result self.now }
     {
@@ -130,9 +130,9 @@ impl<'a> TryTable<'a> {
     }
 }
 
-/// A [`BlockType`], and then every clause that follows: each group that begins with `catch`,
-/// `catch_ref`, `catch_all` or `catch_all_ref`. Such a group that is no clause, as one without its
-/// label, is refused.
+/// A [`BlockType`], and then all groups that begin with `catch`, `catch_ref`, `catch_all` or
+/// `catch_all_ref`. It is an error if such a group isn't a valid clause, for example if its label
+/// is missing.
 impl<'a> Parse<'a> for TryTable<'a> {
     ghost View = { TryTy };
 

@@ -1,4 +1,4 @@
-//! Tables of handlers, and the operands that have one.
+//! Handler tables, and the operands that have one.
 
 ghost use Rattle.std.specs.Prelude.{◌≡◌, List};
 ghost use Rattle.wat_operands.specs.Handlers.{handle_view, begins_handler, resume_table_view};
@@ -12,28 +12,28 @@ ghost use Rattle.wat_tokens.specs.Views.{plain, owning, no_items};
 use wat_tokens::repeat::{Part, parts};
 use wat_tokens::{Fault, Index, Parse, Parser, Result};
 
-/// What is done at a suspension, with each index as an `I` (stack switching, Text Format,
+/// A handler of a suspension, with indices of type `I` (stack switching, Text Format,
 /// "Instructions").
 #[derive(Clone, Debug, Drop)]
 pub enum HandleOf<I> {
-    /// It branches to the label.
+    /// `( on tag label )`: branches to the label.
     OnLabel {
         /// The tag of the suspension.
         tag: I,
         /// The label.
         label: I,
     },
-    /// It switches to another continuation.
+    /// `( on tag switch )`: switches to another continuation.
     OnSwitch {
         /// The tag of the suspension.
         tag: I,
     },
 }
 
-/// What is done at a suspension.
+/// A handler of a suspension.
 pub type Handle<'a> = HandleOf<Index<'a>>;
 
-/// The handlers that an instruction resumes a continuation under, with each index as an `I` (stack
+/// The handlers of an instruction that resumes a continuation, with indices of type `I` (stack
 /// switching, Text Format, "Instructions").
 #[derive(Debug, Drop)]
 pub struct ResumeTableOf<I> {
@@ -41,14 +41,14 @@ pub struct ResumeTableOf<I> {
     pub handlers: Vec<HandleOf<I>>,
 }
 
-/// The handlers that an instruction resumes a continuation under.
+/// The handlers of an instruction that resumes a continuation.
 pub type ResumeTable<'a> = ResumeTableOf<Index<'a>>;
 
-/// The operand of `resume`, with each index as an `I` (stack switching, Text Format,
+/// The operand of `resume`, with indices of type `I` (stack switching, Text Format,
 /// "Instructions").
 #[derive(Debug, Drop)]
 pub struct ResumeOf<I> {
-    /// The continuation's type.
+    /// The type of the continuation.
     pub type_index: I,
     /// The handlers.
     pub table: ResumeTableOf<I>,
@@ -57,13 +57,13 @@ pub struct ResumeOf<I> {
 /// The operand of `resume`.
 pub type Resume<'a> = ResumeOf<Index<'a>>;
 
-/// The operand of `resume_throw`, with each index as an `I` (stack switching, Text Format,
+/// The operand of `resume_throw`, with indices of type `I` (stack switching, Text Format,
 /// "Instructions").
 #[derive(Debug, Drop)]
 pub struct ResumeThrowOf<I> {
-    /// The continuation's type.
+    /// The type of the continuation.
     pub type_index: I,
-    /// The tag of the exception that is thrown in it.
+    /// The tag of the exception to throw in the continuation.
     pub tag_index: I,
     /// The handlers.
     pub table: ResumeTableOf<I>,
@@ -72,11 +72,11 @@ pub struct ResumeThrowOf<I> {
 /// The operand of `resume_throw`.
 pub type ResumeThrow<'a> = ResumeThrowOf<Index<'a>>;
 
-/// The operand of `resume_throw_ref`, with each index as an `I` (stack switching, Text Format,
+/// The operand of `resume_throw_ref`, with indices of type `I` (stack switching, Text Format,
 /// "Instructions").
 #[derive(Debug, Drop)]
 pub struct ResumeThrowRefOf<I> {
-    /// The continuation's type.
+    /// The type of the continuation.
     pub type_index: I,
     /// The handlers.
     pub table: ResumeTableOf<I>,
@@ -119,7 +119,7 @@ impl<'a> Part<'a, Handle<'a>> for Handler {
 }
 
 impl<'a> ResumeTable<'a> {
-    /// The same table once more. Memory may be answered where it has a handler.
+    /// Returns a copy. It can fail with Memory only if there is a handler.
     #[tactic(auto, using(std::proofs::lemmas::List::Elements::same_from_all_zip))]
     pub fn clone(&self) -> Result<ResumeTable<'a>>
         ensures copies { Copies (λ x y. y.handlers.items ≡ x.handlers.items)
@@ -134,8 +134,7 @@ impl<'a> ResumeTable<'a> {
     }
 }
 
-/// Every handler that follows: each group that begins with `on`. Such a group that is no handler is
-/// refused.
+/// All groups that begin with `on`. It is an error if such a group isn't a valid handler.
 impl<'a> Parse<'a> for ResumeTable<'a> {
     ghost View = { List HandleTy };
 
@@ -152,7 +151,7 @@ impl<'a> Parse<'a> for ResumeTable<'a> {
 }
 
 impl<'a> Resume<'a> {
-    /// The same operand once more. Memory may be answered where it has a handler.
+    /// Returns a copy. It can fail with Memory only if there is a handler.
     pub fn clone(&self) -> Result<Resume<'a>>
         ensures copies { Copies (λ x y. (y.type_index ≡ x.type_index) ×
             (y.table.handlers.items ≡ x.table.handlers.items)) (owning resume_view bare_resume)
@@ -165,7 +164,7 @@ impl<'a> Resume<'a> {
     }
 }
 
-/// `idx`, and a [`ResumeTable`].
+/// An index, and a [`ResumeTable`].
 impl<'a> Parse<'a> for Resume<'a> {
     ghost View = { ResumeTy };
 
@@ -182,7 +181,7 @@ impl<'a> Parse<'a> for Resume<'a> {
 }
 
 impl<'a> ResumeThrow<'a> {
-    /// The same operand once more. Memory may be answered where it has a handler.
+    /// Returns a copy. It can fail with Memory only if there is a handler.
     pub fn clone(&self) -> Result<ResumeThrow<'a>>
         ensures copies { Copies (λ x y. (y.type_index ≡ x.type_index) × (y.tag_index ≡ x.tag_index)
             × (y.table.handlers.items ≡ x.table.handlers.items))
@@ -196,7 +195,7 @@ impl<'a> ResumeThrow<'a> {
     }
 }
 
-/// `idx idx`, and a [`ResumeTable`].
+/// Two indices, and a [`ResumeTable`].
 impl<'a> Parse<'a> for ResumeThrow<'a> {
     ghost View = { ThrowTy };
 
@@ -218,7 +217,7 @@ impl<'a> Parse<'a> for ResumeThrow<'a> {
 }
 
 impl<'a> ResumeThrowRef<'a> {
-    /// The same operand once more. Memory may be answered where it has a handler.
+    /// Returns a copy. It can fail with Memory only if there is a handler.
     pub fn clone(&self) -> Result<ResumeThrowRef<'a>>
         ensures copies { Copies (λ x y. (y.type_index ≡ x.type_index) ×
             (y.table.handlers.items ≡ x.table.handlers.items))
@@ -231,7 +230,7 @@ impl<'a> ResumeThrowRef<'a> {
     }
 }
 
-/// `idx`, and a [`ResumeTable`].
+/// An index, and a [`ResumeTable`].
 impl<'a> Parse<'a> for ResumeThrowRef<'a> {
     ghost View = { ResumeTy };
 

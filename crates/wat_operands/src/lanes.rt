@@ -1,4 +1,4 @@
-//! Lanes of vectors, and accesses to one lane.
+//! Lanes of vectors, and the operands of loads and stores of one lane.
 
 ghost use Rattle.std.specs.Prelude.{◌≡◌};
 ghost use Rattle.wat_tokens.specs.Lookup.{in_front};
@@ -11,29 +11,29 @@ use crate::memory::{MemArg, MemArgTarget, begins_with};
 use crate::tables::zero;
 use wat_tokens::{Cursor, Error, Fault, Parse, Parser, Result};
 
-/// A lane of a vector (WebAssembly Core Specification, Text Format, Instructions, "Vector
-/// Instructions").
+/// The index of a lane of a vector (WebAssembly Core Specification, Text Format, Instructions,
+/// "Vector Instructions").
 #[derive(Clone, Debug, Drop)]
 pub struct LaneArg {
-    /// Its number.
+    /// The index of the lane.
     pub lane: u8,
 }
 
-/// The operands of an instruction that loads or stores one lane, with what is accessed as an `M`
-/// (WebAssembly Core Specification, Text Format, Instructions, "Memory Instructions").
+/// The operands of a load or store of one lane, with a memory access of type `M` (WebAssembly Core
+/// Specification, Text Format, Instructions, "Memory Instructions").
 #[derive(Clone, Debug, Drop)]
 pub struct LaneOf<M> {
-    /// What is accessed.
+    /// The memory access.
     pub memarg: M,
     /// The lane.
     pub lane: LaneArg,
 }
 
-/// The operands of an instruction that loads or stores one lane.
+/// The operands of a load or store of one lane.
 pub type LoadOrStoreLane<'a> = LaneOf<MemArg<'a>>;
 
-/// An integer without a sign, 0 to 255. One that has a sign is refused with Unexpected, and one
-/// that is too large with Range, each at the integer.
+/// An integer without a sign, 0 to 255. The error is at the integer: Unexpected if it has a sign,
+/// Range if it is too large.
 impl<'a> Parse<'a> for LaneArg {
     ghost use Rattle.wat_operands.specs.declared.lanes.LaneArg.{LaneArg};
 
@@ -57,14 +57,15 @@ impl<'a> Parse<'a> for LaneArg {
     }
 }
 
-/// Whether an integer is there, or a keyword that begins with `offset=` or `align=`.
+/// Returns whether the next token is an integer or a keyword that begins with `offset=` or
+/// `align=`.
 fn goes_on(cursor: Cursor<'_>) -> bool
     ensures { result ≡ goes_on (in_front cursor.entry) }
 {
     cursor.integer().is_some() || begins_with(cursor, "offset=") || begins_with(cursor, "align=")
 }
 
-/// Whether an integer is there that is a lane, and not a memory.
+/// Returns whether the next token is an integer that is a lane, and not a memory.
 fn is_alone(cursor: Cursor<'_>) -> bool
     ensures { result ≡ is_alone (in_front cursor.entry) }
 {
@@ -75,13 +76,14 @@ fn is_alone(cursor: Cursor<'_>) -> bool
 }
 
 impl<'a> LoadOrStoreLane<'a> {
-    /// Takes what an access to one lane is given; `align` is the alignment that is meant where none
-    /// is written. It takes no memory.
+    /// Parses the operands of a load or store of one lane (WebAssembly Core Specification, Text
+    /// Format, Instructions, "Memory Instructions"). `align` is the default alignment in bytes. It
+    /// never fails with Memory.
     ///
-    /// Where the first token is an integer, and the next is neither an integer nor a keyword that
-    /// begins with `offset=` or `align=`, it takes a lane alone: the memory is 0, and the offset.
-    /// Else it takes what [`MemArg::read`] takes, and then a lane, each with its faults.
-    /// (WebAssembly Core Specification, Text Format, Instructions, "Memory Instructions".)
+    /// If the first token is an integer, and the second is neither an integer nor a keyword that
+    /// begins with `offset=` or `align=`, the operand is a lane alone: the memory and the offset
+    /// are 0. Otherwise it is a memory access, as of [`MemArg::read`], and then a lane. The errors
+    /// are those of the two parts.
     #[tactic(auto, unfolding(crate::specs::Lanes::lane_access))]
     pub fn read(parser: &mut Parser<'a>, align: u64) -> Result<LoadOrStoreLane<'a>>
         ensures reads { Reads (plain lane_access_view) (lane_access align) result parser.old

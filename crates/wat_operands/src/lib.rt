@@ -1,9 +1,10 @@
 //! Operands of instructions in the WebAssembly text format (WebAssembly Core Specification, Text
 //! Format, "Instructions").
 //!
-//! Each is read from the tokens behind the instruction's word by [`wat_tokens::Parse`], or by a
-//! call of its own where a default alignment is wanted. Indices stay as they are written: nothing
-//! is resolved.
+//! An operand is parsed from the tokens after the mnemonic, by [`wat_tokens::Parse`]. Memory
+//! accesses have functions of their own, which take the default alignment: [`MemArg::read`],
+//! [`MemArg::read_atomic`] and [`LoadOrStoreLane::read`]. Indices are kept as written: identifiers
+//! aren't resolved.
 #![tactic(auto)]
 
 pub mod aggregates;

@@ -1,5 +1,4 @@
-//! What an access to a memory or an array is given: its target, an offset, an alignment and an
-//! ordering.
+//! The operand of a memory access: its target, offset, alignment and memory ordering.
 
 ghost use Rattle.std.specs.Prelude.{◌≡◌, ◌≢◌, None, Some, option_map, MatchResult};
 ghost use Rattle.wat_tokens.specs.Lookup.{in_front};
@@ -15,59 +14,60 @@ use crate::tables::index_or_0;
 use wat_tokens::enclosed::in_word_group;
 use wat_tokens::{Cursor, Error, Fault, Index, Integer, Parse, Parser, Result, Span};
 
-/// What an instruction accesses (WebAssembly Core Specification, Text Format, Instructions, "Memory
-/// Instructions"; that it may be an array is a proposal).
+/// The target of a memory access (WebAssembly Core Specification, Text Format, Instructions,
+/// "Memory Instructions"; an array as a target is a proposal).
 #[derive(Clone, Debug, Drop)]
 pub enum MemArgTarget<'a> {
     /// A memory.
     Memory(Index<'a>),
-    /// An array of the type.
+    /// An array of this type.
     Array(Index<'a>),
 }
 
-/// The ordering of an atomic access (WebAssembly Core Specification, Text Format, Instructions,
-/// "Memory Instructions", with the proposals on threads).
+/// The memory ordering of an atomic access, and the kind of the instruction (WebAssembly Core
+/// Specification, Text Format, Instructions, "Memory Instructions", with the proposals on threads).
 #[derive(Clone, Copy, Debug, PartialEq, Eq, Hash)]
 pub enum MemArgOrdering {
-    /// Of a load or a store.
+    /// The ordering of an atomic load or store.
     Op(Ordering),
-    /// Of an instruction that reads, changes and writes.
+    /// The ordering of a read-modify-write instruction.
     Rmw(Ordering),
 }
 
-/// What an access to a memory or an array is given (WebAssembly Core Specification, Text Format,
-/// Instructions, "Memory Instructions").
+/// The operand of a memory access (WebAssembly Core Specification, Text Format, Instructions,
+/// "Memory Instructions").
 #[derive(Clone, Debug, Drop)]
 pub struct MemArg<'a> {
-    /// The alignment in bytes, as it is written: a power of two, and not its exponent.
+    /// The alignment in bytes as written, a power of two and not its exponent; the default if none
+    /// is written.
     pub align: u64,
-    /// The offset in bytes.
+    /// The offset in bytes; 0 if none is written.
     pub offset: u64,
-    /// What is accessed.
+    /// The target; memory 0 if none is written.
     pub target: MemArgTarget<'a>,
-    /// The ordering, where one is written.
+    /// The memory ordering, if one is written.
     pub ordering: Option<MemArgOrdering>,
 }
 
-/// What is behind the front of a text, where the text begins so.
-fn behind<'a>(text: &'a str, front: &str) -> Option<&'a str>
+/// Returns the text after the prefix `front`, or None if the text doesn't begin with it.
+fn past_front<'a>(text: &'a str, front: &str) -> Option<&'a str>
     ensures { option_map (λ x. x.now) result ≡ past_front front.now text.entry.now }
 {
     text.strip_prefix(front)
 }
 
-/// Whether a keyword that begins so is there.
+/// Returns whether the next token is a keyword that begins with `start`.
 pub(crate) fn begins_with(cursor: Cursor<'_>, start: &str) -> bool
     ensures { result ≡ begins_with start.now (in_front cursor.entry) }
 {
     match cursor.keyword() {
-        Some((word, _)) => behind(word, start).is_some(),
+        Some((word, _)) => past_front(word, start).is_some(),
         None => false,
     }
 }
 
-/// The number that a text reads as without a sign in 64 bits. It is refused with Unexpected where
-/// it is no integer, and with Range where it is too large or a `-` is written, each at the place.
+/// Returns the text as an unsigned number of 64 bits. The error is at `span`: Unexpected if the
+/// text isn't an integer, Range if it has a `-` or is too large.
 fn number(text: &str, span: Span) -> Result<u64>
     ensures { MatchResult result (λ n. unsigned_value 64 text.now ≡ Some n) (λ e.
         (unsigned_value 64 text.now ≡ None) × (e.fault ≢ Fault.Memory)) }
@@ -81,20 +81,20 @@ fn number(text: &str, span: Span) -> Result<u64>
     }
 }
 
-/// Takes a keyword that begins so, and answers the number behind that.
+/// Parses a keyword that begins with `front`, and returns the number after it.
 #[tactic(auto, unfolding(crate::specs::Align::field))]
 fn take_field(parser: &mut Parser<'_>, front: &str) -> Result<u64>
     ensures reads { Reads (plain (λ n. n)) (field front.now) result parser.old parser.new }
 {
     let span = parser.cur_span();
     let word = parser.take_keyword()?;
-    match behind(word, front) {
+    match past_front(word, front) {
         Some(text) => number(text, span),
         None => Err(Error::at(Fault::Unexpected, span)),
     }
 }
 
-/// Takes the offset, where one is written, and else answers 0.
+/// Parses the offset if one is written; otherwise returns 0.
 #[tactic(auto, unfolding(crate::specs::Memory::offset_or_0))]
 fn read_offset(parser: &mut Parser<'_>) -> Result<u64>
     ensures reads { Reads (plain (λ n. n)) offset_or_0 result parser.old parser.new }
@@ -106,7 +106,7 @@ fn read_offset(parser: &mut Parser<'_>) -> Result<u64>
     }
 }
 
-/// Takes an alignment.
+/// Parses an alignment.
 #[tactic(auto, unfolding(crate::specs::Memory::align))]
 fn take_align(parser: &mut Parser<'_>) -> Result<u64>
     ensures reads { Reads (plain (λ n. n)) align result parser.old parser.new }
@@ -120,7 +120,7 @@ fn take_align(parser: &mut Parser<'_>) -> Result<u64>
     }
 }
 
-/// Takes the alignment, where one is written, and else answers the default.
+/// Parses the alignment if one is written; otherwise returns the default.
 #[tactic(auto, unfolding(crate::specs::Memory::align_or))]
 fn read_align(parser: &mut Parser<'_>, default: u64) -> Result<u64>
     ensures reads { Reads (plain (λ n. n)) (align_or default) result parser.old parser.new }
@@ -132,7 +132,7 @@ fn read_align(parser: &mut Parser<'_>, default: u64) -> Result<u64>
     }
 }
 
-/// Takes the target: where the second token is `type`, an array, else a memory, whose default is 0.
+/// Parses the target: an array if the second token is `type`, otherwise an optional memory.
 #[tactic(auto, unfolding(crate::specs::Memory::target))]
 fn read_target<'a>(parser: &mut Parser<'a>) -> Result<MemArgTarget<'a>>
     ensures reads { Reads (plain target_view) target result parser.old parser.new }
@@ -144,15 +144,18 @@ fn read_target<'a>(parser: &mut Parser<'a>) -> Result<MemArgTarget<'a>>
 }
 
 impl<'a> MemArg<'a> {
-    /// Takes what an access is given: a target, then an offset, then an alignment; `align` is the
-    /// alignment that is meant where none is written. It takes no memory.
+    /// Parses the operand of a memory access: a target, an offset and an alignment, each optional
+    /// (WebAssembly Core Specification, Text Format, Instructions, "Memory Instructions"). `align`
+    /// is the default alignment in bytes. It never fails with Memory.
     ///
-    /// The target is, where the second token is `type`, `( type idx )`, an array; else an index, a
-    /// memory, or nothing: memory 0. The offset is a word such as `offset=8`, by default 0, and the
-    /// alignment one such as `align=4`. A word that begins with `offset=` or `align=` is refused,
-    /// at the word: with Unexpected where no integer follows the `=`, with Range where the integer
-    /// is too large for 64 bits or has a `-`, and with Alignment where the alignment is no power of
-    /// two. (WebAssembly Core Specification, Text Format, Instructions, "Memory Instructions".)
+    /// - The target is an array, `( type idx )`, if the second token is `type`. Otherwise it is a
+    ///   memory: an index, or 0 if no index is written.
+    /// - The offset is a keyword such as `offset=8`. The default is 0.
+    /// - The alignment is a keyword such as `align=4`.
+    ///
+    /// An invalid keyword that begins with `offset=` or `align=` is an error at that keyword:
+    /// Unexpected if no integer follows the `=`, Range if the integer has a `-` or is too large for
+    /// 64 bits, Alignment if the alignment isn't a power of two.
     #[tactic(auto, unfolding(crate::specs::Memory::mem_arg))]
     pub fn read(parser: &mut Parser<'a>, align: u64) -> Result<MemArg<'a>>
         ensures reads { Reads (plain mem_arg_view) (mem_arg align) result parser.old parser.new }
@@ -168,11 +171,12 @@ impl<'a> MemArg<'a> {
         })
     }
 
-    /// Takes what an atomic access is given: the same, and then an ordering or none. `rmw` says
-    /// whether the instruction reads, changes and writes; the ordering is kept as
-    /// [`MemArgOrdering::Rmw`] then, and else as [`MemArgOrdering::Op`]. (WebAssembly Core
-    /// Specification, Text Format, Instructions, "Memory Instructions", with the proposals on
-    /// threads.)
+    /// Parses the operand of an atomic access: the same as [`MemArg::read`], and then an optional
+    /// memory ordering (WebAssembly Core Specification, Text Format, Instructions, "Memory
+    /// Instructions", with the proposals on threads).
+    ///
+    /// The ordering is returned as [`MemArgOrdering::Rmw`] if `rmw` is true, which stands for a
+    /// read-modify-write instruction; otherwise as [`MemArgOrdering::Op`].
     #[tactic(auto, unfolding(crate::specs::Memory::atomic_mem_arg))]
     pub fn read_atomic(parser: &mut Parser<'a>, align: u64, rmw: bool) -> Result<MemArg<'a>>
         ensures reads { Reads (plain mem_arg_view) (atomic_mem_arg align rmw) result parser.old

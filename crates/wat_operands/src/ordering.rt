@@ -1,22 +1,22 @@
-//! Orderings of atomic accesses.
+//! The memory ordering of atomic accesses.
 
 ghost use Rattle.wat_tokens.specs.Views.{plain, holding};
 ghost use Rattle.wat_operands.specs.Ordering.{ordering, begins_ordering, ordered_view, ordered};
 
 use wat_tokens::{Cursor, Parse, Parser, Peek, Result};
 
-/// In which order other threads may see an atomic access (WebAssembly Core Specification, Text
-/// Format, Instructions, "Memory Instructions", with the proposals on threads).
+/// The memory ordering of an atomic access (WebAssembly Core Specification, Text Format,
+/// Instructions, "Memory Instructions", with the proposals on threads).
 #[derive(Clone, Copy, Debug, PartialEq, Eq, Hash)]
 pub enum Ordering {
-    /// `acqrel`: a load acquires, which orders all operations before the last store that releases;
-    /// a store releases, which orders all operations before it at the next load that acquires.
+    /// `acqrel`: acquire and release. A load acquires; a store releases.
     AcqRel,
-    /// `seqcst`: as `acqrel`, and all threads see all accesses of this ordering in one order.
+    /// `seqcst`: sequentially consistent. As `acqrel`, and all threads see all accesses with this
+    /// ordering in the same order.
     SeqCst,
 }
 
-/// An operand with the ordering of its access in front (WebAssembly Core Specification, Text
+/// The memory ordering of an atomic access, and its operand (WebAssembly Core Specification, Text
 /// Format, "Instructions", with the proposals on threads).
 #[derive(Clone, Debug, Drop)]
 pub struct Ordered<T> {
@@ -46,7 +46,7 @@ impl<'a> Parse<'a> for Ordering {
     }
 }
 
-/// One of the two words.
+/// `seqcst` or `acqrel`.
 impl Peek for Ordering {
     ghost begins = { begins_ordering };
 
@@ -59,7 +59,7 @@ impl Peek for Ordering {
     }
 }
 
-/// An ordering, and then the operand.
+/// An ordering, and then an operand.
 impl<'a, T: Parse<'a> + Drop> Parse<'a> for Ordered<T> {
     ghost use Rattle.wat_operands.specs.declared.ordering.Ordering.{Ordering};
 

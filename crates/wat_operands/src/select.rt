@@ -1,4 +1,4 @@
-//! The types of a `select`.
+//! The operand of `select`.
 
 ghost use Rattle.std.specs.Prelude.{◌≡◌, List, Option};
 ghost use Rattle.wat_tokens.specs.Copies.{Copies};
@@ -12,15 +12,15 @@ use wat_tokens::repeat::{Group, groups, rest_of_group};
 use wat_tokens::{Fault, Parse, Parser, Result};
 use wat_types::ValType;
 
-/// The types that a `select` is written with (WebAssembly Core Specification, Text Format,
-/// Instructions, "Parametric Instructions").
+/// The result types of a `select` (WebAssembly Core Specification, Text Format, Instructions,
+/// "Parametric Instructions").
 #[derive(Debug, Drop)]
 pub struct SelectTypes<'a> {
-    /// The types of all its groups, in order; None where it has no group.
+    /// The types of all `( result .. )` groups, in order; None if there is no group.
     pub tys: Option<Vec<ValType<'a>>>,
 }
 
-/// Groups `( result ValType* )`, to where the second token isn't `result`.
+/// Groups `( result ValType* )`, as long as the second token is `result`.
 struct ResultGroup;
 
 impl<'a> Group<'a, ValType<'a>> for ResultGroup {
@@ -47,7 +47,7 @@ impl<'a> Group<'a, ValType<'a>> for ResultGroup {
 }
 
 impl<'a> SelectTypes<'a> {
-    /// The same operand once more. Memory may be answered where it has a type.
+    /// Returns a copy. It can fail with Memory only if there is a type.
     pub fn clone(&self) -> Result<SelectTypes<'a>>
         ensures copies { Copies (λ x y. SameTypes x.tys y.tys) (owning select_view bare_select)
             result self.now }
@@ -63,8 +63,8 @@ impl<'a> SelectTypes<'a> {
     }
 }
 
-/// Groups `( result ValType* )`, to where the second token isn't `result`, whatever the first is:
-/// None where there is none, else the types of all.
+/// Groups `( result ValType* )`, as long as the second token is `result`, whatever the first is.
+/// `tys` is None if there is no group, and otherwise the types of all groups.
 impl<'a> Parse<'a> for SelectTypes<'a> {
     ghost View = { Option (List ValTy) };
 

@@ -1,4 +1,4 @@
-//! Operands that name tables and memories.
+//! Operands with tables, memories and segments.
 
 ghost use Rattle.std.specs.Prelude.{◌≡◌};
 ghost use Rattle.wat_tokens.specs.Index.{Idx, number, index_view};
@@ -11,88 +11,88 @@ ghost use Rattle.wat_operands.specs.Tables.{memory_copy_view};
 
 use wat_tokens::{Index, Parse, Parser, Result};
 
-/// The table of an instruction that names one, with its index as an `I` (WebAssembly Core
+/// The operand of an instruction on one table, with an index of type `I` (WebAssembly Core
 /// Specification, Text Format, Instructions, "Table Instructions").
 #[derive(Clone, Debug, Drop)]
 pub struct TableArgOf<I> {
-    /// The table.
+    /// The table; 0 if none is written.
     pub dst: I,
 }
 
-/// The table of an instruction that names one.
+/// The operand of an instruction on one table.
 pub type TableArg<'a> = TableArgOf<Index<'a>>;
 
-/// The memory of an instruction that names one, with its index as an `I` (WebAssembly Core
+/// The operand of an instruction on one memory, with an index of type `I` (WebAssembly Core
 /// Specification, Text Format, Instructions, "Memory Instructions").
 #[derive(Clone, Debug, Drop)]
 pub struct MemoryArgOf<I> {
-    /// The memory.
+    /// The memory; 0 if none is written.
     pub mem: I,
 }
 
-/// The memory of an instruction that names one.
+/// The operand of an instruction on one memory.
 pub type MemoryArg<'a> = MemoryArgOf<Index<'a>>;
 
-/// The operands of `table.init`, with each index as an `I` (WebAssembly Core Specification, Text
+/// The operands of `table.init`, with indices of type `I` (WebAssembly Core Specification, Text
 /// Format, Instructions, "Table Instructions").
 #[derive(Clone, Debug, Drop)]
 pub struct TableInitOf<I> {
-    /// The table that is written.
+    /// The table to write; 0 if none is written.
     pub table: I,
-    /// The element segment that is read.
+    /// The element segment to read.
     pub elem: I,
 }
 
 /// The operands of `table.init`.
 pub type TableInit<'a> = TableInitOf<Index<'a>>;
 
-/// The operands of `memory.init`, with each index as an `I` (WebAssembly Core Specification, Text
+/// The operands of `memory.init`, with indices of type `I` (WebAssembly Core Specification, Text
 /// Format, Instructions, "Memory Instructions").
 #[derive(Clone, Debug, Drop)]
 pub struct MemoryInitOf<I> {
-    /// The data segment that is read.
+    /// The data segment to read.
     pub data: I,
-    /// The memory that is written.
+    /// The memory to write; 0 if none is written.
     pub mem: I,
 }
 
 /// The operands of `memory.init`.
 pub type MemoryInit<'a> = MemoryInitOf<Index<'a>>;
 
-/// The operands of `table.copy`, with each index as an `I` (WebAssembly Core Specification, Text
+/// The operands of `table.copy`, with indices of type `I` (WebAssembly Core Specification, Text
 /// Format, Instructions, "Table Instructions").
 #[derive(Clone, Debug, Drop)]
 pub struct TableCopyOf<I> {
-    /// The table that is written.
+    /// The destination table; 0 if no tables are written.
     pub dst: I,
-    /// The table that is read.
+    /// The source table; 0 if no tables are written.
     pub src: I,
 }
 
 /// The operands of `table.copy`.
 pub type TableCopy<'a> = TableCopyOf<Index<'a>>;
 
-/// The operands of `memory.copy`, with each index as an `I` (WebAssembly Core Specification, Text
+/// The operands of `memory.copy`, with indices of type `I` (WebAssembly Core Specification, Text
 /// Format, Instructions, "Memory Instructions").
 #[derive(Clone, Debug, Drop)]
 pub struct MemoryCopyOf<I> {
-    /// The memory that is read.
+    /// The source memory; 0 if no memories are written.
     pub src: I,
-    /// The memory that is written.
+    /// The destination memory; 0 if no memories are written.
     pub dst: I,
 }
 
 /// The operands of `memory.copy`.
 pub type MemoryCopy<'a> = MemoryCopyOf<Index<'a>>;
 
-/// The index 0 that is meant where none is written. It is at the token that was taken last.
+/// Returns the default index 0, with the span of the token that was taken last.
 pub(crate) fn zero<'a>(parser: &Parser<'a>) -> Index<'a>
     ensures { index_view result ≡ number 0 }
 {
     Index::Num(0, parser.prev_span())
 }
 
-/// Takes an index, where one begins in front, and else answers 0.
+/// Parses an index if the next token begins one; otherwise returns 0.
 #[tactic(auto, unfolding(crate::specs::Tables::index_or_0))]
 pub(crate) fn index_or_0<'a>(parser: &mut Parser<'a>) -> Result<Index<'a>>
     ensures reads { Reads (plain index_view) index_or_0 result parser.old parser.new }
@@ -104,7 +104,7 @@ pub(crate) fn index_or_0<'a>(parser: &mut Parser<'a>) -> Result<Index<'a>>
     }
 }
 
-/// Takes two indices.
+/// Parses two indices.
 #[tactic(auto, unfolding(crate::specs::Tables::index_pair))]
 pub(crate) fn index_pair<'a>(parser: &mut Parser<'a>) -> Result<(Index<'a>, Index<'a>)>
     ensures reads { Reads (plain (λ p. (index_view p.0, index_view p.1))) index_pair result
@@ -115,8 +115,8 @@ pub(crate) fn index_pair<'a>(parser: &mut Parser<'a>) -> Result<(Index<'a>, Inde
     Ok((first, second))
 }
 
-/// Where the second token is an index, takes a target and a segment; else takes a segment, and the
-/// target is 0.
+/// Parses a target and a segment if the second token is an index. Otherwise it parses a segment,
+/// and the target is 0.
 #[tactic(auto, unfolding(crate::specs::Tables::init))]
 fn target_and_segment<'a>(parser: &mut Parser<'a>) -> Result<(Index<'a>, Index<'a>)>
     ensures reads { Reads (plain (λ p. (index_view p.0, index_view p.1))) init result parser.old
@@ -130,7 +130,7 @@ fn target_and_segment<'a>(parser: &mut Parser<'a>) -> Result<(Index<'a>, Index<'
     Ok((target, segment))
 }
 
-/// Where an index begins, takes a destination and a source; else both are 0.
+/// Parses a destination and a source if the next token is an index. Otherwise both are 0.
 #[tactic(auto, unfolding(crate::specs::Tables::copy))]
 fn destination_and_source<'a>(parser: &mut Parser<'a>) -> Result<(Index<'a>, Index<'a>)>
     ensures reads { Reads (plain (λ p. (index_view p.0, index_view p.1))) copy result parser.old
@@ -142,7 +142,7 @@ fn destination_and_source<'a>(parser: &mut Parser<'a>) -> Result<(Index<'a>, Ind
     index_pair(parser)
 }
 
-/// An index, or none: table 0.
+/// An optional index; the default is table 0.
 impl<'a> Parse<'a> for TableArg<'a> {
     ghost View = { Idx };
 
@@ -157,7 +157,7 @@ impl<'a> Parse<'a> for TableArg<'a> {
     }
 }
 
-/// An index, or none: memory 0.
+/// An optional index; the default is memory 0.
 impl<'a> Parse<'a> for MemoryArg<'a> {
     ghost View = { Idx };
 
@@ -172,8 +172,8 @@ impl<'a> Parse<'a> for MemoryArg<'a> {
     }
 }
 
-/// Where the second token is an identifier or an integer, a table and an element segment; else an
-/// element segment, and table 0.
+/// A table and an element segment if the second token is an identifier or an integer. Otherwise an
+/// element segment; the table is 0.
 impl<'a> Parse<'a> for TableInit<'a> {
     ghost View = { Idx × Idx };
 
@@ -187,8 +187,8 @@ impl<'a> Parse<'a> for TableInit<'a> {
     }
 }
 
-/// Where the second token is an identifier or an integer, a memory and a data segment; else a data
-/// segment, and memory 0.
+/// A memory and a data segment if the second token is an identifier or an integer. Otherwise a data
+/// segment; the memory is 0.
 impl<'a> Parse<'a> for MemoryInit<'a> {
     ghost View = { Idx × Idx };
 
@@ -202,7 +202,7 @@ impl<'a> Parse<'a> for MemoryInit<'a> {
     }
 }
 
-/// A destination and a source, or nothing: table 0 for both.
+/// A destination and a source, or nothing; then both are table 0.
 impl<'a> Parse<'a> for TableCopy<'a> {
     ghost View = { Idx × Idx };
 
@@ -216,7 +216,7 @@ impl<'a> Parse<'a> for TableCopy<'a> {
     }
 }
 
-/// A destination and a source, or nothing: memory 0 for both.
+/// A destination and a source, or nothing; then both are memory 0.
 impl<'a> Parse<'a> for MemoryCopy<'a> {
     ghost View = { Idx × Idx };
 

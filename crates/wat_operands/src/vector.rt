@@ -1,4 +1,4 @@
-//! Constants of 128 bits, and lanes that are shuffled.
+//! The operands of `v128.const` and `i8x16.shuffle`.
 
 ghost use Rattle.std.specs.Prelude.{◌≡◌, ◌%◌, [], ◌∷◌, ◌++◌, map, flat_map};
 ghost use Rattle.std.specs.Int.{w16, w32, w64, to_le_bytes};
@@ -11,8 +11,8 @@ ghost use Rattle.wat_operands.specs.declared.vector.V128Const.{V128Const};
 
 use wat_tokens::{F32, F64, Parse, Parser, Result};
 
-/// A constant of 128 bits, as lanes of a shape (WebAssembly Core Specification, Text Format,
-/// Instructions, "Vector Instructions").
+/// The operand of `v128.const`: a constant of 128 bits, as lanes of a shape (WebAssembly Core
+/// Specification, Text Format, Instructions, "Vector Instructions").
 #[derive(Clone, Debug, Drop)]
 pub enum V128Const {
     /// 16 integers of 8 bits.
@@ -23,21 +23,21 @@ pub enum V128Const {
     I32x4([i32; 4]),
     /// 2 integers of 64 bits.
     I64x2([i64; 2]),
-    /// 4 floating-point numbers of 32 bits. No text is read as such a constant.
+    /// 4 floating-point numbers of 32 bits. The parser never returns it: `f32x4` is an error.
     F32x4([F32; 4]),
-    /// 2 floating-point numbers of 64 bits. No text is read as such a constant.
+    /// 2 floating-point numbers of 64 bits. The parser never returns it: `f64x2` is an error.
     F64x2([F64; 2]),
 }
 
-/// The lanes that `i8x16.shuffle` takes (WebAssembly Core Specification, Text Format, Instructions,
+/// The operand of `i8x16.shuffle` (WebAssembly Core Specification, Text Format, Instructions,
 /// "Vector Instructions").
 #[derive(Clone, Debug, Drop)]
 pub struct I8x16Shuffle {
-    /// For each lane of the result, the number of the lane that it takes.
+    /// For each lane of the result, the index of the lane to take.
     pub lanes: [u8; 16],
 }
 
-/// The one list, and then the other.
+/// Returns the items of `a`, and then those of `b`.
 fn join_2<T: Copy>(a: [T; 2], b: [T; 2]) -> [T; 4]
     ensures { result ≡ a ++ b }
 {
@@ -46,7 +46,7 @@ fn join_2<T: Copy>(a: [T; 2], b: [T; 2]) -> [T; 4]
     [a0, a1, b0, b1]
 }
 
-/// The one list, and then the other.
+/// Returns the items of `a`, and then those of `b`.
 fn join_4<T: Copy>(a: [T; 4], b: [T; 4]) -> [T; 8]
     ensures { result ≡ a ++ b }
 {
@@ -55,7 +55,7 @@ fn join_4<T: Copy>(a: [T; 4], b: [T; 4]) -> [T; 8]
     [a0, a1, a2, a3, b0, b1, b2, b3]
 }
 
-/// The one list, and then the other.
+/// Returns the items of `a`, and then those of `b`.
 fn join_8<T: Copy>(a: [T; 8], b: [T; 8]) -> [T; 16]
     ensures { result ≡ a ++ b }
 {
@@ -66,7 +66,7 @@ fn join_8<T: Copy>(a: [T; 8], b: [T; 8]) -> [T; 16]
     ]
 }
 
-/// Takes two values.
+/// Parses two values.
 #[tactic(auto, unfolding(crate::specs::Vector::two))]
 fn two<'a, T: Parse<'a> + Copy>(parser: &mut Parser<'a>) -> Result<[T; 2]>
     ensures reads { ReadsAt T.cost (holding T.view (map T.view.of) (all_bare T.view.bare))
@@ -77,7 +77,7 @@ fn two<'a, T: Parse<'a> + Copy>(parser: &mut Parser<'a>) -> Result<[T; 2]>
     Ok([first, second])
 }
 
-/// Takes four values.
+/// Parses four values.
 #[tactic(auto, using(crate::proofs::Again::map_both), unfolding(crate::specs::Vector::four))]
 fn four<'a, T: Parse<'a> + Copy>(parser: &mut Parser<'a>) -> Result<[T; 4]>
     ensures reads { ReadsAt T.cost (holding T.view (map T.view.of) (all_bare T.view.bare))
@@ -88,7 +88,7 @@ fn four<'a, T: Parse<'a> + Copy>(parser: &mut Parser<'a>) -> Result<[T; 4]>
     Ok(join_2(first, second))
 }
 
-/// Takes eight values.
+/// Parses eight values.
 #[tactic(auto, using(crate::proofs::Again::map_both), unfolding(crate::specs::Vector::eight))]
 fn eight<'a, T: Parse<'a> + Copy>(parser: &mut Parser<'a>) -> Result<[T; 8]>
     ensures reads { ReadsAt T.cost (holding T.view (map T.view.of) (all_bare T.view.bare))
@@ -99,7 +99,7 @@ fn eight<'a, T: Parse<'a> + Copy>(parser: &mut Parser<'a>) -> Result<[T; 8]>
     Ok(join_4(first, second))
 }
 
-/// Takes sixteen values.
+/// Parses sixteen values.
 #[tactic(auto, using(crate::proofs::Again::map_both), unfolding(crate::specs::Vector::sixteen))]
 fn sixteen<'a, T: Parse<'a> + Copy>(parser: &mut Parser<'a>) -> Result<[T; 16]>
     ensures reads { ReadsAt T.cost (holding T.view (map T.view.of) (all_bare T.view.bare))
@@ -110,7 +110,8 @@ fn sixteen<'a, T: Parse<'a> + Copy>(parser: &mut Parser<'a>) -> Result<[T; 16]>
     Ok(join_8(first, second))
 }
 
-/// Takes a constant of floating-point lanes: its word is there, and then none can be read.
+/// Parses the shape of floating-point lanes, and fails at the first number: no float literal is
+/// parsed.
 #[tactic(auto, using(crate::proofs::Again::lanes), unfolding(crate::specs::Vector::float_const))]
 fn read_floats<'a>(parser: &mut Parser<'a>) -> Result<V128Const>
     ensures reads { Reads (plain (λ v. v)) float_const result parser.old parser.new }
@@ -122,7 +123,7 @@ fn read_floats<'a>(parser: &mut Parser<'a>) -> Result<V128Const>
     Ok(V128Const::F64x2(two::<F64>(parser)?))
 }
 
-/// Takes a constant whose lanes have 32 or 64 bits.
+/// Parses a constant whose lanes have 32 or 64 bits.
 #[tactic(auto, using(crate::proofs::Again::lanes), unfolding(crate::specs::Vector::wide_const))]
 fn read_wide<'a>(parser: &mut Parser<'a>) -> Result<V128Const>
     ensures reads { Reads (plain (λ v. v)) wide_const result parser.old parser.new }
@@ -136,10 +137,10 @@ fn read_wide<'a>(parser: &mut Parser<'a>) -> Result<V128Const>
     read_floats(parser)
 }
 
-/// `i8x16` with 16 integers of 8 bits, `i16x8` with 8 of 16 bits, `i32x4` with 4 of 32 bits or
-/// `i64x2` with 2 of 64 bits. An integer is read with a sign: it is refused with Range, at the
-/// integer, where it is out of range. Behind `f32x4` and `f64x2` the first number is refused with
-/// FloatLiteral.
+/// A shape and its lanes: `i8x16` and 16 integers of 8 bits, `i16x8` and 8 of 16 bits, `i32x4` and
+/// 4 of 32 bits, or `i64x2` and 2 of 64 bits. The error is Range, at the integer, if an integer is
+/// out of the range of its signed or unsigned type. After `f32x4` or `f64x2` the error is
+/// FloatLiteral, at the first number.
 impl<'a> Parse<'a> for V128Const {
     ghost use Rattle.wat_operands.specs.declared.vector.V128Const.{V128Const};
 
@@ -161,8 +162,8 @@ impl<'a> Parse<'a> for V128Const {
     }
 }
 
-/// 16 numbers, each read without a sign in 8 bits: one is refused with Range, at the number, where
-/// it is too large or a `-` is written.
+/// 16 unsigned numbers of 8 bits. The error is Range, at the number, if it has a `-` or is too
+/// large.
 impl<'a> Parse<'a> for I8x16Shuffle {
     ghost use Rattle.wat_operands.specs.declared.vector.I8x16Shuffle.{I8x16Shuffle};
 
@@ -260,7 +261,7 @@ fn f64x2_bytes(lanes: [F64; 2]) -> [u8; 16]
 }
 
 impl V128Const {
-    /// The 16 bytes of the constant: the lanes in order, each with its lowest byte first
+    /// Returns the 16 bytes of the constant: the lanes in order, each in little-endian byte order
     /// (WebAssembly Core Specification, Text Format, Instructions, "Vector Instructions").
     pub fn to_le_bytes(&self) -> [u8; 16]
         ensures { result ≡ bytes_of self.now }
@@ -276,7 +277,7 @@ impl V128Const {
     }
 }
 
-/// Two constants of one shape have equal bytes only where their lanes have equal bits.
+/// Law: if two constants of the same shape have equal bytes, their lanes have equal bits.
 #[tactic(auto, using(crate::proofs::Bytes::same_bits))]
 pub fn equal_bytes()
     ensures { (v w : V128Const) → SameShape v w → bytes_of v ≡ bytes_of w

@@ -3,7 +3,8 @@
 //!
 //! A row's answer is the row, and below it, each on lines of its own:
 //!
-//! - `= VALUE`: the value that the text is, as Debug writes it, or what is told of it;
+//! - `= VALUE`: the value that the text is, as Debug writes it, or what is told of it; of a
+//!   repetition, the numbers of members that it is read with;
 //! - `! FAULT at OFFSET`: why the text is none, and the byte at which; `! REASON`: why a value isn't
 //!   printed;
 //! - `> TEXT`: what is printed of the value on one line, and `: LINE` of each line where it is
@@ -12,8 +13,9 @@
 //! - `? WORDS`: what should never be said, as that a printed text isn't read again.
 //!
 //! In a text, `␊` stands for a line feed and `␍` for a carriage return. Behind a row's kind there may
-//! be words: `plain`, for no annotation is known; `spans`, for the spans of instructions are kept; and
-//! a number, where the kind takes one. A line that is no row is passed on.
+//! be words: `plain`, for no annotation is known; `spans`, for the spans of instructions are kept;
+//! `times`, for a repetition (the module `repeated`); and a number, where the kind takes one. A line
+//! that is no row is passed on.
 //!
 //! A kind is a type, or what its module says of it: of `peek`, `values`, `signatures`, `section`,
 //! `pushed`, `regrouped`, `report`, `show`, `line` and `nearest` it says more than a value.
@@ -27,6 +29,7 @@ mod operand;
 mod operands;
 mod printers;
 mod readers;
+mod repeated;
 mod row;
 mod texts;
 mod tokens;

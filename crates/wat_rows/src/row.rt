@@ -3,6 +3,7 @@
 use crate::copies::Copier;
 use crate::printers::Printer;
 use crate::readers::Reader;
+use crate::repeated::add_repeated;
 use bumpalo::Bump;
 use std::alloc::{AllocError, Global};
 use std::fmt::Debug;
@@ -67,7 +68,7 @@ pub fn characters<'a>(alloc: Global, text: &str, arena: &'a Bump) -> Result<&'a 
 }
 
 /// Reads the value that a whole text is; what is known of annotations may be turned.
-fn read<'a, T: Drop, R: Reader<'a, T>>(
+pub fn read<'a, T: Drop, R: Reader<'a, T>>(
     row: &Row<'a>,
     text: &'a str,
     is_turned: bool,
@@ -178,18 +179,24 @@ fn add_printed<'a, T: Drop, R: Reader<'a, T>, P: Printer<T>>(
     }
 }
 
-/// Adds what a copy is shown as, where it isn't shown as the value is.
-fn add_copy<T: Debug + Drop, C: Copier<T>>(
+/// Whether Debug writes the same of two values.
+fn is_shown_alike<T: Debug>(alloc: Global, value: &T, other: &T) -> Result<bool, AllocError> {
+    let shown = format!(in alloc; "{value:?}")?;
+    let again = format!(in alloc; "{other:?}")?;
+    Ok(shown == again)
+}
+
+/// Adds a line where a copy isn't shown as the value is.
+pub fn add_copy<T: Debug + Drop, C: Copier<T>>(
     out: &mut String,
     row: &Row<'_>,
     value: &T,
 ) -> Result<(), AllocError> {
-    let shown = format!(in row.alloc; "{value:?}")?;
     match C::copy(value) {
         Some(Ok(copy)) => {
-            let again = format!(in row.alloc; "{copy:?}");
+            let is_same = is_shown_alike(row.alloc, value, &copy);
             forget(copy);
-            if again? != shown {
+            if !is_same? {
                 out.push_str("? copied as another value\n")?;
             }
         }
@@ -217,6 +224,9 @@ pub fn add<'a, T: Debug + Drop, R: Reader<'a, T>, P: Printer<T>, C: Copier<T>>(
     out: &mut String,
     row: &Row<'a>,
 ) -> Result<bool, AllocError> {
+    if row.words == "times" {
+        return add_repeated::<T, R, P, C>(out, row);
+    }
     match read::<T, R>(row, row.text, false) {
         Ok(value) => {
             let done = add_value::<T, R, P, C>(out, row, &value);

@@ -1,4 +1,4 @@
-//! How instructions and expressions are listed.
+//! The listing of instructions and expressions. The only error is out of memory.
 
 ghost use Rattle.std.specs.Prelude.{◌≡◌, ◌++◌, ◌∷◌, [], List, ℕ, None, OnOk, IfOk, length, map};
 ghost use Rattle.std.proofs.Common.{get_or};
@@ -37,7 +37,8 @@ fn add_operand(out: &mut Vec<u8>, instr: &Instruction) -> Result<(), AllocError>
     }
 }
 
-/// Adds the mnemonic, and the operand where it is shown.
+/// Appends the mnemonic of an instruction, and its operand after a space if that is an index, an
+/// i32 or an i64.
 #[inline(always)]
 pub fn add_instruction(out: &mut Vec<u8>, instr: &Instruction) -> Result<(), AllocError>
     ensures { OnOk result (out.new.items ≡ out.old.items ++ instr_text
@@ -156,7 +157,8 @@ fn add_lines_of(out: &mut Vec<u8>, front: &str, expression: &Expression) -> Resu
     add_lines(out, front, &expression.instrs, &marks)
 }
 
-/// Adds the instructions of an expression, one a line, each with the hint that has its index.
+/// Appends the instructions of an expression, one on each line, each with the first hint for its
+/// index.
 pub fn add_expression(out: &mut Vec<u8>, expression: &Expression) -> Result<(), AllocError>
     ensures { OnOk result (out.new.items ≡ out.old.items ++ expression_text
         (expression_view expression.now)) }
@@ -164,7 +166,7 @@ pub fn add_expression(out: &mut Vec<u8>, expression: &Expression) -> Result<(), 
     add_lines_of(out, "", expression)
 }
 
-/// Adds the lines of an expression below another line: each behind two spaces.
+/// Appends the lines of an expression, each indented by two spaces.
 pub fn add_below(out: &mut Vec<u8>, expression: &Expression) -> Result<(), AllocError>
     ensures { OnOk result (out.new.items ≡ out.old.items ++ below
         (expression_view expression.now)) }

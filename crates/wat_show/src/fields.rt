@@ -1,4 +1,4 @@
-//! How the fields of a module are listed.
+//! The listing of a module's fields. The only error is out of memory.
 
 ghost use Rattle.std.specs.Prelude.{◌≡◌, ◌++◌, ℕ, List, OnOk, length, map};
 ghost use Rattle.wat_core.specs.Field.{field_view};
@@ -71,7 +71,7 @@ pub(crate) fn total<P: Piece>(pieces: &[P]) -> u128
     count
 }
 
-/// Adds the line of imports.
+/// Appends the line of imports.
 pub fn add_import(out: &mut Vec<u8>, items: &ImportItems) -> Result<(), AllocError>
     ensures { OnOk result (out.new.items ≡ out.old.items ++ import_text (items_view items.now)) }
 {
@@ -86,7 +86,7 @@ pub fn add_import(out: &mut Vec<u8>, items: &ImportItems) -> Result<(), AllocErr
     }
 }
 
-/// Adds the line of an export.
+/// Appends the line of an export.
 pub fn add_export(out: &mut Vec<u8>, kind: ExportKind) -> Result<(), AllocError>
     ensures { OnOk result (out.new.items ≡ out.old.items ++ export_text kind) }
 {
@@ -99,7 +99,7 @@ pub fn add_export(out: &mut Vec<u8>, kind: ExportKind) -> Result<(), AllocError>
     }
 }
 
-/// Adds the line of a function, and below it the lines of its body.
+/// Appends the line of a function, and then the lines of its body.
 pub fn add_func(out: &mut Vec<u8>, kind: &FuncKind) -> Result<(), AllocError>
     ensures { OnOk result (out.new.items ≡ out.old.items ++ func_text (func_kind_view kind.now)) }
 {
@@ -112,7 +112,7 @@ pub fn add_func(out: &mut Vec<u8>, kind: &FuncKind) -> Result<(), AllocError>
     }
 }
 
-/// Adds the line of a global, and below it the lines of its first value.
+/// Appends the line of a global, and then the lines of its initial value.
 pub fn add_global(out: &mut Vec<u8>, kind: &GlobalKind) -> Result<(), AllocError>
     ensures { OnOk result (out.new.items ≡ out.old.items ++ global_text
         (global_kind_view kind.now)) }
@@ -126,7 +126,7 @@ pub fn add_global(out: &mut Vec<u8>, kind: &GlobalKind) -> Result<(), AllocError
     }
 }
 
-/// Adds the line of a tag.
+/// Appends the line of a tag.
 pub fn add_tag(out: &mut Vec<u8>, kind: &TagKind) -> Result<(), AllocError>
     ensures { OnOk result (out.new.items ≡ out.old.items ++ tag_text (tag_kind_view kind.now)) }
 {
@@ -169,7 +169,7 @@ fn add_payload_lines(out: &mut Vec<u8>, payload: &ElemPayload) -> Result<(), All
     }
 }
 
-/// Adds the line of a table, and below it the lines of its expressions.
+/// Appends the line of a table, and then the lines of its expressions.
 pub fn add_table(out: &mut Vec<u8>, kind: &TableKind) -> Result<(), AllocError>
     ensures { OnOk result (out.new.items ≡ out.old.items ++ table_text (table_kind_view kind.now)) }
 {
@@ -212,8 +212,7 @@ fn add_elem_offset(out: &mut Vec<u8>, kind: &ElemKind) -> Result<(), AllocError>
     }
 }
 
-/// Adds the line of an element segment, and below it the lines of its expressions, the
-/// offset first.
+/// Appends the line of an element segment, and then the lines of its expressions, the offset first.
 pub fn add_elem(out: &mut Vec<u8>, kind: &ElemKind, payload: &ElemPayload) -> Result<(), AllocError>
     ensures { OnOk result (out.new.items ≡ out.old.items ++ elem_text
         (elem_kind_view kind.now, payload_view payload.now)) }
@@ -224,7 +223,7 @@ pub fn add_elem(out: &mut Vec<u8>, kind: &ElemKind, payload: &ElemPayload) -> Re
     add_payload_lines(out, payload)
 }
 
-/// Adds the line of a memory.
+/// Appends the line of a memory.
 pub fn add_memory(out: &mut Vec<u8>, kind: &MemoryKind) -> Result<(), AllocError>
     ensures { OnOk result (out.new.items ≡ out.old.items ++ memory_text
         (memory_kind_view kind.now)) }
@@ -236,7 +235,7 @@ pub fn add_memory(out: &mut Vec<u8>, kind: &MemoryKind) -> Result<(), AllocError
     }
 }
 
-/// Adds the line of a data segment, and below it the lines of its offset.
+/// Appends the line of a data segment, and then the lines of its offset.
 pub fn add_data(out: &mut Vec<u8>, kind: &DataKind, values: &[DataVal]) -> Result<(), AllocError>
     ensures { OnOk result (out.new.items ≡ out.old.items ++ data_text (data_kind_view kind.now)
         (data_vals_view values.now)) }
@@ -250,7 +249,7 @@ pub fn add_data(out: &mut Vec<u8>, kind: &DataKind, values: &[DataVal]) -> Resul
     }
 }
 
-/// Adds the line of a custom section.
+/// Appends the line of a custom section.
 pub fn add_custom(out: &mut Vec<u8>, custom: &Custom) -> Result<(), AllocError>
     ensures { OnOk result (out.new.items ≡ out.old.items ++ custom_text (custom_view custom.now)) }
 {
@@ -265,7 +264,7 @@ pub fn add_custom(out: &mut Vec<u8>, custom: &Custom) -> Result<(), AllocError>
     }
 }
 
-/// Adds the line of a start function.
+/// Appends the line of a start function.
 pub fn add_start(out: &mut Vec<u8>, index: &Index) -> Result<(), AllocError>
     ensures { OnOk result (out.new.items ≡ out.old.items ++ start_text (index_view index.now)) }
 {
@@ -274,7 +273,7 @@ pub fn add_start(out: &mut Vec<u8>, index: &Index) -> Result<(), AllocError>
     add(out, "\n")
 }
 
-/// Adds the line of a field, and below it the lines of its expressions.
+/// Appends the line of a field, and then the lines of its expressions.
 #[tactic(auto, unfolding(crate::specs::Fields::field_text))]
 pub fn add_field(out: &mut Vec<u8>, field: &ModuleField) -> Result<(), AllocError>
     ensures { OnOk result (out.new.items ≡ out.old.items ++ field_text (field_view field.now)) }

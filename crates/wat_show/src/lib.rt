@@ -1,6 +1,8 @@
-//! What the program `watshow` shows: it reads all bytes, makes its whole output from them, and
-//! writes that. Beside the run over a reader and a writer there is the listing of a module and of
-//! its parts.
+//! The program `watshow` as a library.
+//!
+//! - [`run`] reads all input, makes the whole output, and then writes it.
+//! - The modules [`expressions`], [`fields`], [`modules`] and [`types`] list a module and its
+//!   parts.
 #![tactic(auto)]
 
 // The listing: what is added to an output.

@@ -1,4 +1,4 @@
-//! The modes of the program, and its run.
+//! The modes of `watshow`, and its run.
 
 ghost use Rattle.std.specs.Prelude.{◌≡◌, IsFalse, IfOk};
 ghost use Rattle.wat_show.specs.Modes.{mode_of, ModeShows, ShownText};
@@ -18,7 +18,7 @@ use wat_expr::{Expression, FoldedInstruction};
 use wat_tokens::{Error, Fault, Span};
 use wat_types::FunctionType;
 
-/// What the input is read as.
+/// The type that the input is parsed as.
 #[derive(Clone, Copy, Debug, PartialEq, Eq)]
 pub enum Mode {
     /// A function type.
@@ -27,12 +27,13 @@ pub enum Mode {
     Expr,
     /// One folded instruction of any kind.
     Folded,
-    /// A module, in its group.
+    /// A module in parentheses.
     Module,
 }
 
 impl Mode {
-    /// The mode that a word names: `functype`, `expr`, `folded` or `module`.
+    /// Returns the mode that a word names: `functype`, `expr`, `folded` or `module`. Returns `None`
+    /// for any other word.
     pub fn of(word: &str) -> Option<Mode>
         ensures { result ≡ mode_of word.now }
     {
@@ -45,8 +46,12 @@ impl Mode {
         }
     }
 
-    /// Makes the whole output of the mode, and the exit status: 0 where the bytes spell a value of
-    /// the mode, else 1.
+    /// Returns the whole output for the input `bytes`, and the exit status.
+    ///
+    /// If the input is a value of the mode, the output is its listing, and the status 0. Otherwise
+    /// the output is the line `refused NAME at OFFSET`, and the status 1: `NAME` is the error's
+    /// name, and `OFFSET` its position in bytes. Bytes that aren't UTF-8 are `Utf8` at 0. The only
+    /// error is out of memory.
     pub fn show(self, alloc: Global, bytes: &[u8]) -> Result<(Vec<u8>, u8), AllocError>
         ensures { IfOk result (λ made. ModeShows self bytes.now made.0.items made.1) }
     {
@@ -74,8 +79,11 @@ fn show_in(mode: Mode, alloc: Global, text: &str) -> Result<(Vec<u8>, u8), Alloc
     }
 }
 
-/// Reads all bytes, makes the whole output of the mode, and then writes it. Answers the exit
-/// status: 0 where the bytes spell a value of the mode, else 1. The writer isn't flushed.
+/// Reads all input, makes the whole output (see [`Mode::show`]), and then writes it. Returns the
+/// exit status: 0 if the input is a value of the mode, else 1. It doesn't flush the writer.
+///
+/// If the error is [`RunError::Write`], a prefix of the output is written. At another error nothing
+/// is.
 pub fn run<R: Read, W: Write>(
     alloc: Global,
     mode: Mode,

@@ -1,4 +1,4 @@
-//! How modules are listed.
+//! The listing of modules. The only error is out of memory.
 
 ghost use Rattle.std.specs.Prelude.{◌≡◌, ◌++◌, OnOk, map, flat_map};
 ghost use Rattle.wat_core.specs.Field.{field_view};
@@ -36,7 +36,7 @@ fn add_kind(out: &mut Vec<u8>, kind: &ModuleKind) -> Result<(), AllocError>
     }
 }
 
-/// Adds the line of a module, and below it what is listed of its fields.
+/// Appends the line of a module, and then the lines of its fields.
 pub fn add_module(out: &mut Vec<u8>, module: &Module) -> Result<(), AllocError>
     ensures { OnOk result (out.new.items ≡ out.old.items ++ module_text
         (module_view «module».now)) }

@@ -1,4 +1,4 @@
-//! How indices and types are listed.
+//! The listing of indices and function types. The only error is out of memory.
 
 ghost use Rattle.std.specs.Prelude.{◌≡◌, ◌++◌, ◌∷◌, [], List, ℕ, OnOk, map, codes};
 ghost use Rattle.wat_tokens.specs.Index.{index_view};
@@ -14,6 +14,7 @@ use std::alloc::AllocError;
 use wat_tokens::{Id, Index, NameAnnotation};
 use wat_types::{AbstractHeapType, FunctionType, HeapType, RefType, ValType};
 
+/// Appends an index: its number, or its identifier with the `$`.
 pub fn add_index(out: &mut Vec<u8>, index: &Index) -> Result<(), AllocError>
     ensures { OnOk result (out.new.items ≡ out.old.items ++ index_text (index_view index.now)) }
 {
@@ -104,7 +105,7 @@ fn add_params(
     Ok(())
 }
 
-/// Adds the two lines of a function type.
+/// Appends the two lines of a function type: its parameters and its results.
 pub fn add_function(out: &mut Vec<u8>, function: &FunctionType) -> Result<(), AllocError>
     ensures { OnOk result (out.new.items ≡ out.old.items ++ function_text
         (function_view function.now)) }

@@ -1,4 +1,4 @@
-//! A reader or a writer that remembers whether a read or a write of it failed.
+//! A reader or a writer that records whether a read or a write has failed.
 ghost use Rattle.std.specs.Prelude.{◌≡◌, ◌↔◌, ◌⊎◌, false, IsTrue, IsErr};
 ghost use Rattle.std.specs.Io.{ReadsAtMost, WritesAtMost};
 ghost use Rattle.std.specs.Io.KnownBytes.{Keeps, ReadConsumes, WriteAppends};
@@ -7,7 +7,7 @@ ghost use Rattle.wat_show.specs.Streams.{IsFailedWrite};
 use std::io;
 use std::io::{Read, Write};
 
-/// A reader or a writer, and whether a read or a write of it has failed.
+/// A reader or a writer that records whether a read or a write has failed.
 #[derive(Drop)]
 pub struct Watched<T> {
     inner: T,
@@ -15,7 +15,7 @@ pub struct Watched<T> {
 }
 
 impl<T> Watched<T> {
-    /// Watches `inner`, of which no read and no write has failed yet.
+    /// Wraps `inner`. No read and no write has failed yet.
     pub fn new(inner: T) -> Watched<T>
         ensures inner { result.inner ≡ inner }
         ensures failed { result.failed ≡ false }
@@ -26,14 +26,14 @@ impl<T> Watched<T> {
         }
     }
 
-    /// Whether a read or a write has failed.
+    /// Returns whether a read or a write has failed.
     pub fn failed(&self) -> bool
         ensures { result ≡ self.now.failed }
     {
         self.failed
     }
 
-    /// Gives back what was watched.
+    /// Returns the reader or writer itself.
     pub fn into_inner(self) -> T
         ensures { result ≡ self.inner }
     {
@@ -44,7 +44,7 @@ impl<T> Watched<T> {
 impl<R: Read> Read for Watched<R> {
     ghost remaining = { λ watched. R.remaining watched.inner };
 
-    /// One read of the inner reader, whose answer is passed on. Sets `failed` where that is an
+    /// Calls `read` of the inner reader once, and returns its result. Sets `failed` if that is an
     /// error.
     fn read(&mut self, buf: &mut [u8]) -> io::Result<usize>
         ensures bound { ReadsAtMost result buf.new }
@@ -63,8 +63,8 @@ impl<R: Read> Read for Watched<R> {
 impl<W: Write> Write for Watched<W> {
     ghost contents = { λ watched. W.contents watched.inner };
 
-    /// One write of the inner writer, whose answer is passed on. Sets `failed` where that is an
-    /// error, or takes nothing of a piece that isn't empty.
+    /// Calls `write` of the inner writer once, and returns its result. Sets `failed` if that is an
+    /// error, or if nothing of a `buf` that isn't empty is written.
     fn write(&mut self, buf: &[u8]) -> io::Result<usize>
         ensures bound { WritesAtMost result buf.now }
         ensures bytes { WriteAppends (W.contents self.old.inner) (W.contents self.new.inner)
@@ -84,7 +84,7 @@ impl<W: Write> Write for Watched<W> {
         outcome
     }
 
-    /// One flush of the inner writer, whose answer is passed on. `failed` stays as it was.
+    /// Calls `flush` of the inner writer once, and returns its result. `failed` is unchanged.
     fn flush(&mut self) -> io::Result<()>
         ensures bytes { Keeps (W.contents self.old.inner) (W.contents self.new.inner) }
         ensures failed { self.new.failed ≡ self.old.failed }

@@ -1,4 +1,4 @@
--- Words of a table: what is in front, and what is read of it.
+-- Whether a word of a table is in front.
 use Rattle.std.specs.Prelude.{Bool, false, List, [], ◌∷◌, Option, is_some}
 use Rattle.wat_lexer.specs.Token.{Tok}
 

@@ -15,11 +15,3 @@ abbrev pub Costs : Cost → State → State → Type 0
 Costs tokens_alone a b = Quiet a b
 Costs words_too a b = Stays a b
 Costs turns_too a b = Unit {0}
-
--- the cost of one call and of another behind it
-abbrev pub dearer : Cost → Cost → Cost
-dearer tokens_alone k = k
-dearer words_too tokens_alone = words_too
-dearer words_too words_too = words_too
-dearer words_too turns_too = turns_too
-dearer turns_too k = turns_too

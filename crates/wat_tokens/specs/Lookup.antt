@@ -1,9 +1,8 @@
 -- What lookups answer.
-use Rattle.std.specs.Prelude.{◌≡◌, ◌≤◌, ◌+◌, ◌∷◌, [], ℕ, Bool, List, length, drop, Option, Some}
-use Rattle.std.specs.Prelude.{None}
-use Rattle.wat_lexer.specs.Token.{Tok, Entry}
-use Rattle.wat_lexer.specs.Sight.{visible_tokens, hidden_count}
-use Rattle.wat_lexer.specs.View.{view, toks, VisibleFrom}
+use Rattle.std.specs.Prelude.{◌≡◌, ◌∷◌, [], List, drop, Option, Some, None}
+use Rattle.wat_lexer.specs.Token.{Tok}
+use Rattle.wat_lexer.specs.Sight.{visible_tokens}
+use Rattle.wat_lexer.specs.View.{view, toks}
 use Rattle.wat_lexer.specs.declared.token.Token.{Token}
 use Rattle.wat_tokens.specs.PartSpells.{one_reads}
 use Rattle.wat_tokens.specs.declared.cursor.Cursor.{Cursor}
@@ -11,13 +10,6 @@ use Rattle.wat_tokens.specs.declared.cursor.Cursor.{Cursor}
 -- the tokens that a lookup sees
 abbrev pub in_front : Cursor → List Tok
 in_front c = visible_tokens c.known (toks (drop c.at c.tokens.now))
-
--- the first of the tokens from a place on that is visible stands at `front`, which is their end
--- where none is
-pub record IsFront (known : Bool) (at front : ℕ) (ls : List Entry) : Type 0 where
-  pub behind : front ≡ at + hidden_count known (toks (drop at ls))
-  pub within : front ≤ length ls
-  pub shows : VisibleFrom known (drop front ls) (visible_tokens known (toks (drop at ls)))
 
 -- the token in front, where there is one
 abbrev pub FirstIs : Option Token → List Tok → Type 0

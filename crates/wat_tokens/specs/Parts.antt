@@ -1,5 +1,5 @@
 -- Parts of productions: one token, a sequence, a choice, a value made of parts, an optional part.
--- Each has its relation and its reader.
+-- Their relations and readers are in PartSpells.
 use Rattle.std.specs.Prelude.{ℕ, ◌+◌, min, Bool, true, List, Option, refl, is_some}
 use Rattle.wat_lexer.specs.Token.{Tok}
 use Rattle.wat_tokens.specs.Tests.{word_only, begins_word, annotation_only}

@@ -11,10 +11,10 @@ use Rattle.wat_tokens.specs.Production.{Production, Read}
 use Rattle.wat_tokens.specs.State.{State}
 use Rattle.wat_tokens.specs.Views.{ViewOf, plain}
 
--- From a to b a call answered r, where `read` stood in front.
--- exact: what it answers is what is in front, and it is refused where nothing does, or where
--- memory ran out
--- counts: what was taken, and no more turns than tokens
+-- From a to b a call answered r, where `read` is what its production reads of the tokens in front.
+-- exact: the answer is the value of `read`, and its rest is left; a refusal means that `read` has
+-- none, or that memory ran out
+-- counts: what was taken, and no more turns than tokens, or one more on a refusal
 -- cost: what wasn't counted
 -- settings: which names are on, and whether spans are kept, stays
 pub record Call {X A : Type 0} (price : Cost) (view : ViewOf X A) (read : Read A)

@@ -1,4 +1,4 @@
--- Facts of texts: what their tokens spell.
+-- Token lists in parentheses, and those that spell a value to the last token.
 use Rattle.std.specs.Prelude.{List, [], ◌∷◌, ◌++◌}
 use Rattle.wat_lexer.specs.Token.{Tok, LParen, RParen}
 use Rattle.wat_tokens.specs.Production.{Production, Front}

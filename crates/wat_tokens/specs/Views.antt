@@ -1,5 +1,5 @@
 -- What contracts see of a value, and which values own heap memory.
-use Rattle.std.specs.Prelude.{Bool, true, false, List, [], ◌∷◌, Option, Some, None, ◌&&◌, ◌||◌}
+use Rattle.std.specs.Prelude.{Bool, true, false, List, [], ◌∷◌, Option, Some, None}
 
 -- of: what is seen of a value, without places and without references
 -- may_own: whether a value can hold a vector or a box
@@ -20,14 +20,6 @@ owning f is_bare = record { of = f; may_own = true; bare = is_bare }
 -- of values that own memory only where values of another type do
 abbrev pub holding : {X A Y B : Type 0} → ViewOf X A → (Y → B) → (B → Bool) → ViewOf Y B
 holding v f is_bare = record { of = f; may_own = v.may_own; bare = is_bare }
-
--- of two values
-abbrev pub paired : {X A Y B : Type 0} → ViewOf X A → ViewOf Y B → ViewOf (X × Y) (A × B)
-paired v w = record {
-  of = λ p. (v.of p.0, w.of p.1);
-  may_own = v.may_own || w.may_own;
-  bare = λ p. v.bare p.0 && w.bare p.1;
-}
 
 abbrev pub no_items : {A : Type 0} → List A → Bool
 no_items [] = true

@@ -1,11 +1,13 @@
-//! Numbers that only contracts read.
+//! Counters for contracts: their values exist in proofs alone.
 
 ghost use Rattle.std.specs.Prelude.{◌≡◌, ℕ, ◌+◌};
 ghost use Rattle.std.specs.Borrow.{ftrue};
 
 use std::marker::Model;
 
-/// How often something happened, a number that only contracts read, as `count`. It takes no bytes.
+/// A counter that contracts read, as `count`. It has no bytes, and a running program can't read it.
+///
+/// Only [`Parser`](crate::Parser) has counters. The type is public for a test of its size.
 #[derive(Drop)]
 pub struct Counter {
     seal: (),
@@ -17,21 +19,21 @@ impl Model for Counter {
 }
 
 impl Counter {
-    /// Nothing happened yet.
+    /// Returns a counter whose `count` is 0.
     pub fn new() -> Counter
         ensures { result.count ≡ 0 }
     {
         Counter { seal: () }
     }
 
-    /// The counter after it happened once more.
+    /// Returns a counter whose `count` is one more than that of `_before`.
     fn after(_before: &Counter) -> Counter
         ensures { result.count ≡ _before.now.count + 1 }
     {
         Counter { seal: () }
     }
 
-    /// Counts that it happened once more.
+    /// Adds one to `count`.
     pub fn tick(&mut self)
         ensures { self.new.count ≡ self.old.count + 1 }
     {

@@ -1,4 +1,4 @@
-//! Lookups into the tokens in front.
+//! Lookahead: what the next tokens are. A lookup takes no token.
 
 ghost use Rattle.std.specs.Prelude.{◌≡◌, ◌≤◌, length, drop};
 ghost use Rattle.wat_lexer.specs.Sight.{hidden_count, visible_tokens};
@@ -9,15 +9,18 @@ use wat_lexer::number::Integer;
 use wat_lexer::token::Token;
 use wat_lexer::tokens::Tokens;
 
-/// A place in the tokens, to look at what is there. A lookup takes nothing: where a token of its
-/// kind is in front, it answers the place behind that token, and what is in it.
+/// A position in the tokens of a text. A lookup reads the token at the position, and takes nothing.
 ///
-/// Groups of annotations that aren't known to the parser (Text Format, "Annotations") are passed
-/// over, however many are there, in one step.
+/// If the next token has the kind that a lookup asks for, the lookup returns the position after
+/// that token, with the token's content. Otherwise it returns None, as it does at the end of the
+/// text.
+///
+/// A lookup leaves out the group of an annotation that isn't known (Text Format, "Annotations"). It
+/// takes the same time for any number of such groups.
 #[derive(Clone, Copy)]
 pub struct Cursor<'p> {
     tokens: &'p Tokens<'p>,
-    /// The place of the token in front: the first one that is visible, or the end of all.
+    /// The index of the next visible token, or the number of all tokens if there is none.
     at: usize,
     known: bool,
     ghost within: { at ≤ length tokens.now },
@@ -32,8 +35,8 @@ impl<'p> Cursor<'p> {
     ghost use Rattle.wat_tokens.specs.Tests.{as_annotation, as_integer, as_string};
     ghost use Rattle.wat_tokens.specs.Tests.{begins_word, begins_group, begins_annotation};
 
-    /// The place behind so many of the tokens, of which the next is visible; `known` says whether
-    /// the five standard annotations are.
+    /// Returns a cursor at the index `at`: that of a visible token, or the number of all tokens.
+    /// `known` says whether the five standard annotations are known.
     #[inline(always)]
     pub(crate) fn new(tokens: &'p Tokens<'p>, at: usize, known: bool) -> Cursor<'p>
         requires within { at ≤ length tokens.now }
@@ -44,7 +47,7 @@ impl<'p> Cursor<'p> {
         Cursor { tokens, at, known }
     }
 
-    /// The same lookups at another place.
+    /// Returns a cursor at the first visible token from the index `place` on.
     #[inline(always)]
     fn moved_to(self, place: usize) -> Cursor<'p>
         requires { place ≤ length self.tokens.now }
@@ -55,7 +58,7 @@ impl<'p> Cursor<'p> {
         Cursor::new(self.tokens, at, self.known)
     }
 
-    /// The token in front, and the place behind it.
+    /// Returns the next token and the position after it.
     #[inline(always)]
     #[tactic(auto, using(crate::proofs::Steps::front_steps))]
     fn next(self) -> Option<(Token<'p>, Cursor<'p>)>
@@ -68,7 +71,8 @@ impl<'p> Cursor<'p> {
         }
     }
 
-    /// Behind a `(`. No more is read of the token than its kind.
+    /// If the next token is a `(`, returns the position after it. Only the kind of the token is
+    /// read.
     #[inline(always)]
     #[tactic(auto, using(crate::proofs::Steps::paren_steps, crate::proofs::Steps::front_steps))]
     pub fn lparen(self) -> Option<Cursor<'p>>
@@ -81,7 +85,8 @@ impl<'p> Cursor<'p> {
         }
     }
 
-    /// Behind a `)`. No more is read of the token than its kind.
+    /// If the next token is a `)`, returns the position after it. Only the kind of the token is
+    /// read.
     #[inline(always)]
     #[tactic(auto, using(crate::proofs::Steps::paren_steps, crate::proofs::Steps::front_steps))]
     pub fn rparen(self) -> Option<Cursor<'p>>
@@ -94,7 +99,7 @@ impl<'p> Cursor<'p> {
         }
     }
 
-    /// Behind one token, whatever it is.
+    /// Returns the position after the next token, of any kind.
     #[inline(always)]
     #[tactic(auto, using(crate::proofs::Steps::front_steps))]
     pub fn any(self) -> Option<Cursor<'p>>
@@ -107,7 +112,8 @@ impl<'p> Cursor<'p> {
         }
     }
 
-    /// Behind a keyword, with the word.
+    /// If the next token is a keyword (Text Format, "Tokens"), returns the keyword and the position
+    /// after it.
     #[inline(always)]
     pub fn keyword(self) -> Option<(&'p str, Cursor<'p>)>
         ensures { GivesContent (λ w. w.now) as_keyword (in_front self.entry) result }
@@ -119,7 +125,8 @@ impl<'p> Cursor<'p> {
         }
     }
 
-    /// Behind an identifier, with the name, without its `$`.
+    /// If the next token is an identifier (Text Format, "Identifiers"), returns its name without
+    /// the `$`, and the position after it.
     #[inline(always)]
     pub fn id(self) -> Option<(&'p str, Cursor<'p>)>
         ensures { GivesContent (λ n. n.now) as_id (in_front self.entry) result }
@@ -131,8 +138,8 @@ impl<'p> Cursor<'p> {
         }
     }
 
-    /// Behind an annotation, with the name, without its `@`. Of another token no more is read than
-    /// its kind.
+    /// If the next token is an annotation (Text Format, "Annotations"), returns its name without
+    /// the `@`, and the position after it. Of another token, only the kind is read.
     #[tactic(auto, using(crate::proofs::Steps::annotation_none, crate::proofs::Steps::front_steps))]
     pub fn annotation(self) -> Option<(&'p str, Cursor<'p>)>
         ensures { GivesContent (λ n. n.now) as_annotation (in_front self.entry) result }
@@ -146,7 +153,8 @@ impl<'p> Cursor<'p> {
         }
     }
 
-    /// Behind an integer, with the integer.
+    /// If the next token is an integer (Text Format, "Integers"), returns the integer and the
+    /// position after it.
     #[inline(always)]
     pub fn integer(self) -> Option<(Integer<'p>, Cursor<'p>)>
         ensures { GivesContent text_of as_integer (in_front self.entry) result }
@@ -158,7 +166,8 @@ impl<'p> Cursor<'p> {
         }
     }
 
-    /// Behind a string, with the content, decoded.
+    /// If the next token is a string (Text Format, "Strings"), returns its decoded bytes and the
+    /// position after it.
     #[inline(always)]
     pub fn string(self) -> Option<(&'p [u8], Cursor<'p>)>
         ensures { GivesContent (λ s. s.now) as_string (in_front self.entry) result }
@@ -170,7 +179,7 @@ impl<'p> Cursor<'p> {
         }
     }
 
-    /// Whether the keyword is there.
+    /// Returns whether the next token is the keyword `word`.
     #[inline(always)]
     pub fn keyword_is(self, word: &str) -> bool
         ensures { result ≡ begins_word word.now (in_front self.entry) }
@@ -181,7 +190,7 @@ impl<'p> Cursor<'p> {
         }
     }
 
-    /// Whether a group that begins with the keyword is there.
+    /// Returns whether the next two tokens are a `(` and the keyword `word`.
     #[inline(always)]
     pub fn group_is(self, word: &str) -> bool
         ensures { result ≡ begins_group word.now (in_front self.entry) }
@@ -192,8 +201,8 @@ impl<'p> Cursor<'p> {
         }
     }
 
-    /// Whether a group that begins with the annotation of the name, given without its `@`, is
-    /// there.
+    /// Returns whether the next two tokens are a `(` and the annotation `name`, which is given
+    /// without its `@`.
     pub fn annotation_is(self, name: &str) -> bool
         ensures { result ≡ begins_annotation name.now (in_front self.entry) }
     {

@@ -1,19 +1,20 @@
-//! A value in a group of its own, behind a keyword or not, and two values one behind the other.
+//! Values in parentheses, or after a keyword.
 //!
-//! A body that holds a value of a large type over a call that may refuse is proved slowly, since
-//! the value is dropped where that call refuses. Here the types are parameters.
+//! These functions are generic because a body that holds a value of a large type across a call that
+//! may fail is slow to prove: it drops the value if the call fails.
 
-ghost use Rattle.wat_tokens.specs.Cost.{dearer};
 ghost use Rattle.wat_tokens.specs.Groups.{group, paren};
-ghost use Rattle.wat_tokens.specs.Parts.{after_word, seq};
+ghost use Rattle.wat_tokens.specs.Parts.{after_word};
 ghost use Rattle.wat_tokens.specs.Reads.{ReadsAt};
-ghost use Rattle.wat_tokens.specs.Views.{paired, holding};
+ghost use Rattle.wat_tokens.specs.Views.{holding};
 
 use crate::parser::Parser;
 use crate::traits::Parse;
 use wat_lexer::fault::Error;
 
-/// A value between `(` and `)`.
+/// Reads `(`, a `T` and `)`.
+///
+/// Returns Unexpected if a parenthesis is missing, and the error of `T` if there is no `T`.
 pub fn in_parens<'a, T: Parse<'a> + Drop>(parser: &mut Parser<'a>) -> Result<T, Error>
     ensures reads { ReadsAt T.cost T.view (paren T.grammar) result parser.old parser.new }
 {
@@ -23,8 +24,10 @@ pub fn in_parens<'a, T: Parse<'a> + Drop>(parser: &mut Parser<'a>) -> Result<T, 
     Ok(value)
 }
 
-/// A value behind a keyword.
-pub fn behind<'a, T: Parse<'a>>(parser: &mut Parser<'a>, word: &str) -> Result<T, Error>
+/// Reads the keyword `word`, and then a `T`.
+///
+/// Returns Unexpected if the keyword is missing, and the error of `T` if there is no `T`.
+pub fn after_word<'a, T: Parse<'a>>(parser: &mut Parser<'a>, word: &str) -> Result<T, Error>
     ensures reads { ReadsAt T.cost T.view (after_word word.now T.grammar) result parser.old
         parser.new }
 {
@@ -32,7 +35,10 @@ pub fn behind<'a, T: Parse<'a>>(parser: &mut Parser<'a>, word: &str) -> Result<T
     T::parse(parser)
 }
 
-/// A value behind a keyword, in a group of its own: `( word T )`.
+/// Reads a group that begins with a keyword: `(`, `word`, a `T` and `)`.
+///
+/// Returns Unexpected if a parenthesis or the keyword is missing, and the error of `T` if there is
+/// no `T`.
 pub fn in_word_group<'a, T: Parse<'a> + Drop>(
     parser: &mut Parser<'a>,
     word: &str,
@@ -46,7 +52,7 @@ pub fn in_word_group<'a, T: Parse<'a> + Drop>(
     Ok(value)
 }
 
-/// A value in a group of its own: what [`in_parens`] takes, where a type is wanted.
+/// A value in parentheses, as a type: it is parsed as by [`in_parens`].
 #[derive(Drop)]
 pub struct Grouped<T>(pub T);
 
@@ -63,16 +69,4 @@ impl<'a, T: Parse<'a> + Drop> Parse<'a> for Grouped<T> {
     fn parse(parser: &mut Parser<'a>) -> Result<Self, Error> {
         Ok(Grouped(in_parens::<T>(parser)?))
     }
-}
-
-/// A value, and another one directly behind it.
-pub fn both<'a, T: Parse<'a> + Drop, U: Parse<'a> + Drop>(
-    parser: &mut Parser<'a>,
-) -> Result<(T, U), Error>
-    ensures reads { ReadsAt (dearer T.cost U.cost) (paired T.view U.view) (seq T.grammar U.grammar)
-        result parser.old parser.new }
-{
-    let first = T::parse(parser)?;
-    let second = U::parse(parser)?;
-    Ok((first, second))
 }

@@ -1,4 +1,4 @@
-//! Literals of floating-point numbers, which aren't read.
+//! Literals of floating-point numbers, which this parser doesn't read.
 
 ghost use Rattle.std.specs.Prelude.{◌≢◌, ℕ};
 ghost use Rattle.wat_tokens.specs.Error.{Memory};
@@ -10,22 +10,24 @@ use crate::parser::Parser;
 use crate::traits::Parse;
 use wat_lexer::fault::{Error, Fault};
 
-/// A floating-point number of 32 bits, as its bits (Text Format, "Floating-Point").
+/// A floating-point number of 32 bits (Text Format, "Floating-Point"), by its bits. No text is read
+/// as one.
 #[derive(Clone, Copy, Debug)]
 pub struct F32 {
     /// The bits.
     pub bits: u32,
 }
 
-/// A floating-point number of 64 bits, as its bits (Text Format, "Floating-Point").
+/// A floating-point number of 64 bits (Text Format, "Floating-Point"), by its bits. No text is read
+/// as one.
 #[derive(Clone, Copy, Debug)]
 pub struct F64 {
     /// The bits.
     pub bits: u64,
 }
 
-/// Whether the token in front may be the literal of a number: an integer, a keyword or a reserved
-/// token.
+/// Returns whether the next token can be the literal of a number: whether it is an integer, a
+/// keyword or a reserved token.
 fn may_be_literal(cursor: Cursor<'_>) -> bool {
     let other = cursor.lparen().is_some()
         || cursor.rparen().is_some()
@@ -35,8 +37,8 @@ fn may_be_literal(cursor: Cursor<'_>) -> bool {
     !other && cursor.any().is_some()
 }
 
-/// Why no literal is read: FloatLiteral where one may be in front, else Unexpected, each at the
-/// token in front.
+/// Returns the error of a missing literal, at the next token or at the end of the text:
+/// FloatLiteral if the token can be a literal of a number, else Unexpected.
 fn refused(parser: &Parser<'_>) -> Error
     ensures { result.fault ≢ Memory }
 {
@@ -47,7 +49,8 @@ fn refused(parser: &Parser<'_>) -> Error
     }
 }
 
-/// No tokens are read as a number.
+/// Always fails. The error is FloatLiteral if the next token is an integer, a keyword or a reserved
+/// token, else Unexpected. Its offset is that of the next token, or of the end of the text.
 impl<'a> Parse<'a> for F32 {
     ghost View = { ℕ };
 
@@ -60,7 +63,7 @@ impl<'a> Parse<'a> for F32 {
     }
 }
 
-/// No tokens are read as a number.
+/// Always fails, as the parse of [`F32`] does.
 impl<'a> Parse<'a> for F64 {
     ghost View = { ℕ };
 

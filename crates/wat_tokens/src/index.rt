@@ -1,4 +1,4 @@
-//! Identifiers and indices.
+//! Identifiers and indices (Text Format, "Identifiers" and "Indices").
 
 ghost use Rattle.std.specs.Prelude.{◌≡◌, ◌↔◌, List, ℕ, IsTrue};
 ghost use Rattle.std.specs.Cmp.{partial_equiv_from_equiv, on_equiv, decided};
@@ -20,8 +20,8 @@ use std::hash::{Hash, Hasher};
 use wat_lexer::fault::Error;
 use wat_lexer::span::Span;
 
-/// An identifier (Text Format, "Identifiers"). Two are equal where their names are; where they
-/// stand doesn't count.
+/// An identifier (Text Format, "Identifiers"): its name and its position. Equality and hashes go by
+/// the name alone.
 #[derive(Clone, Copy, Debug)]
 pub struct Id<'a> {
     name: &'a str,
@@ -29,7 +29,7 @@ pub struct Id<'a> {
 }
 
 impl<'a> Id<'a> {
-    /// The identifier of the name, given without its `$`, at the place.
+    /// Returns the identifier of `name`, which is given without its `$`, with the position `span`.
     pub fn new(name: &'a str, span: Span) -> Id<'a>
         ensures name { name_of result ≡ name.now }
         ensures place { span_of result ≡ span }
@@ -37,14 +37,14 @@ impl<'a> Id<'a> {
         Id { name, span }
     }
 
-    /// The name, without its `$`.
+    /// The name, without the `$`.
     pub fn name(&self) -> &'a str
         ensures { result.now ≡ name_of self.now }
     {
         self.name
     }
 
-    /// Where it stands.
+    /// The offset in bytes at which the identifier begins, that of its `$`.
     pub fn span(&self) -> Span
         ensures { result ≡ span_of self.now }
     {
@@ -79,11 +79,11 @@ impl Hash for Id<'_> {
     }
 }
 
-/// An index: a number, or an identifier (Text Format, "Indices"). Two are equal where their numbers
-/// or their names are; where they stand doesn't count.
+/// An index: a number or an identifier (Text Format, "Indices"). Equality and hashes go by the
+/// number or the name alone, and not by the position. A number is never equal to an identifier.
 #[derive(Clone, Copy, Debug)]
 pub enum Index<'a> {
-    /// A number, and where it stands.
+    /// A number, and the offset in bytes at which it begins.
     Num(u32, Span),
     /// An identifier.
     Id(Id<'a>),
@@ -94,7 +94,7 @@ impl Index<'_> {
     ghost use Rattle.wat_tokens.specs.declared.index.Id as ids;
     ghost use Rattle.wat_tokens.specs.declared.index.Index.TheVariants as code;
 
-    /// Where it stands.
+    /// The offset in bytes at which the index begins.
     pub fn span(&self) -> Span
         ensures number { (n : ℕ) (s : spans.Span) → self.now ≡ code.Num n s → result ≡ s }
         ensures name { (i : ids.Id) → self.now ≡ code.Id i → result ≡ span_of i }
@@ -148,6 +148,7 @@ impl Hash for Index<'_> {
     }
 }
 
+/// Returns Unexpected if the next token isn't an identifier.
 impl<'a> Parse<'a> for Id<'a> {
     ghost View = { List ℕ };
 
@@ -162,6 +163,7 @@ impl<'a> Parse<'a> for Id<'a> {
     }
 }
 
+/// Any identifier.
 impl<'p> Peek for Id<'p> {
     ghost begins = { begins_id };
 
@@ -176,8 +178,8 @@ impl<'p> Peek for Id<'p> {
     }
 }
 
-/// A number is read without a sign in 32 bits: it is refused with Range, at the number, where it is
-/// too large or a `-` is written.
+/// A number is a `u32`: without a `-`, and below 2^32. Returns Range, at the number, if it isn't,
+/// and Unexpected if the next token is neither an integer nor an identifier.
 impl<'a> Parse<'a> for Index<'a> {
     ghost View = { Idx };
 

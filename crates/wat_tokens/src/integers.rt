@@ -1,4 +1,4 @@
-//! Integers, and the numbers that they are read as.
+//! Integers of any value, and numbers of 8, 16, 32 and 64 bits (Text Format, "Integers").
 
 ghost use Rattle.std.specs.Prelude.{List, ℕ, ℤ, IsTrue};
 ghost use Rattle.wat_lexer.specs.Integer.{text_of};
@@ -14,7 +14,8 @@ use crate::traits::{Parse, Peek};
 use wat_lexer::fault::{Error, Fault};
 use wat_lexer::number::Integer;
 
-/// An integer of any value, as it is written (Text Format, "Integers").
+/// An integer of any value, as the text has it (Text Format, "Integers"). Returns Unexpected if the
+/// next token isn't an integer.
 impl<'a> Parse<'a> for Integer<'a> {
     ghost View = { List ℕ };
 
@@ -27,9 +28,9 @@ impl<'a> Parse<'a> for Integer<'a> {
     }
 }
 
-/// Takes an integer and answers the unsigned number of so many bits that it reads as. It refuses
-/// with Unexpected where none is in front, and with Range, at the integer, where its value is too
-/// large or a `-` is written.
+/// Takes an integer and returns its value as an unsigned number of `bits` bits. Returns Unexpected
+/// if the next token isn't an integer, and Range, at the integer, if its value is too large or it
+/// has a `-`.
 fn unsigned(parser: &mut Parser<'_>, bits: u32) -> Result<u64, Error>
     requires { IsTrue (is_width bits) }
     ensures reads { Reads (plain (λ n. n)) (unsigned bits) result parser.old parser.new }
@@ -41,7 +42,10 @@ fn unsigned(parser: &mut Parser<'_>, bits: u32) -> Result<u64, Error>
     }
 }
 
-/// An unsigned number of 8 bits (Text Format, "Integers").
+/// An unsigned number of 8 bits (Text Format, "Integers", `u8`).
+///
+/// Returns Unexpected if the next token isn't an integer, and Range, at the integer, if it has a
+/// `-` or is 2^8 or more.
 impl<'a> Parse<'a> for u8 {
     ghost View = { ℕ };
 
@@ -54,6 +58,7 @@ impl<'a> Parse<'a> for u8 {
     }
 }
 
+/// Any integer, also one that is out of range.
 impl Peek for u8 {
     ghost begins = { begins_integer };
 
@@ -66,7 +71,10 @@ impl Peek for u8 {
     }
 }
 
-/// An unsigned number of 16 bits (Text Format, "Integers").
+/// An unsigned number of 16 bits (Text Format, "Integers", `u16`).
+///
+/// Returns Unexpected if the next token isn't an integer, and Range, at the integer, if it has a
+/// `-` or is 2^16 or more.
 impl<'a> Parse<'a> for u16 {
     ghost View = { ℕ };
 
@@ -79,6 +87,7 @@ impl<'a> Parse<'a> for u16 {
     }
 }
 
+/// Any integer, also one that is out of range.
 impl Peek for u16 {
     ghost begins = { begins_integer };
 
@@ -91,7 +100,10 @@ impl Peek for u16 {
     }
 }
 
-/// An unsigned number of 32 bits (Text Format, "Integers").
+/// An unsigned number of 32 bits (Text Format, "Integers", `u32`).
+///
+/// Returns Unexpected if the next token isn't an integer, and Range, at the integer, if it has a
+/// `-` or is 2^32 or more.
 impl<'a> Parse<'a> for u32 {
     ghost View = { ℕ };
 
@@ -104,6 +116,7 @@ impl<'a> Parse<'a> for u32 {
     }
 }
 
+/// Any integer, also one that is out of range.
 impl Peek for u32 {
     ghost begins = { begins_integer };
 
@@ -116,7 +129,10 @@ impl Peek for u32 {
     }
 }
 
-/// An unsigned number of 64 bits (Text Format, "Integers").
+/// An unsigned number of 64 bits (Text Format, "Integers", `u64`).
+///
+/// Returns Unexpected if the next token isn't an integer, and Range, at the integer, if it has a
+/// `-` or is 2^64 or more.
 impl<'a> Parse<'a> for u64 {
     ghost View = { ℕ };
 
@@ -129,6 +145,7 @@ impl<'a> Parse<'a> for u64 {
     }
 }
 
+/// Any integer, also one that is out of range.
 impl Peek for u64 {
     ghost begins = { begins_integer };
 
@@ -141,9 +158,8 @@ impl Peek for u64 {
     }
 }
 
-/// Takes an integer and answers the signed number of so many bits that it reads as. It refuses with
-/// Unexpected where none is in front, and with Range, at the integer, where its value is out of
-/// range.
+/// Takes an integer and returns its value as a signed number of `bits` bits. Returns Unexpected if
+/// the next token isn't an integer, and Range, at the integer, if its value is out of range.
 fn signed(parser: &mut Parser<'_>, bits: u32) -> Result<i64, Error>
     requires { IsTrue (is_width bits) }
     ensures reads { Reads (plain (λ n. n)) (signed bits) result parser.old parser.new }
@@ -155,7 +171,11 @@ fn signed(parser: &mut Parser<'_>, bits: u32) -> Result<i64, Error>
     }
 }
 
-/// A signed number of 8 bits (Text Format, "Integers").
+/// A signed number of 8 bits (Text Format, "Integers", `i8`). A literal without a `-` may be up to
+/// 2^8 - 1: from 2^7 on, it is the negative number with the same bits.
+///
+/// Returns Unexpected if the next token isn't an integer, and Range, at the integer, if it is 2^8
+/// or more, or below -2^7.
 impl<'a> Parse<'a> for i8 {
     ghost View = { ℤ };
 
@@ -168,6 +188,7 @@ impl<'a> Parse<'a> for i8 {
     }
 }
 
+/// Any integer, also one that is out of range.
 impl Peek for i8 {
     ghost begins = { begins_integer };
 
@@ -180,7 +201,11 @@ impl Peek for i8 {
     }
 }
 
-/// A signed number of 16 bits (Text Format, "Integers").
+/// A signed number of 16 bits (Text Format, "Integers", `i16`). A literal without a `-` may be up
+/// to 2^16 - 1: from 2^15 on, it is the negative number with the same bits.
+///
+/// Returns Unexpected if the next token isn't an integer, and Range, at the integer, if it is 2^16
+/// or more, or below -2^15.
 impl<'a> Parse<'a> for i16 {
     ghost View = { ℤ };
 
@@ -193,6 +218,7 @@ impl<'a> Parse<'a> for i16 {
     }
 }
 
+/// Any integer, also one that is out of range.
 impl Peek for i16 {
     ghost begins = { begins_integer };
 
@@ -205,7 +231,11 @@ impl Peek for i16 {
     }
 }
 
-/// A signed number of 32 bits (Text Format, "Integers").
+/// A signed number of 32 bits (Text Format, "Integers", `i32`). A literal without a `-` may be up
+/// to 2^32 - 1: from 2^31 on, it is the negative number with the same bits.
+///
+/// Returns Unexpected if the next token isn't an integer, and Range, at the integer, if it is 2^32
+/// or more, or below -2^31.
 impl<'a> Parse<'a> for i32 {
     ghost View = { ℤ };
 
@@ -218,6 +248,7 @@ impl<'a> Parse<'a> for i32 {
     }
 }
 
+/// Any integer, also one that is out of range.
 impl Peek for i32 {
     ghost begins = { begins_integer };
 
@@ -230,7 +261,11 @@ impl Peek for i32 {
     }
 }
 
-/// A signed number of 64 bits (Text Format, "Integers").
+/// A signed number of 64 bits (Text Format, "Integers", `i64`). A literal without a `-` may be up
+/// to 2^64 - 1: from 2^63 on, it is the negative number with the same bits.
+///
+/// Returns Unexpected if the next token isn't an integer, and Range, at the integer, if it is 2^64
+/// or more, or below -2^63.
 impl<'a> Parse<'a> for i64 {
     ghost View = { ℤ };
 
@@ -243,6 +278,7 @@ impl<'a> Parse<'a> for i64 {
     }
 }
 
+/// Any integer, also one that is out of range.
 impl Peek for i64 {
     ghost begins = { begins_integer };
 

@@ -1,4 +1,4 @@
-//! Keywords whose place is kept. Each type has the name of its word.
+//! Keywords, each as a type that keeps the keyword's position. A type has the name of its keyword.
 
 ghost use Rattle.std.specs.Prelude.{◌≡◌, codes};
 ghost use Rattle.wat_tokens.specs.Parts.{word};
@@ -12,10 +12,11 @@ use crate::traits::{Parse, Peek};
 use wat_lexer::fault::Error;
 use wat_lexer::span::Span;
 
-/// The keyword `func` (Text Format, "Functions"), and where it stands.
+/// The keyword `func` (Text Format, "Functions"), with the offset in bytes at which it begins.
 #[derive(Clone, Copy, Debug)]
 pub struct func(pub Span);
 
+/// The keyword at offset 0.
 impl Default for func {
     ghost is_default = { λ w. offset_of w.0 ≡ 0 };
 
@@ -24,6 +25,7 @@ impl Default for func {
     }
 }
 
+/// Returns Unexpected if the next token isn't the keyword `func`.
 impl<'a> Parse<'a> for func {
     ghost View = { Unit {0} };
 
@@ -48,10 +50,11 @@ impl Peek for func {
     }
 }
 
-/// The keyword `table` (Text Format, "Tables"), and where it stands.
+/// The keyword `table` (Text Format, "Tables"), with the offset in bytes at which it begins.
 #[derive(Clone, Copy, Debug)]
 pub struct table(pub Span);
 
+/// The keyword at offset 0.
 impl Default for table {
     ghost is_default = { λ w. offset_of w.0 ≡ 0 };
 
@@ -60,6 +63,7 @@ impl Default for table {
     }
 }
 
+/// Returns Unexpected if the next token isn't the keyword `table`.
 impl<'a> Parse<'a> for table {
     ghost View = { Unit {0} };
 
@@ -84,10 +88,11 @@ impl Peek for table {
     }
 }
 
-/// The keyword `memory` (Text Format, "Memories"), and where it stands.
+/// The keyword `memory` (Text Format, "Memories"), with the offset in bytes at which it begins.
 #[derive(Clone, Copy, Debug)]
 pub struct memory(pub Span);
 
+/// The keyword at offset 0.
 impl Default for memory {
     ghost is_default = { λ w. offset_of w.0 ≡ 0 };
 
@@ -96,6 +101,7 @@ impl Default for memory {
     }
 }
 
+/// Returns Unexpected if the next token isn't the keyword `memory`.
 impl<'a> Parse<'a> for memory {
     ghost View = { Unit {0} };
 
@@ -120,10 +126,11 @@ impl Peek for memory {
     }
 }
 
-/// The keyword `global` (Text Format, "Globals"), and where it stands.
+/// The keyword `global` (Text Format, "Globals"), with the offset in bytes at which it begins.
 #[derive(Clone, Copy, Debug)]
 pub struct global(pub Span);
 
+/// The keyword at offset 0.
 impl Default for global {
     ghost is_default = { λ w. offset_of w.0 ≡ 0 };
 
@@ -132,6 +139,7 @@ impl Default for global {
     }
 }
 
+/// Returns Unexpected if the next token isn't the keyword `global`.
 impl<'a> Parse<'a> for global {
     ghost View = { Unit {0} };
 
@@ -156,10 +164,11 @@ impl Peek for global {
     }
 }
 
-/// The keyword `tag` (Text Format, "Tags"), and where it stands.
+/// The keyword `tag` (Text Format, "Tags"), with the offset in bytes at which it begins.
 #[derive(Clone, Copy, Debug)]
 pub struct tag(pub Span);
 
+/// The keyword at offset 0.
 impl Default for tag {
     ghost is_default = { λ w. offset_of w.0 ≡ 0 };
 
@@ -168,6 +177,7 @@ impl Default for tag {
     }
 }
 
+/// Returns Unexpected if the next token isn't the keyword `tag`.
 impl<'a> Parse<'a> for tag {
     ghost View = { Unit {0} };
 

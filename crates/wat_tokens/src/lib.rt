@@ -1,8 +1,8 @@
-//! The layer below a reader of the WebAssembly text format: tokens, and a parser over them.
+//! Tokens of the WebAssembly text format, and a parser that takes them one by one.
 //!
-//! A text is cut into tokens as the WebAssembly Core Specification says (Text Format, "Lexical
-//! Format"), and a [`Parser`] takes them from the front. A type that can be read is [`Parse`], one
-//! that can be looked for is [`Peek`]. Offsets are in bytes from the start of the text.
+//! [`Parser::new`] cuts a text into tokens (WebAssembly Core Specification, Text Format, "Lexical
+//! Format"). A type implements [`Parse`] if its values can be read, and [`Peek`] if the next tokens
+//! tell whether one begins. All offsets are in bytes from the start of the text.
 #![tactic(auto)]
 
 pub mod counter;
@@ -35,5 +35,5 @@ pub use wat_lexer::number::{Integer, Sign};
 pub use wat_lexer::span::Span;
 pub use wat_lexer::token::Token;
 
-/// A value, or why the text is refused.
+/// The result of a call that can fail with an [`Error`].
 pub type Result<T> = std::result::Result<T, Error>;

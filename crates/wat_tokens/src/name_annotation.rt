@@ -1,4 +1,4 @@
-//! The annotation that gives a name.
+//! Annotations that give names (Appendix, "Custom Sections and Annotations", "Name Annotations").
 
 ghost use Rattle.std.specs.Prelude.{◌≡◌, List, ℕ};
 ghost use Rattle.wat_tokens.specs.Lookup.{in_front};
@@ -10,14 +10,17 @@ use crate::parser::Parser;
 use crate::traits::{Parse, Peek};
 use wat_lexer::fault::Error;
 
-/// `( @name name )`: a name that the text gives (Appendix, "Custom Sections and Annotations", "Name
-/// Annotations"). It is read where the annotation `name` is known.
+/// `( @name name )`: a name that the text gives to a module, a field or the like (Appendix, "Custom
+/// Sections and Annotations", "Name Annotations"). It can be read only while the annotation `name`
+/// is known.
 #[derive(Clone, Copy, Debug)]
 pub struct NameAnnotation<'a> {
     /// The name.
     pub name: &'a str,
 }
 
+/// Returns Unexpected if a token isn't the one that is needed, and Utf8, at the string, if the name
+/// isn't UTF-8.
 impl<'a> Parse<'a> for NameAnnotation<'a> {
     ghost View = { List ℕ };
 
@@ -35,6 +38,7 @@ impl<'a> Parse<'a> for NameAnnotation<'a> {
     }
 }
 
+/// A `(`, and the annotation `name`.
 impl<'p> Peek for NameAnnotation<'p> {
     ghost begins = { begins_name };
 

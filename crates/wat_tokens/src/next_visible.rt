@@ -1,4 +1,4 @@
-//! Where the token in front stands.
+//! Where the next visible token is.
 
 ghost use Rattle.std.specs.Prelude.{◌≤◌, length};
 ghost use Rattle.wat_lexer.specs.View.{AreSkips, IsNextVisible};
@@ -6,8 +6,8 @@ ghost use Rattle.wat_lexer.specs.View.{AreSkips, IsNextVisible};
 use wat_lexer::hidden;
 use wat_lexer::tokens::Tokens;
 
-/// The place of the first token from a place on that is visible. It is that place, unless the token
-/// behind it is an annotation.
+/// Returns the index of the first visible token from the index `at` on, or the number of all
+/// tokens. It is `at`, unless the token after that one is an annotation.
 #[inline(always)]
 #[tactic(auto, using(crate::proofs::Steps::sight_steps))]
 pub(crate) fn next_visible(tokens: &Tokens, at: usize, known: bool) -> usize
@@ -23,7 +23,7 @@ pub(crate) fn next_visible(tokens: &Tokens, at: usize, known: bool) -> usize
     }
 }
 
-/// The same, at any token.
+/// Returns the same index, without a test first whether it is `at`.
 // Few groups begin with an annotation. Inlined it would take registers from every step.
 #[inline(never)]
 fn behind_hidden(tokens: &Tokens, at: usize, known: bool) -> usize

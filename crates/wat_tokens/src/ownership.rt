@@ -1,14 +1,14 @@
-//! Hands a value on, or lets it go.
+//! Calls that store or drop a value.
 //!
-//! A body that drops a value of a large type is proved slowly, since the drop is written out in it,
+//! A body that drops a value of a large type is slow to prove, since the drop is written out in it,
 //! variant by variant. Here the type is a parameter, so that the drop is one call.
 
 ghost use Rattle.std.specs.Prelude.{◌≡◌, ◌∷◌, ◌++◌, [], MatchResult};
 
 use wat_lexer::fault::{Error, Fault};
 
-/// Puts a value behind the others. Memory refuses it; then the list is as it was, and the value is
-/// dropped.
+/// Appends `value` to `list`. If memory runs out, returns Memory, drops the value and leaves the
+/// list as it was.
 // Most lists have one value. So an empty one gets room for one and not for four: what a list gives
 // back at its end takes time, and a small piece stays a hole.
 #[inline(always)]

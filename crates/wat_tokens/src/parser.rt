@@ -1,4 +1,4 @@
-//! The parser: a place in the tokens, and what was counted.
+//! The parser: a position in the tokens of a text, settings, and counts for contracts.
 
 ghost use Rattle.std.specs.Prelude.{◌≡◌, ◌≢◌, ◌+◌, ◌≤◌, List, [], ◌∷◌, length, drop, max, IfOk};
 ghost use Rattle.std.specs.Prelude.{None, IfErr, MatchBool};
@@ -34,26 +34,27 @@ use wat_lexer::span::Span;
 use wat_lexer::token::Token;
 use wat_lexer::tokens::Tokens;
 
-/// Takes the tokens of a text from the front.
+/// Takes the tokens of a text, from the first to the last.
 ///
-/// It is directly behind the last token that it took. A group that begins with an annotation (Text
-/// Format, "Annotations") is passed over, whole, unless its annotation is known: none is at first,
-/// and [`with_standard_annotations`](Parser::with_standard_annotations) turns five on.
+/// The parser is directly after the last token that it took. It leaves out the group of an
+/// annotation that isn't known (Text Format, "Annotations"), as a whole. At first no annotation is
+/// known; [`with_standard_annotations`](Parser::with_standard_annotations) makes five of them
+/// known.
 ///
-/// A call that takes one token takes it where it is in front. Else it refuses with Unexpected, at
-/// the token in front or at the end of the text, and leaves the parser as it was.
+/// A call that takes one token takes it if it is the next one. Otherwise the call returns
+/// Unexpected and leaves the parser as it was. The error's offset is that of the next token, or of
+/// the end of the text.
 ///
-/// Names and strings that it gives out live as long as the text and the arena. Contracts see a
-/// parser as a `State`: the tokens that are left, which annotations are known, and what was
-/// counted.
+/// The names and strings that it returns live as long as the text and the arena. Contracts see a
+/// parser as a `State`: the tokens that are left, the settings, and the counts.
 #[derive(Drop)]
 pub struct Parser<'a> {
     tokens: Tokens<'a>,
-    /// The place behind the last token that was taken; 0 before any.
+    /// The index after that of the last token that was taken; 0 before any.
     at: usize,
-    /// The place of the token in front: the first one from `at` on that is visible.
+    /// The index of the next token: of the first visible one from `at` on.
     front: usize,
-    /// How many bytes the text has.
+    /// The length of the text in bytes.
     end: usize,
     known: bool,
     tracks: bool,
@@ -66,14 +67,13 @@ pub struct Parser<'a> {
 }
 
 impl<'a> Model for Parser<'a> {
-    ghost use Rattle.std.specs.Prelude.{drop, ◌≡◌, ◌≤◌, length};
+    ghost use Rattle.std.specs.Prelude.{drop, ◌≤◌, length};
     ghost use Rattle.wat_tokens.specs.State.{State};
 
     ghost Value = { State };
 
-    ghost use Rattle.wat_lexer.specs.Sight.{hidden_count, visible_tokens};
-    ghost use Rattle.wat_lexer.specs.View.{toks, AreSkips};
-    ghost use Rattle.wat_tokens.specs.Lookup.{IsFront};
+    ghost use Rattle.wat_lexer.specs.Sight.{visible_tokens};
+    ghost use Rattle.wat_lexer.specs.View.{toks, AreSkips, IsNextVisible};
 
     ghost view = { λ p. record {
       rest = toks (drop p.at p.tokens);
@@ -88,19 +88,16 @@ impl<'a> Model for Parser<'a> {
       held = p.held;
     } };
 
-    ghost invariant = { λ p. (p.at ≤ length p.tokens) × AreSkips p.tokens × IsFront p.known p.at
-        p.front p.tokens × (visible_tokens p.known (toks (drop p.front p.tokens)) ≡ visible_tokens
-        p.known (toks (drop p.at p.tokens))) × (hidden_count p.known (toks (drop p.front p.tokens))
-        ≡ 0) };
+    ghost invariant = { λ p. (p.at ≤ length p.tokens) × AreSkips p.tokens × IsNextVisible p.known
+        p.at p.tokens p.front };
 }
 
 impl<'a> Parser<'a> {
-    /// Cuts a text into tokens (Text Format, "Lexical Format"), and is in front of the first. No
-    /// annotation is known.
+    /// Cuts a text into tokens (Text Format, "Lexical Format"), and returns a parser before the
+    /// first token. No annotation is known.
     ///
-    /// Where the text can't be cut, it is refused with its first fault from the left: LexChar,
-    /// LexString or LexComment, and where it has none of these, LexAnnotation. Memory may be
-    /// answered for any text.
+    /// If the text has no cut, returns its first lexical error: the leftmost LexChar, LexString or
+    /// LexComment, or LexAnnotation if there is none of these. Any text can return Memory.
     pub fn new(alloc: Global, text: &'a str, arena: &'a Bump) -> Result<Parser<'a>, Error>
         ensures fresh { IfOk result (λ p. IsFresh text.now p) }
         ensures fault { IfErr result (λ e. e.fault ≢ Fault.Memory
@@ -112,7 +109,8 @@ impl<'a> Parser<'a> {
         Ok(Parser::over(alloc, tokens, text.len()))
     }
 
-    /// A parser in front of the tokens of a text of `end` bytes. No annotation is known.
+    /// Returns a parser before the first of the tokens of a text of `end` bytes. No annotation is
+    /// known.
     fn over(alloc: Global, tokens: Tokens<'a>, end: usize) -> Parser<'a>
         requires { AreSkips tokens }
         ensures { result ≡ begun (toks tokens.entry) }
@@ -135,7 +133,8 @@ impl<'a> Parser<'a> {
     }
 
     /// Makes the five standard annotations known or unknown: `custom`, `producers`, `name`,
-    /// `dylink.0` and `metadata.code.branch_hint`. The parser stays where it is.
+    /// `dylink.0` and `metadata.code.branch_hint`. The parser stays after the token that it took
+    /// last.
     pub fn with_standard_annotations(&mut self, on: bool)
         ensures value { self.new ≡ record self.old {
           known = on;
@@ -147,28 +146,29 @@ impl<'a> Parser<'a> {
         self.front = next_visible(&self.tokens, self.at, on);
     }
 
-    /// Whether the five standard annotations are known.
+    /// Returns whether the five standard annotations are known.
     pub fn known(&self) -> bool
         ensures { result ≡ self.now.known }
     {
         self.known
     }
 
-    /// Says whether expressions keep where each instruction stands. At first they don't.
+    /// Sets whether expressions keep the position of each instruction. At first they don't.
     pub fn track_instr_spans(&mut self, on: bool)
         ensures { self.new ≡ record self.old { tracks = on } }
     {
         self.tracks = on;
     }
 
-    /// Whether expressions keep where each instruction stands.
+    /// Returns whether expressions keep the position of each instruction.
     pub fn tracks(&self) -> bool
         ensures { result ≡ self.now.tracks }
     {
         self.tracks
     }
 
-    /// Counts one turn of a loop over the tokens, in `turns`. It takes no time.
+    /// Counts one turn of a loop over the tokens, in `turns`. Only contracts read this count, and
+    /// the call does nothing when it runs.
     #[tactic(auto, using(crate::proofs::CountSteps::carries_still))]
     pub fn tick(&mut self)
         ensures only { self.new ≡ record self.old { turns = self.old.turns + 1 } }
@@ -177,7 +177,8 @@ impl<'a> Parser<'a> {
         self.turns.tick();
     }
 
-    /// Counts one comparison of a word with an entry of a table, in `probes`. It takes no time.
+    /// Counts one comparison of a word with an entry of a table, in `probes`. Only contracts read
+    /// this count, and the call does nothing when it runs.
     #[tactic(auto, using(crate::proofs::CountSteps::carries_still))]
     pub fn probe(&mut self)
         ensures only { self.new ≡ record self.old { probes = self.old.probes + 1 } }
@@ -186,15 +187,16 @@ impl<'a> Parser<'a> {
         self.probes.tick();
     }
 
-    /// Notes the height of a stack: `peak` becomes the greater of what it was and the number.
+    /// Notes the height of a stack: `peak` becomes the maximum of `peak` and `height`. Only
+    /// contracts read `peak`.
     pub fn note_height(&mut self, height: usize)
         ensures { self.new ≡ record self.old { peak = max self.old.peak height } }
     {
         self.peak = self.peak.max(height);
     }
 
-    /// Notes how many heads a stack holds: `held` becomes the greater of what it was and the
-    /// number.
+    /// Notes how many heads of groups a stack holds: `held` becomes the maximum of `held` and
+    /// `heads`. Only contracts read `held`.
     #[tactic(auto, using(crate::proofs::CountSteps::carries_still))]
     pub fn note_held(&mut self, heads: usize)
         ensures only { self.new ≡ record self.old { held = max self.old.held heads } }
@@ -203,20 +205,21 @@ impl<'a> Parser<'a> {
         self.held = self.held.max(heads);
     }
 
-    /// The allocator that the parser was given, for what a value keeps.
+    /// Returns the allocator that the parser was made with. Values that are read take heap memory
+    /// from it.
     pub fn alloc(&self) -> Global {
         self.alloc
     }
 
-    /// The place in front of the parser, for lookups.
+    /// Returns a cursor at the next token, for lookups.
     pub fn cursor(&self) -> Cursor<'_>
         ensures { in_front result ≡ self.now.left }
     {
         Cursor::new(&self.tokens, self.front, self.known)
     }
 
-    /// Where the token in front begins, or the end of the text where none is left. No clause says
-    /// which offset it is.
+    /// Returns the offset in bytes of the next token, or the length of the text if none is left. No
+    /// contract says which offset it is.
     pub fn cur_span(&self) -> Span {
         if self.front < self.tokens.len() {
             Span::from_offset(self.tokens.offset(self.front))
@@ -225,7 +228,8 @@ impl<'a> Parser<'a> {
         }
     }
 
-    /// Where the last token that was taken begins; 0 before any. No clause says which offset it is.
+    /// Returns the offset in bytes of the last token that was taken, or 0 before any. No contract
+    /// says which offset it is.
     pub fn prev_span(&self) -> Span {
         if self.at > 0 {
             Span::from_offset(self.tokens.offset(self.at - 1))
@@ -234,7 +238,7 @@ impl<'a> Parser<'a> {
         }
     }
 
-    /// The fault Unexpected, at the token in front, or at the end of the text where none is left.
+    /// Returns the error Unexpected, at the next token, or at the end of the text if none is left.
     #[cold]
     #[inline(never)]
     pub fn unexpected(&self) -> Error
@@ -243,14 +247,14 @@ impl<'a> Parser<'a> {
         Error::at(Fault::Unexpected, self.cur_span())
     }
 
-    /// Whether no token is left.
+    /// Returns whether no token is left.
     pub fn at_end(&self) -> bool
         ensures { result ≡ none_left self.now.left }
     {
         self.first().is_none()
     }
 
-    /// Whether nothing is left, or what closes a group is in front.
+    /// Returns whether the group ends here: whether no token is left, or the next one is a `)`.
     #[tactic(auto, using(crate::proofs::Steps::paren_steps, crate::proofs::Steps::visible_steps))]
     pub fn is_empty(&self) -> bool
         ensures { result ≡ ends self.now.left }
@@ -258,7 +262,7 @@ impl<'a> Parser<'a> {
         self.front >= self.tokens.len() || self.tokens.closes(self.front)
     }
 
-    /// Whether the keyword is in front.
+    /// Returns whether the next token is the keyword `word`.
     #[inline(always)]
     pub fn next_is(&self, word: &str) -> bool
         ensures { result ≡ begins_word word.now self.now.left }
@@ -269,7 +273,7 @@ impl<'a> Parser<'a> {
         }
     }
 
-    /// Whether a group that begins with the keyword is in front.
+    /// Returns whether the next two tokens are a `(` and the keyword `word`.
     #[inline(always)]
     pub fn group_is(&self, word: &str) -> bool
         ensures { result ≡ begins_group word.now self.now.left }
@@ -277,7 +281,7 @@ impl<'a> Parser<'a> {
         self.cursor().group_is(word)
     }
 
-    /// Whether the keyword is the second token, whatever the first is.
+    /// Returns whether the token after the next one is the keyword `word`.
     #[inline(always)]
     pub fn second_is(&self, word: &str) -> bool
         ensures { result ≡ second (begins_word word.now) self.now.left }
@@ -291,15 +295,15 @@ impl<'a> Parser<'a> {
         }
     }
 
-    /// Whether a group that begins with the annotation of the name, given without its `@`, is in
-    /// front.
+    /// Returns whether the next two tokens are a `(` and the annotation `name`, which is given
+    /// without its `@`.
     pub fn annotation_is(&self, name: &str) -> bool
         ensures { result ≡ begins_annotation name.now self.now.left }
     {
         self.cursor().annotation_is(name)
     }
 
-    /// The token in front.
+    /// Returns the next token.
     #[inline(always)]
     #[tactic(auto, using(crate::proofs::Steps::visible_steps))]
     fn first(&self) -> Option<Token<'a>>
@@ -312,7 +316,7 @@ impl<'a> Parser<'a> {
         }
     }
 
-    /// Whether a `(` is in front.
+    /// Returns whether the next token is a `(`.
     #[inline(always)]
     pub fn opens(&self) -> bool
         ensures { result ≡ begins_lparen self.now.left }
@@ -320,7 +324,8 @@ impl<'a> Parser<'a> {
         self.cursor().lparen().is_some()
     }
 
-    /// The same, as a call that takes it needs it.
+    /// Returns whether the next token is a `(`. The contract is the one that [`open`](Parser::open)
+    /// needs.
     #[tactic(auto, using(crate::proofs::Steps::paren_steps, crate::proofs::Steps::visible_steps))]
     fn at_lparen(&self) -> bool
         ensures { MatchBool result (self.now.left ≡ LParen ∷ drop 1 self.now.left)
@@ -329,7 +334,7 @@ impl<'a> Parser<'a> {
         self.front < self.tokens.len() && self.tokens.opens(self.front)
     }
 
-    /// Whether a `)` is in front. No more is read of the token than its kind.
+    /// Returns whether the next token is a `)`. Only the kind of the token is read.
     #[tactic(auto, using(crate::proofs::Steps::paren_steps, crate::proofs::Steps::visible_steps))]
     fn at_rparen(&self) -> bool
         ensures { MatchBool result (self.now.left ≡ RParen ∷ drop 1 self.now.left)
@@ -338,7 +343,7 @@ impl<'a> Parser<'a> {
         self.front < self.tokens.len() && self.tokens.closes(self.front)
     }
 
-    /// Takes the token in front.
+    /// Takes the next token.
     #[tactic(auto, using(crate::proofs::Steps::advance_steps))]
     fn advance(&mut self)
         requires { self.old.left ≢ [] }
@@ -355,7 +360,7 @@ impl<'a> Parser<'a> {
         self.taken.tick();
     }
 
-    /// Takes the token in front, and what was counted still is.
+    /// Takes the next token, as `advance` does. The contract has the clause `counts` too.
     fn step(&mut self)
         requires { self.old.left ≢ [] }
         ensures left { self.new.left ≡ drop 1 self.old.left }
@@ -369,7 +374,7 @@ impl<'a> Parser<'a> {
         self.advance();
     }
 
-    /// Takes a `(`, or refuses with Unexpected.
+    /// Takes a `(`. Returns Unexpected if the next token isn't one.
     #[inline(always)]
     pub fn open(&mut self) -> Result<(), Error>
         ensures reads { Takes (λ x. x) as_lparen result self.old self.new }
@@ -383,7 +388,7 @@ impl<'a> Parser<'a> {
         Ok(())
     }
 
-    /// Takes a `)`, or refuses with Unexpected.
+    /// Takes a `)`. Returns Unexpected if the next token isn't one.
     pub fn close(&mut self) -> Result<(), Error>
         ensures reads { Takes (λ x. x) as_rparen result self.old self.new }
         ensures refused { Unmoved result self.old self.new }
@@ -396,8 +401,8 @@ impl<'a> Parser<'a> {
         Ok(())
     }
 
-    /// Takes the one keyword (Text Format, "Tokens") and answers where it begins, or refuses with
-    /// Unexpected.
+    /// Takes the keyword `word` (Text Format, "Tokens"), and returns its offset in bytes. Returns
+    /// Unexpected if it isn't the next token.
     #[inline(always)]
     pub fn keyword(&mut self, word: &str) -> Result<Span, Error>
         ensures reads { Takes (λ _. tt) (word_only word.now) result self.old self.new }
@@ -414,8 +419,8 @@ impl<'a> Parser<'a> {
         }
     }
 
-    /// Takes the one keyword (Text Format, "Tokens") where it is in front, and answers whether it
-    /// did.
+    /// Takes the keyword `word` (Text Format, "Tokens") if it is the next token, and returns
+    /// whether it was.
     #[inline(always)]
     pub fn flag(&mut self, word: &str) -> bool
         ensures reads { Reads (plain (λ b. b)) (flag word.now) (Ok result) self.old self.new }
@@ -428,8 +433,8 @@ impl<'a> Parser<'a> {
         stands
     }
 
-    /// Takes the annotation of the name (Text Format, "Annotations"), given without its `@`, and
-    /// answers where it begins, or refuses with Unexpected.
+    /// Takes the annotation `name` (Text Format, "Annotations"), which is given without its `@`,
+    /// and returns its offset in bytes. Returns Unexpected if it isn't the next token.
     pub fn take_annotation(&mut self, name: &str) -> Result<Span, Error>
         ensures reads { Takes (λ _. tt) (annotation_only name.now) result self.old self.new }
         ensures refused { Unmoved result self.old self.new }
@@ -445,7 +450,8 @@ impl<'a> Parser<'a> {
         }
     }
 
-    /// Takes a keyword (Text Format, "Tokens"), whichever it is, or refuses with Unexpected.
+    /// Takes any keyword (Text Format, "Tokens"), and returns it. Returns Unexpected if the next
+    /// token isn't one.
     #[inline(always)]
     pub fn take_keyword(&mut self) -> Result<&'a str, Error>
         ensures reads { Takes (λ x. x.now) as_keyword result self.old self.new }
@@ -461,8 +467,8 @@ impl<'a> Parser<'a> {
         }
     }
 
-    /// Takes an identifier (Text Format, "Identifiers") and answers its name, without its `$`, or
-    /// refuses with Unexpected.
+    /// Takes an identifier (Text Format, "Identifiers"), and returns its name without the `$`.
+    /// Returns Unexpected if the next token isn't one.
     #[inline(always)]
     pub fn take_id(&mut self) -> Result<&'a str, Error>
         ensures reads { Takes (λ x. x.now) as_id result self.old self.new }
@@ -478,7 +484,8 @@ impl<'a> Parser<'a> {
         }
     }
 
-    /// Takes an integer (Text Format, "Integers") of any value, or refuses with Unexpected.
+    /// Takes an integer (Text Format, "Integers") of any value, and returns it. Returns Unexpected
+    /// if the next token isn't one.
     #[inline(always)]
     pub fn take_integer(&mut self) -> Result<Integer<'a>, Error>
         ensures reads { Takes text_of as_integer result self.old self.new }
@@ -494,8 +501,8 @@ impl<'a> Parser<'a> {
         }
     }
 
-    /// Takes a string (Text Format, "Strings") and answers its bytes, decoded, or refuses with
-    /// Unexpected.
+    /// Takes a string (Text Format, "Strings"), and returns its decoded bytes. Returns Unexpected
+    /// if the next token isn't one.
     #[inline(always)]
     pub fn take_string(&mut self) -> Result<&'a [u8], Error>
         ensures reads { Takes (λ x. x.now) as_string result self.old self.new }

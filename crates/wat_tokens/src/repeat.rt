@@ -1,4 +1,4 @@
-//! Parts that are one behind the other.
+//! Lists of values, and lists of the parts of groups.
 
 ghost use Rattle.std.specs.Prelude.{◌≡◌, ◌≤◌, [], map, List, Bool};
 ghost use Rattle.wat_lexer.specs.Token.{Tok};
@@ -16,34 +16,34 @@ use crate::parser::Parser;
 use crate::traits::{Parse, Peek};
 use wat_lexer::fault::Error;
 
-/// How parts are read that are one behind the other, each as a `V`, and where they end.
+/// How to read a list of parts, each part as a `V`, and where the list ends.
 pub trait Part<'a, V> {
     /// What contracts see of a part.
     ghost View: { Type 0 };
 
-    /// How a part is seen, and whether it owns memory.
+    /// How contracts see a part, and whether it owns heap memory.
     ghost view: { ViewOf V View };
 
-    /// What is counted beside the tokens that are taken.
+    /// What a call may count besides the tokens that it takes.
     ghost cost: { Cost } = { tokens_alone };
 
-    /// Which tokens spell a part, and how it is read.
+    /// Which tokens spell a part, and how they are read.
     ghost grammar: { Production View };
 
-    /// Where one more part has to follow.
+    /// Which tokens mean that one more part has to follow.
     ghost follows: { List Tok → Bool };
 
-    /// Whether one more part has to follow.
+    /// Returns whether one more part has to follow.
     fn follows(parser: &Parser<'a>) -> bool
         ensures { result ≡ follows parser.now.left };
 
-    /// Takes the part that is in front, or refuses as [`Parse::parse`] does.
+    /// Takes the next part. Fails as [`Parse::parse`] does.
     fn take(parser: &mut Parser<'a>) -> Result<V, Error>
         ensures reads { ReadsAt cost view grammar result parser.old parser.new };
 }
 
-/// Takes parts as long as one has to follow, each put behind those that are there. These stay, also
-/// where it is refused.
+/// Takes parts as long as one has to follow, and appends each to `out`. If a part fails, returns
+/// its error. In any case, what `out` had before the call stays.
 pub fn parts<'a, V: Drop, P: Part<'a, V>>(
     parser: &mut Parser<'a>,
     out: &mut Vec<V>,
@@ -60,29 +60,30 @@ pub fn parts<'a, V: Drop, P: Part<'a, V>>(
     Ok(())
 }
 
-/// How groups are read that hold any number of parts each, each part as a `V`, and where they end.
+/// How to read groups that each hold any number of parts, each part as a `V`, and where the groups
+/// end.
 pub trait Group<'a, V> {
     /// What contracts see of a part.
     ghost View: { Type 0 };
 
-    /// How a part is seen, and whether it owns memory.
+    /// How contracts see a part, and whether it owns heap memory.
     ghost view: { ViewOf V View };
 
-    /// What is counted beside the tokens that are taken.
+    /// What a call may count besides the tokens that it takes.
     ghost cost: { Cost } = { tokens_alone };
 
-    /// Which tokens spell a group, as the list of its parts, and how it is read.
+    /// Which tokens spell a group, as the list of its parts, and how they are read.
     ghost grammar: { Production (List View) };
 
-    /// Where one more group has to follow.
+    /// Which tokens mean that one more group has to follow.
     ghost follows: { List Tok → Bool };
 
-    /// Whether one more group has to follow.
+    /// Returns whether one more group has to follow.
     fn follows(parser: &Parser<'a>) -> bool
         ensures { result ≡ follows parser.now.left };
 
-    /// Takes the group that is in front, each part put behind those that are there, or refuses as
-    /// [`Parse::parse`] does. Those that were there stay, also where it is refused.
+    /// Takes the next group, and appends each of its parts to `out`. Fails as [`Parse::parse`]
+    /// does. In any case, what `out` had before the call stays.
     fn take(parser: &mut Parser<'a>, out: &mut Vec<V>) -> Result<(), Error>
         ensures reads { Call cost (owning (λ _. map view.of out.new.items) no_items)
             (after_front (map view.of out.old.items) (grammar.reads parser.old.left)) result
@@ -90,8 +91,8 @@ pub trait Group<'a, V> {
         ensures kept { Extends out.old.items out.new.items };
 }
 
-/// Takes groups as long as one has to follow, the parts of each put behind those that are there.
-/// These stay, also where it is refused.
+/// Takes groups as long as one has to follow, and appends the parts of each to `out`. If a group
+/// fails, returns its error. In any case, what `out` had before the call stays.
 pub fn groups<'a, V: Drop, G: Group<'a, V>>(
     parser: &mut Parser<'a>,
     out: &mut Vec<V>,
@@ -108,7 +109,7 @@ pub fn groups<'a, V: Drop, G: Group<'a, V>>(
     Ok(())
 }
 
-/// Values up to the end of the group.
+/// Values up to the end of the group or of the text.
 struct ToEnd;
 
 impl<'a, T: Parse<'a>> Part<'a, T> for ToEnd {
@@ -131,7 +132,7 @@ impl<'a, T: Parse<'a>> Part<'a, T> for ToEnd {
     }
 }
 
-/// Values as long as one begins.
+/// Values as long as the next tokens begin one.
 struct WhileBegun;
 
 impl<'a, T: Parse<'a> + Peek> Part<'a, T> for WhileBegun {
@@ -154,8 +155,8 @@ impl<'a, T: Parse<'a> + Peek> Part<'a, T> for WhileBegun {
     }
 }
 
-/// Takes values up to the end of the group, each put behind those that are there. These stay, also
-/// where it is refused.
+/// Takes values up to the end of the group or of the text, and appends each to `out`. If a value
+/// fails, returns its error. In any case, what `out` had before the call stays.
 pub fn rest_of_group<'a, T: Parse<'a> + Drop>(
     parser: &mut Parser<'a>,
     out: &mut Vec<T>,
@@ -169,8 +170,8 @@ pub fn rest_of_group<'a, T: Parse<'a> + Drop>(
     parts::<T, ToEnd>(parser, out)
 }
 
-/// Takes values as long as one begins, each put behind those that are there. These stay, also where
-/// it is refused.
+/// Takes values as long as the next tokens begin one, and appends each to `out`. If a value fails,
+/// returns its error. In any case, what `out` had before the call stays.
 pub fn while_begun<'a, T: Parse<'a> + Peek + Drop>(
     parser: &mut Parser<'a>,
     out: &mut Vec<T>,
@@ -184,7 +185,7 @@ pub fn while_begun<'a, T: Parse<'a> + Peek + Drop>(
     parts::<T, WhileBegun>(parser, out)
 }
 
-/// Parts as long as one has to follow, as a list of their own.
+/// Takes parts as [`parts`] does, and returns them as a new list.
 pub fn all_parts<'a, V: Drop, P: Part<'a, V>>(parser: &mut Parser<'a>) -> Result<Vec<V>, Error>
     requires { 1 ≤ P.grammar.least }
     ensures reads { Call P.cost (owning (λ v. map P.view.of v.items) no_items)
@@ -196,7 +197,7 @@ pub fn all_parts<'a, V: Drop, P: Part<'a, V>>(parser: &mut Parser<'a>) -> Result
     Ok(found)
 }
 
-/// The parts of groups, as long as one more group has to follow, as a list of their own.
+/// Takes groups as [`groups`] does, and returns their parts as a new list.
 pub fn all_groups<'a, V: Drop, G: Group<'a, V>>(parser: &mut Parser<'a>) -> Result<Vec<V>, Error>
     requires { 1 ≤ G.grammar.least }
     ensures reads { Call G.cost (owning (λ v. map G.view.of v.items) no_items)
@@ -209,7 +210,7 @@ pub fn all_groups<'a, V: Drop, G: Group<'a, V>>(parser: &mut Parser<'a>) -> Resu
     Ok(found)
 }
 
-/// Values up to the end of the group, as a list of their own.
+/// Takes values as [`rest_of_group`] does, and returns them as a new list.
 pub fn all_to_end<'a, T: Parse<'a> + Drop>(parser: &mut Parser<'a>) -> Result<Vec<T>, Error>
     requires { 1 ≤ T.grammar.least }
     ensures reads { Call T.cost (owning (λ v. map T.view.of v.items) no_items)

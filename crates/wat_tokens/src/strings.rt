@@ -1,4 +1,4 @@
-//! Strings.
+//! Strings of bytes, and strings of UTF-8 (Text Format, "Strings" and "Names").
 
 ghost use Rattle.std.specs.Prelude.{◌≡◌, List, ℕ};
 ghost use Rattle.wat_tokens.specs.Lookup.{in_front};
@@ -11,7 +11,8 @@ use crate::parser::Parser;
 use crate::traits::{Parse, Peek};
 use wat_lexer::fault::{Error, Fault};
 
-/// A string, as its bytes (Text Format, "Strings").
+/// A string, as its decoded bytes (Text Format, "Strings"). Returns Unexpected if the next token
+/// isn't a string.
 impl<'a> Parse<'a> for &'a [u8] {
     ghost View = { List ℕ };
 
@@ -39,8 +40,8 @@ impl<'p> Peek for &'p [u8] {
     }
 }
 
-/// A string that is UTF-8 (Text Format, "Names"). Where the string in front isn't, it is refused
-/// with Utf8, at the string.
+/// A string whose decoded bytes are UTF-8 (Text Format, "Names"). Returns Unexpected if the next
+/// token isn't a string, and Utf8, at the string, if it isn't UTF-8.
 impl<'a> Parse<'a> for &'a str {
     ghost View = { List ℕ };
 
@@ -58,7 +59,7 @@ impl<'a> Parse<'a> for &'a str {
     }
 }
 
-/// Any string, UTF-8 or not.
+/// Any string, also one that isn't UTF-8.
 impl<'p> Peek for &'p str {
     ghost begins = { begins_string };
 

@@ -1,4 +1,4 @@
-//! What can be parsed, and what can be looked for.
+//! The traits of types that can be read, and of types that can be recognized by lookahead.
 
 ghost use Rattle.std.specs.Prelude.{◌≡◌, List, Bool, IfErr, true};
 ghost use Rattle.wat_lexer.specs.Token.{Tok};
@@ -17,39 +17,41 @@ use crate::cursor::Cursor;
 use crate::parser::Parser;
 use wat_lexer::fault::Error;
 
-/// A type whose values tokens spell.
+/// A type whose values can be read from tokens.
 pub trait Parse<'a>: Sized {
-    /// What contracts see of a value: no spans, no references.
+    /// What contracts see of a value: without positions and references.
     ghost View: { Type 0 };
 
-    /// How a value is seen, and whether it owns memory.
+    /// How contracts see a value, and whether it owns heap memory.
     ghost view: { ViewOf Self View };
 
-    /// What a parse may count beside the tokens that it takes.
+    /// What a parse may count besides the tokens that it takes.
     ghost cost: { Cost } = { tokens_alone };
 
-    /// Which tokens spell a value, and how it is read.
+    /// Which tokens spell a value, and how they are read.
     ghost grammar: { Production View };
 
-    /// Takes the tokens of a value that is in front.
+    /// Takes the tokens of the next value, and returns the value.
     ///
-    /// Where none is, it is refused with the first fault that is met, and the parser then has
-    /// some end of its tokens left. Memory may be answered where the value isn't bare.
+    /// If the next tokens spell no value, returns the first error that the parse meets. The parser
+    /// then has some suffix of its tokens left. Memory can be returned only if the value holds a
+    /// box or a list that isn't empty or, if the tokens spell no value, only if the type can hold
+    /// one.
     fn parse(parser: &mut Parser<'a>) -> Result<Self, Error>
         ensures reads { ReadsAt cost view grammar result parser.old parser.new };
 }
 
-/// A type whose values begin with tokens that tell them from what else may be there.
+/// A type whose values are recognized by their first tokens.
 pub trait Peek {
-    /// Whether the tokens begin a value.
+    /// Which tokens begin a value.
     ghost begins: { List Tok → Bool };
 
-    /// Whether the tokens at the place begin a value.
+    /// Returns whether the tokens at the cursor begin a value.
     fn peek(cursor: Cursor<'_>) -> bool
         ensures { result ≡ begins (in_front cursor.entry) };
 
-    /// Whether the tokens behind the first one at the place begin a value; not where there is no
-    /// token.
+    /// Returns whether the tokens after the one at the cursor begin a value; false if there is no
+    /// token at the cursor.
     fn peek2(cursor: Cursor<'_>) -> bool
         ensures { result ≡ second begins (in_front cursor.entry) }
     {
@@ -59,15 +61,15 @@ pub trait Peek {
         }
     }
 
-    /// What a value is called in a message.
+    /// What messages call a value.
     fn display() -> &'static str;
 }
 
 impl<'a> Parser<'a> {
-    /// Takes the value that is in front.
+    /// Takes the tokens of the next `T`, and returns the value.
     ///
-    /// Where none is, it is refused with the first fault that is met, and the parser then has
-    /// some end of its tokens left.
+    /// If the next tokens spell no value, returns the first error that the parse meets. The parser
+    /// then has some suffix of its tokens left.
     pub fn parse<T: Parse<'a>>(&mut self) -> Result<T, Error>
         // The tokens that were taken spell the value. Where tokens in front spell one, it is that
         // one, or memory ran out: `sound`, `accepts`, `refused`.
@@ -87,7 +89,7 @@ impl<'a> Parser<'a> {
         T::parse(self)
     }
 
-    /// Whether a value of the type begins in front.
+    /// Returns whether the next tokens begin a `T`.
     #[inline(always)]
     pub fn peek<T: Peek>(&self) -> bool
         ensures { result ≡ T.begins self.now.left }
@@ -95,7 +97,7 @@ impl<'a> Parser<'a> {
         T::peek(self.cursor())
     }
 
-    /// Whether a value of the type begins behind the token in front; not at the end.
+    /// Returns whether the tokens after the next one begin a `T`; false if no token is left.
     #[inline(always)]
     pub fn peek2<T: Peek>(&self) -> bool
         ensures { result ≡ second T.begins self.now.left }

@@ -1,4 +1,4 @@
-//! A value that is a whole text.
+//! Values that are a whole text.
 
 ghost use Rattle.std.specs.Prelude.{◌≡◌, IfOk, MatchResult};
 ghost use Rattle.wat_tokens.specs.Error.{Memory};
@@ -11,14 +11,15 @@ use std::alloc::Global;
 use wat_lexer::cut::one_cut;
 use wat_lexer::fault::Error;
 
-/// Reads the value that the whole text spells, with the five standard annotations known or not:
-/// `custom`, `producers`, `name`, `dylink.0` and `metadata.code.branch_hint`.
+/// Reads the `T` that the whole text spells. `known` says whether the five standard annotations are
+/// known: `custom`, `producers`, `name`, `dylink.0` and `metadata.code.branch_hint`.
 ///
-/// Names and strings without escapes are slices of the text, the others lie in the arena.
+/// Names, and strings without escapes, are slices of the text; strings with escapes are decoded
+/// into the arena.
 ///
-/// Where the text spells none, it is refused with the first fault that is met: the text's own where
-/// it isn't cut (see [`Parser::new`]), else the value's, and Unexpected at a token behind it.
-/// Memory may be answered for any text.
+/// If the text spells no `T`, returns the first error: the lexical error if the text has no cut
+/// (see [`Parser::new`]), else that of `T`, and Unexpected at a token after the value. Any text can
+/// return Memory.
 pub fn read_text<'a, T: Parse<'a> + Drop>(
     alloc: Global,
     text: &'a str,

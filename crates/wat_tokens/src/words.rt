@@ -10,18 +10,18 @@ use crate::cursor::Cursor;
 use crate::parser::Parser;
 use wat_lexer::fault::{Error, Fault};
 
-/// A type whose values are named by one keyword each (Text Format, "Tokens").
+/// A type with values that keywords name (Text Format, "Tokens"). Each keyword names one value.
 pub trait NamedByKeyword: Copy {
     /// The keywords, each with the value that it names.
     ghost words: { List (List ℕ × Self) };
 
-    /// The value that the keyword names.
+    /// Returns the value that the keyword `word` names, or None if it names none.
     fn named(word: &str) -> Option<Self>
         ensures { result ≡ look_up words word.now };
 }
 
-/// Takes the keyword in front and answers the value that it names. A keyword that names none, and
-/// what is no keyword, is refused with Unexpected, at the token in front.
+/// Takes the next keyword, and returns the value that it names. Returns Unexpected, at the next
+/// token, if that isn't a keyword or names no value. In the second case the keyword is taken.
 #[tactic(auto, using(crate::specs::Laws::Begin::table_reads))]
 pub fn take_named<'a, T: NamedByKeyword>(parser: &mut Parser<'a>) -> Result<T, Error>
     ensures reads { Takes (λ v. v) (word_in T.words) result parser.old parser.new }
@@ -32,7 +32,7 @@ pub fn take_named<'a, T: NamedByKeyword>(parser: &mut Parser<'a>) -> Result<T, E
     }
 }
 
-/// Whether a keyword that names a value is at the place.
+/// Returns whether the token at the cursor is a keyword that names a value.
 #[tactic(auto, using(crate::specs::Laws::Begin::table_begins))]
 pub fn begins_named<T: NamedByKeyword>(cursor: Cursor<'_>) -> bool
     ensures { result ≡ begins_one_of (word_in T.words) (in_front cursor.entry) }

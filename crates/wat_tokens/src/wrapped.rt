@@ -8,7 +8,7 @@ use crate::parser::Parser;
 use crate::traits::{Parse, Peek};
 use wat_lexer::fault::Error;
 
-/// A value where one begins in front, and else None, with no tokens.
+/// A `T` if the next tokens begin one. Otherwise None, and no token is taken.
 impl<'a, T: Parse<'a> + Peek> Parse<'a> for Option<T> {
     ghost View = { Option T.View };
 
@@ -27,7 +27,7 @@ impl<'a, T: Parse<'a> + Peek> Parse<'a> for Option<T> {
     }
 }
 
-/// What the value alone is spelled as.
+/// A `T`, in a box. Returns Memory if the box can't be allocated.
 impl<'a, T: Parse<'a> + Drop> Parse<'a> for Box<T> {
     ghost View = { T.View };
 

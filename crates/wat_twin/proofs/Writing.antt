@@ -235,12 +235,11 @@ step {text} {all} {ls} {opened} {row} {done} {out} x more c u e hidden is so =
       same = step_written text out done x.offset c (patches (changes (is_open x.token) (is_changed c) None (toks more)) (placed more)) r.order r.some ∙ ap (λ l. out ++ rebuilt done (drop done text) l) (sym (patched_so opened row x more ls c e hidden is)) ∙ so.same;
     }
 
-pub at_end : {text : List ℕ} {all ls : List Entry} {opened row : Bool} {done : ℕ} {out : List ℕ} → ls ≡ [] → SoFar text all ls opened row done out → out ++ slice_range text done (length text) ≡ twin_text text (placed all)
+pub at_end : {text : List ℕ} {all ls : List Entry} {opened row : Bool} {done : ℕ} {out : List ℕ} → ls ≡ [] → SoFar text all ls opened row done out → out ++ drop done text ≡ twin_text text (placed all)
 unfolding rebuilt changes
 at_end {text} {all} {ls} {opened} {row} {done} {out} e so =
-    let whole : slice_range text done (length text) ≡ drop done text = rw (ap (λ n. take n (drop done text)) (sym (length-drop done text))) (take-length (drop done text)) in
     let last : patches (changes opened row None (toks ls)) (placed ls) ≡ [] = rw e refl in
-    rw whole (rw last at so.same)
+    rw last at so.same
 
 pub entry_front : (i : ℕ) (ls : List Entry) → i < length ls → drop i ls ≡ get_or ls i no_entry ∷ drop (i + 1) ls
 entry_front i ls h = rw (add-one, drop-cons ls i no_entry)

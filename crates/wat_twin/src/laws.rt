@@ -10,7 +10,7 @@ ghost use Rattle.wat_twin.specs.Tokens.{twin_tokens, has_none};
 ghost use Rattle.wat_twin.specs.Text.{twin_text, IsTwin};
 ghost use Rattle.wat_twin.specs.Rows.{Floats, NoFloats, Constant, Data, Row, Hidden, Unchanged};
 
-/// A text that has a cut has exactly one twin, which is as long.
+/// A text with a cut has exactly one twin, of the same length.
 pub fn one_twin()
     ensures some { (text : List ℕ) (ts : List Placed) → IsCut text ts
         → IsTwin text (twin_text text ts) }
@@ -19,8 +19,8 @@ pub fn one_twin()
     ensures size { (text answer : List ℕ) → IsTwin text answer → length answer ≡ length text }
 {}
 
-/// A text whose visible tokens have no float literal behind a word behind which floats stand is its
-/// own twin, and so are its tokens.
+/// If no visible token of a text is a float literal after a word that floats follow, the text is its
+/// own twin, and its tokens are their own twins.
 pub fn own_twin()
     ensures tokens { (ts : List Tok) → has_none false (visible_tokens false ts) ≡ true
         → twin_tokens ts ≡ ts }
@@ -28,25 +28,24 @@ pub fn own_twin()
         → has_none false (visible_tokens false (tokens_of ts)) ≡ true → IsTwin text text }
 {}
 
-/// Among the twin's visible tokens no float literal is behind a word behind which floats stand: all
-/// were replaced.
+/// No visible token of a twin is a float literal after a word that floats follow: all are replaced.
 pub fn all_replaced()
     ensures { (ts : List Tok) → has_none false (visible_tokens false (twin_tokens ts)) ≡ true }
 {}
 
-/// No token is made or removed.
+/// A text and its twin have the same number of tokens.
 pub fn same_number()
     ensures { (ts : List Tok) → length (twin_tokens ts) ≡ length ts }
 {}
 
-/// A hidden group is read as a blank: tokens that are the same but for hidden groups have twins
-/// that are the same but for these.
+/// Hidden groups don't matter: if two lists have the same visible tokens, their twins have the same
+/// visible tokens.
 pub fn same_visible()
     ensures { (ts us : List Tok) → visible_tokens false ts ≡ visible_tokens false us
         → visible_tokens false (twin_tokens ts) ≡ visible_tokens false (twin_tokens us) }
 {}
 
-/// Small tokens and their twins, as facts over the definitions alone.
+/// Example tokens and their twins, as facts about the definitions alone.
 pub fn twin_rows()
     ensures floats { Floats }
     ensures no_floats { NoFloats }
@@ -57,7 +56,7 @@ pub fn twin_rows()
     ensures unchanged { Unchanged }
 {}
 
-/// Each integer is a float.
+/// Each integer literal is a float literal.
 pub fn integers()
     ensures { (x : List ℕ) → is_integer x ≡ true → is_float x ≡ true }
 {}

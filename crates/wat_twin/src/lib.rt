@@ -1,8 +1,8 @@
 //! The twin of a text in the WebAssembly text format: a text of the same length with integers in
 //! place of its float literals (WebAssembly Core Specification, Text Format, "Floating-Point").
 //!
-//! [`twin::twin`] makes it. What reads integers reads the twin, and each token of the text has the
-//! same offset there.
+//! [`twin::twin`] returns it. A parser that supports only integers can read the twin, and each token
+//! has the same offset in both texts.
 #![tactic(auto)]
 
 mod change;

@@ -19,16 +19,6 @@ use wat_lexer::fault::Error;
 use wat_lexer::hidden::next_visible;
 use wat_lexer::tokens::Tokens;
 
-/// Part of a text.
-fn part(text: &str, from: usize, end: usize) -> &str
-    requires order { from ≤ end }
-    requires begins { IsCharBoundary text.now from }
-    requires ends { IsCharBoundary text.now end }
-    ensures { result.now ≡ slice_range text.now from end }
-{
-    &text[from..end]
-}
-
 fn put_spaces(out: &mut String, times: usize) -> Result<(), AllocError>
     ensures { OnOk result (string_bytes out.new ≡ string_bytes out.old ++ replicate times 32) }
 {
@@ -59,12 +49,12 @@ fn put(
     match change {
         Change::Keep => Ok(done),
         Change::Word => {
-            out.push_str(part(text, done, at))?;
+            out.push_str(&text[done..at])?;
             out.push_str("i")?;
             Ok(at + 1)
         }
         Change::Literal(len) => {
-            out.push_str(part(text, done, at))?;
+            out.push_str(&text[done..at])?;
             out.push_str("0")?;
             put_spaces(out, len - 1)?;
             Ok(at + len)
@@ -91,24 +81,26 @@ fn rebuild(alloc: Global, text: &str, tokens: &Tokens) -> Result<String, AllocEr
         row = is_changed(change);
         i = next;
     }
-    out.push_str(part(text, done, text.len()))?;
+    out.push_str(&text[done..])?;
     Ok(out)
 }
 
-/// The twin of a text: a text of the same length that has integers where the text has float
-/// literals. `f32.const`, `f64.const`, `f32x4`, `f64x2`, and `f32` and `f64` behind a `(` have an
-/// `i` for the `f` where a float literal follows; that literal and those behind it are `0` and
-/// spaces. All else stays, and each token has its offset, in bytes. Integers are float literals
-/// too, and no literal's range is looked at.
+/// Returns the twin of a text: a text of the same length, with integers in place of float literals.
 ///
-/// Blanks, comments and annotations' groups may stand between the word and the literals. No
-/// annotation is known: all groups are hidden, and what is in them stays. The five standard
-/// annotations may be known where the text is read, but no float literal is in their groups, by
-/// the grammar.
+/// - Each of `f32.const`, `f64.const`, `f32x4` and `f64x2`, and `f32` and `f64` directly after a
+///   `(`, gets an `i` for its `f` if the next token is a float literal.
+/// - That literal and the float literals directly after it become `0` and spaces.
 ///
-/// The faults are those of `cut`, each with its place: LexChar, LexString, LexComment,
-/// LexAnnotation and Memory. The time is linear in the text's length. WebAssembly Core
-/// Specification, Text Format, "Floating-Point" and "Annotations".
+/// All other bytes stay, and each token keeps its offset. Integers are float literals too. Ranges
+/// of literals aren't checked.
+///
+/// Blanks, comments and annotation groups between these tokens don't count. All annotation groups
+/// are hidden, and their content stays. A reader of the twin may know the five standard annotations:
+/// by the grammar, their groups have no float literal.
+///
+/// Errors are those of `cut`, with the same offsets: LexChar, LexString, LexComment, LexAnnotation
+/// and Memory. The time is linear in the length of the text. WebAssembly Core Specification, Text
+/// Format, Values, Floating-Point; Lexical Format, Annotations.
 pub fn twin(alloc: Global, text: &str) -> Result<String, Error>
     ensures twin { IfOk result (λ a. IsTwin text.now (string_bytes a)) }
     ensures size { IfOk result (λ a. length (string_bytes a) ≡ length text.now) }

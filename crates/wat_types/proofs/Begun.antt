@@ -19,7 +19,7 @@ no_word table (x ∷ t) e = none_known (word_in table x) t e
 
 no_shorthand : (t : List Tok) → begins_shorthand t ≡ false → shorthand.reads t ≡ None
 unfolding shorthand begins_shorthand
-no_shorthand t e = no_word shorthand_words t e
+no_shorthand t e = rw (no_word shorthand_words t e) refl
 
 no_reference : (t : List Tok) → begins_shorthand t ≡ false → begins_long_ref t ≡ false → ref_type.reads t ≡ None
 unfolding ref_type

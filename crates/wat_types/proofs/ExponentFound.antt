@@ -5,8 +5,6 @@ use Rattle.wat_tokens.specs.Laws.Production.{by_test}
 use Rattle.wat_types.specs.Exponent.{exponent}
 use Rattle.wat_types.specs.Laws.Exponent.{equal, exponent_is}
 
--- ---- proofs
-
 pub exponent_of_other : (n k : ℕ) → 2 ^ k ≤ n → n < 2 * 2 ^ k → 2 ^ k ≢ n → exponent n ≡ None
 exponent_of_other n k low high e =
     exponent_is n k low high ∙ by_test (n == 2 ^ k) (λ t. absurd (e (sym (equal n (2 ^ k) t)))) (λ t. rw t refl)

@@ -8,8 +8,6 @@ use Rattle.wat_types.proofs.GroupsAdded.{add_groups}
 use Rattle.wat_types.specs.FunctionSpells.{func_groups}
 use Rattle.wat_types.specs.Function.{function_groups}
 
--- ---- proofs: what the loop over the groups keeps
-
 pub function_begins_at : (labels : Bool) (t : List Tok) → add_rest add empty_function ((func_groups labels).reads t) ≡ (function_groups labels).reads t
 unfolding function_groups
 function_begins_at labels t = add_groups ((func_groups labels).reads t)

@@ -9,8 +9,6 @@ use Rattle.wat_types.specs.Value.{ValTy}
 use Rattle.wat_types.specs.Group.{ParamTy, Group, param, result, params_in, results_in, function_of, empty_function, merged}
 use Rattle.wat_types.specs.Order.{only_results, add, in_order}
 
--- ---- adding group by group gives the concatenations, where the groups are in order
-
 add_results : (gs : List Group) (ps : List ParamTy) (rs : List ValTy) (r : ValTy)
     → add_all add gs (function_of ps (r ∷ rs)) ≡ (if only_results gs then option_of (function_of ps ((r ∷ rs) ++ flat_map results_in gs)) else None)
 add_results [] ps rs r = ap (λ (u : List ValTy). option_of (function_of ps u)) (sym (append-nil (r ∷ rs)))

@@ -6,8 +6,6 @@ use Rattle.wat_tokens.specs.Parts.{made, where_else}
 use Rattle.wat_tokens.specs.Groups.{group}
 use Rattle.wat_types.specs.Storage.{StorageTy, storage_type}
 
--- ---- what an array holds, and a field
-
 pub record FieldTy : Type 0 where
   pub mutable : Bool
   pub ty : StorageTy

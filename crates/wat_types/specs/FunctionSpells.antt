@@ -9,8 +9,6 @@ use Rattle.wat_types.specs.Group.{merged, InOrder, unlabelled}
 use Rattle.wat_types.specs.Order.{in_order}
 use Rattle.wat_types.specs.Laws.Group.{func_group_consumes}
 
--- ---- the grammar
-
 -- groups, to where the second token is neither `param` nor `result`
 unfoldable pub func_groups : Bool → Production (List Group)
 func_groups labels = many group_follows (func_group labels) (func_group_consumes labels)

@@ -50,6 +50,10 @@ func_group labels =
     where_else (begins_group (codes "param")) (made param (group (codes "param") (params labels)))
     (made result (group (codes "result") val_types))
 
+-- `param` or `result`
+abbrev pub begins_group_word : List Tok → Bool
+begins_group_word t = begins_word (codes "param") t || begins_word (codes "result") t
+
 -- one more group has to follow: the second token is `param` or `result`, whatever the first is
 abbrev pub group_follows : List Tok → Bool
 group_follows t = second (begins_word (codes "param")) t || second (begins_word (codes "result")) t

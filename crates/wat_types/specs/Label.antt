@@ -1,4 +1,4 @@
--- What may name a parameter: an identifier, and a name that an annotation gives.
+-- Labels: an identifier, and a name that an annotation gives.
 use Rattle.std.specs.Prelude.{ℕ, Bool, ◌||◌, List, Option, None, is_some}
 use Rattle.wat_tokens.specs.Token.{Tok}
 use Rattle.wat_tokens.specs.Tests.{begins_id}

@@ -5,7 +5,6 @@ pub use Rattle.wat_tokens.specs.Groups
 pub use Rattle.wat_tokens.specs.Index
 pub use Rattle.wat_tokens.specs.Lookup
 pub use Rattle.wat_tokens.specs.Many
-pub use Rattle.wat_tokens.specs.Once
 pub use Rattle.wat_tokens.specs.Parts
 pub use Rattle.wat_tokens.specs.Production
 pub use Rattle.wat_tokens.specs.Reads

@@ -1,4 +1,4 @@
--- Proofs: a test of the order of groups, and what adding them one by one gives.
+-- A test of the order of groups, and groups that are added one by one.
 use Rattle.std.specs.Prelude.{Bool, true, false, if◌then◌else◌, List, [], ◌∷◌, ◌++◌, Option, Some}
 use Rattle.std.specs.Prelude.{None}
 use Rattle.wat_tokens.specs.Views.{no_items}
@@ -16,7 +16,7 @@ in_order (param ps ∷ gs) = in_order gs
 in_order (result [] ∷ gs) = in_order gs
 in_order (result (t ∷ ts) ∷ gs) = only_results gs
 
--- ---- adding group by group gives the concatenations, where the groups are in order
+-- ---- groups added one by one
 
 -- one group more; none of params where there are results
 abbrev pub add : FuncTy → Group → Option FuncTy

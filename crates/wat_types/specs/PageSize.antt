@@ -6,8 +6,6 @@ use Rattle.wat_tokens.specs.Parts.{made_where}
 use Rattle.wat_tokens.specs.Integers.{unsigned}
 use Rattle.wat_types.specs.Exponent.{IsTwoTo, exponent}
 
--- ---- page sizes
-
 -- u32, which is 2 to the k
 abbrev pub ExponentSpells : ℕ → List Tok → List Tok → Type 0
 ExponentSpells k c r = (n : ℕ) × (unsigned 32).spells n c r × IsTwoTo k n

@@ -13,6 +13,7 @@ use Rattle.wat_types.specs.declared.heap.AbstractHeapType.TheVariants as word
 use Rattle.wat_types.specs.declared.heap.HeapType.{HeapType}
 use Rattle.wat_types.specs.declared.heap.HeapType.TheVariants as code
 use Rattle.wat_types.specs.declared.reference.RefType.{RefType}
+use Rattle.wat_types.specs.declared.reference.Shorthand.{Shorthand}
 
 -- a reference type, without the places of indices
 pub record RefTy : Type 0 where
@@ -22,19 +23,25 @@ pub record RefTy : Type 0 where
 abbrev pub ref_view : RefType → RefTy
 ref_view t = record { nullable = t.nullable; heap = heap_view t.heap }
 
--- the heap type that a shorthand names
-abbrev pub shorthand_words : List (List ℕ × AbstractHeapType)
-shorthand_words =
-    (codes "funcref", word.Func) ∷ (codes "externref", word.Extern) ∷ (codes "exnref", word.Exn)
-    ∷ (codes "contref", word.Cont) ∷ (codes "anyref", word.Any)
-    ∷ (codes "eqref", word.Eq) ∷ (codes "structref", word.Struct) ∷ (codes "arrayref", word.Array)
-    ∷ (codes "i31ref", word.I31) ∷ (codes "nullfuncref", word.NoFunc)
-    ∷ (codes "nullexternref", word.NoExtern) ∷ (codes "nullexnref", word.NoExn)
-    ∷ (codes "nullcontref", word.NoCont) ∷ (codes "nullref", word.None) ∷ []
+abbrev pub shorthand_for : AbstractHeapType → Shorthand
+shorthand_for t = record { 0 = t }
 
--- one of the shorthands
+-- each shorthand, for the heap type that it names
+abbrev pub shorthand_words : List (List ℕ × Shorthand)
+shorthand_words =
+    (codes "funcref", shorthand_for word.Func) ∷ (codes "externref", shorthand_for word.Extern)
+    ∷ (codes "exnref", shorthand_for word.Exn) ∷ (codes "contref", shorthand_for word.Cont)
+    ∷ (codes "anyref", shorthand_for word.Any) ∷ (codes "eqref", shorthand_for word.Eq)
+    ∷ (codes "structref", shorthand_for word.Struct) ∷ (codes "arrayref", shorthand_for word.Array)
+    ∷ (codes "i31ref", shorthand_for word.I31) ∷ (codes "nullfuncref", shorthand_for word.NoFunc)
+    ∷ (codes "nullexternref", shorthand_for word.NoExtern)
+    ∷ (codes "nullexnref", shorthand_for word.NoExn)
+    ∷ (codes "nullcontref", shorthand_for word.NoCont) ∷ (codes "nullref", shorthand_for word.None)
+    ∷ []
+
+-- one of the shorthands, as the heap type that it names
 unfoldable pub shorthand : Production AbstractHeapType
-shorthand = one (word_in shorthand_words) (refl, refl)
+shorthand = made (λ s. s.0) (one (word_in shorthand_words) (refl, refl))
 
 -- one of the shorthands
 unfoldable pub begins_shorthand : List Tok → Bool

@@ -13,7 +13,7 @@ use Rattle.wat_types.specs.declared.structure.StructType.{StructType}
 use Rattle.wat_types.specs.FieldType.{FieldTy, field_of, field_type}
 use Rattle.wat_types.specs.Laws.FieldType.{field_type_consumes}
 
--- ---- what an array holds, and a field
+-- ---- array types
 
 abbrev pub array_view : ArrayType → FieldTy
 array_view a = field_of a.mutable (storage_view a.ty)

@@ -6,8 +6,6 @@ use Rattle.wat_tokens.specs.Joined.{joined}
 use Rattle.wat_types.specs.Struct.{MemberTy, member_group}
 use Rattle.wat_types.specs.Laws.Struct.{member_group_consumes}
 
--- ---- the fields of a structure
-
 -- groups, to the end: the fields of all, one behind the other
 unfoldable pub struct_type : Production (List MemberTy)
 struct_type = joined more member_group member_group_consumes

@@ -1,4 +1,4 @@
-//! Definitions of types, and recursion groups.
+//! Type definitions and recursion groups.
 
 ghost use Rattle.std.specs.Prelude.{◌≡◌, List};
 ghost use Rattle.wat_tokens.specs.Index.{Idx, index_view, index};
@@ -17,17 +17,17 @@ ghost use Rattle.wat_types.specs.Recursion.{types, rec_view, rec};
 use crate::function::FunctionType;
 use crate::label::take_label;
 use crate::structure::{ArrayType, StructType};
-use wat_tokens::enclosed::{behind, in_parens};
+use wat_tokens::enclosed::{after_word, in_parens};
 use wat_tokens::repeat::{Part, parts, while_begun};
 use wat_tokens::{Cursor, Id, Index, NameAnnotation, Parse, Parser, Peek, Result, Span};
 
-/// A continuation type: the function type that it is of, by its index (WebAssembly Core
-/// Specification, Text Format, Types, "Composite Types").
+/// A continuation type: the index of its function type (WebAssembly Core Specification, Text
+/// Format, Types, "Composite Types").
 #[derive(Clone, Debug, Drop)]
 pub struct ContType<'a>(pub Index<'a>);
 
-/// What a definition defines (WebAssembly Core Specification, Text Format, Types, "Composite
-/// Types").
+/// The composite type of a type definition (WebAssembly Core Specification, Text Format, Types,
+/// "Composite Types").
 #[derive(Debug, Drop)]
 pub enum InnerTypeKind<'a> {
     /// A function type.
@@ -40,47 +40,47 @@ pub enum InnerTypeKind<'a> {
     Cont(ContType<'a>),
 }
 
-/// A definition of a type (WebAssembly Core Specification, Text Format, Types, "Recursive Types").
+/// A type definition (WebAssembly Core Specification, Text Format, Types, "Recursive Types").
 #[derive(Debug, Drop)]
 pub struct TypeDef<'a> {
-    /// What it defines.
+    /// The composite type.
     pub kind: InnerTypeKind<'a>,
-    /// Whether `shared` is written.
+    /// Whether the text has `shared`.
     pub shared: bool,
-    /// The types that it is declared to be below.
+    /// The supertypes, in the order of the text.
     pub parents: Vec<Index<'a>>,
-    /// The type that describes it.
+    /// The index in `( descriptor idx )`: the type that describes this one.
     pub descriptor: Option<Index<'a>>,
-    /// The type that it describes.
+    /// The index in `( describes idx )`: the type that this one describes.
     pub describes: Option<Index<'a>>,
-    /// Whether `final` is written, where `sub` is.
+    /// Whether the text has `final` after `sub`; None without `sub`.
     pub final_type: Option<bool>,
 }
 
-/// A type that a module defines (WebAssembly Core Specification, Text Format, Types, "Recursive
-/// Types").
+/// A type field of a module: a label and a type definition (WebAssembly Core Specification, Text
+/// Format, Types, "Recursive Types").
 #[derive(Debug, Drop)]
 pub struct Type<'a> {
-    /// Where the word `type` begins.
+    /// The byte offset of the keyword `type`.
     pub span: Span,
-    /// Its identifier.
+    /// The identifier.
     pub id: Option<Id<'a>>,
-    /// The name that an annotation gives.
+    /// The name from a name annotation.
     pub name: Option<NameAnnotation<'a>>,
-    /// Its definition.
+    /// The type definition.
     pub def: TypeDef<'a>,
 }
 
 /// A recursion group (WebAssembly Core Specification, Text Format, Types, "Recursive Types").
 #[derive(Debug, Drop)]
 pub struct Rec<'a> {
-    /// Where the word `rec` begins.
+    /// The byte offset of the keyword `rec`.
     pub span: Span,
-    /// The types in it.
+    /// The types in the group, in the order of the text.
     pub types: Vec<Type<'a>>,
 }
 
-/// An index.
+/// Reads an index.
 impl<'a> Parse<'a> for ContType<'a> {
     ghost View = { Idx };
 
@@ -93,7 +93,9 @@ impl<'a> Parse<'a> for ContType<'a> {
     }
 }
 
-/// `func` FunctionType, `struct` StructType, `array` ArrayType, or `cont` ContType.
+/// Reads `func` and a [`FunctionType`], `struct` and a [`StructType`], `array` and an
+/// [`ArrayType`], or `cont` and a [`ContType`]. Before any other token it returns the error
+/// Unexpected, at the token.
 impl<'a> Parse<'a> for InnerTypeKind<'a> {
     ghost View = { InnerKindTy };
 
@@ -104,19 +106,19 @@ impl<'a> Parse<'a> for InnerTypeKind<'a> {
     #[tactic(auto, unfolding(crate::specs::Define::kind))]
     fn parse(parser: &mut Parser<'a>) -> Result<Self> {
         if parser.next_is("func") {
-            return behind(parser, "func").map(InnerTypeKind::Func);
+            return after_word(parser, "func").map(InnerTypeKind::Func);
         }
         if parser.next_is("struct") {
-            return behind(parser, "struct").map(InnerTypeKind::Struct);
+            return after_word(parser, "struct").map(InnerTypeKind::Struct);
         }
         if parser.next_is("array") {
-            return behind(parser, "array").map(InnerTypeKind::Array);
+            return after_word(parser, "array").map(InnerTypeKind::Array);
         }
-        behind(parser, "cont").map(InnerTypeKind::Cont)
+        after_word(parser, "cont").map(InnerTypeKind::Cont)
     }
 }
 
-/// The index behind the word, where it is, and then `) (`.
+/// The index after the keyword, if the keyword is next, and then `) (`.
 #[tactic(auto, unfolding(crate::specs::Define::linked))]
 fn read_link<'a>(parser: &mut Parser<'a>, word: &str) -> Result<Option<Index<'a>>>
     ensures reads { Reads (plain (option_view index_view)) (linked word.now) result parser.old
@@ -184,8 +186,8 @@ impl<'a> Parse<'a> for MaybeShared<'a> {
     }
 }
 
-/// `sub final? idx* (` S `)` or S; S is `shared (` K `)` or K; K is (`describes` idx `) (`)?, then
-/// (`descriptor` idx `) (`)?, then an InnerTypeKind.
+/// Reads `sub final? idx* (` S `)`, or S without `sub`. S is `shared (` K `)`, or K without
+/// `shared`. K is (`describes` idx `) (`)?, (`descriptor` idx `) (`)?, and an [`InnerTypeKind`].
 impl<'a> Parse<'a> for TypeDef<'a> {
     ghost View = { DefTy };
 
@@ -208,7 +210,8 @@ impl<'a> Parse<'a> for TypeDef<'a> {
     }
 }
 
-/// `type id? name? (` TypeDef `)`.
+/// Reads `type`, an optional identifier, an optional name annotation, and a [`TypeDef`] in
+/// parentheses.
 impl<'a> Parse<'a> for Type<'a> {
     ghost View = { TypeTy };
 
@@ -230,7 +233,7 @@ impl<'a> Parse<'a> for Type<'a> {
     }
 }
 
-/// `type`
+/// A [`Type`] begins at the keyword `type`.
 impl<'p> Peek for Type<'p> {
     ghost begins = { begins_type };
 
@@ -266,7 +269,8 @@ impl<'a> Part<'a, Type<'a>> for GroupedType {
     }
 }
 
-/// `rec`, then `( Type )` as long as the second token is `type`, whatever the first is.
+/// Reads `rec`, and then `( Type )` as long as the second token is `type`. Before that second
+/// token, any other token than `(` is the error Unexpected, at the token.
 impl<'a> Parse<'a> for Rec<'a> {
     ghost View = { List TypeTy };
 

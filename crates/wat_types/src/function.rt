@@ -15,7 +15,7 @@ ghost use Rattle.wat_types.specs.Function.{param_view, params_view, function_vie
 ghost use Rattle.wat_types.specs.Function.{bare_function, function_groups, function_type};
 ghost use Rattle.wat_types.specs.FunctionNoNames.{function_type_no_names};
 ghost use Rattle.wat_types.specs.Group.{FuncTy, ParamTy, params, plain_param_only, func_group};
-ghost use Rattle.wat_types.specs.Group.{group_follows, begins_func, val_types};
+ghost use Rattle.wat_types.specs.Group.{group_follows, begins_func, begins_group_word, val_types};
 ghost use Rattle.wat_types.specs.Group.{param as in_param, result as in_result};
 ghost use Rattle.wat_types.specs.Order.{add};
 
@@ -25,16 +25,16 @@ use std::alloc::Global;
 use wat_tokens::repeat::{Part, parts, rest_of_group};
 use wat_tokens::{Cursor, Error, Fault, Id, NameAnnotation, Parse, Parser, Peek, Result};
 
-/// A function type (Text Format, Types, "Composite Types").
+/// A function type (WebAssembly Core Specification, Text Format, Types, "Composite Types").
 #[derive(Debug, Drop)]
 pub struct FunctionType<'a> {
-    /// The parameters, each with the identifier and the name that it has.
+    /// The parameters, in order: identifier, name from a name annotation, and type.
     pub params: Vec<(Option<Id<'a>>, Option<NameAnnotation<'a>>, ValType<'a>)>,
-    /// The results.
+    /// The result types, in order.
     pub results: Vec<ValType<'a>>,
 }
 
-/// A function type whose parameters have neither identifiers nor names.
+/// A function type whose parameters have no identifier and no name annotation.
 #[derive(Debug, Drop)]
 pub struct FunctionTypeNoNames<'a>(pub FunctionType<'a>);
 
@@ -61,8 +61,7 @@ impl<'a> Part<'a, (Option<Id<'a>>, Option<NameAnnotation<'a>>, ValType<'a>)> for
     }
 }
 
-/// The parameters of a group, each put behind those that are there; `labels` says whether one may
-/// have a label.
+/// Appends the parameters of a group to `out`; `labels` says whether a parameter may have a label.
 #[tactic(auto, using(crate::specs::Laws::Value::val_type_consumes), unfolding(crate::specs::Group::params, crate::specs::Group::plain_params))]
 fn read_params<'a>(
     parser: &mut Parser<'a>,
@@ -82,7 +81,7 @@ fn read_params<'a>(
     parts::<_, PlainParam>(parser, out)
 }
 
-/// A param group, put behind what is there.
+/// Appends a param group to `out`.
 fn read_param_group<'a>(
     parser: &mut Parser<'a>,
     labels: bool,
@@ -102,7 +101,7 @@ fn read_param_group<'a>(
     Ok(())
 }
 
-/// A result group, put behind what is there.
+/// Appends a result group to `out`.
 #[tactic(auto, using(crate::specs::Laws::Value::val_type_consumes), unfolding(crate::specs::Group::val_types))]
 fn read_result_group<'a>(parser: &mut Parser<'a>, out: &mut FunctionType<'a>) -> Result<()>
     ensures reads { Call tokens_alone (owning (λ _. function_view out.new) bare_function)
@@ -118,7 +117,7 @@ fn read_result_group<'a>(parser: &mut Parser<'a>, out: &mut FunctionType<'a>) ->
     Ok(())
 }
 
-/// One group, put behind what is there.
+/// Appends one group to `out`.
 #[tactic(auto, unfolding(crate::specs::Group::func_group))]
 fn read_group<'a>(parser: &mut Parser<'a>, labels: bool, out: &mut FunctionType<'a>) -> Result<()>
     ensures reads { Call tokens_alone (owning (λ _. function_view out.new) bare_function)
@@ -132,15 +131,22 @@ fn read_group<'a>(parser: &mut Parser<'a>, labels: bool, out: &mut FunctionType<
     }
 }
 
+/// Whether the keyword at the cursor is `param` or `result`.
+fn group_word_at(cursor: Cursor<'_>) -> bool
+    ensures { result ≡ begins_group_word (in_front cursor.entry) }
+{
+    match cursor.keyword() {
+        Some((word, _)) => word == "param" || word == "result",
+        None => false,
+    }
+}
+
 /// Whether the second token is `param` or `result`, whatever the first is.
 fn group_next(parser: &Parser<'_>) -> bool
     ensures { result ≡ group_follows parser.now.left }
 {
     match parser.cursor().any() {
-        Some(rest) => match rest.keyword() {
-            Some((word, _)) => word == "param" || word == "result",
-            None => false,
-        },
+        Some(rest) => group_word_at(rest),
         None => false,
     }
 }
@@ -160,7 +166,7 @@ fn read_groups<'a>(parser: &mut Parser<'a>, labels: bool) -> Result<FunctionType
 }
 
 impl<'a> FunctionType<'a> {
-    /// No parameters and no results.
+    /// Returns the function type without parameters and results.
     pub fn empty(alloc: Global) -> FunctionType<'a>
         ensures params { result.params.items ≡ [] }
         ensures results { result.results.items ≡ [] }
@@ -171,8 +177,8 @@ impl<'a> FunctionType<'a> {
         }
     }
 
-    /// The same function type once more. Memory may be answered where it has a parameter or a
-    /// result.
+    /// Returns a copy of the function type. Returns the error Memory only if the type has a
+    /// parameter or a result.
     pub fn clone(&self) -> Result<FunctionType<'a>>
         ensures copies { Copies (λ x y. (y.params.items ≡ x.params.items) ×
             (y.results.items ≡ x.results.items)) (owning function_view bare_function) result
@@ -185,10 +191,12 @@ impl<'a> FunctionType<'a> {
     }
 }
 
-/// Groups `( param )`, `( param id? name? ValType )` with an id or a name, `( param ValType* )` and
-/// `( result ValType* )`, to where the second token is neither `param` nor `result`. Where a param
-/// group follows a result group with a type, it is refused with ParamAfterResult, at the word
-/// `param`.
+/// Reads groups as long as the second token is `param` or `result`: `( param id? name? ValType )`
+/// with an identifier or a name annotation, `( param ValType* )` and `( result ValType* )`.
+///
+/// A param group after a result group with a type is the error ParamAfterResult, at the keyword
+/// `param`. Any other token than `(` before `param` or `result` is the error Unexpected, at the
+/// token.
 impl<'a> Parse<'a> for FunctionType<'a> {
     ghost View = { FuncTy };
 
@@ -201,7 +209,7 @@ impl<'a> Parse<'a> for FunctionType<'a> {
     }
 }
 
-/// `(` and `param` or `result`.
+/// A [`FunctionType`] begins at `( param` or `( result`. An empty one takes no token.
 impl<'p> Peek for FunctionType<'p> {
     ghost begins = { begins_func };
 
@@ -209,10 +217,7 @@ impl<'p> Peek for FunctionType<'p> {
         ensures { result ≡ begins_func (in_front cursor.entry) }
     {
         match cursor.lparen() {
-            Some(inside) => match inside.keyword() {
-                Some((word, _)) => word == "param" || word == "result",
-                None => false,
-            },
+            Some(inside) => group_word_at(inside),
             None => false,
         }
     }
@@ -223,7 +228,7 @@ impl<'p> Peek for FunctionType<'p> {
 }
 
 impl<'a> FunctionTypeNoNames<'a> {
-    /// No parameters and no results.
+    /// Returns the function type without parameters and results.
     pub fn empty(alloc: Global) -> FunctionTypeNoNames<'a>
         ensures params { result.0.params.items ≡ [] }
         ensures results { result.0.results.items ≡ [] }
@@ -231,8 +236,8 @@ impl<'a> FunctionTypeNoNames<'a> {
         FunctionTypeNoNames(FunctionType::empty(alloc))
     }
 
-    /// The same function type once more. Memory may be answered where it has a parameter or a
-    /// result.
+    /// Returns a copy of the function type. Returns the error Memory only if the type has a
+    /// parameter or a result.
     pub fn clone(&self) -> Result<FunctionTypeNoNames<'a>>
         ensures copies { Copies (λ x y. (y.0.params.items ≡ x.0.params.items) ×
             (y.0.results.items ≡ x.0.results.items)) (owning unnamed_view bare_function) result
@@ -242,7 +247,8 @@ impl<'a> FunctionTypeNoNames<'a> {
     }
 }
 
-/// As a [`FunctionType`], but an identifier or a name is refused with Unexpected.
+/// Reads what a [`FunctionType`] reads, without labels: an identifier or a name annotation is the
+/// error Unexpected.
 impl<'a> Parse<'a> for FunctionTypeNoNames<'a> {
     ghost View = { FuncTy };
 
@@ -255,7 +261,7 @@ impl<'a> Parse<'a> for FunctionTypeNoNames<'a> {
     }
 }
 
-/// `(` and `param` or `result`.
+/// A [`FunctionTypeNoNames`] begins where a [`FunctionType`] does.
 impl<'p> Peek for FunctionTypeNoNames<'p> {
     ghost begins = { begins_func };
 
@@ -270,6 +276,7 @@ impl<'p> Peek for FunctionTypeNoNames<'p> {
     }
 }
 
+/// The function type inside, unchanged.
 impl<'a> From<FunctionTypeNoNames<'a>> for FunctionType<'a> {
     ghost from_gives = { λ t f. f ≡ t.0 };
 

@@ -11,12 +11,13 @@ use wat_tokens::enclosed::in_word_group;
 use wat_tokens::words::{NamedByKeyword, begins_named, take_named};
 use wat_tokens::{Cursor, Index, Parse, Parser, Peek, Result};
 
-/// An abstract heap type (Text Format, Types, "Heap Types"). Each variant has the name of its word.
+/// An abstract heap type (WebAssembly Core Specification, Text Format, Types, "Heap Types"). Each
+/// variant is named after its keyword.
 #[derive(Clone, Copy, Debug, PartialEq, Eq, Hash)]
 pub enum AbstractHeapType {
     /// Any function.
     Func,
-    /// Any value of the host.
+    /// Any host value.
     Extern,
     /// Any exception.
     Exn,
@@ -24,17 +25,17 @@ pub enum AbstractHeapType {
     Cont,
     /// Any internal value.
     Any,
-    /// Any value that can be compared.
+    /// Any value that `ref.eq` can compare.
     Eq,
     /// Any structure.
     Struct,
     /// Any array.
     Array,
-    /// Any integer of 31 bits.
+    /// Any 31-bit integer.
     I31,
     /// No function.
     NoFunc,
-    /// No value of the host.
+    /// No host value.
     NoExtern,
     /// No internal value.
     None,
@@ -44,24 +45,24 @@ pub enum AbstractHeapType {
     NoCont,
 }
 
-/// A heap type (Text Format, Types, "Heap Types").
+/// A heap type (WebAssembly Core Specification, Text Format, Types, "Heap Types").
 #[derive(Clone, Copy, Debug, PartialEq, Eq, Hash)]
 pub enum HeapType<'a> {
-    /// One of the words: `func`, or `(shared func)`.
+    /// An abstract heap type: `func`, or `(shared func)`.
     Abstract {
-        /// Whether `shared` is written.
+        /// Whether the text has `shared`.
         shared: bool,
-        /// What the word names.
+        /// The abstract heap type.
         ty: AbstractHeapType,
     },
-    /// A defined type, by its index: `$t`.
+    /// A defined type and its subtypes, by index: `$t`.
     Concrete(Index<'a>),
-    /// A defined type and none below it: `(exact $t)`.
+    /// A defined type without its subtypes, by index: `(exact $t)`.
     Exact(Index<'a>),
 }
 
 impl AbstractHeapType {
-    /// Its word.
+    /// Returns the keyword of the type.
     pub fn word(self) -> &'static str
         ensures { result.now ≡ abstract_word self }
     {
@@ -84,7 +85,7 @@ impl AbstractHeapType {
     }
 }
 
-/// The type that a word names.
+/// The abstract heap type that a keyword names.
 impl NamedByKeyword for AbstractHeapType {
     ghost words = { abstract_words };
 
@@ -109,7 +110,8 @@ impl NamedByKeyword for AbstractHeapType {
     }
 }
 
-/// Another word is refused with Unexpected, at the word.
+/// Reads the keyword of an abstract heap type. Any other token is the error Unexpected, at the
+/// token.
 impl<'a> Parse<'a> for AbstractHeapType {
     ghost use Rattle.wat_types.specs.declared.heap.AbstractHeapType.{AbstractHeapType};
     ghost use Rattle.wat_types.specs.Heap.{abstract_heap_type};
@@ -126,6 +128,7 @@ impl<'a> Parse<'a> for AbstractHeapType {
     }
 }
 
+/// An [`AbstractHeapType`] begins at one of its keywords.
 impl Peek for AbstractHeapType {
     ghost begins = { begins_abstract };
 
@@ -139,7 +142,7 @@ impl Peek for AbstractHeapType {
     }
 }
 
-/// `idx`, `( exact idx )`, `( shared abstract )`, or an abstract heap type.
+/// Reads an index, `( exact idx )`, an [`AbstractHeapType`], or one in `( shared .. )`.
 impl<'a> Parse<'a> for HeapType<'a> {
     ghost View = { HeapTy };
 
@@ -168,7 +171,8 @@ impl<'a> Parse<'a> for HeapType<'a> {
     }
 }
 
-/// An abstract heap type, or `(` and `shared` or `type`: not an index, nor `(exact`.
+/// True at an [`AbstractHeapType`], at `( shared` and at `( type`. An index or `( exact` begins a
+/// [`HeapType`] too, but gives false.
 impl<'p> Peek for HeapType<'p> {
     ghost begins = { begins_heap };
 

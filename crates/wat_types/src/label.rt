@@ -1,4 +1,4 @@
-//! Labels: an identifier and a name.
+//! Labels: an identifier and a name annotation.
 
 ghost use Rattle.wat_tokens.specs.Reads.{Reads};
 ghost use Rattle.wat_tokens.specs.Views.{plain};
@@ -6,7 +6,7 @@ ghost use Rattle.wat_types.specs.Label.{label, label_view};
 
 use wat_tokens::{Id, NameAnnotation, Parse, Parser, Result};
 
-/// An identifier and a name, each there or not: `id? name?`.
+/// Reads a label, `id? name?`: an optional identifier, and an optional name annotation.
 #[tactic(auto, unfolding(crate::specs::Label::label))]
 pub fn take_label<'a>(
     parser: &mut Parser<'a>,

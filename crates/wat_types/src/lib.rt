@@ -1,7 +1,7 @@
 //! Types of the WebAssembly text format (WebAssembly Core Specification, Text Format, "Types").
 //!
-//! Each is read from tokens by [`wat_tokens::Parse`], and looked for by [`wat_tokens::Peek`].
-//! Indices stay as they are written: nothing is resolved.
+//! Each type is read from tokens by [`wat_tokens::Parse`]. [`wat_tokens::Peek`] tests whether one
+//! is next. Indices aren't resolved.
 #![tactic(auto)]
 
 pub mod define;

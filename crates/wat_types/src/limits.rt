@@ -10,42 +10,42 @@ ghost use Rattle.wat_types.specs.Limits.{table_type_view, table_type};
 use crate::reference::RefType;
 use wat_tokens::{Error, Fault, Parse, Parser, Result};
 
-/// How large a table or a memory is at first, and how large it may become (Text Format, Types,
-/// "Limits").
+/// The minimum and the maximum size of a table or a memory (WebAssembly Core Specification, Text
+/// Format, Types, "Limits").
 #[derive(Clone, Copy, Debug, PartialEq, Eq, Hash)]
 pub struct Limits {
-    /// Whether its addresses have 64 bits.
+    /// Whether addresses have 64 bits: `i64`.
     pub is64: bool,
-    /// The size at first.
+    /// The minimum size, in elements or pages.
     pub min: u64,
-    /// The greatest size, where one is given.
+    /// The maximum size, in elements or pages, if any.
     pub max: Option<u64>,
 }
 
-/// A table type (Text Format, Types, "Table Types").
+/// A table type (WebAssembly Core Specification, Text Format, Types, "Table Types").
 #[derive(Clone, Copy, Debug, PartialEq, Eq, Hash)]
 pub struct TableType<'a> {
-    /// How many elements it has.
+    /// The size, in elements.
     pub limits: Limits,
-    /// The type of an element.
+    /// The element type.
     pub elem: RefType<'a>,
-    /// Whether it is shared among threads.
+    /// Whether the text has `shared`: threads share the table.
     pub shared: bool,
 }
 
-/// A memory type (Text Format, Types, "Memory Types").
+/// A memory type (WebAssembly Core Specification, Text Format, Types, "Memory Types").
 #[derive(Clone, Copy, Debug, PartialEq, Eq, Hash)]
 pub struct MemoryType {
-    /// How many pages it has.
+    /// The size, in pages.
     pub limits: Limits,
-    /// Whether it is shared among threads.
+    /// Whether the text has `shared`: threads share the memory.
     pub shared: bool,
-    /// The k for which a page has 2 to the k bytes, where that is given.
+    /// The page size, as the exponent k of 2^k bytes, if the text gives one.
     pub page_size_log2: Option<u32>,
 }
 
-/// Takes `i64` or `i32`, where it is in front, and answers whether it is `i64` (Text Format, Types,
-/// "Limits").
+/// Reads an optional `i64` or `i32`, and returns whether it is `i64` (WebAssembly Core
+/// Specification, Text Format, Types, "Limits").
 #[tactic(auto, unfolding(crate::specs::Limits::is_64))]
 pub fn take_is64<'a>(parser: &mut Parser<'a>) -> Result<bool>
     ensures reads { Reads (plain (λ b. b)) is_64 result parser.old parser.new }
@@ -57,8 +57,8 @@ pub fn take_is64<'a>(parser: &mut Parser<'a>) -> Result<bool>
     Ok(false)
 }
 
-/// `i32`, `i64` or neither, and then one or two numbers. A number is read without a sign in 64
-/// bits: it is refused with Range, at the number, where it is too large or a `-` is written.
+/// Reads an optional `i32` or `i64`, and one or two numbers. A number with a `-`, or one that needs
+/// more than 64 bits, is the error Range, at the number.
 impl<'a> Parse<'a> for Limits {
     ghost use Rattle.wat_types.specs.declared.limits.Limits.{Limits};
     ghost use Rattle.wat_types.specs.Limits.{limits_type};
@@ -82,7 +82,7 @@ impl<'a> Parse<'a> for Limits {
     }
 }
 
-/// The k for which the number is 2 to the k.
+/// The exponent k of the number 2^k.
 #[tactic(auto, using(crate::proofs::ExponentFound::exponent_of_none))]
 fn exponent(number: u32) -> Option<u32>
     ensures { result ≡ exponent number }
@@ -94,8 +94,8 @@ fn exponent(number: u32) -> Option<u32>
     if 2u32.pow(k) == number { Some(k) } else { None }
 }
 
-/// Takes a power of two of 32 bits, and answers its exponent. Another number is refused with
-/// PageSize, at the number.
+/// Reads a 32-bit power of two, and returns its exponent. Any other number is the error PageSize,
+/// at the number.
 #[tactic(auto, unfolding(crate::specs::Limits::page_exponent))]
 fn take_exponent<'a>(parser: &mut Parser<'a>) -> Result<u32>
     ensures reads { Reads (plain (λ k. k)) page_exponent result parser.old parser.new }
@@ -107,12 +107,12 @@ fn take_exponent<'a>(parser: &mut Parser<'a>) -> Result<u32>
     }
 }
 
-/// Takes `( pagesize number )`, where `(` and `pagesize` are in front, and answers the k for which
-/// the number is 2 to the k (Text Format, Types, "Memory Types", with the size of a page). Else it
-/// takes nothing and answers None.
+/// Reads `( pagesize number )` if `( pagesize` is next, and returns the exponent k of the number
+/// 2^k (WebAssembly Core Specification, Text Format, Types, "Memory Types", with the proposal
+/// "Custom Page Sizes"). Otherwise it reads nothing and returns None.
 ///
-/// A number that is no power of two is refused with PageSize, at the number, and one that is too
-/// large for 32 bits or has a `-` with Range.
+/// A number that isn't a power of two is the error PageSize, at the number. A number with a `-`, or
+/// one that needs more than 32 bits, is the error Range, at the number.
 #[tactic(auto, unfolding(crate::specs::Limits::pagesize_or_none, crate::specs::Limits::pagesize))]
 pub fn page_size<'a>(parser: &mut Parser<'a>) -> Result<Option<u32>>
     ensures reads { Reads (plain (λ k. k)) pagesize_or_none result parser.old parser.new }
@@ -127,7 +127,7 @@ pub fn page_size<'a>(parser: &mut Parser<'a>) -> Result<Option<u32>>
     Ok(Some(k))
 }
 
-/// `shared` or not, limits, and the type of an element.
+/// Reads an optional `shared`, [`Limits`], and the element type.
 impl<'a> Parse<'a> for TableType<'a> {
     ghost View = { TableTy };
 
@@ -148,7 +148,7 @@ impl<'a> Parse<'a> for TableType<'a> {
     }
 }
 
-/// Limits, `shared` or not, and the size of a page or not.
+/// Reads [`Limits`], an optional `shared`, and an optional page size, by [`page_size`].
 impl<'a> Parse<'a> for MemoryType {
     ghost use Rattle.wat_types.specs.declared.limits.MemoryType.{MemoryType};
     ghost use Rattle.wat_types.specs.Limits.{memory_type};

@@ -2,7 +2,6 @@
 
 ghost use Rattle.std.specs.Prelude.{◌≡◌, IfSome};
 ghost use Rattle.wat_tokens.specs.Lookup.{in_front};
-ghost use Rattle.wat_tokens.specs.Tests.{look_up};
 ghost use Rattle.wat_tokens.specs.Views.{plain};
 ghost use Rattle.wat_types.specs.Reference.{RefTy, ref_type, ref_view, shorthand, shorthand_words};
 ghost use Rattle.wat_types.specs.Reference.{begins_shorthand, begins_long_ref, begins_ref};
@@ -10,43 +9,46 @@ ghost use Rattle.wat_types.specs.Reference.{nullable_ref, shared_ref};
 
 use crate::heap::{AbstractHeapType, HeapType};
 use wat_tokens::enclosed::in_word_group;
-use wat_tokens::{Cursor, Error, Fault, Parse, Parser, Peek, Result};
+use wat_tokens::words::{NamedByKeyword, begins_named, take_named};
+use wat_tokens::{Cursor, Parse, Parser, Peek, Result};
 
-/// A reference type (Text Format, Types, "Reference Types").
+/// A reference type (WebAssembly Core Specification, Text Format, Types, "Reference Types").
 #[derive(Clone, Copy, Debug, PartialEq, Eq, Hash)]
 pub struct RefType<'a> {
-    /// Whether the null reference is among its values.
+    /// Whether null is a value of the type.
     pub nullable: bool,
-    /// What it refers to.
+    /// The heap type of the referenced values.
     pub heap: HeapType<'a>,
 }
 
-/// The heap type that a shorthand names (Text Format, Types, "Reference Types", "Abbreviations").
-fn shorthand_of(word: &str) -> Option<AbstractHeapType>
-    ensures { result ≡ look_up shorthand_words word.now }
-{
-    match word {
-        "funcref" => Some(AbstractHeapType::Func),
-        "externref" => Some(AbstractHeapType::Extern),
-        "exnref" => Some(AbstractHeapType::Exn),
-        "contref" => Some(AbstractHeapType::Cont),
-        "anyref" => Some(AbstractHeapType::Any),
-        "eqref" => Some(AbstractHeapType::Eq),
-        "structref" => Some(AbstractHeapType::Struct),
-        "arrayref" => Some(AbstractHeapType::Array),
-        "i31ref" => Some(AbstractHeapType::I31),
-        "nullfuncref" => Some(AbstractHeapType::NoFunc),
-        "nullexternref" => Some(AbstractHeapType::NoExtern),
-        "nullexnref" => Some(AbstractHeapType::NoExn),
-        "nullcontref" => Some(AbstractHeapType::NoCont),
-        "nullref" => Some(AbstractHeapType::None),
-        _ => None,
+/// A shorthand, by the heap type that it names.
+#[derive(Clone, Copy)]
+struct Shorthand(AbstractHeapType);
+
+/// The shorthand that a keyword is (Text Format, Types, "Reference Types", "Abbreviations").
+impl NamedByKeyword for Shorthand {
+    ghost words = { shorthand_words };
+
+    fn named(word: &str) -> Option<Self> {
+        match word {
+            "funcref" => Some(Shorthand(AbstractHeapType::Func)),
+            "externref" => Some(Shorthand(AbstractHeapType::Extern)),
+            "exnref" => Some(Shorthand(AbstractHeapType::Exn)),
+            "contref" => Some(Shorthand(AbstractHeapType::Cont)),
+            "anyref" => Some(Shorthand(AbstractHeapType::Any)),
+            "eqref" => Some(Shorthand(AbstractHeapType::Eq)),
+            "structref" => Some(Shorthand(AbstractHeapType::Struct)),
+            "arrayref" => Some(Shorthand(AbstractHeapType::Array)),
+            "i31ref" => Some(Shorthand(AbstractHeapType::I31)),
+            "nullfuncref" => Some(Shorthand(AbstractHeapType::NoFunc)),
+            "nullexternref" => Some(Shorthand(AbstractHeapType::NoExtern)),
+            "nullexnref" => Some(Shorthand(AbstractHeapType::NoExn)),
+            "nullcontref" => Some(Shorthand(AbstractHeapType::NoCont)),
+            "nullref" => Some(Shorthand(AbstractHeapType::None)),
+            _ => None,
+        }
     }
 }
-
-/// A shorthand, by the heap type that it names.
-#[derive(Drop)]
-struct Shorthand(AbstractHeapType);
 
 impl<'a> Parse<'a> for Shorthand {
     ghost use Rattle.wat_types.specs.declared.heap.AbstractHeapType.{AbstractHeapType};
@@ -58,13 +60,9 @@ impl<'a> Parse<'a> for Shorthand {
 
     ghost grammar = { shorthand };
 
-    #[tactic(auto, using(wat_tokens::specs::Laws::Begin::table_reads), unfolding(crate::specs::Reference::shorthand))]
+    #[tactic(auto, unfolding(crate::specs::Reference::shorthand))]
     fn parse(parser: &mut Parser<'a>) -> Result<Self> {
-        let span = parser.cur_span();
-        match shorthand_of(parser.take_keyword()?) {
-            Some(ty) => Ok(Shorthand(ty)),
-            None => Err(Error::at(Fault::Unexpected, span)),
-        }
+        take_named(parser)
     }
 }
 
@@ -93,18 +91,15 @@ impl<'a> Parse<'a> for LongRef<'a> {
     }
 }
 
-/// Whether a shorthand is there.
-#[tactic(auto, using(wat_tokens::specs::Laws::Begin::table_begins), unfolding(crate::specs::Reference::begins_shorthand))]
+/// Whether a shorthand is next.
+#[tactic(auto, unfolding(crate::specs::Reference::begins_shorthand))]
 pub(crate) fn shorthand_at(cursor: Cursor<'_>) -> bool
     ensures { result ≡ begins_shorthand (in_front cursor.entry) }
 {
-    match cursor.keyword() {
-        Some((word, _)) => shorthand_of(word).is_some(),
-        None => false,
-    }
+    begins_named::<Shorthand>(cursor)
 }
 
-/// Whether a reference type in parentheses is there.
+/// Whether a reference type in parentheses is next.
 pub(crate) fn long_ref_at(cursor: Cursor<'_>) -> bool
     ensures { result ≡ begins_long_ref (in_front cursor.entry) }
 {
@@ -122,105 +117,105 @@ impl<'a> RefType<'a> {
         }
     }
 
-    /// `funcref`
+    /// Returns `funcref`.
     pub fn func() -> RefType<'a>
         ensures { result ≡ nullable_ref AbstractHeapType.Func }
     {
         RefType::nullable(AbstractHeapType::Func)
     }
 
-    /// `externref`
+    /// Returns `externref`.
     pub fn extern_() -> RefType<'a>
         ensures { result ≡ nullable_ref AbstractHeapType.Extern }
     {
         RefType::nullable(AbstractHeapType::Extern)
     }
 
-    /// `exnref`
+    /// Returns `exnref`.
     pub fn exn() -> RefType<'a>
         ensures { result ≡ nullable_ref AbstractHeapType.Exn }
     {
         RefType::nullable(AbstractHeapType::Exn)
     }
 
-    /// `contref`
+    /// Returns `contref`.
     pub fn cont() -> RefType<'a>
         ensures { result ≡ nullable_ref AbstractHeapType.Cont }
     {
         RefType::nullable(AbstractHeapType::Cont)
     }
 
-    /// `anyref`
+    /// Returns `anyref`.
     pub fn any() -> RefType<'a>
         ensures { result ≡ nullable_ref AbstractHeapType.Any }
     {
         RefType::nullable(AbstractHeapType::Any)
     }
 
-    /// `eqref`
+    /// Returns `eqref`.
     pub fn eq() -> RefType<'a>
         ensures { result ≡ nullable_ref AbstractHeapType.Eq }
     {
         RefType::nullable(AbstractHeapType::Eq)
     }
 
-    /// `structref`
+    /// Returns `structref`.
     pub fn struct_() -> RefType<'a>
         ensures { result ≡ nullable_ref AbstractHeapType.Struct }
     {
         RefType::nullable(AbstractHeapType::Struct)
     }
 
-    /// `arrayref`
+    /// Returns `arrayref`.
     pub fn array() -> RefType<'a>
         ensures { result ≡ nullable_ref AbstractHeapType.Array }
     {
         RefType::nullable(AbstractHeapType::Array)
     }
 
-    /// `i31ref`
+    /// Returns `i31ref`.
     pub fn i31() -> RefType<'a>
         ensures { result ≡ nullable_ref AbstractHeapType.I31 }
     {
         RefType::nullable(AbstractHeapType::I31)
     }
 
-    /// `nullfuncref`
+    /// Returns `nullfuncref`.
     pub fn nullfuncref() -> RefType<'a>
         ensures { result ≡ nullable_ref AbstractHeapType.NoFunc }
     {
         RefType::nullable(AbstractHeapType::NoFunc)
     }
 
-    /// `nullexternref`
+    /// Returns `nullexternref`.
     pub fn nullexternref() -> RefType<'a>
         ensures { result ≡ nullable_ref AbstractHeapType.NoExtern }
     {
         RefType::nullable(AbstractHeapType::NoExtern)
     }
 
-    /// `nullref`
+    /// Returns `nullref`.
     pub fn nullref() -> RefType<'a>
         ensures { result ≡ nullable_ref AbstractHeapType.None }
     {
         RefType::nullable(AbstractHeapType::None)
     }
 
-    /// `nullexnref`
+    /// Returns `nullexnref`.
     pub fn nullexnref() -> RefType<'a>
         ensures { result ≡ nullable_ref AbstractHeapType.NoExn }
     {
         RefType::nullable(AbstractHeapType::NoExn)
     }
 
-    /// `nullcontref`
+    /// Returns `nullcontref`.
     pub fn nullcontref() -> RefType<'a>
         ensures { result ≡ nullable_ref AbstractHeapType.NoCont }
     {
         RefType::nullable(AbstractHeapType::NoCont)
     }
 
-    /// The shared type, where the heap type is abstract.
+    /// Returns the type with the shared heap type, or None if the heap type isn't abstract.
     pub fn shared(self) -> Option<RefType<'a>>
         ensures { result ≡ shared_ref self.entry }
     {
@@ -233,13 +228,15 @@ impl<'a> RefType<'a> {
         }
     }
 
-    /// A type that was made shared is the same, made shared once more.
+    /// A law of [`shared`](RefType::shared): making a shared type shared changes nothing. The
+    /// function does nothing: it is public for its contract alone.
     pub fn shared_again()
         ensures { (t : RefType) → IfSome (shared_ref t) (λ s. shared_ref s ≡ Some s) }
     {}
 }
 
-/// `( ref null? HeapType )`, `( shared shorthand )`, or a shorthand.
+/// Reads `( ref null? HeapType )`, a shorthand such as `funcref`, or `( shared shorthand )`
+/// (WebAssembly Core Specification, Text Format, Types, "Reference Types", Abbreviations).
 impl<'a> Parse<'a> for RefType<'a> {
     ghost View = { RefTy };
 
@@ -267,7 +264,7 @@ impl<'a> Parse<'a> for RefType<'a> {
     }
 }
 
-/// A shorthand, or `(` and `ref` or `shared`.
+/// A [`RefType`] begins at a shorthand, `( ref` or `( shared`.
 impl<'p> Peek for RefType<'p> {
     ghost begins = { begins_ref };
 

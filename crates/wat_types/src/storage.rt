@@ -8,8 +8,8 @@ ghost use Rattle.wat_types.specs.Storage.{global_type_view, global_type, long_gl
 use crate::value::ValType;
 use wat_tokens::{Parse, Parser, Result};
 
-/// The type of what a field of a structure or an array holds (Text Format, Types, "Composite
-/// Types").
+/// The type of a structure field or an array element (WebAssembly Core Specification, Text Format,
+/// Types, "Composite Types").
 #[derive(Clone, Copy, Debug, PartialEq, Eq, Hash)]
 pub enum StorageType<'a> {
     /// `i8`
@@ -20,19 +20,18 @@ pub enum StorageType<'a> {
     Val(ValType<'a>),
 }
 
-/// The type of a global (Text Format, Types, "Global Types").
+/// A global type (WebAssembly Core Specification, Text Format, Types, "Global Types").
 #[derive(Clone, Copy, Debug, PartialEq, Eq, Hash)]
 pub struct GlobalType<'a> {
-    /// The type of its value.
+    /// The value type.
     pub ty: ValType<'a>,
-    /// Whether it may be written.
+    /// Whether the text has `mut`: the value can change.
     pub mutable: bool,
-    /// Whether it is shared among threads.
+    /// Whether the text has `shared`: threads share the global.
     pub shared: bool,
 }
 
-/// `i8`, `i16`, or a value type. Where none of them begins, it is refused with Unexpected, at the
-/// token in front.
+/// Reads `i8`, `i16`, or a [`ValType`]. Any other token is the error Unexpected, at the token.
 impl<'a> Parse<'a> for StorageType<'a> {
     ghost View = { StorageTy };
 
@@ -62,9 +61,9 @@ fn long_global_next(parser: &Parser<'_>) -> bool
     parser.second_is("shared") || parser.second_is("mut")
 }
 
-/// `( shared? mut? ValType )` where the second token is `shared` or `mut`, else a value type. So
-/// `(shared funcref)` is a shared global of `funcref`, and `(mut (shared funcref))` a mutable
-/// global of a shared reference.
+/// Reads `( shared? mut? ValType )` if the second token is `shared` or `mut`, and otherwise a
+/// [`ValType`]. So `(shared funcref)` is a shared global of type `funcref`, and `(mut (shared
+/// funcref))` a mutable global of a shared reference type.
 impl<'a> Parse<'a> for GlobalType<'a> {
     ghost View = { GlobalTy };
 

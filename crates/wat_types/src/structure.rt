@@ -21,9 +21,9 @@ use wat_tokens::{Fault, Id, NameAnnotation, Parse, Parser, Result};
 /// An array type (WebAssembly Core Specification, Text Format, Types, "Composite Types").
 #[derive(Clone, Debug, Drop)]
 pub struct ArrayType<'a> {
-    /// Whether an element may be changed.
+    /// Whether the text has `mut`: elements can change.
     pub mutable: bool,
-    /// What an element holds.
+    /// The element type.
     pub ty: StorageType<'a>,
 }
 
@@ -31,24 +31,24 @@ pub struct ArrayType<'a> {
 /// Types").
 #[derive(Clone, Debug, Drop)]
 pub struct StructField<'a> {
-    /// Its identifier.
+    /// The identifier.
     pub id: Option<Id<'a>>,
-    /// The name that an annotation gives.
+    /// The name from a name annotation.
     pub name: Option<NameAnnotation<'a>>,
-    /// Whether it may be changed.
+    /// Whether the text has `mut`: the field can change.
     pub mutable: bool,
-    /// What it holds.
+    /// The type of the field's value.
     pub ty: StorageType<'a>,
 }
 
 /// A structure type (WebAssembly Core Specification, Text Format, Types, "Composite Types").
 #[derive(Debug, Drop)]
 pub struct StructType<'a> {
-    /// The fields.
+    /// The fields, in order.
     pub fields: Vec<StructField<'a>>,
 }
 
-/// Where the second token is `mut`: `( mut StorageType )`; else a storage type.
+/// Reads `( mut StorageType )` if the second token is `mut`, and otherwise a [`StorageType`].
 impl<'a> Parse<'a> for ArrayType<'a> {
     ghost View = { FieldTy };
 
@@ -94,7 +94,7 @@ impl<'a> Part<'a, StructField<'a>> for PlainField {
     }
 }
 
-/// The fields of a group, each put behind those that are there.
+/// Appends the fields of a group to `out`.
 #[tactic(auto, using(crate::specs::Laws::FieldType::field_type_consumes), unfolding(crate::specs::Struct::members, crate::specs::Struct::plain_members))]
 fn read_fields<'a>(parser: &mut Parser<'a>, out: &mut Vec<StructField<'a>>) -> Result<()>
     ensures reads { Call tokens_alone (owning (λ _. members_view out.new.items) no_items)
@@ -143,7 +143,7 @@ impl<'a> Group<'a, StructField<'a>> for FieldGroup {
 }
 
 impl<'a> StructType<'a> {
-    /// The same structure type once more. Memory may be answered where it has a field.
+    /// Returns a copy of the structure type. Returns the error Memory only if the type has a field.
     pub fn clone(&self) -> Result<StructType<'a>>
         ensures copies { Copies (λ x y. y.fields.items ≡ x.fields.items)
             (owning struct_view no_items) result self.now }
@@ -156,9 +156,9 @@ impl<'a> StructType<'a> {
     }
 }
 
-/// Groups, up to the end of the group that they are in: `( field id? name? StructField )` with an
-/// id or a name, and `( field StructField* )`. A StructField is, where the second token is `mut`,
-/// `( mut StorageType )`, else a storage type.
+/// Reads groups up to the end of the enclosing group: `( field id? name? F )` with an identifier or
+/// a name annotation, and `( field F* )`. F is `( mut StorageType )` if the second token is `mut`,
+/// and otherwise a [`StorageType`].
 impl<'a> Parse<'a> for StructType<'a> {
     ghost View = { List MemberTy };
 

@@ -12,16 +12,16 @@ use crate::function::FunctionType;
 use crate::type_use::TypeUse;
 use wat_tokens::{Fault, Parse, Parser, Result};
 
-/// The type of a tag (WebAssembly Core Specification, Text Format, "Tags" and "Type Uses").
+/// A tag type (WebAssembly Core Specification, Text Format, "Tags" and "Type Uses").
 #[derive(Debug, Drop)]
 pub enum TagType<'a> {
-    /// The tag of an exception: its parameters are what the exception carries.
+    /// The tag of an exception. The parameters are the values that the exception carries.
     Exception(TypeUse<'a, FunctionType<'a>>),
 }
 
 impl<'a> TagType<'a> {
-    /// The same type once more. Memory may be answered where its inline type has a parameter or a
-    /// result.
+    /// Returns a copy of the tag type. Returns the error Memory only if the inline type has a
+    /// parameter or a result.
     pub fn clone(&self) -> Result<TagType<'a>>
         ensures copies { Copies SameTag (owning tag_type_view (bare_use bare_function)) result
             self.now }
@@ -32,7 +32,7 @@ impl<'a> TagType<'a> {
     }
 }
 
-/// As a [`TypeUse`] of a [`FunctionType`].
+/// Reads a [`TypeUse`] of a [`FunctionType`].
 impl<'a> Parse<'a> for TagType<'a> {
     ghost View = { UseTy FuncTy };
 

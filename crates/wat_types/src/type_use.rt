@@ -11,18 +11,18 @@ use crate::function::{FunctionType, FunctionTypeNoNames};
 use wat_tokens::enclosed::in_word_group;
 use wat_tokens::{Fault, Index, Parse, Parser, Peek, Result};
 
-/// A use of a type (WebAssembly Core Specification, Text Format, "Type Uses"): its index, the type
-/// written in line, both or neither.
+/// A type use: an index, an inline type, both or neither (WebAssembly Core Specification, Text
+/// Format, "Type Uses").
 #[derive(Debug, Drop)]
 pub struct TypeUse<'a, T> {
-    /// The index of the type, where `(type ..)` is written.
+    /// The index in `(type ..)`, if any.
     pub index: Option<Index<'a>>,
-    /// The type that is written in line.
+    /// The inline type, if any.
     pub inline: Option<T>,
 }
 
 impl<'a, T> TypeUse<'a, T> {
-    /// The use of the type with the index, and none in line.
+    /// Returns the type use with the index and without an inline type.
     pub fn new_with_index(idx: Index<'a>) -> TypeUse<'a, T>
         ensures index { result.index ≡ Some idx.entry }
         ensures inline { result.inline ≡ None }
@@ -34,8 +34,8 @@ impl<'a, T> TypeUse<'a, T> {
     }
 }
 
-/// `( type idx )`, where the second token is `type`, and then T, where one begins. Where a token
-/// other than `(` stands before `type`, it is refused with Unexpected, at that token.
+/// Reads `( type idx )` if the second token is `type`, and then a T if a T begins next. Any other
+/// token than `(` before `type` is the error Unexpected, at the token.
 impl<'a, T: Parse<'a> + Peek> Parse<'a> for TypeUse<'a, T> {
     ghost View = { UseTy T.View };
 
@@ -58,8 +58,8 @@ impl<'a, T: Parse<'a> + Peek> Parse<'a> for TypeUse<'a, T> {
 }
 
 impl<'a> TypeUse<'a, FunctionType<'a>> {
-    /// The same use once more. Memory may be answered where its inline type has a parameter or a
-    /// result.
+    /// Returns a copy of the type use. Returns the error Memory only if the inline type has a
+    /// parameter or a result.
     pub fn clone(&self) -> Result<Self>
         ensures copies { Copies (SameUse SameFunction) (owning (use_view function_view)
             (bare_use bare_function)) result self.now }
@@ -72,8 +72,8 @@ impl<'a> TypeUse<'a, FunctionType<'a>> {
 }
 
 impl<'a> TypeUse<'a, FunctionTypeNoNames<'a>> {
-    /// The same use once more. Memory may be answered where its inline type has a parameter or a
-    /// result.
+    /// Returns a copy of the type use. Returns the error Memory only if the inline type has a
+    /// parameter or a result.
     pub fn clone(&self) -> Result<Self>
         ensures copies { Copies (SameUse SameUnnamed) (owning (use_view unnamed_view)
             (bare_use bare_function)) result self.now }
@@ -89,7 +89,7 @@ impl<'a> TypeUse<'a, FunctionTypeNoNames<'a>> {
     }
 }
 
-/// With the same index, and with the function type that was in the inline type.
+/// The same type use, with the function type inside the inline type.
 impl<'a> From<TypeUse<'a, FunctionTypeNoNames<'a>>> for TypeUse<'a, FunctionType<'a>> {
     ghost from_gives = { λ u v. v ≡ with_names u };
 

@@ -9,7 +9,7 @@ ghost use Rattle.wat_types.specs.Value.{begins_val};
 use crate::reference::{RefType, long_ref_at, shorthand_at};
 use wat_tokens::{Cursor, Parse, Parser, Peek, Result};
 
-/// A value type (Text Format, Types, "Value Types").
+/// A value type (WebAssembly Core Specification, Text Format, Types, "Value Types").
 #[derive(Clone, Copy, Debug, PartialEq, Eq, Hash)]
 pub enum ValType<'a> {
     /// `i32`
@@ -26,7 +26,7 @@ pub enum ValType<'a> {
     Ref(RefType<'a>),
 }
 
-/// The type of numbers or vectors that a word names (Text Format, Types, "Number Types" and "Vector
+/// The number or vector type that a keyword names (Text Format, Types, "Number Types" and "Vector
 /// Types").
 fn plain<'a>(word: &str) -> Option<ValType<'a>>
     ensures { IsPlain word.now result }
@@ -41,7 +41,7 @@ fn plain<'a>(word: &str) -> Option<ValType<'a>>
     }
 }
 
-/// `i32`, `i64`, `f32`, `f64`, `v128`, or a reference type.
+/// Reads `i32`, `i64`, `f32`, `f64`, `v128`, or a [`RefType`].
 impl<'a> Parse<'a> for ValType<'a> {
     ghost View = { ValTy };
 
@@ -65,7 +65,7 @@ impl<'a> Parse<'a> for ValType<'a> {
     }
 }
 
-/// Whether one of the five words is there.
+/// Whether the keyword of a number or vector type is next.
 #[tactic(auto, using(wat_tokens::specs::Laws::Begin::table_begins), unfolding(crate::specs::Value::begins_plain))]
 fn plain_at(cursor: Cursor<'_>) -> bool
     ensures { result ≡ begins_plain (in_front cursor.entry) }
@@ -76,7 +76,7 @@ fn plain_at(cursor: Cursor<'_>) -> bool
     }
 }
 
-/// One of the five words, or what begins a reference type.
+/// A [`ValType`] begins at `i32`, `i64`, `f32`, `f64` or `v128`, and where a [`RefType`] begins.
 impl<'p> Peek for ValType<'p> {
     ghost begins = { begins_val };
 

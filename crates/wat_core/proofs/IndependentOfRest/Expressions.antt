@@ -24,9 +24,9 @@ record Beside (t u ts : List Tok) : Type 0 where
 abbrev at_once : (t u ts : List Tok) → ts ≡ t → Beside t u ts
 at_once t u ts e = record { front = []; new = u; old_is = e; new_is = refl }
 
--- behind tokens c in both
-abbrev behind : {t u m : List Tok} (ts c : List Tok) → ts ≡ c ++ m → Beside t u m → Beside t u ts
-behind {t = t} {u = u} ts c e b = record {
+-- the tokens c before both
+abbrev with_prefix : {t u m : List Tok} (ts c : List Tok) → ts ≡ c ++ m → Beside t u m → Beside t u ts
+with_prefix {t = t} {u = u} ts c e b = record {
   front = c ++ b.front;
   new = c ++ b.new;
   old_is = e ∙ ap (λ (x : List Tok). c ++ x) b.old_is ∙ sym (append_assoc c b.front t);
@@ -53,7 +53,7 @@ Moves P = (ts t u : List Tok) → Alike true t u → P ts t → (b : Beside t u 
 -- before tokens c, and what has moved behind them
 moves_before : {P : List Tok → List Tok → Type 0} {t u m : List Tok} → Moves P → (ts c : List Tok) → Alike true t u → (b : Beside t u m) → P ts (c ++ m) → (d : Beside t u ts) × P d.new (c ++ b.new)
 moves_before {m = m} p ts c a b s =
-    let d = behind (c ++ m) c refl b in
+    let d = with_prefix (c ++ m) c refl b in
     let y = p ts (c ++ m) (c ++ b.new) (alike_beside a d) s in
     (further d y.0, y.1)
 
@@ -68,7 +68,7 @@ group_moves {t = t} {u = u} i p q ts a b d al e h sp sq =
     let x = q d t u al sq in
     let y = moves_before p b (RParen ∷ []) al x.0 sp in
     let f = moves_before (reads_move i) a [] al y.0 h in
-    (behind ts (LParen ∷ []) e f.0, f.0.new, y.0.new, x.0.new, refl {a = LParen ∷ f.0.new}, f.1, y.1, x.1)
+    (with_prefix ts (LParen ∷ []) e f.0, f.0.new, y.0.new, x.0.new, refl {a = LParen ∷ f.0.new}, f.1, y.1, x.1)
 
 -- ---- items
 
@@ -89,17 +89,17 @@ lists_move (IfThen i ops th xs) ts t u al (a, b, d, e, q, s, h, g, lo, lt, lx) =
     let y = moves_before (lists_move th) d (RParen ∷ RParen ∷ []) al x.0 lt in
     let o = moves_before (lists_move ops) b (LParen ∷ keyword (codes "then") ∷ []) al y.0 lo in
     let f = moves_before (reads_move i) a [] al o.0 h in
-    (behind ts (LParen ∷ []) q f.0, (f.0.new, o.0.new, y.0.new, x.0.new, refl, s, f.1, g, o.1, y.1, x.1))
+    (with_prefix ts (LParen ∷ []) q f.0, (f.0.new, o.0.new, y.0.new, x.0.new, refl, s, f.1, g, o.1, y.1, x.1))
 lists_move (IfElse i ops th el xs) ts t u al (a, b, d, e, j, q, s, h, g, lo, lt, le, lx) =
     let x = lists_move xs j t u al lx in
     let z = moves_before (lists_move el) e (RParen ∷ RParen ∷ []) al x.0 le in
     let y = moves_before (lists_move th) d (RParen ∷ LParen ∷ keyword (codes "else") ∷ []) al z.0 lt in
     let o = moves_before (lists_move ops) b (LParen ∷ keyword (codes "then") ∷ []) al y.0 lo in
     let f = moves_before (reads_move i) a [] al o.0 h in
-    (behind ts (LParen ∷ []) q f.0, (f.0.new, o.0.new, y.0.new, z.0.new, x.0.new, refl, s, f.1, g, o.1, y.1, z.1, x.1))
+    (with_prefix ts (LParen ∷ []) q f.0, (f.0.new, o.0.new, y.0.new, z.0.new, x.0.new, refl, s, f.1, g, o.1, y.1, z.1, x.1))
 lists_move (Hinted v xs) ts t u al (d, e, lt, g, l) =
     let x = lists_move xs d t u al l in
-    (behind ts (LParen ∷ hint_name ∷ String (v ∷ []) ∷ RParen ∷ []) e x.0, (x.0.new, refl, lt, g, x.1))
+    (with_prefix ts (LParen ∷ hint_name ∷ String (v ∷ []) ∷ RParen ∷ []) e x.0, (x.0.new, refl, lt, g, x.1))
 
 -- groups of a folded instruction of any kind
 groups_move : (gs : Groups) → Moves (groups gs)

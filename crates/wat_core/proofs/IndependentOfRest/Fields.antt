@@ -5,7 +5,7 @@ use Rattle.wat_types.specs.Limits.{is_64}
 use Rattle.wat_types.specs.Reference.{begins_ref}
 use Rattle.wat_fields.specs.Local.{labelled_local, plain_locals, listed_locals, local_parser}
 use Rattle.wat_fields.specs.Locals.{locals}
-use Rattle.wat_fields.specs.Func.{exact_use, func_import, func_inline, func_defined, func}
+use Rattle.wat_fields.specs.Func.{func_import, func_inline, func_defined, func}
 use Rattle.wat_fields.specs.Global.{global_defined, global}
 use Rattle.wat_fields.specs.Tag.{tag}
 use Rattle.wat_fields.specs.Numbers.{other_numbers, wide_numbers, number_list}
@@ -24,7 +24,7 @@ use Rattle.wat_core.proofs.IndependentOfRest.Productions.{IndependentOfRest, ind
 use Rattle.wat_core.proofs.IndependentOfRest.Types.{label_independent, val_independent, begins_label_test, ref_independent, begins_ref_test, global_independent, pagesize_independent, table_independent, memory_independent, tag_independent, type_independent, rec_independent}
 use Rattle.wat_core.proofs.IndependentOfRest.Operands.{v128_const_independent, instruction_independent}
 use Rattle.wat_core.proofs.IndependentOfRest.Expressions.{expression_independent, folded_independent}
-use Rattle.wat_core.proofs.IndependentOfRest.Links.{func_use_independent, imports_independent, inline_import_independent, export_independent, head_independent, custom_independent}
+use Rattle.wat_core.proofs.IndependentOfRest.Links.{exact_use_independent, func_use_independent, imports_independent, inline_import_independent, export_independent, head_independent, custom_independent}
 
 -- ---- functions, globals and tags
 
@@ -33,8 +33,8 @@ unfolding locals local_parser listed_locals labelled_local plain_locals
 locals_independent = search (independent, begins_label_test, label_independent, val_independent) depth 40
 
 func_independent : IndependentOfRest true func
-unfolding func func_defined func_import func_inline exact_use
-func_independent = search (independent, head_independent, expression_independent, locals_independent, func_use_independent, inline_import_independent) depth 40
+unfolding func func_defined func_import func_inline
+func_independent = search (independent, head_independent, expression_independent, locals_independent, exact_use_independent, func_use_independent, inline_import_independent) depth 40
 
 global_field_independent : IndependentOfRest true global
 unfolding global global_defined

@@ -13,7 +13,7 @@ use Rattle.wat_links.specs.Dylink.{sizes, mem_info_entry, names_entry, lone_entr
 use Rattle.wat_links.specs.DylinkEntries.{export_entry, import_entry}
 use Rattle.wat_links.specs.Subsections.{subsections}
 use Rattle.wat_links.specs.Cutting.{cut_subsections, dylink}
-use Rattle.wat_links.specs.Item.{ItemKindTy, func_use, func_kind, item_of, global_or_tag, item_sig}
+use Rattle.wat_links.specs.Item.{ItemKindTy, func_use, exact_use, func_kind, item_of, global_or_tag, item_sig}
 use Rattle.wat_links.specs.Import.{shared_sig, single_item, typed_list, named_list, typed_items, named_items, import_choice, inline_import}
 use Rattle.wat_links.specs.ImportItem.{typed_item, named_item}
 use Rattle.wat_links.specs.Forms.{import_items, imports}
@@ -32,9 +32,13 @@ func_use_independent = tag_independent
 item_of_independent : {w : List ℕ} {k : Production ItemKindTy} → IndependentOfRest true k → IndependentOfRest true (item_of w k)
 item_of_independent p = made_stands (behind_stands (both_stand label_independent p))
 
+pub exact_use_independent : IndependentOfRest true exact_use
+unfolding exact_use
+exact_use_independent = search (independent, func_use_independent) depth 40
+
 item_independent : IndependentOfRest true item_sig
 unfolding item_sig global_or_tag func_kind
-item_independent = search (independent, item_of_independent, func_use_independent, table_independent, memory_independent, global_independent) depth 40
+item_independent = search (independent, item_of_independent, exact_use_independent, tag_independent, table_independent, memory_independent, global_independent) depth 40
 
 -- ---- imports
 

@@ -3,7 +3,5 @@ use Rattle.std.specs.Prelude.{◌≤◌}
 use Rattle.std.proofs.Common.{arith}
 use Rattle.wat_core.specs.FieldGroup.{field_group}
 
--- ---- the grammar
-
 pub field_group_consumes : 1 ≤ field_group.least
 field_group_consumes = omega arith

@@ -3,7 +3,5 @@ use Rattle.std.specs.Prelude.{◌≤◌}
 use Rattle.std.proofs.Common.{arith}
 use Rattle.wat_fields.specs.Local.{local_group}
 
--- ---- the grammar
-
 pub local_group_consumes : 1 ≤ local_group.least
 local_group_consumes = omega arith

@@ -5,8 +5,6 @@ use Rattle.wat_operands.specs.Vector.{two, four, eight, sixteen, float_const, wi
 use Rattle.wat_operands.specs.Vector.{v128_const}
 use Rattle.wat_fields.specs.VectorBytes.{vector_as_bytes}
 
--- ---- one number, as its bytes, the lowest first
-
 pub vector_consumes : 1 ≤ vector_as_bytes.least
 unfolding v128_const wide_const float_const two four eight sixteen
 vector_consumes = lit≤ tt

@@ -5,8 +5,6 @@ use Rattle.wat_expr.specs.ExpressionProduction.{expression}
 use Rattle.wat_expr.specs.FoldedProduction.{folded_instruction}
 use Rattle.wat_fields.specs.Item.{written_or_folded, item}
 
--- ---- expressions
-
 pub item_consumes : 1 ≤ item.least
 unfolding item written_or_folded expression folded_instruction
 item_consumes = lit≤ tt

@@ -47,9 +47,7 @@ module _ {R : Rests} (s : Tested R) where
 
   call_stands : Stands R 0 call_indirect
   unfolding call_indirect
-  call_stands =
-      made_stands (both_stand (opt_stands s.index (lit≤ tt) (lit≤ tt) (one_stands (refl, refl)))
-      (signature_stands s))
+  call_stands = made_stands (both_stand (index_or_0_stands s) (signature_stands s))
 
   cast_stands : Stands R 0 cast_branch
   unfolding cast_branch

@@ -56,8 +56,8 @@ module _ {R : Rests} (s : Tested R) where
       (made_stands (group_stands (seq_stands (lit≤ tt) (flag_stands (s.word (codes "null")))
       (stands_sooner (lit≤ tt) heap_stands))))
       (where_stands (s.group (codes "shared")) (lit≤ tt) (lit≤ tt)
-      (made_stands (group_stands (one_stands (refl, refl))))
-      (made_stands (one_stands (refl, refl))))
+      (made_stands (group_stands (made_stands (one_stands (refl, refl)))))
+      (made_stands (made_stands (one_stands (refl, refl)))))
 
   pub val_stands : Stands R 0 val_type
   unfolding val_type ref_type shorthand heap_type abstract_heap_type

@@ -4,8 +4,6 @@ use Rattle.std.proofs.Common.{lit≤}
 use Rattle.wat_links.specs.Flags.{flag_list, symbol_flags}
 use Rattle.wat_links.specs.DylinkEntries.{export_entry, import_entry}
 
--- ---- entries of exports and of imports
-
 pub export_entry_consumes : 1 ≤ export_entry.least
 unfolding export_entry symbol_flags flag_list
 export_entry_consumes = lit≤ tt

@@ -1,4 +1,4 @@
--- Laws: the subsections of a `dylink.0` section, as its entries are cut into them.
+-- Laws: the entries of a `dylink.0` section.
 use Rattle.std.specs.Prelude.{◌≤◌}
 use Rattle.std.proofs.Common.{lit≤}
 use Rattle.wat_links.specs.Flags.{flag_list, symbol_flags}

@@ -1,9 +1,7 @@
--- Laws: exports.
+-- Laws: the name of an export within a field.
 use Rattle.std.specs.Prelude.{◌≤◌}
 use Rattle.std.proofs.Common.{lit≤}
 use Rattle.wat_links.specs.InlineName.{inline_name}
-
--- ---- exports in line
 
 pub inline_name_consumes : 1 ≤ inline_name.least
 unfolding inline_name

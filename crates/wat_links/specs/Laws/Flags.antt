@@ -1,4 +1,4 @@
--- Laws: flags of symbols in the `dylink.0` section.
+-- Laws: one flag of a symbol.
 use Rattle.std.specs.Prelude.{◌≤◌}
 use Rattle.std.proofs.Common.{lit≤}
 use Rattle.wat_links.specs.FlagBits.{flag_bits}

@@ -1,9 +1,7 @@
--- Laws: imports.
+-- Laws: one item of an import.
 use Rattle.std.specs.Prelude.{◌≤◌}
 use Rattle.std.proofs.Common.{arith, lit≤}
 use Rattle.wat_links.specs.ImportItem.{typed_item, named_item}
-
--- ---- the grammar
 
 pub typed_item_consumes : 1 ≤ typed_item.least
 unfolding typed_item

@@ -1,9 +1,7 @@
--- Laws: the `producers` section.
+-- Laws: one entry of the producers section.
 use Rattle.std.specs.Prelude.{◌≤◌}
 use Rattle.std.proofs.Common.{lit≤}
 use Rattle.wat_links.specs.ProducerEntry.{field_word, producer_entry}
-
--- ---- entries
 
 pub producer_entry_consumes : 1 ≤ producer_entry.least
 unfolding producer_entry field_word

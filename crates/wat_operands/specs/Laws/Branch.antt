@@ -1,12 +1,10 @@
--- Laws: the labels of a table of branches.
+-- Laws: how the labels of a `br_table` are split.
 use Rattle.std.specs.Prelude.{◌≡◌, List, [], ◌∷◌, ◌++◌, refl}
 use Rattle.std.proofs.Common.{ap, ◌∙◌, subst}
 use Rattle.wat_tokens.specs.Token.{Tok}
 use Rattle.wat_tokens.specs.Index.{Idx}
 use Rattle.wat_operands.specs.Branch.{split, BrTableTy, br_table_of, BrTableSpells}
 use Rattle.wat_operands.specs.Branch.{br_table_split}
-
--- ---- proofs: how the list is split
 
 pub split_whole : (i : Idx) (is : List Idx)
     → i ∷ is ≡ (split i is).labels ++ (split i is).default ∷ []

@@ -3,8 +3,6 @@ use Rattle.std.specs.Prelude.{◌≤◌}
 use Rattle.std.proofs.Common.{arith}
 use Rattle.wat_operands.specs.CatchClause.{catch_kind, catch_clause}
 
--- ---- the grammar
-
 pub catch_clause_consumes : 1 ≤ catch_clause.least
 unfolding catch_clause catch_kind
 catch_clause_consumes = omega arith

@@ -3,8 +3,6 @@ use Rattle.std.specs.Prelude.{◌≤◌}
 use Rattle.std.proofs.Common.{arith}
 use Rattle.wat_operands.specs.Handler.{handler}
 
--- ---- handlers
-
 pub handler_consumes : 1 ≤ handler.least
 unfolding handler
 handler_consumes = omega arith

@@ -4,8 +4,6 @@ use Rattle.wat_tokens.specs.Token.{Tok}
 use Rattle.wat_operands.specs.Laws.Power.{power_of_two-holds, power_of_two-tested}
 use Rattle.wat_operands.specs.Align.{AlignSpells, align_tested}
 
--- ---- words that hold a number
-
 pub align_to : (n : ℕ) (c r : List Tok) → align_tested.spells n c r → AlignSpells n c r
 align_to n c r s = rw (← s.3) (s.1, power_of_two-holds s.0 s.2)
 

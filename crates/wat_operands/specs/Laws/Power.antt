@@ -10,8 +10,6 @@ use Rattle.wat_tokens.specs.Laws.Numbers.{doubles, apart}
 use Rattle.wat_tokens.specs.Laws.Production.{by_test}
 use Rattle.wat_operands.specs.Power.{IsPowerOfTwo}
 
--- ---- proofs: the test decides it
-
 halves : (k : ℕ) → 2 ^ suc k / 2 ≡ 2 ^ k
 halves k = omega (arith, doubles k)
 

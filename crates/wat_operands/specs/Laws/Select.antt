@@ -3,7 +3,5 @@ use Rattle.std.specs.Prelude.{◌≤◌}
 use Rattle.std.proofs.Common.{arith}
 use Rattle.wat_operands.specs.ResultGroup.{result_group}
 
--- ---- the grammar
-
 pub result_group_consumes : 1 ≤ result_group.least
 result_group_consumes = omega arith

@@ -14,7 +14,7 @@ use Rattle.wat_tokens.specs.Parts.{seq, flag}
 use Rattle.wat_tokens.specs.Tests.{begins_word, begins_group, begins_id, more, word_in}
 use Rattle.wat_types.specs.Heap.{HeapTy, concrete, exact, abstract_, heap_type}
 use Rattle.wat_types.specs.Heap.{abstract_heap_type, abstract_word}
-use Rattle.wat_types.specs.Reference.{RefTy, ref_type, shorthand, short}
+use Rattle.wat_types.specs.Reference.{RefTy, ref_type, shorthand_for, shorthand, short}
 use Rattle.wat_types.specs.Value.{ValTy, i32, i64, f32, f64, v128, ref, val_type, begins_plain}
 use Rattle.wat_types.specs.Value.{plain_words}
 use Rattle.wat_types.specs.declared.heap.AbstractHeapType.{AbstractHeapType}
@@ -116,8 +116,9 @@ heap_well_formed (abstract_ false t) f = abstract_well_formed t
 
 short_here : (t : AbstractHeapType) → Spells shorthand t (Keyword (short_word t) ∷ [])
 unfolding shorthand
-short_here word.Func r = (Keyword (codes "funcref"), refl, refl)
-short_here t r = (Keyword (short_word t), refl, refl)
+short_here word.Func r =
+    (shorthand_for word.Func, (Keyword (codes "funcref"), refl, refl), refl, refl)
+short_here t r = (shorthand_for t, (Keyword (short_word t), refl, refl), refl, refl)
 
 short_printable : (t : AbstractHeapType) → is_keyword (short_word t) ≡ true
 short_printable word.Func = refl

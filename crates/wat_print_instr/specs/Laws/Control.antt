@@ -1,7 +1,7 @@
 -- Laws: blocks, calls, the types of a `select`, casts, and what is caught and handled are read
 -- again.
 use Rattle.std.specs.Prelude.{◌≡◌, ℕ, Bool, true, false, ◌&&◌, List, [], ◌∷◌, ◌++◌, codes, flat_map}
-use Rattle.std.specs.Prelude.{Option, Some, None, zero, suc}
+use Rattle.std.specs.Prelude.{Option, Some, None}
 use Rattle.std.specs.Str.{bytes_eq}
 use Rattle.std.proofs.Common.{refl, sym, append-nil, inl, inr}
 use Rattle.std.proofs.lemmas.Bool.{and_parts}
@@ -22,7 +22,7 @@ use Rattle.wat_types.specs.Reference.{ref_type}
 use Rattle.wat_types.specs.Use.{UseTy}
 use Rattle.wat_types.specs.Value.{ValTy, val_type}
 use Rattle.wat_operands.specs.Block.{BlockTy, block_of, signature, block_type}
-use Rattle.wat_operands.specs.Call.{CallTy, call_of, or_zero, call_indirect}
+use Rattle.wat_operands.specs.Call.{CallTy, call_of, call_indirect}
 use Rattle.wat_operands.specs.Casts.{BranchTy, branch_of, cast_branch}
 use Rattle.wat_operands.specs.CatchClause.{CatchTy, catch_of, catch_kind, catch_clause}
 use Rattle.wat_operands.specs.Catches.{TryTy, try_of, begins_catch, try_table}
@@ -34,6 +34,7 @@ use Rattle.wat_operands.specs.Laws.Handlers.{handler_consumes}
 use Rattle.wat_operands.specs.Laws.Select.{result_group_consumes}
 use Rattle.wat_operands.specs.ResultGroup.{result_group}
 use Rattle.wat_operands.specs.Select.{result_follows, select_types}
+use Rattle.wat_operands.specs.Tables.{index_or_0}
 use Rattle.wat_operands.specs.declared.catches.CatchKind.{CatchKind}
 use Rattle.wat_operands.specs.declared.catches.CatchKind.TheVariants.{Catch, CatchRef, CatchAll}
 use Rattle.wat_operands.specs.declared.catches.CatchKind.TheVariants.{CatchAllRef}
@@ -68,7 +69,8 @@ use Rattle.wat_print_instr.specs.Control.{printable_handler, spell_resume_table}
 use Rattle.wat_print_instr.specs.Control.{printable_resume_table, spell_resume, printable_resume}
 use Rattle.wat_print_instr.specs.Control.{spell_throw, printable_throw}
 use Rattle.wat_print_instr.specs.Places.{spell_index_or_0}
-use Rattle.wat_print_instr.specs.Laws.Places.{both_here, index_or_0_well_formed}
+use Rattle.wat_print_instr.specs.Laws.Places.{both_here, index_or_0_here, index_or_0_well_formed}
+use Rattle.wat_print_instr.specs.Laws.Places.{index_or_0_only}
 
 -- ---- what a type use begins with
 
@@ -145,40 +147,20 @@ block_only =
 abbrev pub EndsCall : List Tok → Type 0
 EndsCall r = EndsUse r × (begins_index r ≡ false)
 
-call_by : (o : Option Idx) (c : List Tok) (u : UseTy FuncTy) (r : List Tok)
-    → opt_spells begins_index index o c (spell_use u ++ r) → printable_unnamed_use u ≡ true
-    → EndsUse r
-    → call_indirect.spells (call_of (or_zero o) u) (c ++ spell_use u) r
-unfolding call_indirect
-call_by o c u r s f e = (
-  (o, u),
-  both_here (opt begins_index index) signature o u c (spell_use u) r s (unnamed_use_here u r f e),
-  refl,
-  refl,
-)
-
-index_begins_here : (i : Idx) (r : List Tok) → printable_index i ≡ true
-    → opt_spells begins_index index (Some i) (spell_index i) r
-index_begins_here (number n) r f = (refl, index_here (number n) f r)
-index_begins_here (name x) r f = (refl, index_here (name x) f r)
-
-call_parts : (i : Idx) (u : UseTy FuncTy) (r : List Tok) → printable_index i ≡ true
-    → printable_unnamed_use u ≡ true → EndsCall r
-    → call_indirect.spells (call_of i u) (spell_index_or_0 i ++ spell_use u) r
-call_parts (number zero) u r f g e =
-    call_by None [] u r (refl, use_front begins_index false (λ w y. refl) u r e.1) g e.0
-call_parts (number (suc n)) u r f g e =
-    call_by (Some (number (suc n))) (spell_index (number (suc n))) u r
-    (index_begins_here (number (suc n)) (spell_use u ++ r) f) g e.0
-call_parts (name x) u r f g e =
-    call_by (Some (name x)) (spell_index (name x)) u r
-    (index_begins_here (name x) (spell_use u ++ r) f) g e.0
-
 pub call_here : (c : CallTy) (r : List Tok) → printable_call c ≡ true → EndsCall r
     → call_indirect.spells c (spell_call c) r
+unfolding call_indirect
 call_here c r f e =
     let a = and_parts (printable_index c.table) (printable_unnamed_use c.ty) f in
-    call_parts c.table c.ty r a.0 a.1 e
+    let x = spell_use c.ty in (
+      (c.table, c.ty),
+      both_here index_or_0 signature c.table c.ty (spell_index_or_0 c.table) x r
+          (index_or_0_here c.table (x ++ r) a.0
+          (λ _. use_front begins_index false (λ w y. refl) c.ty r e.1))
+          (unnamed_use_here c.ty r a.1 e.0),
+      refl,
+      refl,
+    )
 
 pub call_well_formed : (c : CallTy) → printable_call c ≡ true → WellFormed (spell_call c)
 call_well_formed c f =
@@ -187,24 +169,12 @@ call_well_formed c f =
     (index_or_0_well_formed c.table a.0)
     (unnamed_use_well_formed c.ty a.1)
 
-zero_printable : (o : Option Idx) → if_some printable_index o ≡ true
-    → printable_index (or_zero o) ≡ true
-zero_printable (Some i) h = h
-zero_printable None h = refl
-
-call_printable : (v : Option Idx × UseTy FuncTy)
-    → if_some printable_index v.0 && printable_unnamed_use v.1 ≡ true
-    → printable_call (call_of (or_zero v.0) v.1) ≡ true
-call_printable v h =
-    let a = and_parts (if_some printable_index v.0) (printable_unnamed_use v.1) h in
-    rw (zero_printable v.0 a.0) (a.1)
-
 pub call_only : OnlyPrintable call_indirect printable_call
 unfolding call_indirect
 call_only =
-    only_made (λ _. true) (λ v. call_of (or_zero v.0) v.1) printable_call
-    (only_weaker (λ v. printable_call (call_of (or_zero v.0) v.1)) call_printable
-    (only_seq (only_opt begins_index index_only) unnamed_use_only))
+    only_made (λ _. true) (λ v. call_of v.0 v.1) printable_call
+    (only_weaker (λ v. printable_call (call_of v.0 v.1)) (λ v h. h)
+    (only_seq index_or_0_only unnamed_use_only))
 
 -- ---- the types of a select
 

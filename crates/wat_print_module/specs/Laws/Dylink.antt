@@ -1,20 +1,20 @@
 -- Laws: the `dylink.0` section is read again.
 use Rattle.std.specs.Prelude.{◌≡◌, ℕ, ◌^◌, Bool, true, false, ◌&&◌, List, [], ◌∷◌, ◌++◌, codes}
-use Rattle.std.specs.Prelude.{flat_map, map, fold, decimal, Option, Some, None, unwrap_or}
+use Rattle.std.specs.Prelude.{flat_map, map, fold, Option, Some, None, unwrap_or}
 use Rattle.std.specs.Int.Bits.{bit_or, or_zero_l}
 use Rattle.std.specs.Str.{bytes_eq, is_utf8}
 use Rattle.std.proofs.Common.{refl, ap, subst, sym, ◌∙◌, append-nil, inl, inr, lit≤, arith}
 use Rattle.std.proofs.lemmas.Bool.{and_parts, lt-ltb, ltb-true}
 use Rattle.std.proofs.lemmas.Grind.{flat_map-append}
 use Rattle.std.proofs.lemmas.Nat.{or_lt}
-use Rattle.wat_lexer.specs.Token.{Tok, LParen, RParen, Integer, String, Keyword}
+use Rattle.wat_lexer.specs.Token.{Tok, LParen, RParen, String, Keyword}
 use Rattle.wat_tokens.specs.Integers.{unsigned}
 use Rattle.wat_tokens.specs.Many.{many}
 use Rattle.wat_tokens.specs.ManySpells.{many_spells}
 use Rattle.wat_tokens.specs.Parts.{seq, made}
 use Rattle.wat_tokens.specs.Spelled.{in_parens}
 use Rattle.wat_tokens.specs.Strings.{text}
-use Rattle.wat_tokens.specs.Tests.{begins_group, begins_word, second, more}
+use Rattle.wat_tokens.specs.Tests.{word_in, begins_group, begins_word, begins_integer, second, more}
 use Rattle.wat_links.specs.CutForm.{entries, CutSpells}
 use Rattle.wat_links.specs.Cutting.{cut_subsections, dylink}
 use Rattle.wat_links.specs.Dylink.{SubsectionTy, mem_info, needed, export_info, import_info}
@@ -23,14 +23,13 @@ use Rattle.wat_links.specs.Dylink.{names_entry, lone_entry, begins_export, begin
 use Rattle.wat_links.specs.DylinkEntries.{export_entry, import_of, import_entry}
 use Rattle.wat_links.specs.Entries.{EntryTy, of_export, of_import, other, entry, entries_in}
 use Rattle.wat_links.specs.Entries.{IsFilled, IsApart, AreCut}
-use Rattle.wat_links.specs.FlagBits.{flag_words, flag_of, flag_bits}
+use Rattle.wat_links.specs.FlagBits.{flag_words, flag_bits}
 use Rattle.wat_links.specs.Flags.{flag_list, symbol_flags}
 use Rattle.wat_links.specs.Laws.Entries.{entry_consumes}
 use Rattle.wat_links.specs.Laws.Flags.{flag_bits_consumes}
 use Rattle.wat_print.specs.Limits.{spell_number}
 use Rattle.wat_print.specs.WellFormed.{is_given, is_keyword, WellFormed}
 use Rattle.wat_print.specs.Parts.{if_some, each}
-use Rattle.wat_print.specs.Laws.Numbers.{unsigned_decimal}
 use Rattle.wat_print.specs.Laws.Only.{OnlyPrintable, only_one, only_where, only_opt, only_many}
 use Rattle.wat_print.specs.Laws.Only.{only_seq, only_made, only_weaker, only_group}
 use Rattle.wat_print.specs.Laws.Only.{look_up_printable}
@@ -38,7 +37,7 @@ use Rattle.wat_print.specs.Laws.Parts.{Spells, group_here, many_here, well_forme
 use Rattle.wat_print.specs.Laws.Parts.{well_formed_both, well_formed_each, each_both, each_front}
 use Rattle.wat_print_instr.specs.Numbers.{is_unsigned}
 use Rattle.wat_print_instr.specs.Laws.Numbers.{unsigned_here}
-use Rattle.wat_print_instr.specs.Laws.Numbers.{unsigned_well_formed, unsigned_given, unsigned_only}
+use Rattle.wat_print_instr.specs.Laws.Numbers.{unsigned_well_formed, unsigned_only}
 use Rattle.wat_print_instr.specs.Laws.Places.{both_here}
 use Rattle.wat_print_module.specs.Dylink.{spell_sizes, spell_names, spell_export_flags}
 use Rattle.wat_print_module.specs.Dylink.{spell_import_flags, spell_subsection, spell_dylink}
@@ -63,9 +62,7 @@ u32_only = unsigned_only 32 (lit≤ tt)
 
 flag_here : (n : ℕ) → is_unsigned 32 n ≡ true → Spells flag_bits n (spell_number n)
 unfolding flag_bits
-flag_here n f r =
-    let lt = ltb-true n (2 ^ 32) f in
-    (Integer (decimal n), refl, unsigned_decimal 32 n (omega arith) (omega arith))
+flag_here n f r = inl (refl, u32_here n f r)
 
 -- one number
 flags_here : (n : ℕ) (r : List Tok) → is_unsigned 32 n ≡ true → more r ≡ false
@@ -78,15 +75,21 @@ flags_here n r f e = (
   or_zero_l n,
 )
 
-flag_given : (t : Tok) (n : ℕ) → is_given t ≡ true → flag_of t ≡ Some n → is_unsigned 32 n ≡ true
-flag_given (Integer x) n a e = unsigned_given 32 (lit≤ tt) (Integer x) n a e
-flag_given (Keyword w) n a e = look_up_printable (is_unsigned 32) flag_words w n refl e
-flag_given LParen n a e = absurd cc
-flag_given _ n a e = absurd cc
+-- a keyword of a table whose values can all be written names one that can
+word_given : {F : Type 0} (printable : F → Bool) (table : List (List ℕ × F))
+    → each (λ e. printable e.1) table ≡ true → (t : Tok) (f : F) → is_given t ≡ true
+    → word_in table t ≡ Some f → printable f ≡ true
+word_given printable table h (Keyword w) f a e = look_up_printable printable table w f h e
+word_given printable table h LParen f a e = absurd cc
+word_given printable table h _ f a e = absurd cc
 
 flag_only : OnlyPrintable flag_bits (is_unsigned 32)
 unfolding flag_bits
-flag_only = only_one flag_of (refl, refl) (is_unsigned 32) flag_given
+flag_only =
+    only_where begins_integer u32_only
+    (only_made (λ _. true) (λ f. f.0) (is_unsigned 32)
+    (only_one (word_in flag_words) (refl, refl) (λ f. is_unsigned 32 f.0)
+    (word_given (λ f. is_unsigned 32 f.0) flag_words refl)))
 
 -- what bits of 32 are joined to has no more
 joined_printable : (ns : List ℕ) (n : ℕ) → is_unsigned 32 n ≡ true → each (is_unsigned 32) ns ≡ true

@@ -11,18 +11,18 @@ use Rattle.wat_types.specs.Use.{type_follows}
 use Rattle.wat_links.specs.Export.{begins_inline_export}
 use Rattle.wat_links.specs.FieldHead.{head}
 use Rattle.wat_links.specs.Import.{inline_import, begins_inline_import}
-use Rattle.wat_links.specs.Item.{func_use}
+use Rattle.wat_links.specs.Item.{func_use, exact_use}
 use Rattle.wat_instr.specs.Laws.Sees.{fails_at_end}
 use Rattle.wat_expr.specs.Expression.{Expr}
 use Rattle.wat_expr.specs.ExpressionProduction.{expression}
 use Rattle.wat_fields.specs.Func.{FuncKindTy, imported, inline, FuncUse, FuncFieldTy}
-use Rattle.wat_fields.specs.Func.{func_of, exact_use, func_import, func_inline, func_defined, func}
+use Rattle.wat_fields.specs.Func.{func_of, func_import, func_inline, func_defined, func}
 use Rattle.wat_fields.specs.Local.{LocalTy}
 use Rattle.wat_fields.specs.Locals.{locals}
 use Rattle.wat_print.specs.WellFormed.{WellFormed}
 use Rattle.wat_print.specs.Use.{spell_use, printable_use}
 use Rattle.wat_print.specs.Laws.Only.{OnlyPrintable, only_where, only_seq, only_made, only_weaker}
-use Rattle.wat_print.specs.Laws.Only.{only_group, only_after}
+use Rattle.wat_print.specs.Laws.Only.{only_after}
 use Rattle.wat_print.specs.Laws.Parts.{group_here, well_formed_word, well_formed_group}
 use Rattle.wat_print.specs.Laws.Parts.{well_formed_both}
 use Rattle.wat_print.specs.Laws.Use.{EndsUse, use_here, use_well_formed, use_only}
@@ -44,6 +44,7 @@ use Rattle.wat_print_module.specs.Laws.FieldHead.{head_only, inline_import_here}
 use Rattle.wat_print_module.specs.Laws.FieldHead.{inline_import_well_formed, inline_import_only}
 use Rattle.wat_print_module.specs.Laws.Fronts.{OnGroup, OnUses, no_export, no_import_word}
 use Rattle.wat_print_module.specs.Laws.Fronts.{use_first, use_alone_first, locals_first}
+use Rattle.wat_print_module.specs.Laws.Item.{exact_only}
 use Rattle.wat_print_module.specs.Laws.Local.{locals_here, locals_well_formed, locals_only}
 
 -- ---- type uses, exact or not
@@ -223,14 +224,6 @@ func_well_formed f h =
     (defined_well_formed f.ty f.kind a.1))
 
 -- ---- what a text spells can be written
-
-exact_only : OnlyPrintable exact_use (λ v. printable_use v.0)
-unfolding exact_use
-exact_only =
-    only_where (second (begins_word (codes "exact")))
-    (only_made (λ _. true) (λ u. (u, true)) (λ v. printable_use v.0)
-    (only_group (codes "exact") use_only))
-    (only_made (λ _. true) (λ u. (u, false)) (λ v. printable_use v.0) use_only)
 
 import_printable : (v : (List ℕ × List ℕ) × (FuncUse × Bool))
     → printable_inline_import v.0 && printable_use v.1.0 ≡ true

@@ -17,7 +17,8 @@ use Rattle.wat_types.specs.Use.{UseTy}
 use Rattle.wat_types.specs.declared.limits.MemoryType.{MemoryType}
 use Rattle.wat_links.specs.ImportItem.{sig_group}
 use Rattle.wat_links.specs.Item.{ItemKindTy, func, table, memory, global, tag, exact_func, SigTy}
-use Rattle.wat_links.specs.Item.{sig_of, func_use, func_kind, item_of, global_or_tag, item_sig}
+use Rattle.wat_links.specs.Item.{sig_of, func_use, exact_use, func_kind_of, func_kind, item_of}
+use Rattle.wat_links.specs.Item.{global_or_tag, item_sig}
 use Rattle.wat_print.specs.Label.{spell_label, printable_label}
 use Rattle.wat_print.specs.Limits.{spell_memory_type, spell_table_type}
 use Rattle.wat_print.specs.WellFormed.{is_keyword, WellFormed}
@@ -156,34 +157,42 @@ item_here w k l v d r e f i n s = (
 func_here : (l : Label) (u : UseTy FuncTy) (r : List Tok) → printable_label l ≡ true
     → printable_use u ≡ true
     → EndsSig r → item_sig.spells (sig_of l (func u)) (spell_sig (sig_of l (func u))) r
-unfolding item_sig func_kind
+unfolding item_sig func_kind exact_use
 func_here l u r f g e =
     inl (
       refl,
       item_here (codes "func") func_kind l (func u) (spell_use u) r refl f (use_no_id u r e.no_id)
-          (use_no_name u r e.no_name)
-          (inr (use_no_exact u r e.no_exact, (u, use_here u r g e.of_use, refl, refl))),
+          (use_no_name u r e.no_name) (
+            (u, false),
+            inr (use_no_exact u r e.no_exact, (u, use_here u r g e.of_use, refl, refl)),
+            refl,
+            refl,
+          ),
     )
 
 exact_here : (l : Label) (u : UseTy FuncTy) (r : List Tok) → printable_label l ≡ true
     → printable_use u ≡ true
     → EndsSig r → item_sig.spells (sig_of l (exact_func u)) (spell_sig (sig_of l (exact_func u))) r
-unfolding item_sig func_kind
+unfolding item_sig func_kind exact_use
 exact_here l u r f g e =
     inl (
       refl,
       item_here (codes "func") func_kind l (exact_func u) (spell_item (exact_func u)) r refl f refl
-          refl
-          (inl (
-            refl,
-            (
-              u,
-              group_here (codes "exact") func_use u (spell_use u) r refl
-                  (use_here u (RParen ∷ r) g e.of_exact),
+          refl (
+            (u, true),
+            inl (
               refl,
-              refl,
+              (
+                u,
+                group_here (codes "exact") func_use u (spell_use u) r refl
+                    (use_here u (RParen ∷ r) g e.of_exact),
+                refl,
+                refl,
+              ),
             ),
-          )),
+            refl,
+            refl,
+          ),
     )
 
 sig_by : (l : Label) (k : ItemKindTy) (r : List Tok) → printable_label l ≡ true
@@ -294,12 +303,24 @@ item_only w k m =
     (only_weaker (λ v. printable_sig (sig_of v.0 v.1)) (λ v h. h)
     (only_after w (only_seq label_only m)))
 
+pub exact_only : OnlyPrintable exact_use (λ v. printable_use v.0)
+unfolding exact_use
+exact_only =
+    only_where (second (begins_word (codes "exact")))
+    (only_made (λ _. true) (λ u. (u, true)) (λ v. printable_use v.0)
+    (only_group (codes "exact") use_only))
+    (only_made (λ _. true) (λ u. (u, false)) (λ v. printable_use v.0) use_only)
+
+kind_printable : (v : UseTy FuncTy × Bool) → printable_use v.0 ≡ true
+    → printable_item (func_kind_of v) ≡ true
+kind_printable (u, true) h = h
+kind_printable (u, false) h = h
+
 func_kind_only : OnlyPrintable func_kind printable_item
 unfolding func_kind
 func_kind_only =
-    only_where (second (begins_word (codes "exact")))
-    (only_made (λ _. true) exact_func printable_item (only_group (codes "exact") use_only))
-    (only_made (λ _. true) func printable_item use_only)
+    only_made (λ _. true) func_kind_of printable_item
+    (only_weaker (λ v. printable_item (func_kind_of v)) kind_printable exact_only)
 
 pub sig_only : OnlyPrintable item_sig printable_sig
 unfolding item_sig global_or_tag

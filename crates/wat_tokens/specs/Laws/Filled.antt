@@ -1,6 +1,5 @@
 -- Laws: lists that have an item, and lists with another one behind them.
-use Rattle.std.proofs.Common.{◌≡◌, false, List, [], ◌∷◌, ◌++◌, refl, sym, ap, ◌∙◌, append_assoc}
-use Rattle.std.proofs.lemmas.List.{append-nil}
+use Rattle.std.proofs.Common.{◌≡◌, false, List, [], ◌∷◌, ◌++◌, refl, ap, ◌∙◌, append_assoc}
 use Rattle.wat_tokens.specs.Many.{Extends}
 use Rattle.wat_tokens.specs.Views.{no_items}
 
@@ -13,9 +12,6 @@ pub filled_behind : {A : Type 0} (xs ys : List A) → no_items ys ≡ false
     → no_items (xs ++ ys) ≡ false
 filled_behind [] ys e = e
 filled_behind (x ∷ xs) ys e = refl
-
-pub extends_same : {X : Type 0} (xs : List X) → Extends xs xs
-extends_same xs = ([], sym (append-nil xs))
 
 pub extends_then : {X : Type 0} (xs ys zs : List X) → Extends xs ys → Extends ys zs
     → Extends xs zs

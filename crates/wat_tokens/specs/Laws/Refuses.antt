@@ -4,12 +4,6 @@ use Rattle.wat_tokens.specs.Error.{Fault, Memory}
 use Rattle.wat_tokens.specs.Parses.{NotBare, Refuses}
 use Rattle.wat_tokens.specs.Production.{Read, bind}
 
--- what it means in any case
-pub refuses_none : {A : Type 0} (own : Bool) (bare : A → Bool) (f : Fault) (read : Read A)
-    → f ≢ Memory → read ≡ None → Refuses own bare f read
-refuses_none true bare f read n e = (λ _. e, λ m. absurd (n m))
-refuses_none false bare f read n e = (e, n)
-
 pub refused_read : {A : Type 0} (own : Bool) (bare : A → Bool) (f : Fault) (read : Read A)
     → Refuses own bare f read → f ≢ Memory → read ≡ None
 refused_read true bare f read p n = p.0 n
@@ -20,19 +14,6 @@ pub refused_memory : {A : Type 0} (own : Bool) (bare : A → Bool) (f : Fault) (
 refused_memory true bare f read p m = (refl, p.1 m)
 refused_memory false bare f read p m = absurd (p.1 m)
 
--- a refusal of a part is one of the whole
-pub refuses_whole : {A B : Type 0} (own : Bool) (bare : A → Bool) (all : B → Bool) (f : Fault)
-    (read : Read A) (whole : Read B) → Refuses own bare f read → (read ≡ None → whole ≡ None)
-    → (NotBare bare read → NotBare all whole) → Refuses own all f whole
-refuses_whole true bare all f read whole p g h = (λ n. g (p.0 n), λ m. h (p.1 m))
-refuses_whole false bare all f read whole p g h = (g p.0, p.1)
-
--- of a type whose values may own memory
-pub refuses_owning : {A B : Type 0} (own : Bool) (bare : A → Bool) (all : B → Bool) (f : Fault)
-    (read : Read A) (whole : Read B) → Refuses own bare f read → (read ≡ None → whole ≡ None)
-    → (f ≡ Memory → NotBare all whole) → Refuses true all f whole
-refuses_owning own bare all f read whole p g h = (λ n. g (refused_read own bare f read p n), h)
-
 -- of what is made of what is read
 pub refused_as : {V W : Type 0} (own : Bool) (bare : V → Bool) (bare' : W → Bool) (make : V → W)
     → ((v : V) → bare' (make v) ≡ bare v) → (f : Fault) (read : Read V)
@@ -42,5 +23,3 @@ refused_as true bare bare' make same f (Some x) (n, m) =
 refused_as true bare bare' make same f None x = (λ _. refl, λ _. tt)
 refused_as false bare bare' make same f read (n, m) =
     (λ _. ap (λ q. bind q (λ v r. Some (make v, r))) n, λ k. absurd (m k))
-
-pub ruleset refusals = (refuses_none, refuses_whole)

@@ -1,4 +1,4 @@
--- Laws: facts of texts: what their tokens spell.
+-- Laws: token lists that spell a value to the last token.
 use Rattle.std.specs.Prelude.{◌≡◌, List, [], Some}
 use Rattle.wat_lexer.specs.Token.{Tok}
 use Rattle.wat_tokens.specs.Production.{Production}

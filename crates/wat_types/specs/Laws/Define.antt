@@ -1,9 +1,7 @@
--- Laws: definitions of types, and recursion groups.
+-- Laws: types in a recursion group.
 use Rattle.std.specs.Prelude.{◌≤◌}
 use Rattle.std.proofs.Common.{arith}
 use Rattle.wat_types.specs.Define.{grouped_type}
-
--- ---- types and recursion groups
 
 pub grouped_type_consumes : 1 ≤ grouped_type.least
 grouped_type_consumes = omega arith

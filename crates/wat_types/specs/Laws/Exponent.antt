@@ -9,8 +9,6 @@ use Rattle.wat_tokens.specs.Laws.Production.{by_test}
 use Rattle.wat_tokens.specs.Laws.Numbers.{apart, doubles}
 use Rattle.wat_types.specs.Exponent.{exponent_below, exponent, IsTwoTo}
 
--- ---- proofs
-
 pub equal : (m n : ℕ) → (m == n) ≡ true → m ≡ n
 equal m n e = (unsigned_Decides m n).0 e
 

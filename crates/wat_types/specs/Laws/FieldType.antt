@@ -7,8 +7,6 @@ use Rattle.wat_types.specs.Value.{val_type}
 use Rattle.wat_types.specs.Storage.{storage_type}
 use Rattle.wat_types.specs.FieldType.{field_type}
 
--- ---- what an array holds, and a field
-
 pub field_type_consumes : 1 ≤ field_type.least
 unfolding field_type storage_type val_type ref_type shorthand heap_type abstract_heap_type
 field_type_consumes = lit≤ tt

@@ -1,12 +1,10 @@
--- Laws: function types.
+-- Laws: function types without names.
 use Rattle.std.specs.Prelude.{false, List}
 use Rattle.wat_tokens.specs.Token.{Tok}
 use Rattle.wat_types.specs.Group.{FuncTy}
 use Rattle.wat_types.specs.Laws.Unlabelled.{groups_allow, groups_forbid}
 use Rattle.wat_types.specs.FunctionSpells.{func_groups, UnnamedSpells}
 use Rattle.wat_types.specs.Function.{function_groups}
-
--- ---- the grammar
 
 pub unnamed_to : (f : FuncTy) (c r : List Tok) → (function_groups false).spells f c r
     → UnnamedSpells f c r

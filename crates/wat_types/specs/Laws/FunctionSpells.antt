@@ -6,8 +6,6 @@ use Rattle.wat_types.specs.Group.{params_in, results_in, FuncTy}
 use Rattle.wat_types.specs.Laws.Order.{in_order-holds, InOrder-tested, by_parts}
 use Rattle.wat_types.specs.FunctionSpells.{FunctionSpells, function_tested}
 
--- ---- the grammar
-
 pub function_to : (labels : Bool) (f : FuncTy) (c r : List Tok)
     → (function_tested labels).spells f c r → FunctionSpells labels f c r
 function_to labels f c r s = (

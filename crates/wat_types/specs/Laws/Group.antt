@@ -1,4 +1,4 @@
--- Laws: the groups of a function type, and the order in which they may stand.
+-- Laws: the groups of a function type.
 use Rattle.std.specs.Prelude.{◌≤◌, Bool}
 use Rattle.std.proofs.Common.{lit≤}
 use Rattle.wat_tokens.specs.NameAnnotation.{name_annotation}

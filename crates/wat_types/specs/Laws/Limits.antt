@@ -1,12 +1,10 @@
--- Laws: limits, page sizes, table types and memory types.
+-- Laws: the exponent of a page size.
 use Rattle.std.specs.Prelude.{◌≡◌, ℕ, true, false, List, refl}
 use Rattle.wat_tokens.specs.Token.{Tok}
 use Rattle.wat_tokens.specs.Laws.Production.{by_option}
 use Rattle.wat_types.specs.Exponent.{IsTwoTo, exponent}
 use Rattle.wat_types.specs.Laws.Exponent.{exponent_sound, exponent_complete}
 use Rattle.wat_types.specs.PageSize.{has_exponent, exponent_or_0, ExponentSpells, exponent_tested}
-
--- ---- page sizes
 
 is_two_to : (k n : ℕ) → has_exponent n ≡ true → exponent_or_0 n ≡ k → IsTwoTo k n
 is_two_to k n s e =

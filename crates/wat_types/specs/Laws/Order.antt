@@ -1,4 +1,4 @@
--- Laws: a test of the order of groups, and what adding them one by one gives.
+-- Laws: a test of the order of groups.
 use Rattle.std.specs.Prelude.{◌≡◌, zero, suc, true, List, [], ◌∷◌, All, refl}
 use Rattle.std.proofs.Common.{ap, sym, ◌∙◌, arith}
 use Rattle.std.proofs.lemmas.List.Kept.{AllPairs-cons}

@@ -1,4 +1,4 @@
--- Laws: structure and array types.
+-- Laws: the fields of a structure.
 use Rattle.std.specs.Prelude.{◌≤◌}
 use Rattle.std.proofs.Common.{lit≤}
 use Rattle.wat_tokens.specs.NameAnnotation.{name_annotation}
@@ -9,8 +9,6 @@ use Rattle.wat_types.specs.Label.{label}
 use Rattle.wat_types.specs.Storage.{storage_type}
 use Rattle.wat_types.specs.FieldType.{field_type}
 use Rattle.wat_types.specs.Struct.{plain_members, members, member_group}
-
--- ---- the fields of a structure
 
 pub member_group_consumes : 1 ≤ member_group.least
 unfolding member_group members label name_annotation plain_members field_type storage_type val_type

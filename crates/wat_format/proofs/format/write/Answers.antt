@@ -31,8 +31,8 @@ returns-in-Err-clause-fails c =
     let found = blanks_found c.args.text.now c.pieces.end at spaces.within.0 spaces.within.1 spaces.value in
     λ _. wrong_here at c.in-Err.e (over_blanks c.pieces.end at spaces.within.0 found.0 c.pieces.invariant.so) (rw bytes at c.in-Err.ensures.wrong)
 
-pub part-blanks-requires-clause-ends : goal.part-blanks-requires-clause-ends
-part-blanks-requires-clause-ends c =
+pub range-blanks-requires-clause-end_boundary : goal.range-blanks-requires-clause-end_boundary
+range-blanks-requires-clause-end_boundary c =
     let spaces = rw c.as_bytes-bytes.ensures.value at c.spaces_end-at.ensures in
     blanks_boundary c.args.text.now c.pieces.end c.spaces_end-at.result c.utf8.text c.pieces.invariant.edge spaces.within.0 spaces.within.1 spaces.value
 
@@ -44,15 +44,15 @@ put_blanks-requires c =
     let end = c.pieces.end in
     let at = c.spaces_end-at.result in
     let found = blanks_found text end at spaces.within.0 spaces.within.1 spaces.value in
-    rw (bytes, c.part-blanks.ensures) (own_blanks text end at c.pieces.last spaces.within.0 (rw bytes at c.if-at-bytes.false) found.0 c.pieces.invariant.follows)
+    rw (bytes, c.range-blanks.ensures.value) (own_blanks text end at c.pieces.last spaces.within.0 (rw bytes at c.if-at-bytes.false) found.0 c.pieces.invariant.follows)
 
-pub part-requires-clause-begins : goal.part-requires-clause-begins
-part-requires-clause-begins c =
+pub range-requires-clause-start_boundary : goal.range-requires-clause-start_boundary
+range-requires-clause-start_boundary c =
     let spaces = rw c.as_bytes-bytes.ensures.value at c.spaces_end-at.ensures in
-    blanks_boundary c.args.text.now c.pieces.end c.spaces_end-at.result c.utf8.text c.pieces.invariant.edge spaces.within.0 spaces.within.1 spaces.value
+    λ _. blanks_boundary c.args.text.now c.pieces.end c.spaces_end-at.result c.utf8.text c.pieces.invariant.edge spaces.within.0 spaces.within.1 spaces.value
 
-pub part-requires-clause-ends : goal.part-requires-clause-ends
-part-requires-clause-ends c =
+pub range-requires-clause-end_boundary : goal.range-requires-clause-end_boundary
+range-requires-clause-end_boundary c =
     let bytes = c.as_bytes-bytes.ensures.value in
     let within = rw bytes at c.in-Ok.ensures.within in
     edge_boundary c.args.text.now c.spaces_end-at.result c.in-Ok.piece.end c.utf8.text within.0 within.1 (rw bytes at c.in-Ok.ensures.edge)
@@ -68,9 +68,9 @@ pieces-preserved c =
     let within = rw bytes at c.in-Ok.ensures.within in
     let follows = rw bytes at c.in-Ok.ensures.follows in
     let found = blanks_found text end at spaces.within.0 spaces.within.1 spaces.value in
-    let (x, separates, written) = rw (bytes, c.part-blanks.ensures) at c.in_ok-put_blanks.ensures in
+    let (x, separates, written) = rw (bytes, c.range-blanks.ensures.value) at c.in_ok-put_blanks.ensures in
     record {
-      so = rw (c.in_ok-pass.ensures, c.gap-gap.ensures) (piece_written at piece.end piece.shape _ x within.0 within.1 (rw bytes at c.in-Ok.ensures.stands) follows separates (rw (c.in_ok-push_str.ensures.bytes, written, c.part.ensures) refl) (over_blanks end at spaces.within.0 found.0 c.pieces.invariant.so));
+      so = rw (c.in_ok-pass.ensures, c.gap-gap.ensures) (piece_written at piece.end piece.shape _ x within.0 within.1 (rw bytes at c.in-Ok.ensures.stands) follows separates (rw (c.in_ok-push_str.ensures.bytes, written, c.range.ensures.value) refl) (over_blanks end at spaces.within.0 found.0 c.pieces.invariant.so));
       within = within.1;
       edge = edge_boundary text at piece.end c.utf8.text within.0 within.1 (rw bytes at c.in-Ok.ensures.edge);
       follows = follows;

@@ -4,7 +4,7 @@ use Rattle.std.proofs.ResultArms.{chosen}
 use Rattle.std.proofs.lemmas.List.{map-append, length-append}
 use Rattle.wat_lexer.specs.Token.{Entry, has_annotation, is_open}
 use Rattle.wat_lexer.specs.View.{lying, entries_of, found_tok, placed_of, no_skips}
-use Rattle.wat_lexer.proofs.Entries.{any_put, kept_more, put_few}
+use Rattle.wat_lexer.proofs.Entries.{any_put, kept_more, put_few, untold}
 use Rattle.std.proofs.Math.ListN.{drop_of_length-le}
 use Rattle.wat_lexer.proofs.CutSoFar.{over_blank, over_piece, over_token, opened_within, at_end, fault_here, noted_more}
 use Rattle.wat_lexer.proofs.cut.cut_pieces.Goals as goal
@@ -13,7 +13,7 @@ pub returns-in-Err-clause-fails : goal.returns-in-Err-clause-fails
 returns-in-Err-clause-fails c = fault_here c.args.text.now c.loop-at.at _ _ c.in-Err.e c.loop-at.invariant.cuts (rw c.directly-behind.ensures at c.in-Err.ensures.value)
 
 pub returns-clause-found : goal.returns-clause-found
-returns-clause-found c = rw c.of.ensures (at_end c.loop-at.invariant.cuts (drop_of_length-le c.args.text.now (rw c.as_bytes-bytes.ensures.value at c.loop-at-test.false)))
+returns-clause-found c = rw (c.of.ensures, untold c.args.text.now c.loop-at.side_table.items c.in_ok-skips.skips.items c.loop-at.tokens.items c.in_ok-skips.ensures.none) (at_end c.loop-at.invariant.cuts (drop_of_length-le c.args.text.now (rw c.as_bytes-bytes.ensures.value at c.loop-at-test.false)))
 
 pub loop-at-preserved-in-Some : goal.loop-at-preserved-in-Some
 loop-at-preserved-in-Some c =
@@ -25,7 +25,7 @@ loop-at-preserved-in-Some c =
     let opened = c.loop-at.opened in
     let ls = c.loop-at.tokens.items in
     let side_table = c.loop-at.side_table.items in
-    let before = entries_of text side_table ls in
+    let before = entries_of text side_table [] ls in
     let within = rw bytes at c.in-Some.ensures.within in
     let spaces = rw bytes at c.spaces_end-at.ensures.within in
     let (front, fits, put) = rw bytes at (c.in-Some.ensures.value ((at == opened) && nat_lt 0 at) side_table) in
@@ -76,7 +76,7 @@ loop-at-preserved c =
     let opened = c.loop-at.opened in
     let ls = c.loop-at.tokens.items in
     let side_table = c.next_piece.new.side_table.items in
-    let before = entries_of text c.loop-at.side_table.items ls in
+    let before = entries_of text c.loop-at.side_table.items [] ls in
     let within = c.in-Ok.ensures.within in
     let spaces = rw bytes at c.spaces_end-at-in-Some-kind.ensures.within in
     let (front, fits, put) = rw (c.in-Some-kind.is, c.directly-behind.ensures) at c.in-Ok.ensures.value in

@@ -8,7 +8,7 @@ abbrev pub invariant-loop-behind : goal.invariant-loop-behind
 invariant-loop-behind l = record {
   same : rest_at (drop l.i l.text) ≡ rest_at (drop l.fn.from l.text);
   no_raw : l.i < length l.text → is_raw (get_or l.text l.i 0) ≡ false;
-  from : l.raw ≤ l.i;
+  from : l.fn.from ≤ l.i;
   within : l.i ≤ length l.text;
 }
 

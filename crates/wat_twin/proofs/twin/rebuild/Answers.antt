@@ -76,4 +76,4 @@ loop-i-preserved c =
 pub returns : goal.returns
 returns c =
     let none : drop c.loop-i.i c.args.tokens.now ≡ [] = drop_of_length-le c.args.tokens.now (rw c.len.ensures.value at c.loop-i-test.false) in
-    rw (c.in_ok-push_str.ensures.bytes, c.part.ensures) (at_end none c.loop-i.invariant.so)
+    rw (c.in_ok-push_str.ensures.bytes, c.range_from.ensures.value) (at_end none c.loop-i.invariant.so)

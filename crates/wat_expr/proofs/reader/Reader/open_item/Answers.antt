@@ -14,10 +14,10 @@ returns-in-Err-read-clause-turned c = rw c.refuse-in-Err-read.ensures (λ n.
 pub returns-in-Ok-read-clause-turned : goal.returns-in-Ok-read-clause-turned
 returns-in-Ok-read-clause-turned c =
     let x = rw c.take-hint.ensures.value at c.in-Ok-read.ensures.exact in
-    block_read _ _ _ _ _ _ _ _ _ _ (rw c.if-take_hint_name.ensures.exact.0 at c.in-Ok.ensures.exact.0) c.in-Ok.ensures.exact.1 c.take-hint.ensures.after x.0 _ c.requires.place (sym c.opens_block.ensures ∙ c.if-opens_block.true) x.1 x.2 c.enter.ensures
+    block_read _ _ _ _ _ _ _ _ _ _ (rw c.if-take_hint_name.ensures.exact.0 at c.in-Ok.ensures.exact.0) c.in-Ok.ensures.exact.1 c.take-hint.ensures.after x.0 _ c.requires.place (sym c.is_block.ensures ∙ c.if-is_block.true) x.1 x.2 c.enter.ensures
 
 pub returns-clause-turned : goal.returns-clause-turned
 returns-clause-turned c =
-    group_read _ _ _ _ _ _ _ _ _ _ (rw c.if-take_hint_name.ensures.exact.0 at c.in-Ok.ensures.exact.0) c.in-Ok.ensures.exact.1 c.take-hint.ensures.after _ _ c.requires.place (sym c.opens_block.ensures ∙ c.if-opens_block.false) c.take-hint.ensures.value refl
+    group_read _ _ _ _ _ _ _ _ _ _ (rw c.if-take_hint_name.ensures.exact.0 at c.in-Ok.ensures.exact.0) c.in-Ok.ensures.exact.1 c.take-hint.ensures.after _ _ c.requires.place (sym c.is_block.ensures ∙ c.if-is_block.false) c.take-hint.ensures.value refl
     (λ never. no_item _ _ _ _ c.requires.place c.if-take_hint_name.ensures.exact.1 c.requires.no_then (λ i m r s. never i m r))
     (rw c.holder.ensures at c.hold.ensures.exact)
