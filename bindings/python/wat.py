@@ -110,7 +110,7 @@ def check(text: str | bytes) -> List[Fault]:
 
 
 def format(text: str | bytes) -> str:
-    """The text laid out anew. Raises Refused if it can't be cut into tokens."""
+    """Returns the formatted text. Raises Refused if the text has an invalid token."""
     return _taken("wat_format", text)
 
 

@@ -101,7 +101,7 @@ pub fn check(text: &str) -> Vec<Fault> {
     taken(said_of(wat_check, text)).err().map_or(Vec::new(), |refused| refused.faults)
 }
 
-/// The text laid out anew, or why it can't be cut into tokens.
+/// Returns the formatted text. The error says where the text has an invalid token.
 pub fn format(text: &str) -> Result<String, Refused> {
     taken(said_of(wat_format, text))
 }
