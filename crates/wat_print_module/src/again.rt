@@ -1,4 +1,4 @@
-//! A module that is printed and read again.
+//! Printing a module and reading the text again.
 
 ghost use Rattle.std.specs.Prelude.{◌≡◌, ◌≢◌, IfOk, IfErr};
 ghost use Rattle.wat_core.specs.Module.{module_view, module_};
@@ -13,10 +13,11 @@ use std::alloc::Global;
 use wat_core::{Fault, Module, read_module};
 use wat_print::{Layout, Refused};
 
-/// The module, printed in the layout and read again: a copy that names nothing but the arena.
+/// Prints the module in the layout and reads the text again: returns a copy that borrows only from
+/// the arena.
 ///
-/// A module that no text spells is refused as by [`print_module`]. Memory that is refused is
-/// answered by Memory, and what was printed is never refused by the reader for another reason.
+/// It fails as [`print_module`] does, and with Memory if memory runs out. The reader never refuses
+/// the printed text for another reason.
 pub fn read_again<'a>(
     alloc: Global,
     module: &Module,

@@ -1,4 +1,4 @@
-//! How custom sections are printed.
+//! Printing of custom sections.
 
 ghost use Rattle.std.specs.Prelude.{◌≡◌, ◌≢◌, OnOk, IfErr, true, false};
 ghost use Rattle.wat_tokens.specs.Groups.{paren};
@@ -29,7 +29,7 @@ pub fn write_custom(out: &mut Output, section: &Custom) -> Result<(), Refused>
     }
 }
 
-/// It is printed in its parentheses, since an annotation stands behind a `(`.
+/// Printed with its parentheses, since an annotation follows a `(`.
 impl PrintPart for Custom<'_> {
     ghost View = { CustomTy };
 

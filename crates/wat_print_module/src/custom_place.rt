@@ -1,4 +1,4 @@
-//! How the places of custom sections are printed.
+//! Printing of the places of custom sections.
 
 ghost use Rattle.std.specs.Prelude.{◌≡◌, OnOk, IfErr};
 ghost use Rattle.wat_links.specs.CustomPlace.{section, custom_place};
@@ -57,7 +57,7 @@ pub fn write_place(out: &mut Output, place: CustomPlace) -> Result<(), Refused>
     }
 }
 
-/// Writes the place in parentheses; nothing, where it is behind the last section.
+/// Writes the place in parentheses, or nothing if the section comes after the last section.
 pub fn write_place_group(out: &mut Output, place: CustomPlace) -> Result<(), Refused>
     ensures written { OnOk result (out.new ≡ put out.old (spell_place_group place)) }
     ensures refused { IfErr result (λ e. e ≡ Memory) }

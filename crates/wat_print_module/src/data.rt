@@ -1,4 +1,4 @@
-//! How data segments are printed.
+//! Printing of data segments.
 
 ghost use Rattle.std.specs.Prelude.{◌≡◌, ◌≢◌, OnOk, IfErr, true, false};
 ghost use Rattle.wat_expr.specs.Expression.{expression_view};
@@ -40,7 +40,7 @@ pub(crate) fn write_offset(out: &mut Output, offset: &Expression) -> Result<(), 
     out.close()
 }
 
-/// Writes `( memory idx )`, unless it is memory 0.
+/// Writes `( memory idx )`, or nothing for memory 0.
 fn write_memory(out: &mut Output, memory: &Index) -> Result<(), Refused>
     ensures written { OnOk result (out.new ≡ put out.old
         (spell_data_memory (index_view memory.now))) }
@@ -70,7 +70,7 @@ fn write_active(out: &mut Output, memory: &Index, offset: &Expression) -> Result
     write_offset(out, offset)
 }
 
-/// Writes where a segment is put: nothing for a passive one.
+/// Writes the memory and the offset of an active segment, or nothing for a passive one.
 #[tactic(auto, using(wat_print::specs::Laws::Written::puts_put))]
 fn write_data_kind(out: &mut Output, kind: &DataKind) -> Result<(), Refused>
     ensures written { OnOk result
@@ -85,8 +85,8 @@ fn write_data_kind(out: &mut Output, kind: &DataKind) -> Result<(), Refused>
     }
 }
 
-/// Writes a data segment, without its parentheses (Text Format, Modules, "Data Segments"): the
-/// memory is left out where it is memory 0, and the offset is written as `( offset Expression )`.
+/// Writes a data segment, without its parentheses (Text Format, Modules, "Data Segments"). Memory 0
+/// is omitted, and the offset is written as `( offset Expression )`.
 pub fn write_data(out: &mut Output, segment: &Data) -> Result<(), Refused>
     ensures written { OnOk result (Writes (spell_data (data_view segment.now)) out.old out.new) }
     ensures printable { OnOk result (printable_data (data_view segment.now) ≡ true) }
@@ -112,7 +112,7 @@ pub fn write_grouped_data(out: &mut Output, segment: &Data) -> Result<(), Refuse
     out.close()
 }
 
-/// It is printed in its parentheses: a segment without values is passive by its `)` alone.
+/// Printed with its parentheses: only the `)` shows that a segment without values is passive.
 impl PrintPart for Data<'_> {
     ghost View = { DataTy };
 

@@ -1,4 +1,4 @@
-//! How values of data segments are printed.
+//! Printing of the values of data segments.
 
 ghost use Rattle.std.specs.Prelude.{◌≡◌, OnOk, IfErr, true};
 ghost use Rattle.wat_fields.specs.DataVal.{DataValTy, written, numbers, data_val_view, data_val};
@@ -35,7 +35,7 @@ fn write_bytes(out: &mut Output, bytes: &[u8]) -> Result<(), Refused>
     Ok(())
 }
 
-/// Writes the bytes of numbers: as numbers of 8 bits.
+/// Writes the bytes of numbers, each as a number of 8 bits.
 fn write_numbers(out: &mut Output, bytes: &[u8]) -> Result<(), Refused>
     ensures written { OnOk result (out.new ≡ put out.old (spell_data_val (numbers bytes.now))) }
     ensures printable { OnOk result (printable_data_val (numbers bytes.now) ≡ true) }
@@ -62,7 +62,7 @@ pub fn write_data_val(out: &mut Output, value: &DataVal) -> Result<(), Refused>
     }
 }
 
-/// Writes values of a data segment, one behind the other.
+/// Writes the values of a data segment in order.
 pub fn write_data_vals(out: &mut Output, values: &[DataVal]) -> Result<(), Refused>
     ensures wrote { OnOk result (Wrote data_val_view spell_data_val printable_data_val values.now
         out.old out.new) }

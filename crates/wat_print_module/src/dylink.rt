@@ -1,4 +1,4 @@
-//! How the `dylink.0` section is printed.
+//! Printing of the `dylink.0` section.
 
 ghost use Rattle.std.specs.Prelude.{◌≡◌, ◌≢◌, List, OnOk, IfErr, true, false, map};
 ghost use Rattle.std.specs.Str.{is_utf8};
@@ -34,7 +34,7 @@ fn write_sizes(out: &mut Output, word: &str, size: u32, align: u32) -> Result<()
     out.close()
 }
 
-/// Writes names, one behind the other.
+/// Writes names in order.
 fn write_strings(out: &mut Output, names: &[&str]) -> Result<(), Refused>
     ensures wrote { OnOk result
         (Wrote (λ n. n.now) spell_string is_utf8 names.now out.old out.new) }
@@ -73,7 +73,7 @@ fn write_export(out: &mut Output, entry: &(&str, u32)) -> Result<(), Refused>
     out.close()
 }
 
-/// Writes the entries of exports, one behind the other.
+/// Writes the entries of exports in order.
 fn write_exports(out: &mut Output, entries: &[(&str, u32)]) -> Result<(), Refused>
     ensures wrote { OnOk result (Wrote dylink_export_view spell_export_flags printable_export_flags
         entries.now out.old out.new) }
@@ -100,7 +100,7 @@ fn write_import(out: &mut Output, entry: &(&str, &str, u32)) -> Result<(), Refus
     out.close()
 }
 
-/// Writes the entries of imports, one behind the other.
+/// Writes the entries of imports in order.
 fn write_imports(out: &mut Output, entries: &[(&str, &str, u32)]) -> Result<(), Refused>
     ensures wrote { OnOk result (Wrote dylink_import_view spell_import_flags printable_import_flags
         entries.now out.old out.new) }
@@ -112,7 +112,7 @@ fn write_imports(out: &mut Output, entries: &[(&str, &str, u32)]) -> Result<(), 
     Ok(())
 }
 
-/// Writes a subsection: the numbers of `mem-info` all, and the flags of a symbol as one number.
+/// Writes a subsection: all numbers of `mem-info`, and the flags of a symbol as one number.
 fn write_subsection(out: &mut Output, subsection: &Dylink0Subsection) -> Result<(), Refused>
     ensures written { OnOk result (out.new ≡ put out.old
         (spell_subsection (subsection_view subsection.now))) }
@@ -145,7 +145,7 @@ fn write_subsection(out: &mut Output, subsection: &Dylink0Subsection) -> Result<
     }
 }
 
-/// Writes subsections, one behind the other.
+/// Writes subsections in order.
 fn write_subsections(out: &mut Output, subsections: &[Dylink0Subsection]) -> Result<(), Refused>
     ensures wrote { OnOk result (Wrote subsection_view spell_subsection printable_subsection
         subsections.now out.old out.new) }
@@ -157,7 +157,7 @@ fn write_subsections(out: &mut Output, subsections: &[Dylink0Subsection]) -> Res
     Ok(())
 }
 
-/// Whether the subsection has an entry, where it is of exports or of imports.
+/// Whether the subsection has an entry, if it is one of exports or of imports.
 fn is_filled(subsection: &Dylink0Subsection) -> bool
     ensures { result ≡ is_filled (subsection_view subsection.now) }
 {
@@ -168,7 +168,7 @@ fn is_filled(subsection: &Dylink0Subsection) -> bool
     }
 }
 
-/// Whether the subsection isn't of exports as the first of the others, nor of imports as that.
+/// Whether the subsection and the first of the others aren't both of exports or both of imports.
 fn is_apart(subsection: &Dylink0Subsection, others: &[Dylink0Subsection]) -> bool
     ensures { result ≡ is_apart (subsection_view subsection.now)
         (map subsection_view others.now) }
@@ -183,7 +183,7 @@ fn is_apart(subsection: &Dylink0Subsection, others: &[Dylink0Subsection]) -> boo
     }
 }
 
-/// Whether the subsections are cut as a text cuts its entries.
+/// Whether some text gives these subsections: adjacent entries of one kind form one subsection.
 fn are_cut(subsections: &[Dylink0Subsection]) -> bool
     ensures { result ≡ are_cut (map subsection_view subsections.now) }
 {
@@ -195,9 +195,8 @@ fn are_cut(subsections: &[Dylink0Subsection]) -> bool
     true
 }
 
-/// Writes the `dylink.0` section, without its parentheses (Text Format, "Custom Annotation"). It is
-/// refused where a subsection of exports or of imports has no entry, or is behind another of its
-/// kind.
+/// Writes the `dylink.0` section, without its parentheses (Text Format, "Custom Annotation"). It
+/// fails if a subsection of exports or of imports has no entry, or follows another of its kind.
 pub fn write_dylink(out: &mut Output, section: &Dylink0) -> Result<(), Refused>
     ensures written { OnOk result (out.new ≡ put out.old (spell_dylink (dylink_view section.now))) }
     ensures printable { OnOk result (printable_dylink (dylink_view section.now) ≡ true) }
@@ -211,7 +210,7 @@ pub fn write_dylink(out: &mut Output, section: &Dylink0) -> Result<(), Refused>
     write_subsections(out, &section.subsections)
 }
 
-/// It is printed in its parentheses, since an annotation stands behind a `(`.
+/// Printed with its parentheses, since an annotation follows a `(`.
 impl PrintPart for Dylink0<'_> {
     ghost View = { List SubsectionTy };
 

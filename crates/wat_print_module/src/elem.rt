@@ -1,4 +1,4 @@
-//! How element segments, and what they hold, are printed.
+//! Printing of element segments and their elements.
 
 ghost use Rattle.std.specs.Prelude.{◌≡◌, ◌≢◌, OnOk, IfErr, true, false, map, flat_map};
 ghost use Rattle.wat_expr.specs.Expression.{expression_view};
@@ -30,7 +30,7 @@ use wat_print_instr::traits::write_each;
 use wat_tokens::Index;
 use wat_types::RefType;
 
-/// Writes `( item Expression )`, on a line of its own where the layout has lines.
+/// Writes `( item Expression )`, on a separate line if the layout has lines.
 fn write_item(out: &mut Output, item: &Expression) -> Result<(), Refused>
     ensures written { OnOk result (Writes (spell_item (expression_view item.now)) out.old out.new) }
     ensures printable { OnOk result (printable_expression (expression_view item.now) ≡ true) }
@@ -44,7 +44,7 @@ fn write_item(out: &mut Output, item: &Expression) -> Result<(), Refused>
     out.close()
 }
 
-/// Writes items, one behind the other.
+/// Writes items in order.
 pub(crate) fn write_items(out: &mut Output, items: &[Expression]) -> Result<(), Refused>
     ensures wrote { OnOk result (WroteLines expression_view spell_item printable_expression
         items.now out.old out.new) }
@@ -70,7 +70,7 @@ fn write_typed(out: &mut Output, ty: &RefType, items: &[Expression]) -> Result<(
     write_items(out, items)
 }
 
-/// Writes indices, one behind the other.
+/// Writes indices in order.
 pub(crate) fn write_indices(out: &mut Output, list: &[Index]) -> Result<(), Refused>
     ensures written { OnOk result (out.new ≡ put out.old
         (flat_map spell_index (map index_view list.now))) }
@@ -93,8 +93,8 @@ fn write_functions(out: &mut Output, list: &[Index]) -> Result<(), Refused>
     write_indices(out, list)
 }
 
-/// Writes what an element segment holds (Text Format, Modules, "Element Segments"): `func` and
-/// indices, or a type and items, each as `( item Expression )`.
+/// Writes the elements of a segment (Text Format, Modules, "Element Segments"): `func` and indices,
+/// or a type and items, each as `( item Expression )`.
 #[tactic(auto, using(wat_print::specs::Laws::Written::puts_put))]
 pub fn write_payload(out: &mut Output, payload: &ElemPayload) -> Result<(), Refused>
     ensures written { OnOk result
@@ -109,7 +109,7 @@ pub fn write_payload(out: &mut Output, payload: &ElemPayload) -> Result<(), Refu
     }
 }
 
-/// Writes `( table idx )`, where a table is given.
+/// Writes `( table idx )`, or nothing if no table is given.
 fn write_elem_table(out: &mut Output, table: &Option<Index>) -> Result<(), Refused>
     ensures written { OnOk result (out.new ≡ put out.old
         (spell_option spell_elem_table (option_view index_view table.now))) }
@@ -143,7 +143,7 @@ fn write_active(out: &mut Output, table: &Option<Index>, offset: &Expression) ->
     write_offset(out, offset)
 }
 
-/// Writes where a segment is put: nothing for a passive one, `declare`, or a table and an offset.
+/// Writes the mode of a segment: nothing if it is passive, `declare`, or a table and an offset.
 #[tactic(auto, using(wat_print::specs::Laws::Written::puts_put))]
 fn write_elem_kind(out: &mut Output, kind: &ElemKind) -> Result<(), Refused>
     ensures written { OnOk result
@@ -159,8 +159,8 @@ fn write_elem_kind(out: &mut Output, kind: &ElemKind) -> Result<(), Refused>
     }
 }
 
-/// Writes an element segment, without its parentheses (Text Format, Modules, "Element Segments"):
-/// the table is written where the segment has one, and the offset as `( offset Expression )`.
+/// Writes an element segment, without its parentheses (Text Format, Modules, "Element Segments").
+/// The table is written if the segment has one, and the offset as `( offset Expression )`.
 pub fn write_elem(out: &mut Output, elem: &Elem) -> Result<(), Refused>
     ensures written { OnOk result (Writes (spell_elem (elem_view elem.now)) out.old out.new) }
     ensures printable { OnOk result (printable_elem (elem_view elem.now) ≡ true) }

@@ -1,4 +1,4 @@
-//! How exports and their types are printed.
+//! Printing of exports and their types.
 
 ghost use Rattle.std.specs.Prelude.{◌≡◌, ◌≢◌, OnOk, IfErr, true, false};
 ghost use Rattle.wat_links.specs.Export.{export_kind, ExportTy, export_view, export_};

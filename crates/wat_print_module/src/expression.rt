@@ -1,4 +1,4 @@
-//! How expressions are printed.
+//! Printing of expressions.
 
 ghost use Rattle.wat_expr.specs.Expression.{Expr, expression_view};
 ghost use Rattle.wat_expr.specs.ExpressionProduction.{expression};

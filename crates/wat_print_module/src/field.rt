@@ -1,4 +1,4 @@
-//! How fields of a module are printed.
+//! Printing of the fields of a module.
 
 ghost use Rattle.std.specs.Prelude.{◌≡◌, ◌≢◌, OnOk, IfErr, true, false};
 ghost use Rattle.wat_tokens.specs.Index.{index_view};
@@ -29,8 +29,8 @@ use wat_print::reference::write_index;
 use wat_print::{Output, Refused};
 use wat_tokens::Index;
 
-/// Writes `start`, and the index of the function that is called first, without parentheses (Text
-/// Format, Modules, "Start Function").
+/// Writes `start` and the index of the start function, without parentheses (Text Format, Modules,
+/// "Start Function").
 pub fn write_start(out: &mut Output, index: &Index) -> Result<(), Refused>
     ensures written { OnOk result (out.new ≡ put out.old (spell_start (index_view index.now))) }
     ensures printable { OnOk result (printable_index (index_view index.now) ≡ true) }
@@ -67,7 +67,7 @@ fn write_inside(out: &mut Output, field: &ModuleField) -> Result<(), Refused>
     }
 }
 
-/// Writes a field in its parentheses, on a line of its own where the layout has lines (Text Format,
+/// Writes a field in parentheses, on a separate line if the layout has lines (Text Format,
 /// "Modules").
 pub fn write_field(out: &mut Output, field: &ModuleField) -> Result<(), Refused>
     ensures written { OnOk result (Writes (spell_field_group (field_view field.now)) out.old
@@ -82,7 +82,7 @@ pub fn write_field(out: &mut Output, field: &ModuleField) -> Result<(), Refused>
     out.close()
 }
 
-/// It is printed in its parentheses, since an annotation stands behind a `(`.
+/// Printed with its parentheses, since an annotation follows a `(`.
 impl PrintPart for ModuleField<'_> {
     ghost View = { ModuleFieldTy };
 

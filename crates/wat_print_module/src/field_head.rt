@@ -1,4 +1,4 @@
-//! How exports and imports in line, and what is in front of a field's own part, are printed.
+//! Printing of inline exports and imports, and of the beginning of a field.
 
 ghost use Rattle.std.specs.Prelude.{◌≡◌, ◌≢◌, ℕ, List, OnOk, IfErr, true, false};
 ghost use Rattle.std.specs.Str.{is_utf8};
@@ -34,7 +34,7 @@ fn write_inline_name(out: &mut Output, name: &str) -> Result<(), Refused>
     out.close()
 }
 
-/// Writes exports in line, one behind the other.
+/// Writes inline exports in order.
 fn write_inline_names(out: &mut Output, names: &[&str]) -> Result<(), Refused>
     ensures wrote { OnOk result (Wrote (λ n. n.now) spell_inline_name is_utf8 names.now out.old
         out.new) }
@@ -46,7 +46,7 @@ fn write_inline_names(out: &mut Output, names: &[&str]) -> Result<(), Refused>
     Ok(())
 }
 
-/// Writes the exports that stand in a field (Text Format, Modules, "Exports", Abbreviations):
+/// Writes the inline exports of a field (Text Format, Modules, "Exports", Abbreviations):
 /// `( export name )*`.
 pub fn write_inline_export(out: &mut Output, exports: &InlineExport) -> Result<(), Refused>
     ensures written { OnOk result (out.new ≡ put out.old
@@ -58,7 +58,7 @@ pub fn write_inline_export(out: &mut Output, exports: &InlineExport) -> Result<(
     write_inline_names(out, &exports.names)
 }
 
-/// Writes the import that stands in a field (Text Format, Modules, "Imports", Abbreviations):
+/// Writes the inline import of a field (Text Format, Modules, "Imports", Abbreviations):
 /// `( import name name )`.
 pub fn write_inline_import(out: &mut Output, import: &InlineImport) -> Result<(), Refused>
     ensures written { OnOk result (out.new ≡ put out.old
@@ -74,7 +74,7 @@ pub fn write_inline_import(out: &mut Output, import: &InlineImport) -> Result<()
     out.close()
 }
 
-/// Writes what is behind the word of a field: what names it, and its exports in line.
+/// Writes the part after the word of a field: its identifier and name, and its inline exports.
 #[tactic(auto, using(wat_print::specs::Laws::Written::put_both))]
 pub fn write_head(
     out: &mut Output,

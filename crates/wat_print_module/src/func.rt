@@ -1,4 +1,4 @@
-//! How functions are printed.
+//! Printing of functions.
 
 ghost use Rattle.std.specs.Prelude.{◌≡◌, ◌≢◌, ◌&&◌, ◌++◌, OnOk, IfErr, true, false};
 ghost use Rattle.wat_expr.specs.Expression.{expression_view};
@@ -27,7 +27,7 @@ use wat_print::{Output, Refused};
 use wat_print_instr::expression::write_expression;
 use wat_types::{FunctionType, TypeUse};
 
-/// Writes the type of a function that is imported: behind `exact`, where it is exactly this.
+/// Writes the type of an imported function, after `exact` if the type is exact.
 fn write_exact_use(
     out: &mut Output,
     ty: &TypeUse<FunctionType>,
@@ -48,7 +48,7 @@ fn write_exact_use(
     out.close()
 }
 
-/// Writes an import in line, and the type of the function.
+/// Writes an inline import and the type of the function.
 fn write_imported(
     out: &mut Output,
     ty: &TypeUse<FunctionType>,
@@ -103,7 +103,7 @@ fn write_inline(
     write_body(out, locals, body)
 }
 
-/// Writes the type of a function, and how it is defined.
+/// Writes the type of a function, and its import or its locals and body.
 #[tactic(auto, using(wat_print::specs::Laws::Written::puts_put))]
 fn write_defined(
     out: &mut Output,
@@ -123,9 +123,8 @@ fn write_defined(
     }
 }
 
-/// Writes a function, without its parentheses (Text Format, Modules, "Functions"): its exports and
-/// its import in line, each local in a group of its own, and its instructions, each on a line of
-/// its own.
+/// Writes a function, without its parentheses (Text Format, Modules, "Functions"): its inline
+/// exports and import, each local in a separate group, and each instruction on a separate line.
 pub fn write_func(out: &mut Output, func: &Func) -> Result<(), Refused>
     ensures written { OnOk result (Writes (spell_func (func_view func.now)) out.old out.new) }
     ensures printable { OnOk result (printable_func (func_view func.now) ≡ true) }

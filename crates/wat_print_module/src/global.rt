@@ -1,4 +1,4 @@
-//! How globals are printed.
+//! Printing of globals.
 
 ghost use Rattle.std.specs.Prelude.{◌≡◌, ◌≢◌, OnOk, IfErr, true, false};
 ghost use Rattle.wat_expr.specs.Expression.{expression_view};
@@ -23,7 +23,7 @@ use wat_print::{Output, Refused};
 use wat_print_instr::expression::write_constant;
 use wat_types::GlobalType;
 
-/// Writes an import in line, and the type of the global.
+/// Writes an inline import and the type of the global.
 fn write_imported(out: &mut Output, ty: &GlobalType, import: &InlineImport) -> Result<(), Refused>
     ensures written { OnOk result (out.new ≡ put out.old (spell_defined_global
         (global_type_view ty.now, imported (inline_import_view import.now)))) }
@@ -36,7 +36,7 @@ fn write_imported(out: &mut Output, ty: &GlobalType, import: &InlineImport) -> R
     write_global(out, ty)
 }
 
-/// Writes the type of a global, and its first value.
+/// Writes the type of a global and its initial value.
 fn write_inline(out: &mut Output, ty: &GlobalType, value: &Expression) -> Result<(), Refused>
     ensures written { OnOk result (Writes (spell_defined_global
         (global_type_view ty.now, inline (expression_view value.now))) out.old out.new) }
@@ -49,7 +49,7 @@ fn write_inline(out: &mut Output, ty: &GlobalType, value: &Expression) -> Result
     write_constant(out, value)
 }
 
-/// Writes the type of a global, and how it is defined.
+/// Writes the type of a global, and its import or its initial value.
 #[tactic(auto, using(wat_print::specs::Laws::Written::puts_put))]
 fn write_defined(out: &mut Output, ty: &GlobalType, kind: &GlobalKind) -> Result<(), Refused>
     ensures written { OnOk result (Writes (spell_defined_global
@@ -65,8 +65,8 @@ fn write_defined(out: &mut Output, ty: &GlobalType, kind: &GlobalKind) -> Result
     }
 }
 
-/// Writes a global, without its parentheses (Text Format, Modules, "Globals"): its exports and its
-/// import in line, and the instructions that give its first value, each on a line of its own.
+/// Writes a global, without its parentheses (Text Format, Modules, "Globals"): its inline exports
+/// and import, and each instruction of its initial value on a separate line.
 pub fn write_global_field(out: &mut Output, global: &Global) -> Result<(), Refused>
     ensures written { OnOk result
         (Writes (spell_global_field (global_view global.now)) out.old out.new) }

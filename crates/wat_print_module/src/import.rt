@@ -1,4 +1,4 @@
-//! How imports are printed.
+//! Printing of imports.
 
 ghost use Rattle.std.specs.Prelude.{◌≡◌, ◌≢◌, OnOk, IfErr, true, false, map};
 ghost use Rattle.std.specs.Str.{is_utf8};
@@ -34,7 +34,7 @@ fn write_typed(out: &mut Output, item: &ImportGroup1Item) -> Result<(), Refused>
     out.close()
 }
 
-/// Writes items with their signatures, one behind the other.
+/// Writes items with their signatures in order.
 fn write_typed_items(out: &mut Output, items: &[ImportGroup1Item]) -> Result<(), Refused>
     ensures wrote { OnOk result (Wrote typed_view spell_typed printable_typed items.now out.old
         out.new) }
@@ -59,7 +59,7 @@ fn write_named(out: &mut Output, item: &ImportGroup2Item) -> Result<(), Refused>
     out.close()
 }
 
-/// Writes items that share a signature, one behind the other.
+/// Writes items that share a signature in order.
 fn write_named_items(out: &mut Output, items: &[ImportGroup2Item]) -> Result<(), Refused>
     ensures wrote { OnOk result (Wrote named_view spell_named is_utf8 items.now out.old out.new) }
     ensures refused { IfErr result (λ e. e ≡ Memory) }
@@ -70,7 +70,7 @@ fn write_named_items(out: &mut Output, items: &[ImportGroup2Item]) -> Result<(),
     Ok(())
 }
 
-/// Writes the signature that items share. One that has an identifier is refused with Label.
+/// Writes the signature that items share. It fails with Label if the signature has an identifier.
 fn write_shared(out: &mut Output, sig: &ItemSig) -> Result<(), Refused>
     ensures written { OnOk result (out.new ≡ put out.old (spell_sig_group (sig_view sig.now))) }
     ensures printable { OnOk result (printable_shared (sig_view sig.now) ≡ true) }
@@ -82,7 +82,7 @@ fn write_shared(out: &mut Output, sig: &ItemSig) -> Result<(), Refused>
     write_sig_group(out, sig)
 }
 
-/// Writes what is imported.
+/// Writes the items of an import.
 fn write_items(out: &mut Output, items: &ImportItems) -> Result<(), Refused>
     ensures written { OnOk result (out.new ≡ put out.old (spell_items (items_view items.now))) }
     ensures printable { OnOk result (printable_items (items_view items.now) ≡ true) }
@@ -105,7 +105,7 @@ fn write_items(out: &mut Output, items: &ImportItems) -> Result<(), Refused>
     Ok(())
 }
 
-/// The name of the module that is imported from.
+/// The name of the module from which the items are imported.
 fn module_name<'a>(items: &ImportItems<'a>) -> &'a str
     ensures { result.now ≡ (module_of items.now).now }
 {
@@ -117,8 +117,8 @@ fn module_name<'a>(items: &ImportItems<'a>) -> &'a str
 }
 
 /// Writes an import, without its parentheses (Text Format, Modules, "Imports", with the compact
-/// forms of the proposal "Compact Import Section"). A signature that items share is refused with
-/// Label where it has an identifier.
+/// forms of the proposal "Compact Import Section"). It fails with Label if items share a signature
+/// that has an identifier.
 pub fn write_imports(out: &mut Output, imports: &Imports) -> Result<(), Refused>
     ensures written { OnOk result (out.new ≡ put out.old
         (spell_imports (imports_view imports.now))) }

@@ -1,4 +1,4 @@
-//! How signatures of items that are imported or exported are printed.
+//! Printing of the signatures of imported and exported items.
 
 ghost use Rattle.std.specs.Prelude.{◌≡◌, ◌≢◌, OnOk, IfErr, true, false};
 ghost use Rattle.wat_links.specs.Item.{item_kind_view, SigTy, sig_view, item_sig};
@@ -30,7 +30,7 @@ fn word_of(kind: &ItemKind) -> &'static str
     }
 }
 
-/// `( exact TypeUse )`
+/// Writes `( exact TypeUse )`.
 fn write_exact(out: &mut Output, ty: &TypeUse<FunctionType>) -> Result<(), Refused>
     ensures written { OnOk result (out.new ≡ put out.old
         (spell_item (item_kind_view (ItemKind.FuncExact ty.now)))) }
@@ -45,8 +45,8 @@ fn write_exact(out: &mut Output, ty: &TypeUse<FunctionType>) -> Result<(), Refus
     out.close()
 }
 
-/// Writes the type of an item (Text Format, Types, "External Types"), that of a function which has
-/// to be of exactly its type in `( exact .. )`.
+/// Writes the type of an item (Text Format, Types, "External Types"), an exact function type as
+/// `( exact .. )`.
 fn write_kind(out: &mut Output, kind: &ItemKind) -> Result<(), Refused>
     ensures written { OnOk result (out.new ≡ put out.old
         (spell_item (item_kind_view kind.now))) }
@@ -64,8 +64,8 @@ fn write_kind(out: &mut Output, kind: &ItemKind) -> Result<(), Refused>
     }
 }
 
-/// Writes the signature of an item that is imported or exported (Text Format, Types, "External
-/// Types"): the word of its kind, what names it, and its type.
+/// Writes the signature of an imported or exported item (Text Format, Types, "External Types"): the
+/// word of its kind, its identifier and name, and its type.
 pub fn write_sig(out: &mut Output, sig: &ItemSig) -> Result<(), Refused>
     ensures written { OnOk result (out.new ≡ put out.old (spell_sig (sig_view sig.now))) }
     ensures printable { OnOk result (printable_sig (sig_view sig.now) ≡ true) }

@@ -1,8 +1,8 @@
 //! Fields and modules as text (WebAssembly Core Specification, Text Format, "Modules").
 //!
-//! [`print_module`] makes a text of a module. A type of its parts, which has [`PrintPart`], is
-//! printed by [`wat_print::print`] as [`ModulePart`]. What is printed is read again as the same
-//! value, of a module by [`read_again`] in one call.
+//! [`print_module`] prints a module. [`wat_print::print`] prints a part of a module, a value of a
+//! type that has [`PrintPart`], as [`ModulePart`]. The printed text parses back to the same value;
+//! [`read_again`] prints and parses a module in one call.
 #![tactic(auto)]
 
 pub mod again;

@@ -1,4 +1,4 @@
-//! How locals of functions are printed.
+//! Printing of the locals of functions.
 
 ghost use Rattle.std.specs.Prelude.{◌≡◌, ◌≢◌, List, OnOk, IfErr, true, false};
 ghost use Rattle.wat_fields.specs.Local.{LocalTy, local_view, locals_view, local_parser_view};
@@ -30,7 +30,7 @@ fn write_listed(out: &mut Output, local: &Local) -> Result<(), Refused>
     write_val(out, &local.ty)
 }
 
-/// Writes locals, one behind the other, without a group.
+/// Writes locals in order, without a group.
 #[tactic(auto, using(wat_print::specs::Laws::Written::not_each))]
 fn write_all_listed(out: &mut Output, locals: &[Local]) -> Result<(), Refused>
     ensures wrote { OnOk result (Wrote local_view spell_listed printable_local locals.now out.old
@@ -44,7 +44,7 @@ fn write_all_listed(out: &mut Output, locals: &[Local]) -> Result<(), Refused>
     Ok(())
 }
 
-/// Writes a local in a group of its own.
+/// Writes a local in a separate group.
 fn write_local(out: &mut Output, local: &Local) -> Result<(), Refused>
     ensures written { OnOk result (out.new ≡ put out.old (spell_local (local_view local.now))) }
     ensures printable { OnOk result (printable_local (local_view local.now) ≡ true) }
@@ -57,7 +57,7 @@ fn write_local(out: &mut Output, local: &Local) -> Result<(), Refused>
     out.close()
 }
 
-/// Writes the locals of a function (Text Format, Modules, "Functions"), each in a group of its own.
+/// Writes the locals of a function (Text Format, Modules, "Functions"), each in a separate group.
 #[tactic(auto, using(wat_print::specs::Laws::Written::not_each))]
 pub fn write_locals(out: &mut Output, locals: &[Local]) -> Result<(), Refused>
     ensures wrote { OnOk result (Wrote local_view spell_local printable_local locals.now out.old
@@ -95,7 +95,8 @@ fn may_stand_together(locals: &[Local]) -> bool
 }
 
 /// Writes the locals of one group, without its parentheses (Text Format, Modules, "Functions",
-/// Abbreviations). More than one, of which one has an identifier or a name, are refused with Label.
+/// Abbreviations). It fails with Label if there is more than one and one has an identifier or a
+/// name.
 fn write_local_parser(out: &mut Output, group: &LocalParser) -> Result<(), Refused>
     ensures written { OnOk result (out.new ≡ put out.old
         (spell_local_parser (local_parser_view group.now))) }

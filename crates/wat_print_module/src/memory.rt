@@ -1,4 +1,4 @@
-//! How memories are printed.
+//! Printing of memories.
 
 ghost use Rattle.std.specs.Prelude.{◌≡◌, ◌≢◌, OnOk, IfErr, true, false, codes};
 ghost use Rattle.wat_fields.specs.DataVal.{data_vals_view};
@@ -22,7 +22,7 @@ use wat_print::limits::{write_flag, write_memory_type, write_page_size};
 use wat_print::{Output, Refused};
 use wat_types::MemoryType;
 
-/// Writes an import in line, and the type of the memory.
+/// Writes an inline import and the type of the memory.
 fn write_imported(out: &mut Output, import: &InlineImport, ty: &MemoryType) -> Result<(), Refused>
     ensures written { OnOk result (out.new ≡ put out.old (spell_memory_kind
         (imported (inline_import_view import.now) ty.now))) }
@@ -48,7 +48,7 @@ fn write_inline_data(out: &mut Output, values: &[DataVal]) -> Result<(), Refused
     out.close()
 }
 
-/// Writes what a memory holds, in line.
+/// Writes the inline data of a memory.
 fn write_inline(
     out: &mut Output,
     is64: bool,
@@ -67,7 +67,7 @@ fn write_inline(
     write_inline_data(out, values)
 }
 
-/// Writes how a memory is defined, behind its head.
+/// Writes the part of a memory after its identifier, name and exports.
 fn write_memory_kind(out: &mut Output, kind: &MemoryKind) -> Result<(), Refused>
     ensures written { OnOk result (out.new ≡ put out.old
         (spell_memory_kind (memory_kind_view kind.now))) }
@@ -86,9 +86,9 @@ fn write_memory_kind(out: &mut Output, kind: &MemoryKind) -> Result<(), Refused>
     }
 }
 
-/// Writes a memory, without its parentheses (Text Format, Modules, "Memories"): its exports, its
-/// import and its data in line, as it has them. One with pages of 2 to the k bytes is refused with
-/// PageSize where k is 32 or more.
+/// Writes a memory, without its parentheses (Text Format, Modules, "Memories"), with its inline
+/// exports, import and data. It fails with PageSize if a page has 2 to the k bytes and k is 32 or
+/// more.
 pub fn write_memory(out: &mut Output, memory: &Memory) -> Result<(), Refused>
     ensures written { OnOk result (out.new ≡ put out.old (spell_memory (memory_view memory.now))) }
     ensures printable { OnOk result (printable_memory (memory_view memory.now) ≡ true) }

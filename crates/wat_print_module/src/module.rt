@@ -1,4 +1,4 @@
-//! How modules are printed.
+//! Printing of modules.
 
 ghost use Rattle.std.specs.Prelude.{◌≡◌, ◌≢◌, OnOk, IfOk, IfErr, true, false, map};
 ghost use Rattle.std.specs.Prelude.{string_bytes, Some, None};
@@ -29,14 +29,14 @@ use wat_core::{Module, ModuleField, ModuleKind, ModuleKindOf, VisibleModule};
 use wat_print::label::write_label;
 use wat_print::{Layout, Output, Refused};
 
-/// Why a module isn't printed, and where. Display writes the reason.
+/// The reason why a module can't be printed, and the field. Display writes the reason.
 #[derive(Clone, Copy, Debug, PartialEq, Eq, Error)]
 #[error("{reason}")]
 pub struct ModuleRefused {
     /// The reason.
     pub reason: Refused,
-    /// The number of the field that can't be written, from 0 on; None where it is what names the
-    /// module. Where memory ran out, it is the field that was being written, or None.
+    /// The number of the field that can't be printed, counted from 0; None for the identifier and
+    /// the name of the module. If memory ran out, it is the field that was being written, or None.
     pub field: Option<usize>,
 }
 
@@ -54,7 +54,7 @@ impl From<AllocError> for ModuleRefused {
     }
 }
 
-/// The reason alone: no field is being written.
+/// The reason without a field.
 impl From<Refused> for ModuleRefused {
     ghost use Rattle.std.specs.Prelude.{◌≡◌, None};
 
@@ -68,7 +68,7 @@ impl From<Refused> for ModuleRefused {
     }
 }
 
-/// Writes the field of the number, on a line of its own where the layout has lines.
+/// Writes the field with the number, on a separate line if the layout has lines.
 fn write_numbered(out: &mut Output, field: &ModuleField, number: usize) -> Result<(), ModuleRefused>
     ensures written { OnOk result (Writes (spell_field_group (field_view field.now)) out.old
         out.new) }
@@ -86,7 +86,7 @@ fn write_numbered(out: &mut Output, field: &ModuleField, number: usize) -> Resul
     }
 }
 
-/// Writes fields, each on a line of its own where the layout has lines.
+/// Writes fields, each on a separate line if the layout has lines.
 fn write_fields(out: &mut Output, fields: &[ModuleField]) -> Result<(), ModuleRefused>
     ensures wrote { OnOk result (WroteLines field_view spell_field_group printable_module_field
         fields.now out.old out.new) }
@@ -99,7 +99,7 @@ fn write_fields(out: &mut Output, fields: &[ModuleField]) -> Result<(), ModuleRe
     Ok(())
 }
 
-/// Writes `binary`, and the pieces of the binary form.
+/// Writes `binary` and the strings of the binary form.
 fn write_binary(out: &mut Output, pieces: &[&[u8]]) -> Result<(), Refused>
     ensures written { OnOk result (out.new ≡ put out.old
         (spell_module_kind (binary (map (λ s. s.now) pieces.now)))) }
@@ -110,7 +110,7 @@ fn write_binary(out: &mut Output, pieces: &[&[u8]]) -> Result<(), Refused>
     write_pieces(out, pieces)
 }
 
-/// Writes what is in a module.
+/// Writes the fields or the binary form of a module.
 fn write_kind(out: &mut Output, kind: &ModuleKind) -> Result<(), ModuleRefused>
     ensures written { OnOk result (Writes (spell_module_kind (module_kind_view kind.now)) out.old
         out.new) }
@@ -142,9 +142,8 @@ fn write_content(out: &mut Output, value: &Module) -> Result<(), ModuleRefused>
     write_kind(out, &value.kind)
 }
 
-/// Writes a module in its parentheses (Text Format, "Modules"): each field on a line of its own,
-/// where the layout has lines. One that can't be written is refused with the first reason that is
-/// met.
+/// Writes a module in parentheses (Text Format, "Modules"), each field on a separate line if the
+/// layout has lines. It fails with the first reason that it meets.
 pub fn write_module(out: &mut Output, value: &Module) -> Result<(), ModuleRefused>
     ensures written { OnOk result (Writes (spell_module_group (module_view value.now)) out.old
         out.new) }
@@ -158,11 +157,11 @@ pub fn write_module(out: &mut Output, value: &Module) -> Result<(), ModuleRefuse
     Ok(())
 }
 
-/// The text of a module, laid out as said: the whole text is its group `( module .. )`.
+/// Returns the text of a module in the layout. The text is one group `( module .. )`.
 ///
-/// The text is cut into tokens that spell the module, so [`read_module`](wat_core::read_module)
-/// reads it again. A module that no text spells is refused with the first reason that is met, and
-/// with the number of the field that no text spells. Memory that is refused is answered by Memory.
+/// The tokens of the text spell the module, so [`read_module`](wat_core::read_module) returns it
+/// again. If no text spells the module, it fails with the first reason that it meets and the number
+/// of the field that no text spells. If memory runs out, it fails with Memory.
 pub fn print_module(alloc: Global, value: &Module, layout: Layout) -> Result<String, ModuleRefused>
     ensures reads_back { IfOk result (λ s. SpellsModule (string_bytes s)
         (module_view value.now)) }
@@ -180,7 +179,7 @@ pub fn print_module(alloc: Global, value: &Module, layout: Layout) -> Result<Str
     Ok(out.into_text())
 }
 
-/// It is printed without its parentheses, as it is read.
+/// Printed without its parentheses, as it is parsed.
 impl PrintPart for VisibleModule<'_> {
     ghost View = { ModuleTy };
 

@@ -1,4 +1,4 @@
-//! How the `producers` section is printed.
+//! Printing of the `producers` section.
 
 ghost use Rattle.std.specs.Prelude.{◌≡◌, ◌≢◌, List, OnOk, IfOk, IfErr, true, false, map, flat_map};
 ghost use Rattle.wat_tokens.specs.Groups.{paren};
@@ -43,8 +43,8 @@ fn write_entries(out: &mut Output, word: &str, entries: &[(&str, &str)]) -> Resu
     Ok(())
 }
 
-/// Writes the first of the fields, where it is of the word, and answers those behind it. One
-/// without an entry is refused.
+/// Writes the first of the fields if it has the word, and returns the fields after it. It fails if
+/// that field has no entry.
 fn write_field<'f, 'a>(
     out: &mut Output,
     word: &str,
@@ -69,8 +69,8 @@ fn write_field<'f, 'a>(
     Ok(&fields[1..])
 }
 
-/// Writes fields: `language`, `sdk` and `processed-by`, in this order, each once or not at all and
-/// with an entry. Others are refused.
+/// Writes fields: `language`, `sdk` and `processed-by`, in this order, each at most once and with
+/// an entry. It fails for other fields.
 fn write_fields<'a>(
     out: &mut Output,
     fields: &[(&'a str, Vec<(&'a str, &'a str)>)],
@@ -91,8 +91,8 @@ fn write_fields<'a>(
 }
 
 /// Writes the `producers` section, without its parentheses (Text Format, "Custom Annotation"). It
-/// is refused where its fields aren't `language`, `sdk` and `processed-by`, in this order, each
-/// once or not at all and with an entry.
+/// fails unless its fields are `language`, `sdk` and `processed-by`, in this order, each at most
+/// once and with an entry.
 pub fn write_producers(out: &mut Output, section: &Producers) -> Result<(), Refused>
     ensures written { OnOk result (out.new ≡ put out.old
         (spell_producers (producers_view section.now))) }
@@ -105,7 +105,7 @@ pub fn write_producers(out: &mut Output, section: &Producers) -> Result<(), Refu
     Ok(())
 }
 
-/// It is printed in its parentheses, since an annotation stands behind a `(`.
+/// Printed with its parentheses, since an annotation follows a `(`.
 impl PrintPart for Producers<'_> {
     ghost View = { List ProducedTy };
 

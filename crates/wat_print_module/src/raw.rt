@@ -1,4 +1,4 @@
-//! How custom sections of any name are printed.
+//! Printing of custom sections with any name.
 
 ghost use Rattle.std.specs.Prelude.{◌≡◌, OnOk, true, IfErr};
 ghost use Rattle.wat_tokens.specs.Groups.{paren};
@@ -16,7 +16,7 @@ use wat_links::RawCustomSection;
 use wat_print::string::write_string;
 use wat_print::{Output, Refused};
 
-/// Writes strings of bytes, one behind the other.
+/// Writes strings of bytes in order.
 pub fn write_pieces(out: &mut Output, pieces: &[&[u8]]) -> Result<(), Refused>
     ensures wrote { OnOk result (Wrote (λ s. s.now) spell_string printable_string pieces.now out.old
         out.new) }
@@ -28,8 +28,8 @@ pub fn write_pieces(out: &mut Output, pieces: &[&[u8]]) -> Result<(), Refused>
     Ok(())
 }
 
-/// Writes a custom section of any name, without its parentheses (Text Format, "Custom Annotation").
-/// Its place is left out where it is behind the last section.
+/// Writes a custom section with any name, without its parentheses (Text Format, "Custom
+/// Annotation"). Its place is omitted if it comes after the last section.
 pub fn write_raw(out: &mut Output, section: &RawCustomSection) -> Result<(), Refused>
     ensures written { OnOk result (out.new ≡ put out.old (spell_raw (raw_view section.now))) }
     ensures printable { OnOk result (printable_raw (raw_view section.now) ≡ true) }
@@ -41,7 +41,7 @@ pub fn write_raw(out: &mut Output, section: &RawCustomSection) -> Result<(), Ref
     write_pieces(out, &section.data)
 }
 
-/// It is printed in its parentheses, since an annotation stands behind a `(`.
+/// Printed with its parentheses, since an annotation follows a `(`.
 impl PrintPart for RawCustomSection<'_> {
     ghost View = { RawTy };
 

@@ -1,4 +1,4 @@
-//! How tables are printed.
+//! Printing of tables.
 
 ghost use Rattle.std.specs.Prelude.{◌≡◌, ◌≢◌, ◌&&◌, OnOk, IfErr, true, false, codes, map};
 ghost use Rattle.wat_expr.specs.Expression.{expression_view};
@@ -33,14 +33,14 @@ use wat_print_instr::expression::write_constant;
 use wat_tokens::Index;
 use wat_types::{RefType, TableType};
 
-/// Whether two reference types are the same, places aside.
+/// Whether two reference types are the same, spans aside.
 fn same_type(a: &RefType, b: &RefType) -> bool
     ensures { result ≡ same_ref (ref_view a.now) (ref_view b.now) }
 {
     a == b
 }
 
-/// Writes indices in a table whose elements have the type. They are refused where it isn't
+/// Writes the indices of an inline table with the element type. It fails unless the type is
 /// `funcref`.
 fn write_functions(out: &mut Output, ty: &RefType, list: &[Index]) -> Result<(), Refused>
     ensures written { OnOk result (out.new ≡ put out.old
@@ -64,8 +64,8 @@ fn is_bare_funcref(ty: &RefType, list: &[Expression]) -> bool
     is_funcref(*ty) && list.is_empty()
 }
 
-/// Writes expressions in a table whose elements have the type. They are refused where they are of
-/// another type, or where it is `funcref` and there is none.
+/// Writes the expressions of an inline table with the element type. It fails if they have another
+/// type, or if the type is `funcref` and there is no expression.
 fn write_listed_items(
     out: &mut Output,
     ty: &RefType,
@@ -88,7 +88,7 @@ fn write_listed_items(
     write_items(out, list)
 }
 
-/// Writes what a table holds, whose elements have the type: indices, or items.
+/// Writes the elements of an inline table with the element type: indices or items.
 #[tactic(auto, using(wat_print::specs::Laws::Written::puts_put))]
 fn write_elements(out: &mut Output, ty: &RefType, payload: &ElemPayload) -> Result<(), Refused>
     ensures written { OnOk result
@@ -119,8 +119,8 @@ fn write_elem_group(out: &mut Output, ty: &RefType, payload: &ElemPayload) -> Re
     out.close()
 }
 
-/// Writes what a table holds, behind the type of its elements. One that is both shared and of 64
-/// bits is refused.
+/// Writes the element type and the elements of an inline table. It fails if the table is both
+/// shared and of 64 bits.
 fn write_inline(
     out: &mut Output,
     elem: &RefType,
@@ -144,8 +144,8 @@ fn write_inline(
     write_elem_group(out, elem, payload)
 }
 
-/// Writes what each element is at first, where that is given. One without an instruction is
-/// refused.
+/// Writes the initial value of the elements, if the table has one. It fails if that has no
+/// instruction.
 fn write_initial(out: &mut Output, value: &Option<Expression>) -> Result<(), Refused>
     ensures written { OnOk result (Writes
         (spell_option spell_expression (option_view expression_view value.now)) out.old out.new) }
@@ -165,7 +165,7 @@ fn write_initial(out: &mut Output, value: &Option<Expression>) -> Result<(), Ref
     }
 }
 
-/// Writes a table type, and what each element is at first.
+/// Writes a table type and the initial value of the elements.
 fn write_normal(out: &mut Output, ty: &TableType, value: &Option<Expression>) -> Result<(), Refused>
     ensures written { OnOk result (Writes (spell_table_kind
         (normal (table_type_view ty.now) (option_view expression_view value.now))) out.old
@@ -179,7 +179,7 @@ fn write_normal(out: &mut Output, ty: &TableType, value: &Option<Expression>) ->
     write_initial(out, value)
 }
 
-/// Writes an import in line, and the type of the table.
+/// Writes an inline import and the type of the table.
 fn write_imported(out: &mut Output, import: &InlineImport, ty: &TableType) -> Result<(), Refused>
     ensures written { OnOk result (out.new ≡ put out.old (spell_table_kind
         (imported (inline_import_view import.now) (table_type_view ty.now)))) }
@@ -192,7 +192,7 @@ fn write_imported(out: &mut Output, import: &InlineImport, ty: &TableType) -> Re
     write_table_type(out, ty)
 }
 
-/// Writes how a table is defined, behind its head.
+/// Writes the part of a table after its identifier, name and exports.
 #[tactic(auto, using(wat_print::specs::Laws::Written::puts_put))]
 fn write_table_kind(out: &mut Output, kind: &TableKind) -> Result<(), Refused>
     ensures written { OnOk result
@@ -213,12 +213,15 @@ fn write_table_kind(out: &mut Output, kind: &TableKind) -> Result<(), Refused>
     }
 }
 
-/// Writes a table, without its parentheses (Text Format, Modules, "Tables"): its exports, its
-/// import and its elements in line, as it has them.
+/// Writes a table, without its parentheses (Text Format, Modules, "Tables"), with its inline
+/// exports, import and elements.
 ///
-/// Elements in line are refused where they are of another type than the table's, or indices in a
-/// table of another type than `funcref`, or no expressions in one of `funcref`; or where the table
-/// is both shared and of 64 bits. So is a first value without an instruction.
+/// It fails in these cases:
+/// - the inline elements have another type than the table;
+/// - the inline elements are indices, and the type isn't `funcref`;
+/// - the inline elements are an empty list of expressions, and the type is `funcref`;
+/// - the table has inline elements, and is both shared and of 64 bits;
+/// - the initial value has no instruction.
 pub fn write_table(out: &mut Output, table: &Table) -> Result<(), Refused>
     ensures written { OnOk result (Writes (spell_table (table_view table.now)) out.old out.new) }
     ensures printable { OnOk result (printable_table (table_view table.now) ≡ true) }

@@ -1,4 +1,4 @@
-//! How tags are printed.
+//! Printing of tags.
 
 ghost use Rattle.std.specs.Prelude.{◌≡◌, ◌≢◌, OnOk, IfErr, true, false};
 ghost use Rattle.wat_fields.specs.Tag.{TagTy, tag_kind_view, tag_view, tag};
@@ -18,7 +18,7 @@ use wat_print::type_use::write_use;
 use wat_print::{Output, Refused};
 use wat_types::TagType;
 
-/// Writes the import in line, where the tag is imported.
+/// Writes the inline import, if the tag is imported.
 fn write_import(out: &mut Output, kind: &TagKind) -> Result<(), Refused>
     ensures written { OnOk result (out.new ≡ put out.old
         (spell_option spell_inline_import (tag_kind_view kind.now))) }
@@ -44,8 +44,8 @@ fn write_tag_type(out: &mut Output, ty: &TagType) -> Result<(), Refused>
     }
 }
 
-/// Writes a tag, without its parentheses (Text Format, Modules, "Tags"): its exports and its import
-/// in line, and its type.
+/// Writes a tag, without its parentheses (Text Format, Modules, "Tags"): its inline exports and
+/// import, and its type.
 #[tactic(auto, using(wat_print::specs::Laws::Written::put_both))]
 pub fn write_tag(out: &mut Output, tag: &Tag) -> Result<(), Refused>
     ensures written { OnOk result (out.new ≡ put out.old (spell_tag (tag_view tag.now))) }

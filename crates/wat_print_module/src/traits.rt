@@ -1,4 +1,4 @@
-//! Which parts of a module are printed.
+//! The parts of a module that can be printed.
 
 ghost use Rattle.std.specs.Prelude.{◌≡◌, ◌≢◌, OnOk, IfErr, true, false};
 ghost use Rattle.wat_tokens.specs.Production.{Production};
@@ -8,28 +8,28 @@ ghost use Rattle.wat_print.specs.declared.fault.Refused.TheVariants.{Memory};
 
 use wat_print::{Output, Print, Refused};
 
-/// A type of parts of a module, whose values are printed and read again as the same values.
+/// A type of parts of a module. A printed value parses back to the same value.
 ///
-/// It says what [`Print`] says. That trait and the types are of other crates, so they can't have it
-/// here. If each had it as a [`ModulePart`], generic code would need a bound for every lifetime,
-/// which the prover doesn't state.
+/// It has the methods and clauses of [`Print`]. [`Print`] and the types belong to other crates, so
+/// this crate can't implement it for them. If each [`ModulePart`] implemented it instead, generic
+/// code would need a bound for every lifetime, which the prover can't state.
 pub trait PrintPart {
-    /// What contracts see of a value: what its `Parse` has.
+    /// The view of a value in contracts, as in its `Parse`.
     ghost View: { Type 0 };
 
-    /// How a value is seen, as by its `Parse`.
+    /// The view of a value, as in its `Parse`.
     ghost view: { Self → View };
 
-    /// Which tokens spell a value: the grammar of its `Parse`.
+    /// The tokens that spell a value: the grammar of its `Parse`.
     ghost grammar: { Production View };
 
-    /// Which tokens are written of a value, and which values can be written.
+    /// The tokens that are written for a value, and the values that can be written.
     ghost printing: { Printing grammar };
 
     /// Writes the tokens of the value.
     ///
-    /// A value that can't be written is refused with the first reason that is met, and one that
-    /// can be only with Memory. What was written before a refusal stays.
+    /// For a value that can't be written it fails with the first reason that it meets; for any
+    /// other value it fails only with Memory. The tokens written before an error stay written.
     fn write(&self, out: &mut Output) -> Result<(), Refused>
         ensures written { OnOk result (Writes (printing.spell (view self.now)) out.old out.new) }
         ensures printable { OnOk result (printing.printable (view self.now) ≡ true) }
@@ -37,7 +37,7 @@ pub trait PrintPart {
             → printing.printable (view self.now) ≡ false) };
 }
 
-/// A value as [`wat_print::print`] takes it.
+/// A value in the form that [`wat_print::print`] accepts.
 #[derive(Clone, Copy)]
 pub struct ModulePart<'a, T>(pub &'a T);
 

@@ -4,14 +4,14 @@ use Rattle.std.specs.Prelude.{None}
 use Rattle.std.specs.Str.{bytes_eq}
 use Rattle.std.proofs.Common.{refl, subst, inl, inr}
 use Rattle.std.proofs.lemmas.Bool.{and_parts, cond_both}
-use Rattle.wat_lexer.specs.Token.{Tok, LParen, RParen}
+use Rattle.wat_lexer.specs.Token.{Tok, LParen, RParen, Keyword}
 use Rattle.wat_tokens.specs.Groups.{paren, group}
 use Rattle.wat_tokens.specs.Many.{many}
 use Rattle.wat_tokens.specs.ManySpells.{many_spells}
 use Rattle.wat_tokens.specs.Parens.{NoParens}
 use Rattle.wat_tokens.specs.Parts.{one, seq, where_else, made_where, opt, word, after_word}
 use Rattle.wat_tokens.specs.Production.{Production}
-use Rattle.wat_tokens.specs.Tests.{look_up}
+use Rattle.wat_tokens.specs.Tests.{look_up, word_in}
 use Rattle.wat_print.specs.WellFormed.{is_given}
 use Rattle.wat_print.specs.Parts.{each, if_some}
 use Rattle.wat_print.specs.Laws.Parts.{each_front}
@@ -35,7 +35,7 @@ given_group f y x g =
     (a.0, b.0, b.1)
 
 -- a value that a word of a table names
-pub look_up_printable : {A : Type 0} (printable : A → Bool) (table : List (List ℕ × A)) (w : List ℕ)
+look_up_printable : {A : Type 0} (printable : A → Bool) (table : List (List ℕ × A)) (w : List ℕ)
     (v : A) → each (λ e. printable e.1) table ≡ true → look_up table w ≡ Some v
     → printable v ≡ true
 look_up_printable printable [] w v a e = absurd cc
@@ -45,6 +45,13 @@ look_up_printable {A = A} printable (x ∷ table) w v a e =
     (λ (o : Option A). o ≡ Some v → printable v ≡ true)
     (λ k f. (let same : x.1 ≡ v = cc in subst (λ (u : A). printable u ≡ true) same (p.0)))
     (λ k f. (look_up_printable printable table w v p.1 f)) e
+
+word_given : {A : Type 0} (printable : A → Bool) (table : List (List ℕ × A))
+    → each (λ e. printable e.1) table ≡ true → (t : Tok) (v : A) → is_given t ≡ true
+    → word_in table t ≡ Some v → printable v ≡ true
+word_given printable table h (Keyword w) v a e = look_up_printable printable table w v h e
+word_given printable table h LParen v a e = absurd cc
+word_given printable table h _ v a e = absurd cc
 
 pub only_any : {A : Type 0} (g : Production A) → OnlyPrintable g (λ _. true)
 only_any g = record { holds = λ v c r a s. refl }
@@ -58,6 +65,13 @@ only_one value_of flat printable h =
       holds = λ v c r a s. (let k = subst (λ (l : List Tok). each is_given l ≡ true) s.1 a in
           h s.0 v (and_parts (is_given s.0) true k).0 s.2);
     }
+
+-- a keyword of a table, each of whose values can be written
+pub only_word_in : {A : Type 0} (table : List (List ℕ × A)) (printable : A → Bool)
+    → each (λ e. printable e.1) table ≡ true
+    → OnlyPrintable (one (word_in table) (refl, refl)) printable
+only_word_in table printable h =
+    only_one (word_in table) (refl, refl) printable (word_given printable table h)
 
 where_holds : {A : Type 0} {g h : Production A} {printable : A → Bool} (test : List Tok → Bool)
     → OnlyPrintable g printable → OnlyPrintable h printable → (v : A) (c r : List Tok)

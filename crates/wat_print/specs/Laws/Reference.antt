@@ -27,7 +27,7 @@ use Rattle.wat_print.specs.Reference.{spell_long, spell_reference, spell_ref, pr
 use Rattle.wat_print.specs.Reference.{spell_val, printable_val}
 use Rattle.wat_print.specs.Laws.Numbers.{decimal_printable, unsigned_decimal, unsigned_fits}
 use Rattle.wat_print.specs.Laws.Only.{OnlyPrintable, only_any, only_one, only_where, only_made}
-use Rattle.wat_print.specs.Laws.Only.{only_group, look_up_printable, only_seq}
+use Rattle.wat_print.specs.Laws.Only.{only_group, only_word_in, only_seq}
 use Rattle.wat_print.specs.Laws.Parts.{Spells, group_here, flag_here, well_formed_one}
 use Rattle.wat_print.specs.Laws.Parts.{well_formed_group, well_formed_both, well_formed_flag}
 
@@ -295,15 +295,9 @@ ref_only =
     (only_made (λ _. true) (short true) printable_ref (only_any (group (codes "shared") shorthand)))
     (only_made (λ _. true) (short false) printable_ref (only_any shorthand)))
 
-plain_given : (t : Tok) (v : ValTy) → is_given t ≡ true → word_in plain_words t ≡ Some v
-    → printable_val v ≡ true
-plain_given (Keyword w) v a e = look_up_printable printable_val plain_words w v refl e
-plain_given LParen v a e = absurd cc
-plain_given _ v a e = absurd cc
-
 pub val_only : OnlyPrintable val_type printable_val
 unfolding val_type
 val_only =
     only_where (begins_one_of (word_in plain_words))
-    (only_one (word_in plain_words) (refl, refl) printable_val plain_given)
+    (only_word_in plain_words printable_val refl)
     (only_made (λ _. true) ref printable_val ref_only)

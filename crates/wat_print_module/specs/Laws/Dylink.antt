@@ -7,7 +7,7 @@ use Rattle.std.proofs.Common.{refl, ap, subst, sym, ◌∙◌, append-nil, inl, 
 use Rattle.std.proofs.lemmas.Bool.{and_parts, lt-ltb, ltb-true}
 use Rattle.std.proofs.lemmas.Grind.{flat_map-append}
 use Rattle.std.proofs.lemmas.Nat.{or_lt}
-use Rattle.wat_lexer.specs.Token.{Tok, LParen, RParen, String, Keyword}
+use Rattle.wat_lexer.specs.Token.{Tok, RParen, String}
 use Rattle.wat_tokens.specs.Integers.{unsigned}
 use Rattle.wat_tokens.specs.Many.{many}
 use Rattle.wat_tokens.specs.ManySpells.{many_spells}
@@ -30,9 +30,8 @@ use Rattle.wat_links.specs.Laws.Flags.{flag_bits_consumes}
 use Rattle.wat_print.specs.Limits.{spell_number}
 use Rattle.wat_print.specs.WellFormed.{is_given, is_keyword, WellFormed}
 use Rattle.wat_print.specs.Parts.{if_some, each}
-use Rattle.wat_print.specs.Laws.Only.{OnlyPrintable, only_one, only_where, only_opt, only_many}
+use Rattle.wat_print.specs.Laws.Only.{OnlyPrintable, only_word_in, only_where, only_opt, only_many}
 use Rattle.wat_print.specs.Laws.Only.{only_seq, only_made, only_weaker, only_group}
-use Rattle.wat_print.specs.Laws.Only.{look_up_printable}
 use Rattle.wat_print.specs.Laws.Parts.{Spells, group_here, many_here, well_formed_group}
 use Rattle.wat_print.specs.Laws.Parts.{well_formed_both, well_formed_each, each_both, each_front}
 use Rattle.wat_print_instr.specs.Numbers.{is_unsigned}
@@ -75,21 +74,12 @@ flags_here n r f e = (
   or_zero_l n,
 )
 
--- a keyword of a table whose values can all be written names one that can
-word_given : {F : Type 0} (printable : F → Bool) (table : List (List ℕ × F))
-    → each (λ e. printable e.1) table ≡ true → (t : Tok) (f : F) → is_given t ≡ true
-    → word_in table t ≡ Some f → printable f ≡ true
-word_given printable table h (Keyword w) f a e = look_up_printable printable table w f h e
-word_given printable table h LParen f a e = absurd cc
-word_given printable table h _ f a e = absurd cc
-
 flag_only : OnlyPrintable flag_bits (is_unsigned 32)
 unfolding flag_bits
 flag_only =
     only_where begins_integer u32_only
     (only_made (λ _. true) (λ f. f.0) (is_unsigned 32)
-    (only_one (word_in flag_words) (refl, refl) (λ f. is_unsigned 32 f.0)
-    (word_given (λ f. is_unsigned 32 f.0) flag_words refl)))
+    (only_word_in flag_words (λ f. is_unsigned 32 f.0) refl))
 
 -- what bits of 32 are joined to has no more
 joined_printable : (ns : List ℕ) (n : ℕ) → is_unsigned 32 n ≡ true → each (is_unsigned 32) ns ≡ true
