@@ -1,9 +1,16 @@
-//! Tests of calls, which no contract and no row of `wat_rows` makes needless: runs over readers and
-//! writers that fail, what calls that take memory leave, types of a user's own, values that are
-//! made by hand, what is written of values, and small texts that are formatted, whose twins are
-//! made and whose faults are told. They are proved.
+//! Tests of what neither a contract nor a row of `wat_rows` covers. The tests are proved too.
+//!
+//! - Runs of the program: over readers and writers that fail, and for texts that are nested deeply,
+//!   cut off or not UTF-8.
+//! - Calls: those that allocate, lookups, calls that make a value, and calls that lend a part of
+//!   one.
+//! - Types of a user's own.
+//! - What is printed of values that a program made.
+//! - Short texts that are formatted, that have a twin, or that have several errors.
 #![tactic(auto)]
 
+#[cfg(test)]
+mod answers;
 #[cfg(test)]
 mod arena;
 #[cfg(test)]
@@ -15,7 +22,15 @@ mod formats;
 #[cfg(test)]
 mod invoke;
 #[cfg(test)]
+mod lent;
+#[cfg(test)]
+mod lookahead;
+#[cfg(test)]
+mod made;
+#[cfg(test)]
 mod module;
+#[cfg(test)]
+mod opcodes;
 #[cfg(test)]
 mod parts;
 #[cfg(test)]

@@ -108,7 +108,7 @@ fn signatures_are_listed_whole(rt: HostRuntime) -> Result<(), Fail> {
 }
 
 /// An index, wherever it stands.
-fn number<'a>(number: u32) -> Index<'a> {
+pub fn number<'a>(number: u32) -> Index<'a> {
     Index::Num(number, Span::from_offset(0))
 }
 

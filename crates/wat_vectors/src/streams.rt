@@ -19,11 +19,11 @@ fn count(calls: &mut usize, failing: usize) -> io::Result<()> {
 
 /// Gives so many bytes of a text at most at a time.
 #[derive(Drop)]
-struct Source<'a> {
-    text: &'a [u8],
-    most: usize,
-    failing: usize,
-    calls: usize,
+pub struct Source<'a> {
+    pub text: &'a [u8],
+    pub most: usize,
+    pub failing: usize,
+    pub calls: usize,
 }
 
 impl<'a> Read for Source<'a> {
@@ -39,12 +39,12 @@ impl<'a> Read for Source<'a> {
 
 /// Takes so many bytes at most at a time. A write that fails is refused, or takes nothing.
 #[derive(Drop)]
-struct Target {
-    taken: Vec<u8>,
-    most: usize,
-    failing: usize,
-    takes_nothing: bool,
-    calls: usize,
+pub struct Target {
+    pub taken: Vec<u8>,
+    pub most: usize,
+    pub failing: usize,
+    pub takes_nothing: bool,
+    pub calls: usize,
 }
 
 impl Write for Target {
@@ -110,9 +110,11 @@ const ROWS: &[Row] = &[
     ([16, 100], [0, 0], Ok(0), [5, 1], LISTING),
     ([16, 100], [1, 0], Err(RunError::Read), [1, 0], ""),
     ([16, 100], [2, 0], Err(RunError::Read), [2, 0], ""),
+    ([16, 100], [3, 0], Err(RunError::Read), [3, 0], ""),
     ([16, 100], [5, 0], Err(RunError::Read), [5, 0], ""),
     ([16, 8], [0, 0], Ok(0), [5, 5], LISTING),
     ([16, 8], [0, 2], Err(RunError::Write), [5, 2], "i32.cons"),
+    ([16, 5], [0, 2], Err(RunError::Write), [5, 2], "i32.c"),
     ([16, 100], [0, 1], Err(RunError::Write), [5, 1], ""),
 ];
 
