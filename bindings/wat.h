@@ -40,6 +40,38 @@ enum { WAT_OK = 0, WAT_REFUSED = 1, WAT_NO_MEMORY = 2 };
  * aren't checked. A float literal is checked by its spelling only: a value out of range is accepted. */
 int32_t wat_check(const uint8_t *text, size_t length, uint8_t *said, size_t room, size_t *needed);
 
+/* A fault of a text. Offsets and lengths are in bytes; LINE and COLUMN count from 1, and a column is one
+ * character.
+ *
+ * MESSAGE, HINT, EXPECTED and END are offsets into the messages. The message is the bytes from MESSAGE up to
+ * HINT. The words after `hint: ` in the report are the bytes from HINT up to EXPECTED; the words after
+ * `expected: ` are the bytes from EXPECTED up to END. Without such a line in the report there are no such bytes.
+ *
+ * FAULT is the number of the fault, from 1 to 21 (docs/GRAMMAR.md, "Faults"). If more than 20 fields are
+ * invalid, one record has FAULT 0, and OFFSET, LENGTH, LINE and COLUMN 0: its message is
+ * `N more fields are refused`. */
+typedef struct {
+    size_t offset; /* of the fault, from the start of the text */
+    size_t length; /* to underline: a word or one character; 0 at the end of the text */
+    size_t line;
+    size_t column;
+    size_t fault;
+    size_t message;
+    size_t hint;
+    size_t expected;
+    size_t end;
+} wat_fault;
+
+/* wat_faults: returns the faults that wat_check reports, in the same order, as numbers and messages.
+ * *COUNT becomes the number of faults. If they fit in the SPACE records at FAULTS, they are written there, from
+ * the first record on; otherwise nothing is written there. *NEEDED becomes the length of all messages. If they
+ * fit in the ROOM bytes at MESSAGES, they are written there; otherwise nothing is written there. Messages are
+ * UTF-8.
+ * WAT_OK: the text is a module; *COUNT and *NEEDED are 0. WAT_REFUSED: it isn't. With WAT_NO_MEMORY all are
+ * unchanged. The pointers follow the rules above: none is null, and what they point to doesn't overlap. */
+int32_t wat_faults(const uint8_t *text, size_t length, wat_fault *faults, size_t space, size_t *count,
+    uint8_t *messages, size_t room, size_t *needed);
+
 /* wat_list: lists the contents of a module.
  * WAT_OK: the output has one field or instruction a line. WAT_REFUSED: the output is the report why the
  * text isn't a module, or has a float literal. */
@@ -55,7 +87,7 @@ int32_t wat_print(const uint8_t *text, size_t length, bool line, uint8_t *said, 
  * output is the report of the first invalid token or byte. */
 int32_t wat_format(const uint8_t *text, size_t length, uint8_t *said, size_t room, size_t *needed);
 
-/* wat_version: the output names the library. Returns WAT_OK. */
+/* wat_version: the output is `wat 0.1.0, a port of wast 263.0.0`. Returns WAT_OK. */
 int32_t wat_version(uint8_t *said, size_t room, size_t *needed);
 
 #ifdef __cplusplus

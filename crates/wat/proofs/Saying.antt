@@ -1,16 +1,11 @@
--- One more name, and one more word.
-use Rattle.std.proofs.Common.{◌≡◌, ℕ, ◌+◌, ◌<◌, ◌≤◌, List, [], ◌∷◌, ◌++◌, length, drop, take, map, get_or, refl, subst, sym, ap, ◌∙◌, append_assoc, arith, add-one, drop-cons, Ok, Err}
-use Rattle.std.specs.Prelude.{Bool, true, max, Option, Result, OnErr}
-use Rattle.std.specs.List.{list_all}
+-- One more name.
+use Rattle.std.proofs.Common.{◌≡◌, ℕ, ◌+◌, ◌<◌, ◌≤◌, List, [], ◌∷◌, ◌++◌, length, take, map, get_or, subst, sym, ap, ◌∙◌, append_assoc, arith, Ok, Err}
+use Rattle.std.specs.Prelude.{max, Option, Result, OnErr}
 use Rattle.std.specs.Io.KnownBytes.{Appends}
 use Rattle.std.proofs.KnownBytes.{Appends-trans}
 use Rattle.std.proofs.lemmas.List.{length-map, map-append, take_more, take-map}
 use Rattle.wat.specs.Runs.{SaysOfNames, WritesPartOfNames, more}
 use Rattle.wat_show.specs.Streams.{AppendsBeginning}
-
--- an item that passes decides nothing
-pub all_passed : {X A : Type 0} (p : A → Bool) (h : X → A) (xs : List X) (i : ℕ) (d : X) → i < length xs → p (h (get_or xs i d)) ≡ true → list_all p (map h (drop i xs)) ≡ list_all p (map h (drop (i + 1) xs))
-all_passed p h xs i d l e = rw (add-one, drop-cons xs i d, e) refl
 
 pub says_more : {S X : Type 0} (says : S → S → List ℕ → List ℕ → ℕ → Type 0) (start mid end : S) (h : X → List ℕ) (xs : List X) (i : ℕ) (d : X) (out said : List ℕ) (status own : ℕ) → i < length xs → SaysOfNames says start mid (map h (take i xs)) out status → says mid end (h (get_or xs i d)) said own → SaysOfNames says start end (map h (take (i + 1) xs)) (out ++ said) (max own status)
 says_more says start mid end h xs i d out said status own l before next =

@@ -1,56 +1,93 @@
--- What the program is asked for.
-use Rattle.std.specs.Prelude.{ℕ, ◌==◌, ◌&&◌, Bool, not, List, [], ◌∷◌, length, codes}
-use Rattle.std.specs.Prelude.{slice_index, Option, Some, None, if◌then◌else◌, nat_lt, true, false}
-use Rattle.std.specs.List.{list_all}
+-- What the arguments of the program ask for. A word is an argument, as its bytes.
+use Rattle.std.specs.Prelude.{ℕ, ◌==◌, ◌&&◌, ◌||◌, Bool, not, List, [], ◌∷◌, ◌++◌, length, codes}
+use Rattle.std.specs.Prelude.{slice_index, Option, Some, None, Result, Ok, Err, if◌then◌else◌}
+use Rattle.std.specs.Prelude.{nat_lt, filter, position}
+use Rattle.std.specs.List.{list_any, before_first, after_first}
 use Rattle.std.specs.Str.{bytes_eq}
 use Rattle.wat.specs.declared.command.Command.{Command}
-use Rattle.wat.specs.declared.command.Command.TheVariants.{Read, Format, Help, Version}
-use Rattle.wat_text.specs.declared.task.Task.TheVariants.{Check, Show, Print}
-use Rattle.wat_print.specs.declared.output.Layout.{Layout}
+use Rattle.wat.specs.declared.command.Command.TheVariants.{Read, Format}
+use Rattle.wat.specs.declared.command.Message.{Message}
+use Rattle.wat.specs.declared.command.Message.TheVariants.{Help, Version, NoCommand}
+use Rattle.wat.specs.declared.command.Message.TheVariants.{UnknownCommand, UnknownOption, ListFiles, PrintFiles}
+use Rattle.wat_text.specs.declared.task.Task.TheVariants.{Check, Json, Show, Print}
 use Rattle.wat_print.specs.declared.output.Layout.TheVariants.{Line, Indented}
 
--- a word may name a file if it doesn't begin with `-`
+-- A word is an option if it begins with `-` and is longer. `-` alone is standard input.
+abbrev pub is_option : List ℕ → Bool
+is_option word = nat_lt 1 (length word) && (slice_index word 0 == 45)
+
+-- `--` ends the options
+abbrev pub is_end : List ℕ → Bool
+is_end word = bytes_eq word (codes "--")
+
+-- the files among the words after a command: before `--` those that aren't options, after it all
 abbrev pub is_file : List ℕ → Bool
-is_file word = not (slice_index word 0 == 45)
+is_file word = not (is_option word)
 
-abbrev pub are_files : List (List ℕ) → Bool
-are_files words = list_all is_file words
+abbrev pub files_of : List (List ℕ) → List (List ℕ)
+files_of words = filter is_file (before_first is_end words) ++ after_first is_end words
 
--- `print` in the layout, with the word before it or without: one file or none
-abbrev pub print_of : Layout → ℕ → List (List ℕ) → Option Command
-print_of layout before files =
-    if nat_lt 1 (length files) then None
-    else if are_files files then Some (Read (Print layout) before) else None
+-- the files, or standard input if there are none
+abbrev pub inputs_of : List (List ℕ) → List (List ℕ)
+inputs_of words = if length (files_of words) == 0 then codes "-" ∷ [] else files_of words
 
--- `--line` and then a file or none, on one line; or a file or none, on lines
-abbrev pub printing_of : List (List ℕ) → Option Command
-printing_of [] = print_of Indented 1 []
-printing_of (word ∷ files) =
-    if bytes_eq word (codes "--line") then print_of Line 2 files
-    else print_of Indented 1 (word ∷ files)
+abbrev pub has_word : List ℕ → List (List ℕ) → Bool
+has_word wanted words = list_any (λ word. bytes_eq word wanted) words
 
--- `fmt` that only checks or doesn't: files or none
-abbrev pub format_of : Bool → ℕ → List (List ℕ) → Option Command
-format_of check before files =
-    if are_files files then Some (Format check before) else None
+-- where an option other than `own` comes first
+abbrev pub is_unknown : List ℕ → List ℕ → Bool
+is_unknown own word = is_option word && not (bytes_eq word own)
 
--- `--check` and then files or none, or files or none
-abbrev pub formatting_of : List (List ℕ) → Option Command
-formatting_of [] = format_of false 1 []
-formatting_of (word ∷ files) =
-    if bytes_eq word (codes "--check") then format_of true 2 files
-    else format_of false 1 (word ∷ files)
+abbrev pub unknown_option : List ℕ → List (List ℕ) → Option ℕ
+unknown_option own words = position (is_unknown own) words
 
--- `check` with files or none, `list` with one, `print` with `--line` or without and with one or
--- none, `fmt` with `--check` or without and with files or none, `--help` or `--version` alone
-abbrev pub command_of : List (List ℕ) → Option Command
-command_of [] = None
-command_of (word ∷ further) =
-    if bytes_eq word (codes "check") && are_files further then Some (Read Check 1)
-    else if bytes_eq word (codes "list") && ((length further == 1) && are_files further)
-    then Some (Read Show 1)
-    else if bytes_eq word (codes "print") then printing_of further
-    else if bytes_eq word (codes "fmt") then formatting_of further
-    else if bytes_eq word (codes "--help") && (length further == 0) then Some Help
-    else if bytes_eq word (codes "--version") && (length further == 0) then Some Version
-    else None
+abbrev pub unless_unknown : Option ℕ → Bool → Result Bool Message
+unless_unknown None given = Ok given
+unless_unknown (Some at) given = Err (UnknownOption at)
+
+abbrev pub asks_for_help : List (List ℕ) → Bool
+asks_for_help words = has_word (codes "-h") words || has_word (codes "--help") words
+
+-- Whether the option `own` is given before `--`. If help is asked for there, help is the message;
+-- otherwise another option is unknown.
+abbrev pub option_given : List ℕ → List (List ℕ) → Result Bool Message
+option_given own words =
+    let options = before_first is_end words in
+    if asks_for_help options then Err Help
+    else unless_unknown (unknown_option own options) (has_word own options)
+
+-- what each command is, with its option or without
+abbrev pub check_of : Result Bool Message → Result Command Message
+check_of (Ok json) = Ok (Read (if json then Json else Check))
+check_of (Err message) = Err message
+
+abbrev pub list_of : Result Bool Message → ℕ → Result Command Message
+list_of (Ok none) files = if files == 1 then Ok (Read Show) else Err ListFiles
+list_of (Err message) files = Err message
+
+abbrev pub print_of : Result Bool Message → ℕ → Result Command Message
+print_of (Ok line) files =
+    if nat_lt 1 files then Err PrintFiles else Ok (Read (Print (if line then Line else Indented)))
+print_of (Err message) files = Err message
+
+abbrev pub format_of : Result Bool Message → Result Command Message
+format_of (Ok check) = Ok (Format check)
+format_of (Err message) = Err message
+
+-- The first word is the command: `check` with `--json` or without and any number of files, `list`
+-- with one, `print` with `--line` or without and at most one, `fmt` with `--check` or without and
+-- any number; or it asks for help or the version, whatever comes after it.
+abbrev pub command_of : List (List ℕ) → Result Command Message
+command_of [] = Err NoCommand
+command_of (first ∷ words) =
+    if bytes_eq first (codes "check") then check_of (option_given (codes "--json") words)
+    else if bytes_eq first (codes "list")
+    then list_of (option_given [] words) (length (files_of words))
+    else if bytes_eq first (codes "print")
+    then print_of (option_given (codes "--line") words) (length (files_of words))
+    else if bytes_eq first (codes "fmt") then format_of (option_given (codes "--check") words)
+    else if bytes_eq first (codes "help") then Err Help
+    else if bytes_eq first (codes "-h") then Err Help
+    else if bytes_eq first (codes "--help") then Err Help
+    else if bytes_eq first (codes "--version") then Err Version
+    else Err UnknownCommand

@@ -1,19 +1,26 @@
--- What formatting does and says.
-use Rattle.std.specs.Prelude.{◌≡◌, ◌≢◌, ◌⊎◌, ℕ, List, [], ◌∷◌, ◌++◌}
+-- What formatting does and writes.
+use Rattle.std.specs.Prelude.{◌≡◌, ◌≢◌, ◌⊎◌, ℕ, Bool, List, [], ◌∷◌, ◌++◌, codes, if◌then◌else◌}
+use Rattle.std.specs.Str.{bytes_eq}
+use Rattle.wat.specs.Inputs.{shown_name}
 use Rattle.wat.specs.declared.formatting.Way.{Way}
 use Rattle.wat.specs.declared.formatting.Way.TheVariants.{Show, Check, Replace}
 use Rattle.wat_text.specs.Formatted.{IsFormatted, ReportsBytes}
 
--- What becomes of a text whose answer this is, with what is written of it and the status. The
--- answer is written; or the name is, with status 1, if the two differ; or the answer is put in the
--- text's place, if they differ. What names stand for is `old` before and `new` behind that.
+-- `fmt --check` checks each input; `fmt` writes the formatted text of standard input, and puts that
+-- of any other input in its place
+abbrev pub way_of : Bool → List ℕ → Way
+way_of check name = if check then Check else if bytes_eq name (codes "-") then Show else Replace
+
+-- What becomes of an input `text` whose formatted text is `answer`, with what is written and the
+-- status. The answer is written; or the name is, with status 1, if the two differ; or the answer
+-- replaces the input, if they differ. The inputs are `old` before and `new` after that.
 unfoldable pub Settles : {P : Type 0} → (P → P → List ℕ → List ℕ → Type 0) → Way → P → P → List ℕ
     → List ℕ → List ℕ → List ℕ → ℕ → Type 0
 Settles puts Show old new name text answer said status =
     (new ≡ old) × (said ≡ answer) × (status ≡ 0)
 Settles puts Check old new name text answer said status =
     (new ≡ old) × (((answer ≡ text) × (said ≡ []) × (status ≡ 0))
-    ⊎ ((answer ≢ text) × (said ≡ name ++ 10 ∷ []) × (status ≡ 1)))
+    ⊎ ((answer ≢ text) × (said ≡ shown_name name ++ 10 ∷ []) × (status ≡ 1)))
 Settles puts Replace old new name text answer said status =
     (said ≡ []) × (status ≡ 0)
     × (((answer ≡ text) × (new ≡ old)) ⊎ ((answer ≢ text) × puts old new name answer))
@@ -22,15 +29,16 @@ Settles puts Replace old new name text answer said status =
 abbrev pub Leaves : {P : Type 0} → P → P → List ℕ → Type 0
 Leaves old new said = (new ≡ old) × (said ≡ [])
 
--- Of a name that stands for bytes: if they are formatted, that becomes of them; if they can't be,
--- their report goes elsewhere, with status 1. With status 2 they can't be read or replaced, or
--- memory runs out.
+-- Of an input that can be read: if its bytes are formatted, that becomes of them; if they can't be,
+-- their report is not written, and the status is 1. With status 2 the input can't be read or
+-- replaced, or memory runs out.
 unfoldable pub FormatsName : {P : Type 0} → (P → List ℕ → List ℕ → Type 0) → (P → List ℕ → Type 0)
     → (P → P → List ℕ → List ℕ → Type 0) → Way → P → P → List ℕ → List ℕ → ℕ → Type 0
 FormatsName gives fails puts way old new name said status =
     ((bytes : List ℕ) × gives old name bytes
     × (((answer : List ℕ) × IsFormatted bytes answer
     × Settles puts way old new name bytes answer said status)
-    ⊎ (((report : List ℕ) × ReportsBytes name bytes report) × Leaves old new said × (status ≡ 1))))
+    ⊎ (((report : List ℕ) × ReportsBytes (shown_name name) bytes report) × Leaves old new said
+    × (status ≡ 1))))
     ⊎ ((fails old name ⊎ ((bytes : List ℕ) × gives old name bytes)) × Leaves old new said
     × (status ≡ 2))

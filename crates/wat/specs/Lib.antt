@@ -1,3 +1,5 @@
 pub mod Commands
+pub mod Directories
 pub mod Formats
+pub mod Inputs
 pub mod Runs

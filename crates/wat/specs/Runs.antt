@@ -2,17 +2,18 @@
 use Rattle.std.specs.Prelude.{◌≡◌, ◌⊎◌, ℕ, ◌≤◌, ◌==◌, if◌then◌else◌, List, [], ◌∷◌, ◌++◌, length}
 use Rattle.std.specs.Prelude.{max, take, Option}
 use Rattle.std.specs.Io.KnownBytes.{Appends}
+use Rattle.wat.specs.Inputs.{shown_name}
 use Rattle.wat_text.specs.Outcomes.{SaysOfBytes}
 use Rattle.wat_text.specs.declared.task.Task.{Task}
 use Rattle.wat_text.specs.declared.task.Task.TheVariants.{Print}
 use Rattle.wat_show.specs.Streams.{AppendsBeginning}
 
--- Of a name that stands for bytes what is said of them. Nothing is said, with status 2, where the read
--- fails, or where memory runs out behind it.
+-- The answer for an input that a name stands for is that for its bytes. It is empty, with status 2,
+-- where the read fails, or where memory runs out after it.
 unfoldable pub SaysOfName : (List ℕ → List ℕ → Type 0) → (List ℕ → Type 0) → Task → List ℕ → List ℕ
     → ℕ → Type 0
 SaysOfName gives fails task name said status =
-    ((bytes : List ℕ) × gives name bytes × SaysOfBytes task name bytes said status)
+    ((bytes : List ℕ) × gives name bytes × SaysOfBytes task (shown_name name) bytes said status)
     ⊎ ((fails name ⊎ ((bytes : List ℕ) × gives name bytes)) × (said ≡ []) × (status ≡ 2))
 
 -- what goes to the writer of what is said: why a module isn't printed doesn't

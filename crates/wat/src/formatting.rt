@@ -2,11 +2,12 @@
 
 ghost use Rattle.std.specs.Prelude.{◌≡◌, ◌++◌, ◌∷◌, ◌⊎◌, [], ℕ, IfOk, IfErr, List, MatchResult};
 ghost use Rattle.std.specs.String.{string_bytes};
-ghost use Rattle.wat.specs.Formats.{FormatsName, Settles};
+ghost use Rattle.wat.specs.Formats.{FormatsName, Settles, way_of};
+ghost use Rattle.wat.specs.Inputs.{shown_name};
 ghost use Rattle.wat_text.specs.Formatted.{IsFormatted, ReportsBytes};
 
 use crate::run::{Watcher, Work};
-use crate::source::Places;
+use crate::source::{Places, shown_name};
 use std::alloc::{AllocError, Global};
 use std::io;
 use wat_text::bytes_formatted;
@@ -16,13 +17,26 @@ use wat_text::bytes_formatted;
 pub(crate) enum Way {
     /// It is written.
     Show,
-    /// Its name is written if it would change.
+    /// The input's name is written if the formatted text differs.
     Check,
-    /// It takes the place of the text if it isn't the same.
+    /// It replaces the input if it differs.
     Replace,
 }
 
-/// A name on a line.
+/// Returns what becomes of the formatted text of an input. Standard input can't be replaced.
+fn way_of(check: bool, name: &str) -> Way
+    ensures { result ≡ way_of check name.now }
+{
+    if check {
+        Way::Check
+    } else if name == "-" {
+        Way::Show
+    } else {
+        Way::Replace
+    }
+}
+
+/// Returns a name and a line break.
 fn line_of(alloc: Global, name: &str) -> Result<Vec<u8>, AllocError>
     ensures { IfOk result (λ line. line.items ≡ name.now ++ 10 ∷ []) }
 {
@@ -31,7 +45,8 @@ fn line_of(alloc: Global, name: &str) -> Result<Vec<u8>, AllocError>
     Ok(line.into_bytes())
 }
 
-/// What becomes of a formatted text: what is to be written of it, and the status.
+/// Does with a formatted text what the way says. Returns what is written for the input, and the
+/// status.
 #[tactic(auto, unfolding(crate::specs::Formats::Settles))]
 fn settle<P: Places>(
     alloc: Global,
@@ -48,7 +63,7 @@ fn settle<P: Places>(
     match way {
         Way::Show => Ok((answer.into_bytes(), 0)),
         _ if answer.as_bytes() == bytes => Ok((Vec::new(alloc), 0)),
-        Way::Check => Ok((line_of(alloc, name)?, 1)),
+        Way::Check => Ok((line_of(alloc, shown_name(name))?, 1)),
         Way::Replace => {
             places.replace(alloc, name, answer.as_str())?;
             Ok((Vec::new(alloc), 0))
@@ -56,8 +71,8 @@ fn settle<P: Places>(
     }
 }
 
-/// Formats what the name stands for, and does with it what is to be done; or reports why it can't
-/// be formatted.
+/// Reads and formats an input, and does with the text what the way says; or returns the report of
+/// an input that can't be formatted.
 fn name_formatted<P: Places>(
     alloc: Global,
     way: Way,
@@ -68,21 +83,22 @@ fn name_formatted<P: Places>(
         × MatchResult done
         (λ said. (answer : List ℕ) × IsFormatted bytes answer
         × Settles P.puts way places.old places.new name.now bytes answer said.0.items said.1)
-        (λ report. ReportsBytes name.now bytes report.items × (places.new ≡ places.old))) }
+        (λ report. ReportsBytes (shown_name name.now) bytes report.items
+        × (places.new ≡ places.old))) }
     ensures unread { IfErr result (λ _. (P.fails places.old name.now
         ⊎ ((bytes : List ℕ) × P.gives places.old name.now bytes)) × (places.new ≡ places.old)) }
 {
     let bytes = places.read(alloc, name)?;
-    match bytes_formatted(alloc, name, &bytes)? {
+    match bytes_formatted(alloc, shown_name(name), &bytes)? {
         Ok(answer) => Ok(Ok(settle(alloc, way, places, name, &bytes, answer)?)),
         Err(report) => Ok(Err(report)),
     }
 }
 
-/// The same, with what is to be written of the name, and the status. Why it can't be formatted,
-/// read or replaced the watcher is told.
+/// Formats an input. Returns what is written for it, and its status. The watcher gets the report of
+/// an input that can't be formatted, and the error of one that can't be read or replaced.
 #[tactic(auto, unfolding(crate::specs::Formats::FormatsName))]
-fn said_of_name<P: Places, T: Watcher>(
+fn output_for<P: Places, T: Watcher>(
     alloc: Global,
     way: Way,
     places: &mut P,
@@ -99,24 +115,32 @@ fn said_of_name<P: Places, T: Watcher>(
             (Vec::new(alloc), 1)
         }
         Err(error) => {
-            watcher.unread(name, &error);
+            watcher.unread(shown_name(name), &error);
             (Vec::new(alloc), 2)
         }
     }
 }
 
-/// To format what names stand for.
+/// The command `fmt`.
 #[derive(Drop)]
 pub(crate) struct Formatting<P> {
-    pub way: Way,
+    /// Whether it prints the names of the inputs that would change, and changes none.
+    pub check: bool,
     pub places: P,
 }
 
 impl<P: Places> Work for Formatting<P> {
-    ghost says = { λ old new name said status. (new.way ≡ old.way)
-        × FormatsName P.gives P.fails P.puts old.way old.places new.places name said status };
+    ghost says = { λ old new name said status. (new.check ≡ old.check)
+        × FormatsName P.gives P.fails P.puts (way_of old.check name) old.places new.places name
+        said status };
 
     fn work_on<T: Watcher>(&mut self, alloc: Global, name: &str, watcher: &T) -> (Vec<u8>, u8) {
-        said_of_name(alloc, self.way, &mut self.places, name, watcher)
+        output_for(
+            alloc,
+            way_of(self.check, name),
+            &mut self.places,
+            name,
+            watcher,
+        )
     }
 }

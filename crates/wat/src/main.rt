@@ -1,7 +1,8 @@
-//! The program `wat`: says of files whether each is a module in the text format, and where not why.
+//! The program `wat`: checks, lists, prints and formats texts in the WebAssembly text format.
 #![tactic(auto)]
 
 mod command;
+mod directory;
 mod formatting;
 mod reading;
 mod replace;
@@ -9,23 +10,24 @@ mod run;
 mod source;
 mod terminal;
 
-use crate::command::{Command, command_of};
-use crate::formatting::{Formatting, Way};
+use crate::command::{Command, Message, command_of, inputs_of, is_option};
+use crate::directory::{Found, Wanted, inputs_found};
+use crate::formatting::Formatting;
 use crate::reading::Reading;
 use crate::run::{Work, run};
-use crate::source::{StandardInput, SystemFiles};
+use crate::source::SystemInputs;
 use crate::terminal::Terminal;
-use std::alloc::{AllocError, Global};
+use std::alloc::AllocError;
 use std::io::Write;
 use std::process::ExitCode;
 use std::rt::Env;
 use std::{env, io};
 use wat_show::Watched;
-use wat_text::Task;
+use wat_text::{Task, VERSION};
 
-/// How the program is called.
+/// The usage.
 const USAGE: &str = "\
-usage: wat check [FILE..]
+usage: wat check [--json] [FILE..]
        wat list FILE
        wat print [--line] [FILE]
        wat fmt [--check] [FILE..]
@@ -33,36 +35,39 @@ usage: wat check [FILE..]
        wat --version
 ";
 
-/// What `--help` says behind that.
+/// The rest of the help, after the usage.
 const HELP: &str = "
-wat check reads each file, or standard input if none is named, as one module of the
-WebAssembly text format in its parentheses, `(module ..)`. For a text that isn't one
-it says where and why. Nothing is validated.
-wat list lists what is in the module of a file.
-wat print writes the module of a file, or of standard input, as a text that is read
-as the same module: its instructions flat, one a line, or all on one line. Comments
-are lost.
-wat fmt lays out each file anew, or writes standard input laid out anew if none is named.
-Nothing but white space outside tokens and comments changes, and any text that can be cut
-into tokens is formatted. A file that changes is replaced by one that is whole. With
---check it writes the name of each text that would change, and nothing else.
+wat check parses each file as one module of the WebAssembly text format, `(module ..)`
+with its parentheses. For a module it prints nothing. Otherwise it prints the position
+and the reason of each error, and with --json a JSON object for each, on one line. It
+doesn't validate: types and indices aren't checked.
+wat list prints the contents of a module, one field or instruction a line.
+wat print prints a module as a text that parses back to the same module. Instructions
+are flat, one a line, or with --line all on one line. Comments are lost.
+wat fmt formats each file in place. It changes white space outside tokens and comments
+only, and takes any text with valid tokens. A file is replaced atomically. With --check
+it prints the name of each input that would change, and changes nothing.
 
-A file whose name begins with - is named with its folder, as ./-name.
-What is said of texts goes to standard output, all else to standard error; so does
-why a text can't be printed or formatted.
-The status is 0 if each text is a module, 1 if one isn't, and 2 if a file can't be
-read, standard output can't be written, memory runs out or the words are others.
-That of wat fmt is 1 if a text can't be cut into tokens, or with --check would change,
-and 2 also if a file can't be replaced.
+Without a FILE, and for the FILE -, a command reads standard input. wat fmt prints the
+formatted text of standard input.
+A directory stands for the files below it, at any depth, in the order of their paths:
+*.wat for wat check, *.wat and *.wast for wat fmt. Symbolic links in it are left out.
+Options stand before or after the files. After -- every argument is a file, also one
+that begins with -.
+
+Results go to standard output. Errors about files, arguments and output go to standard
+error, and so does the reason why a text can't be printed or formatted.
+Exit status: 0 if every input is a module, and for wat fmt if every input is formatted;
+1 if some input isn't a module, for wat fmt if some input has an invalid token or, with
+--check, would change; 2 for anything else: a file that can't be read or replaced,
+output that can't be written, no memory, wrong arguments.
 ";
-
-const VERSION: &str = "wat of Dilgorza, a port of wast 263.0.0\n";
 
 const NO_MEMORY: &str = "wat: memory ran out\n";
 
 const CANNOT_WRITE: &str = "wat: cannot write\n";
 
-/// The words behind the program's name.
+/// Returns the arguments after the program's name.
 fn arguments<R: Env + AllocGlobal>(rt: &R) -> io::Result<Vec<String>> {
     let mut words = Vec::new(rt.alloc());
     for word in env::args(rt)?.skip(1) {
@@ -71,84 +76,109 @@ fn arguments<R: Env + AllocGlobal>(rt: &R) -> io::Result<Vec<String>> {
     Ok(words)
 }
 
-/// Says a thing on standard error.
-fn say(rt: &HostRuntime, words: &str) -> ExitCode {
-    let _ = eprint!(rt; "{words}");
+/// Prints an error on standard error. Returns status 2.
+fn fail(rt: &HostRuntime, error: &str) -> ExitCode {
+    let _ = eprint!(rt; "{error}");
     ExitCode::from(2)
 }
 
-/// Writes words to standard output, and more behind them.
-fn tell(rt: &HostRuntime, words: &str, more: &str) -> ExitCode {
-    match print!(rt; "{words}{more}") {
+/// Prints what is wrong with the arguments, and the usage, on standard error. Returns status 2.
+fn refuse(rt: &HostRuntime, reason: &str, word: &str) -> ExitCode {
+    let _ = eprint!(rt; "wat: {reason}{word}\n{USAGE}");
+    ExitCode::from(2)
+}
+
+/// Prints two texts on standard output.
+fn print(rt: &HostRuntime, text: &str, more: &str) -> ExitCode {
+    match print!(rt; "{text}{more}") {
         Ok(()) => ExitCode::SUCCESS,
-        Err(_) => say(rt, CANNOT_WRITE),
+        Err(_) => fail(rt, CANNOT_WRITE),
     }
 }
 
-/// Does the work on what the names stand for, and writes what is said of them to standard output.
-fn work_on<J: Work + Drop>(rt: &HostRuntime, work: J, names: &[String]) -> ExitCode {
+/// Prints the message, or what is wrong with the arguments.
+fn print_message(rt: &HostRuntime, message: Message, words: &[String]) -> ExitCode {
+    let index = match message {
+        Message::UnknownOption(at) => at.saturating_add(1),
+        _ => 0,
+    };
+    let word = words.get(index).map_or("", |word| word.as_str());
+    match message {
+        Message::Help => print(rt, USAGE, HELP),
+        Message::Version => print(rt, VERSION, "\n"),
+        Message::NoCommand => refuse(rt, "no command", ""),
+        Message::UnknownCommand if !is_option(word) => refuse(rt, "unknown command ", word),
+        Message::UnknownCommand => refuse(rt, "unknown option ", word),
+        Message::UnknownOption(_) => refuse(rt, "unknown option ", word),
+        Message::ListFiles => refuse(rt, "list takes one file", ""),
+        Message::PrintFiles => refuse(rt, "print takes at most one file", ""),
+    }
+}
+
+/// Does the work on the inputs, and writes the output for each to standard output.
+fn work_on<J: Work + Drop>(
+    rt: &HostRuntime,
+    work: J,
+    found: &Found,
+    watcher: &mut Terminal,
+) -> ExitCode {
     let mut work = work;
     let mut writer = Watched::new(rt.stdout());
-    let mut watcher = Terminal::new(rt);
-    match run(rt.alloc(), &mut work, names, &mut writer, &mut watcher) {
+    match run(rt.alloc(), &mut work, &found.names, &mut writer, watcher) {
         Ok(status) => match writer.flush() {
-            Ok(()) => ExitCode::from(status),
-            Err(_) => say(rt, CANNOT_WRITE),
+            Ok(()) if found.is_whole => ExitCode::from(status),
+            Ok(()) => ExitCode::from(2),
+            Err(_) => fail(rt, CANNOT_WRITE),
         },
-        Err(_) => say(rt, CANNOT_WRITE),
+        Err(_) => fail(rt, CANNOT_WRITE),
     }
 }
 
-/// Does the work on standard input, by the name `<stdin>`.
-fn work_on_input<J: Work + Drop>(rt: &HostRuntime, work: J) -> ExitCode {
-    match standard_input(rt.alloc()) {
-        Ok(names) => work_on(rt, work, &names),
-        Err(AllocError) => say(rt, NO_MEMORY),
+/// Finds the inputs of a command that the arguments after it name.
+fn find_inputs(
+    rt: &HostRuntime,
+    command: Command,
+    words: &[String],
+    watcher: &Terminal,
+) -> Result<Found, AllocError> {
+    let names = inputs_of(rt.alloc(), words)?;
+    match command {
+        Command::Read(Task::Check | Task::Json) => inputs_found(rt, Wanted::Wat, names, watcher),
+        Command::Read(_) => Ok(Found {
+            names,
+            is_whole: true,
+        }),
+        Command::Format(_) => inputs_found(rt, Wanted::WatAndWast, names, watcher),
     }
 }
 
-/// The name by which standard input is called.
-fn standard_input(alloc: Global) -> Result<Vec<String>, AllocError> {
-    let mut names = Vec::new(alloc);
-    names.push(String::from_str(alloc, "<stdin>")?)?;
-    Ok(names)
-}
-
-/// Reads the files, or standard input if there are none.
-fn read(rt: &HostRuntime, task: Task, files: &[String]) -> ExitCode {
-    if files.is_empty() {
-        let sources = StandardInput { rt };
-        return work_on_input(rt, Reading { task, sources });
+/// Runs a command with the arguments after it.
+fn run_command(rt: &HostRuntime, command: Command, words: &[String]) -> ExitCode {
+    let mut watcher = Terminal::new(rt);
+    let found = match find_inputs(rt, command, words, &watcher) {
+        Ok(found) => found,
+        Err(AllocError) => return fail(rt, NO_MEMORY),
+    };
+    match command {
+        Command::Read(task) => {
+            let sources = SystemInputs { rt };
+            work_on(rt, Reading { task, sources }, &found, &mut watcher)
+        }
+        Command::Format(check) => {
+            let places = SystemInputs { rt };
+            work_on(rt, Formatting { check, places }, &found, &mut watcher)
+        }
     }
-    let sources = SystemFiles { rt };
-    work_on(rt, Reading { task, sources }, files)
-}
-
-/// Formats the files, or standard input if there are none, or only checks them.
-fn format(rt: &HostRuntime, check: bool, files: &[String]) -> ExitCode {
-    if files.is_empty() {
-        let way = if check { Way::Check } else { Way::Show };
-        let places = StandardInput { rt };
-        return work_on_input(rt, Formatting { way, places });
-    }
-    let way = if check { Way::Check } else { Way::Replace };
-    let places = SystemFiles { rt };
-    work_on(rt, Formatting { way, places }, files)
 }
 
 fn main(rt: HostRuntime) -> ExitCode {
     let words = match arguments(&rt) {
         Ok(words) => words,
-        Err(error) if error.kind() == io::ErrorKind::OutOfMemory => return say(&rt, NO_MEMORY),
-        Err(_) => return say(&rt, "wat: an argument isn't UTF-8\n"),
+        Err(error) if error.kind() == io::ErrorKind::OutOfMemory => return fail(&rt, NO_MEMORY),
+        Err(_) => return fail(&rt, "wat: an argument isn't UTF-8\n"),
     };
     match command_of(&words) {
-        Some(Command::Read(task, before)) => read(&rt, task, words.get(before..).unwrap_or(&[])),
-        Some(Command::Format(check, before)) => {
-            format(&rt, check, words.get(before..).unwrap_or(&[]))
-        }
-        Some(Command::Help) => tell(&rt, USAGE, HELP),
-        Some(Command::Version) => tell(&rt, VERSION, ""),
-        None => say(&rt, USAGE),
+        Ok(command) => run_command(&rt, command, words.get(1..).unwrap_or(&[])),
+        Err(message) => print_message(&rt, message, &words),
     }
 }

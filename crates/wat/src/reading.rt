@@ -2,34 +2,35 @@
 
 ghost use Rattle.std.specs.Prelude.{◌≡◌, ◌⊎◌, ℕ, IfOk, IfErr, List};
 ghost use Rattle.wat_text.specs.Outcomes.{SaysOfBytes};
+ghost use Rattle.wat.specs.Inputs.{shown_name};
 ghost use Rattle.wat.specs.Runs.{SaysOfName, ShowsOfName, written_of};
 
 use crate::run::{Watcher, Work};
-use crate::source::Sources;
+use crate::source::{Sources, shown_name};
 use std::alloc::Global;
 use std::io;
 use wat_text::{Task, said_of_bytes};
 
-/// What is said of the bytes that the name stands for, and their status.
-fn said_of_source<S: Sources>(
+/// Reads an input and returns the answer for its bytes, and their status.
+fn read_answer<S: Sources>(
     alloc: Global,
     task: Task,
     sources: &S,
     name: &str,
 ) -> io::Result<(Vec<u8>, u8)>
     ensures said { IfOk result (λ said. (bytes : List ℕ) × S.gives sources.now name.now bytes
-        × SaysOfBytes task name.now bytes said.0.items said.1) }
+        × SaysOfBytes task (shown_name name.now) bytes said.0.items said.1) }
     ensures unread { IfErr result (λ _. S.fails sources.now name.now
         ⊎ ((bytes : List ℕ) × S.gives sources.now name.now bytes)) }
 {
     let bytes = sources.read(alloc, name)?;
-    Ok(said_of_bytes(alloc, task, name, &bytes)?)
+    Ok(said_of_bytes(alloc, task, shown_name(name), &bytes)?)
 }
 
-/// The same. If the bytes can't be read, or memory runs out, the watcher is told, nothing is said
-/// of them, and the status is 2.
+/// Returns the answer for an input, and its status. If the input can't be read, or memory runs out,
+/// the watcher gets the error, and the answer is empty, with status 2.
 #[tactic(auto, unfolding(crate::specs::Runs::SaysOfName))]
-fn said_of_name<S: Sources, T: Watcher>(
+fn answer_for<S: Sources, T: Watcher>(
     alloc: Global,
     task: Task,
     sources: &S,
@@ -39,18 +40,19 @@ fn said_of_name<S: Sources, T: Watcher>(
     ensures { SaysOfName (S.gives sources.now) (S.fails sources.now) task name.now
         result.0.items result.1 }
 {
-    match said_of_source(alloc, task, sources, name) {
-        Ok(said) => said,
+    match read_answer(alloc, task, sources, name) {
+        Ok(answer) => answer,
         Err(error) => {
-            watcher.unread(name, &error);
+            watcher.unread(shown_name(name), &error);
             (Vec::new(alloc), 2)
         }
     }
 }
 
-/// What is written of the name, and its status. Why a module isn't printed the watcher is told.
+/// Returns what is written for an input, and its status. The watcher gets the report of an input
+/// that can't be printed.
 #[tactic(auto, unfolding(crate::specs::Runs::ShowsOfName, crate::specs::Runs::written_of))]
-fn shown_of_name<S: Sources, T: Watcher>(
+fn output_for<S: Sources, T: Watcher>(
     alloc: Global,
     task: Task,
     sources: &S,
@@ -60,17 +62,17 @@ fn shown_of_name<S: Sources, T: Watcher>(
     ensures { ShowsOfName (S.gives sources.now) (S.fails sources.now) task name.now
         result.0.items result.1 }
 {
-    let (said, status) = said_of_name(alloc, task, sources, name, watcher);
+    let (answer, status) = answer_for(alloc, task, sources, name, watcher);
     match task {
         Task::Print(_) if status != 0 => {
-            watcher.refused(&said);
+            watcher.refused(&answer);
             (Vec::new(alloc), status)
         }
-        _ => (said, status),
+        _ => (answer, status),
     }
 }
 
-/// To read what names stand for as modules.
+/// The commands `check`, `list` and `print`.
 #[derive(Drop)]
 pub(crate) struct Reading<S> {
     pub task: Task,
@@ -82,6 +84,6 @@ impl<S: Sources> Work for Reading<S> {
         × ShowsOfName (S.gives old.sources) (S.fails old.sources) old.task name said status };
 
     fn work_on<T: Watcher>(&mut self, alloc: Global, name: &str, watcher: &T) -> (Vec<u8>, u8) {
-        shown_of_name(alloc, self.task, &self.sources, name, watcher)
+        output_for(alloc, self.task, &self.sources, name, watcher)
     }
 }

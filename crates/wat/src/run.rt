@@ -1,4 +1,4 @@
-//! Work on what names stand for, one after another.
+//! A command on its inputs, one after the other.
 
 ghost use Rattle.std.specs.Prelude.{◌≡◌, ℕ, IfOk, IsOkUnless, List, OnErr, map};
 ghost use Rattle.std.specs.Io.KnownBytes.{Appends};
@@ -6,37 +6,42 @@ ghost use Rattle.std.specs.String.{string_bytes};
 ghost use Rattle.wat.specs.Runs.{WritesOfNames, WritesPartOfNames};
 ghost use Rattle.wat_show.specs.Streams.{AppendsBeginning};
 
+use crate::directory::Wanted;
 use std::alloc::Global;
 use std::io;
 use std::io::Write;
 use wat_show::output::write_all_of;
 use wat_show::{RunError, Watched};
 
-/// Who is told how a run goes.
+/// Gets what a run doesn't write to its writer.
 pub(crate) trait Watcher {
-    /// What a name stands for can't be read or replaced, or memory ran out.
+    /// An input can't be read or replaced, a directory can't be read, or memory ran out.
     fn unread(&self, name: &str, error: &io::Error);
 
-    /// Why no module is printed, or no text formatted: lines of their own.
+    /// A directory has no wanted files.
+    fn nothing_in(&self, directory: &str, wanted: Wanted);
+
+    /// The report of an input that can't be printed or formatted: whole lines.
     fn refused(&self, report: &[u8]);
 
-    /// So many names of all are done.
+    /// `count` of `all` inputs are done.
     fn done(&mut self, count: usize, all: usize);
 }
 
-/// What is done with what a name stands for.
+/// What is done with an input.
 pub(crate) trait Work {
-    /// From the one to the other, that is to be written of the name, and that is its status.
+    /// From the one to the other, this is written for the input with that name, and this is its
+    /// status.
     ghost says: { Self → Self → List ℕ → List ℕ → ℕ → Type 0 };
 
-    /// Does it. Answers what is to be written of the name, and its status. What isn't to be written
-    /// the watcher is told.
+    /// Does the work on an input. Returns what is to be written for it, and its status. The watcher
+    /// gets everything else.
     fn work_on<T: Watcher>(&mut self, alloc: Global, name: &str, watcher: &T) -> (Vec<u8>, u8)
         ensures { says self.old self.new name.now result.0.items result.1 };
 }
 
-/// Does the work on one name, writes what is said of it, and answers the status.
-fn say_of_name<J: Work, W: Write, T: Watcher>(
+/// Does the work on one input, writes the output for it, and returns the status.
+fn run_on<J: Work, W: Write, T: Watcher>(
     alloc: Global,
     work: &mut J,
     name: &str,
@@ -51,15 +56,15 @@ fn say_of_name<J: Work, W: Write, T: Watcher>(
         × AppendsBeginning (W.contents writer.old.inner) (W.contents writer.new.inner) said) }
     ensures only_write { IsOkUnless result RunError.Write }
 {
-    let (said, status) = work.work_on(alloc, name, watcher);
-    write_all_of(writer, &said)?;
+    let (output, status) = work.work_on(alloc, name, watcher);
+    write_all_of(writer, &output)?;
     Ok(status)
 }
 
-/// Does the work on what each name stands for, one after another, and writes what is said of it
-/// before the next. Answers the greatest status of them, and 0 if there are none.
+/// Does the work on each input, and writes the output for it before the next. Returns the greatest
+/// status, and 0 if there are no inputs.
 ///
-/// At the first write that fails it answers Write.
+/// Returns [`RunError::Write`] at the first write that fails.
 pub(crate) fn run<J: Work, W: Write, T: Watcher>(
     alloc: Global,
     work: &mut J,
@@ -76,7 +81,7 @@ pub(crate) fn run<J: Work, W: Write, T: Watcher>(
     let mut worst = 0;
     let mut count = 0;
     for name in names {
-        let status = say_of_name(alloc, work, name.as_str(), writer, watcher)?;
+        let status = run_on(alloc, work, name.as_str(), writer, watcher)?;
         worst = status.max(worst);
         count += 1;
         watcher.done(count, names.len());

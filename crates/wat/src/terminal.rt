@@ -1,24 +1,25 @@
-//! What is said on standard error.
+//! Messages on standard error.
 
+use crate::directory::Wanted;
 use crate::run::Watcher;
 use std::io;
 use std::io::{IsTerminal, Write};
 use std::rt::HostRuntime;
 use std::time::Instant;
 
-/// How many seconds nothing is said of how far a run is.
+/// The seconds between two lines of progress.
 const SILENCE: u64 = 2;
 
-/// Standard error. If it is a terminal, a line says every two seconds how far a long run is.
+/// Standard error. If it is a terminal, it shows the progress of a long run every two seconds.
 #[derive(Drop)]
 pub(crate) struct Terminal<'a> {
     rt: &'a HostRuntime,
-    /// When something was last said of how far the run is. None: nothing is ever said of that.
+    /// When progress was last shown. None: it is never shown.
     last_progress: Option<Instant>,
 }
 
 impl<'a> Terminal<'a> {
-    /// Standard error of the process.
+    /// Returns standard error of the process.
     pub fn new(rt: &'a HostRuntime) -> Terminal<'a> {
         let last_progress = if rt.stderr().is_terminal() {
             Instant::now(rt).ok()
@@ -33,8 +34,19 @@ impl Watcher for Terminal<'_> {
     fn unread(&self, name: &str, error: &io::Error) {
         let _ = match error.kind() {
             io::ErrorKind::OutOfMemory => eprintln!(self.rt; "{name}: error: memory ran out"),
+            io::ErrorKind::IsADirectory => {
+                eprintln!(self.rt; "{name}: error: this is a directory, not a file")
+            }
             _ => eprintln!(self.rt; "{name}: error: {error}"),
         };
+    }
+
+    fn nothing_in(&self, directory: &str, wanted: Wanted) {
+        let files = match wanted {
+            Wanted::Wat => "*.wat",
+            Wanted::WatAndWast => "*.wat and no *.wast",
+        };
+        let _ = eprintln!(self.rt; "{directory}: warning: this directory has no {files}");
     }
 
     fn refused(&self, report: &[u8]) {
@@ -49,7 +61,7 @@ impl Watcher for Terminal<'_> {
             return;
         };
         if now.duration_since(last).as_secs() >= SILENCE {
-            let _ = eprintln!(self.rt; "wat: {count} of {all} texts are read");
+            let _ = eprintln!(self.rt; "wat: {count} of {all} inputs are done");
             self.last_progress = Some(now);
         }
     }

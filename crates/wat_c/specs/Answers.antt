@@ -1,20 +1,20 @@
--- What a call for C answers.
+-- What a call for C returns.
 use Rattle.std.specs.Prelude.{◌≡◌, ◌≤◌, ◌<◌, ◌⊎◌, ◌++◌, Bool, ℕ, ℤ, pos, List, length, drop}
 use Rattle.std.specs.Prelude.{if◌then◌else◌}
 use Rattle.wat_print.specs.declared.output.Layout.{Layout}
 use Rattle.wat_print.specs.declared.output.Layout.TheVariants.{Line, Indented}
 use Rattle.wat_text.specs.Formatted.{IsFormatted, ReportsBytes}
 
--- The length of what is said is told. Where the room holds it, the room begins with it, and behind
--- that it is as before; else all of it is as before.
-abbrev pub Filled : List ℕ → List ℕ → List ℕ → ℕ → Type 0
+-- The length of the output is told. Where the room holds the output, the room begins with it, and
+-- the rest of the room is as before; else all of the room is as before.
+abbrev pub Filled : {A : Type 0} → List A → List A → List A → ℕ → Type 0
 Filled said before after needed =
     (needed ≡ length said)
     × (length said ≤ length before → after ≡ said ++ drop (length said) before)
     × (length before < length said → after ≡ before)
 
--- Something is said, and its status answered; or memory ran out, which is answered as 2, and nothing
--- was written.
+-- There is an output, and its status is returned; or memory ran out, 2 is returned, and nothing was
+-- written.
 abbrev pub Answered : (List ℕ → ℕ → Type 0) → ℤ → List ℕ → List ℕ → ℕ → ℕ → Type 0
 Answered says result before after needed_before needed =
     ((said : List ℕ) × (status : ℕ) × says said status × (result ≡ pos status)

@@ -1,27 +1,32 @@
-//! The library for C: what is said of one text, as functions that C and all that calls C can call.
+//! The library for C: the answers for one text, as functions for C and for languages that call C.
 //!
-//! A text and the room for what is said of it are the caller's, each a pointer and a length in
-//! bytes. Nothing is kept from one call to the next, so calls can be made side by side.
-//! `bindings/wat.h` declares the functions and says what each does.
+//! The caller owns the text and the room for the output. Each is a pointer and a length. A call
+//! keeps nothing for the next one. `bindings/wat.h` declares and documents the functions.
 #![tactic(auto)]
 
-ghost use Rattle.std.specs.Prelude.{◌≡◌, codes, pos};
+ghost use Rattle.std.specs.Prelude.{◌≡◌, List, IfOk, codes, pos};
 ghost use Rattle.wat_c.specs.Answers.{Answered, Filled, FormatsBytes, layout_of};
+ghost use Rattle.wat_c.specs.Faults.{FaultsAnswered, records_of, words_of};
+ghost use Rattle.wat_text.specs.Checked.{ChecksBytes};
+ghost use Rattle.wat_text.specs.declared.notice.Notice.{Notice};
 ghost use Rattle.wat_text.specs.Outcomes.{SaysOfBytes};
 ghost use Rattle.wat_text.specs.declared.task.Task.TheVariants.{Check, Show, Print};
 
+mod fault;
+
+use fault::{Records, WatFault, records_of};
 use std::alloc::{AllocError, Global};
 use wat_print::Layout;
-use wat_text::{Task, bytes_formatted, said_of_bytes};
+use wat_text::{Task, VERSION, bytes_formatted, checked_bytes, said_of_bytes};
 
-/// What reports call the text.
+/// The name of the text in reports.
 const NAME: &str = "<text>";
 
 /// Memory ran out.
 const NO_MEMORY: i32 = 2;
 
-/// Tells how long what is said is, and puts it at the beginning of the room if it fits.
-fn fill(said: &[u8], room: &mut [u8], needed: &mut usize)
+/// Stores the length of the output, and writes the output to the front of the room if it fits.
+fn fill<T: Copy>(said: &[T], room: &mut [T], needed: &mut usize)
     ensures { Filled said.now room.old room.new needed.new }
 {
     *needed = said.len();
@@ -30,7 +35,7 @@ fn fill(said: &[u8], room: &mut [u8], needed: &mut usize)
     }
 }
 
-/// What is said of the text, with its status, or 2 if memory ran out.
+/// Writes the answer for the text. Returns its status, or 2 if memory ran out.
 fn answer(alloc: Global, task: Task, text: &[u8], room: &mut [u8], needed: &mut usize) -> i32
     ensures { Answered (SaysOfBytes task (codes "<text>") text.now) result room.old room.new
         needed.old needed.new }
@@ -44,7 +49,7 @@ fn answer(alloc: Global, task: Task, text: &[u8], room: &mut [u8], needed: &mut 
     }
 }
 
-/// Whether the text is a module: nothing is said if it is, else why it isn't.
+/// Checks that the text is a module. The output is empty if it is, else the report of its errors.
 #[unsafe(no_mangle)]
 pub extern "C" fn wat_check(alloc: Global, text: &[u8], room: &mut [u8], needed: &mut usize) -> i32
     ensures { Answered (SaysOfBytes Check (codes "<text>") text.now) result room.old room.new
@@ -53,7 +58,40 @@ pub extern "C" fn wat_check(alloc: Global, text: &[u8], room: &mut [u8], needed:
     answer(alloc, Task::Check, text, room, needed)
 }
 
-/// The listing of the module that the text is, or why it is none.
+/// Checks bytes, and returns the records of what is found, with their messages, and the status.
+fn faults_of(alloc: Global, text: &[u8]) -> Result<(Records, u8), AllocError>
+    ensures { IfOk result (λ found. (ns : List Notice) × ChecksBytes text.now ns found.1
+        × (found.0.faults.items ≡ records_of 0 ns) × (found.0.messages.items ≡ words_of ns)) }
+{
+    let (notices, status) = checked_bytes(alloc, text)?;
+    Ok((records_of(alloc, &notices)?, status))
+}
+
+/// Writes the errors that [`wat_check`] reports as records, in the same order, and their messages.
+#[unsafe(no_mangle)]
+pub extern "C" fn wat_faults(
+    alloc: Global,
+    text: &[u8],
+    faults: &mut [WatFault],
+    count: &mut usize,
+    messages: &mut [u8],
+    needed: &mut usize,
+) -> i32
+    ensures { FaultsAnswered text.now result faults.old faults.new count.old count.new messages.old
+        messages.new needed.old needed.new }
+{
+    match faults_of(alloc, text) {
+        Ok((found, status)) => {
+            fill(&found.faults, faults, count);
+            fill(&found.messages, messages, needed);
+            i32::from(status)
+        }
+        Err(AllocError) => NO_MEMORY,
+    }
+}
+
+/// Lists the contents of the module. If the text isn't a module, the output is the report of its
+/// first error.
 #[unsafe(no_mangle)]
 pub extern "C" fn wat_list(alloc: Global, text: &[u8], room: &mut [u8], needed: &mut usize) -> i32
     ensures { Answered (SaysOfBytes Show (codes "<text>") text.now) result room.old room.new
@@ -62,15 +100,15 @@ pub extern "C" fn wat_list(alloc: Global, text: &[u8], room: &mut [u8], needed: 
     answer(alloc, Task::Show, text, room, needed)
 }
 
-/// How a module is laid out.
+/// Returns the layout for one line, or for an instruction a line.
 fn layout_of(line: bool) -> Layout
     ensures { result ≡ layout_of line }
 {
     if line { Layout::Line } else { Layout::Indented }
 }
 
-/// A text of the module that the text is, on one line or its instructions one a line; or why it is
-/// none.
+/// Prints the module as a text, on one line or with an instruction a line. If the text isn't a
+/// module, the output is the report of its first error.
 #[unsafe(no_mangle)]
 pub extern "C" fn wat_print(
     alloc: Global,
@@ -85,7 +123,7 @@ pub extern "C" fn wat_print(
     answer(alloc, Task::Print(layout_of(line)), text, room, needed)
 }
 
-/// The text laid out anew, or why it can't be.
+/// Formats the text. If it has an invalid token, the output is the report of the first one.
 #[unsafe(no_mangle)]
 #[tactic(auto, unfolding(crate::specs::Answers::FormatsBytes))]
 pub extern "C" fn wat_format(alloc: Global, text: &[u8], room: &mut [u8], needed: &mut usize) -> i32
@@ -105,13 +143,12 @@ pub extern "C" fn wat_format(alloc: Global, text: &[u8], room: &mut [u8], needed
     }
 }
 
-/// Which library this is.
+/// Writes the name and the version of the library.
 #[unsafe(no_mangle)]
 pub extern "C" fn wat_version(room: &mut [u8], needed: &mut usize) -> i32
-    ensures named { Filled (codes "wat of Dilgorza, a port of wast 263.0.0") room.old room.new
-        needed.new }
+    ensures named { Filled VERSION.now room.old room.new needed.new }
     ensures status { result ≡ pos 0 }
 {
-    fill(b"wat of Dilgorza, a port of wast 263.0.0", room, needed);
+    fill(VERSION.as_bytes(), room, needed);
     0
 }

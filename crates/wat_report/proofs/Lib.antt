@@ -1,9 +1,12 @@
 pub mod Added
+pub mod AtChar
 pub mod Cuts
+pub mod Decoded
 pub mod Distances
 pub mod Escape
 pub mod Fewest
 pub mod Groups
+pub mod Labels
 pub mod Nearby
 pub mod Openings
 pub mod UpTo

@@ -1,6 +1,6 @@
 -- The token at an offset, as a message calls it.
-use Rattle.std.specs.Prelude.{ℕ, ◌+◌, ◌==◌, ◌||◌, Bool, List, ◌++◌, length, codes, min, nat_le}
-use Rattle.std.specs.Prelude.{nat_lt, drop, slice_index, slice_range, if◌then◌else◌}
+use Rattle.std.specs.Prelude.{ℕ, ◌+◌, ◌-◌, ◌==◌, ◌||◌, Bool, List, ◌++◌, length, codes, min}
+use Rattle.std.specs.Prelude.{nat_le, nat_lt, drop, slice_index, slice_range, if◌then◌else◌}
 use Rattle.std.specs.List.{prefix_len}
 use Rattle.wat_lexer.specs.Bytes.{between, is_idchar}
 
@@ -26,6 +26,18 @@ quoted_word text at end =
 
 abbrev pub word_text : List ℕ → ℕ → List ℕ
 word_text text at = quoted_word text at (word_end text at)
+
+-- where the character at the offset ends: a byte from 128 to 191 goes on with it
+unfoldable pub char_end : List ℕ → ℕ → ℕ
+char_end text at = at + 1 + prefix_len (between 128 191) (drop (at + 1) text)
+
+-- how many bytes to underline at the offset: the idchars there, else the one character, and none at
+-- the text's end
+abbrev pub marked_len : List ℕ → ℕ → ℕ
+marked_len text at =
+    if nat_le (length text) at then 0
+    else if nat_lt at (word_end text at) then word_end text at - at
+    else char_end text at - at
 
 -- the token at the offset, or the text's end
 abbrev pub found_text : List ℕ → ℕ → List ℕ

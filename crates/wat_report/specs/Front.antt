@@ -1,6 +1,7 @@
--- The groups that stand before a place of a text.
-use Rattle.std.specs.Prelude.{ℕ, ◌+◌, ◌==◌, ◌&&◌, Bool, false, List, count_by, nat_lt, Option, Some}
-use Rattle.std.specs.Prelude.{None}
+-- The groups before an offset of a text.
+use Rattle.std.specs.Prelude.{ℕ, ◌+◌, ◌==◌, ◌&&◌, Bool, false, List, count_by, nat_lt, take, Option}
+use Rattle.std.specs.Prelude.{Some, None}
+use Rattle.std.specs.List.{prefix_len}
 use Rattle.wat_lexer.specs.Cut.{IsCut}
 use Rattle.wat_lexer.specs.Token.{Placed, Tok, is_close, is_open, tokens_of}
 use Rattle.wat_report.specs.declared.front.Groups.{Groups}
@@ -9,13 +10,22 @@ use Rattle.wat_report.specs.declared.front.Groups.{Groups}
 unfoldable pub groups_in : List Tok → Groups
 groups_in ts = record { begun = count_by is_open ts; ended = count_by is_close ts }
 
--- the groups of the tokens into which the text is cut, or none if there is no cut
-pub data HasGroups : List ℕ → Option Groups → Type 0 where
-  cut : (text : List ℕ) (ts : List Placed) → IsCut text ts
-      → HasGroups text (Some (groups_in (tokens_of ts)))
-  uncut : (text : List ℕ) → ((ts : List Placed) → IsCut text ts → ⊥) → HasGroups text None
+-- how many tokens begin before the offset
+unfoldable pub count_before : ℕ → List Placed → ℕ
+count_before at ts = prefix_len (λ t. nat_lt t.offset at) ts
 
--- behind a group, and in none
+-- the groups of the tokens that begin before the offset
+abbrev pub groups_before : ℕ → List Placed → Groups
+groups_before at ts = groups_in (take (count_before at ts) (tokens_of ts))
+
+-- the groups before the offset, by the text's cut, or none if there is no cut
+pub data HasGroups : List ℕ → ℕ → Option Groups → Type 0 where
+  cut : (text : List ℕ) (at : ℕ) (ts : List Placed) → IsCut text ts
+      → HasGroups text at (Some (groups_before at ts))
+  uncut : (text : List ℕ) (at : ℕ) → ((ts : List Placed) → IsCut text ts → ⊥)
+      → HasGroups text at None
+
+-- after a group, and in none
 abbrev pub is_behind_group : Option Groups → Bool
 is_behind_group None = false
 is_behind_group (Some g) = (g.begun == g.ended) && nat_lt 0 g.ended

@@ -36,7 +36,7 @@ is_field_word word = list_any (λ field. bytes_eq (keyword_text field) word) FIE
 abbrev pub is_first_field : List ℕ → ℕ → Bool
 is_first_field text at =
     nat_lt 0 at && ((slice_index text (at - 1) == 40)
-    && ((count_by (λ b. b == 40) (take at text) == 1) && is_field_word (word_at text at)))
+    && (is_field_word (word_at text at) && (count_by (λ b. b == 40) (take at text) == 1)))
 
 -- the word that stands today for one of the time before the format was a standard
 unfoldable pub new_word : List ℕ → Option (List ℕ)

@@ -1,12 +1,15 @@
 pub use Rattle.wat_tokens.specs.Error
 pub use Rattle.wat_tokens.specs.Place
 pub mod Around
+pub mod Diagnostic
 pub mod Edits
 pub mod Escapes
 pub mod Found
 pub mod Front
-pub mod HintLine
+pub mod HintWords
 pub mod Hints
+pub mod Json
+pub mod JsonStrings
 pub mod Meant
 pub mod Nearest
 pub mod Places

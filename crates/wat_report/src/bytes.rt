@@ -1,20 +1,21 @@
-//! Bytes that are to be a text.
+//! Bytes that should be a text.
 
-ghost use Rattle.std.specs.Prelude.{◌≡◌, ◌++◌, IfOk, MatchOption, OnOk};
+ghost use Rattle.std.specs.Prelude.{◌≡◌, ◌++◌, IfOk, MatchResult, OnOk};
 ghost use Rattle.std.specs.Str.{IsValidUpTo};
-ghost use Rattle.wat_report.specs.WrongBytes.{ReportsWrongByte, begins_with_utf16_mark, hex_text};
-ghost use Rattle.wat_report.specs.WrongBytes.{report_behind, utf16_line};
-ghost use Rattle.wat_report.specs.WrongBytes.{wrong_byte_report, wrong_byte_text};
+ghost use Rattle.wat_report.specs.WrongBytes.{IsFirstWrongByte, IsWrongByte};
+ghost use Rattle.wat_report.specs.WrongBytes.{begins_with_utf16_mark, hex_text, last_line};
+ghost use Rattle.wat_report.specs.WrongBytes.{utf16_words, wrong_byte_text};
 
 use crate::caret::add_open;
+use crate::diagnostic::Diagnostic;
 use crate::lines::{line_start, place_of_char};
-use crate::report::add_heading;
 use crate::write::add;
-use std::alloc::AllocError;
+use std::alloc::{AllocError, Global};
 use wat_lexer::string::hex_digit;
+use wat_tokens::Fault;
 
 /// Adds a byte as two hexadecimal digits.
-fn add_hex(out: &mut Vec<u8>, byte: u8) -> Result<(), AllocError>
+pub(crate) fn add_hex(out: &mut Vec<u8>, byte: u8) -> Result<(), AllocError>
     ensures { OnOk result (out.new.items ≡ out.old.items ++ hex_text byte) }
 {
     out.push(hex_digit(byte / 16))?;
@@ -22,7 +23,7 @@ fn add_hex(out: &mut Vec<u8>, byte: u8) -> Result<(), AllocError>
     Ok(())
 }
 
-/// Whether the bytes begin with the byte order mark of UTF-16.
+/// Returns whether the bytes begin with the byte order mark of UTF-16.
 fn begins_with_utf16_mark(bytes: &[u8]) -> bool
     ensures { result ≡ begins_with_utf16_mark bytes.now }
 {
@@ -30,79 +31,75 @@ fn begins_with_utf16_mark(bytes: &[u8]) -> bool
         && (bytes[0] == 0xff && bytes[1] == 0xfe || bytes[0] == 0xfe && bytes[1] == 0xff)
 }
 
-/// Adds what is wrong, and the line up to it. The text is what stands before the byte.
-fn add_wrong_byte(out: &mut Vec<u8>, front: &str, byte: u8) -> Result<(), AllocError>
-    ensures { OnOk result (out.new.items ≡ out.old.items ++ wrong_byte_text front.now byte) }
+/// Returns the message for a wrong byte.
+fn message_of(alloc: Global, byte: u8) -> Result<Vec<u8>, AllocError>
+    ensures { IfOk result (λ said. said.items ≡ wrong_byte_text byte) }
 {
-    add(out, "this isn't UTF-8: the byte 0x")?;
-    add_hex(out, byte)?;
-    add(out, "\n")?;
-    add_open(out, front, line_start(front, front.len()))
+    let mut message = Vec::new(alloc);
+    add(&mut message, "this isn't UTF-8: the byte 0x")?;
+    add_hex(&mut message, byte)?;
+    Ok(message)
 }
 
-/// Adds a line for bytes that begin with the byte order mark of UTF-16.
-fn add_utf16(out: &mut Vec<u8>, bytes: &[u8]) -> Result<(), AllocError>
-    ensures { OnOk result (out.new.items ≡ out.old.items ++ utf16_line bytes.now) }
+/// Returns the last line of the text, which goes on with a wrong byte, and below it the caret.
+fn shown_of(alloc: Global, front: &str) -> Result<Vec<u8>, AllocError>
+    ensures { IfOk result (λ said. said.items ≡ last_line front.now) }
 {
+    let mut shown = Vec::new(alloc);
+    add_open(&mut shown, front, line_start(front, front.len()))?;
+    Ok(shown)
+}
+
+/// Returns the words of the hint for bytes that begin with the byte order mark of UTF-16, and no
+/// words for other bytes.
+fn hint_of(alloc: Global, bytes: &[u8]) -> Result<Vec<u8>, AllocError>
+    ensures { IfOk result (λ said. said.items ≡ utf16_words bytes.now) }
+{
+    let mut hint = Vec::new(alloc);
     if begins_with_utf16_mark(bytes) {
-        return add(out, "hint: this may be UTF-16, and has to be UTF-8\n");
+        add(&mut hint, "this may be UTF-16, and has to be UTF-8")?;
     }
-    Ok(())
+    Ok(hint)
 }
 
-/// Adds the report of a wrong byte, before which the front of the bytes stands.
-fn add_report_behind(
-    out: &mut Vec<u8>,
-    name: &str,
-    bytes: &[u8],
-    front: &str,
-    byte: u8,
-) -> Result<(), AllocError>
-    ensures { OnOk result (out.new.items ≡ out.old.items
-        ++ report_behind name.now bytes.now front.now byte) }
+/// Returns the diagnostic of a wrong byte after the front of the bytes.
+fn wrong_byte(alloc: Global, bytes: &[u8], front: &str, byte: u8) -> Result<Diagnostic, AllocError>
+    ensures { IfOk result (λ d. IsWrongByte bytes.now front.now byte d) }
 {
-    add_heading(out, name, place_of_char(front, front.len()))?;
-    add_wrong_byte(out, front, byte)?;
-    add_utf16(out, bytes)
+    Ok(Diagnostic {
+        offset: front.len(),
+        length: 1,
+        place: place_of_char(front, front.len()),
+        fault: Fault::Utf8,
+        message: message_of(alloc, byte)?,
+        shown: shown_of(alloc, front)?,
+        hint: hint_of(alloc, bytes)?,
+        expected: Vec::new(alloc),
+    })
 }
 
-/// Adds the report of the first wrong byte, before which so many others stand.
-fn add_bytes_report(
-    out: &mut Vec<u8>,
-    name: &str,
-    bytes: &[u8],
-    valid: usize,
-) -> Result<(), AllocError>
+/// Returns the diagnostic of the first wrong byte, which is after `valid` bytes.
+fn first_wrong_byte(alloc: Global, bytes: &[u8], valid: usize) -> Result<Diagnostic, AllocError>
     requires { IsValidUpTo bytes.now valid }
-    ensures { OnOk result (out.new.items ≡ out.old.items ++ wrong_byte_report name.now bytes.now
-        valid) }
+    ensures { IfOk result (λ d. IsFirstWrongByte bytes.now d) }
 {
     let front = str::from_utf8(&bytes[..valid]).unwrap();
-    add_report_behind(out, name, bytes, front, bytes[valid])
+    wrong_byte(alloc, bytes, front, bytes[valid])
 }
 
-/// The text that the bytes are.
+/// Returns the text that the bytes are, or the diagnostic of the first byte that isn't UTF-8.
 ///
-/// If they aren't UTF-8, it answers None and adds the report of the first byte that is wrong: a
-/// line `NAME:LINE:COLUMN: error: MESSAGE`, the line up to that byte with `..` for the rest, a line
-/// with a caret below, and, if the bytes begin with the byte order mark of UTF-16, a line
-/// `hint: ..`.
-///
-/// It fails if memory runs out. Then a beginning of the report may have been added.
-pub fn text_or_report<'a>(
-    out: &mut Vec<u8>,
-    name: &str,
+/// The fault of that diagnostic is Utf8, and its line is shown up to the byte, with `..` for the
+/// rest. The outer error is AllocError if memory runs out.
+pub fn text_or_diagnostic<'a>(
+    alloc: Global,
     bytes: &'a [u8],
-) -> Result<Option<&'a str>, AllocError>
-    ensures { IfOk result (λ found. MatchOption found
-        (ReportsWrongByte name.now bytes.now out.old.items out.new.items)
-        (λ text. (text.now ≡ bytes.now) × (out.new.items ≡ out.old.items))) }
+) -> Result<Result<&'a str, Diagnostic>, AllocError>
+    ensures { IfOk result (λ found. MatchResult found (λ text. text.now ≡ bytes.now)
+        (λ d. IsFirstWrongByte bytes.now d)) }
 {
     match str::from_utf8(bytes) {
-        Ok(text) => Ok(Some(text)),
-        Err(error) => {
-            add_bytes_report(out, name, bytes, error.valid_up_to())?;
-            Ok(None)
-        }
+        Ok(text) => Ok(Ok(text)),
+        Err(error) => Ok(Err(first_wrong_byte(alloc, bytes, error.valid_up_to())?)),
     }
 }

@@ -1,8 +1,9 @@
 //! The token that was found, in a message.
 
-ghost use Rattle.std.specs.Prelude.{◌≡◌, ◌++◌, ◌≤◌, OnOk, length};
+ghost use Rattle.std.specs.Prelude.{◌≡◌, ◌++◌, ◌≤◌, ◌<◌, OnOk, length};
 ghost use Rattle.std.specs.Str.{IsCharBoundary};
-ghost use Rattle.wat_report.specs.Found.{found_text, is_word_at, word_at, word_end, word_text};
+ghost use Rattle.wat_report.specs.Found.{char_end, found_text, is_word_at, marked_len, word_at};
+ghost use Rattle.wat_report.specs.Found.{word_end, word_text};
 
 use crate::write::add;
 use std::alloc::AllocError;
@@ -39,6 +40,37 @@ pub(crate) fn word_at(text: &str, at: usize) -> &str
 {
     let end = word_end(text.as_bytes(), at);
     &text[at..end]
+}
+
+/// Returns the offset where the character at an offset ends.
+#[tactic(auto, unfolding(crate::specs::Found::char_end))]
+fn char_end(bytes: &[u8], at: usize) -> usize
+    requires { at < length bytes.now }
+    ensures order { at ≤ result }
+    ensures value { result ≡ char_end bytes.now at }
+{
+    let mut end = at + 1;
+    while end < bytes.len() && 128 <= bytes[end] && bytes[end] <= 191 {
+        end += 1;
+    }
+    end
+}
+
+/// Returns the number of bytes to underline at an offset: the word there, or else the one character;
+/// 0 at the end of the text.
+pub(crate) fn marked_len(text: &str, at: usize) -> usize
+    requires { at ≤ length text.now }
+    ensures { result ≡ marked_len text.now at }
+{
+    let bytes = text.as_bytes();
+    if at >= bytes.len() {
+        return 0;
+    }
+    let end = word_end(bytes, at);
+    if at < end {
+        return end - at;
+    }
+    char_end(bytes, at) - at
 }
 
 /// Adds the word at the offset between backquotes, with `..` behind what is shown of it where more

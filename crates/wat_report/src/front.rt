@@ -1,33 +1,43 @@
-//! The groups that stand before a place of a text.
+//! The groups before an offset of a text.
 
-ghost use Rattle.std.specs.Prelude.{◌≡◌, IfOk};
+ghost use Rattle.std.specs.Prelude.{◌≡◌, ◌≤◌, length, take};
 ghost use Rattle.wat_lexer.specs.Token.{is_close, is_open, tokens_of};
 ghost use Rattle.wat_lexer.specs.View.{placed};
-ghost use Rattle.wat_report.specs.Front.{HasGroups, groups_in, is_before_groups, is_behind_group};
-ghost use Rattle.wat_report.specs.Front.{is_in_group, is_in_two};
+ghost use Rattle.wat_report.specs.Front.{count_before, groups_before, groups_in};
+ghost use Rattle.wat_report.specs.Front.{is_before_groups, is_behind_group, is_in_group, is_in_two};
 
-use bumpalo::Bump;
-use std::alloc::{AllocError, Global};
-use wat_lexer::cut::cut;
-use wat_lexer::fault::Fault;
 use wat_lexer::tokens::Tokens;
 
-/// How many groups begin and end among the tokens before a place.
+/// How many groups begin and end among the tokens before an offset.
 #[derive(Clone, Copy, Debug, PartialEq, Eq)]
 pub(crate) struct Groups {
-    /// How many tokens are `(`.
+    /// The number of tokens `(`.
     pub begun: usize,
-    /// How many tokens are `)`.
+    /// The number of tokens `)`.
     pub ended: usize,
 }
 
-/// How many groups begin and end among the tokens.
-#[tactic(auto, unfolding(crate::specs::Front::groups_in), using(crate::proofs::Groups::take_all))]
-fn groups_in(tokens: &Tokens) -> Groups
-    ensures { result ≡ groups_in (tokens_of (placed tokens.now)) }
+/// Returns the number of tokens that begin before the offset, in bytes.
+#[tactic(auto, using(crate::proofs::Groups::before_steps))]
+fn count_before(tokens: &Tokens, at: usize) -> usize
+    ensures within { result ≤ length tokens.now }
+    ensures value { result ≡ count_before at (placed tokens.now) }
+{
+    let mut count = 0;
+    while count < tokens.len() && tokens.offset(count) < at {
+        count += 1;
+    }
+    count
+}
+
+/// Returns how many groups begin and end among the first tokens.
+#[tactic(auto, unfolding(crate::specs::Front::groups_in))]
+fn groups_in(tokens: &Tokens, count: usize) -> Groups
+    requires { count ≤ length tokens.now }
+    ensures { result ≡ groups_in (take count (tokens_of (placed tokens.now))) }
 {
     let mut groups = Groups { begun: 0, ended: 0 };
-    for at in 0..tokens.len() {
+    for at in 0..count {
         if tokens.opens(at) {
             groups.begun += 1;
         } else if tokens.closes(at) {
@@ -37,21 +47,14 @@ fn groups_in(tokens: &Tokens) -> Groups
     groups
 }
 
-/// How many groups begin and end in a text, if it can be cut into tokens.
-pub(crate) fn groups_of(alloc: Global, text: &str) -> Result<Option<Groups>, AllocError>
-    ensures { IfOk result (λ groups. HasGroups text.now groups) }
+/// Returns how many groups begin and end among the tokens that begin before the offset, in bytes.
+pub(crate) fn groups_before(tokens: &Tokens, at: usize) -> Groups
+    ensures { result ≡ groups_before at (placed tokens.now) }
 {
-    let arena = Bump::new(alloc);
-    match cut(alloc, text, &arena) {
-        Ok(tokens) => Ok(Some(groups_in(&tokens))),
-        Err(error) => match error.fault {
-            Fault::Memory => Err(AllocError),
-            _ => Ok(None),
-        },
-    }
+    groups_in(tokens, count_before(tokens, at))
 }
 
-/// Whether a group ended, and none goes on.
+/// Returns whether a group ended, and none goes on.
 pub(crate) fn is_behind_group(groups: Option<Groups>) -> bool
     ensures { result ≡ is_behind_group groups }
 {
@@ -61,7 +64,7 @@ pub(crate) fn is_behind_group(groups: Option<Groups>) -> bool
     }
 }
 
-/// Whether there is no group.
+/// Returns whether there is no group.
 pub(crate) fn is_before_groups(groups: Option<Groups>) -> bool
     ensures { result ≡ is_before_groups groups }
 {
@@ -71,7 +74,7 @@ pub(crate) fn is_before_groups(groups: Option<Groups>) -> bool
     }
 }
 
-/// Whether a group goes on.
+/// Returns whether a group goes on.
 pub(crate) fn is_in_group(groups: Option<Groups>) -> bool
     ensures { result ≡ is_in_group groups }
 {
@@ -81,7 +84,7 @@ pub(crate) fn is_in_group(groups: Option<Groups>) -> bool
     }
 }
 
-/// Whether two groups go on.
+/// Returns whether two groups go on.
 pub(crate) fn is_in_two(groups: Option<Groups>) -> bool
     ensures { result ≡ is_in_two groups }
 {

@@ -122,8 +122,10 @@ fn is_first_field(text: &str, at: usize) -> bool
     ensures { result ≡ is_first_field text.now at }
 {
     let bytes = text.as_bytes();
-    let opened = bytes[..at].iter().filter(|b| **b == b'(').count();
-    at > 0 && bytes[at - 1] == b'(' && opened == 1 && is_field_word(word_at(text, at))
+    at > 0
+        && bytes[at - 1] == b'('
+        && is_field_word(word_at(text, at))
+        && bytes[..at].iter().filter(|b| **b == b'(').count() == 1
 }
 
 /// How often a byte is in the text.

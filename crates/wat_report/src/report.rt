@@ -1,27 +1,18 @@
 //! The report of a fault.
 
-ghost use Rattle.std.specs.Prelude.{◌≡◌, ◌++◌, ◌≤◌, ℕ, List, OnOk, length};
-ghost use Rattle.std.specs.Str.{IsCharBoundary};
+ghost use Rattle.std.specs.Prelude.{◌≡◌, ◌++◌, OnOk};
 ghost use Rattle.wat_tokens.specs.Place.{offset_of};
-ghost use Rattle.wat_report.specs.Report.{heading_text, message_text};
-ghost use Rattle.wat_report.specs.Report.{AddsReport, IsPlacedReport, placed_report};
+ghost use Rattle.wat_report.specs.Report.{AddsReport, first_line, further_lines, heading_text};
+ghost use Rattle.wat_report.specs.Report.{labelled_line, report_text};
 
-use crate::caret::add_line;
-use crate::found::{add_found, is_word_at};
-use crate::front::{Groups, groups_of};
-use crate::hint_line::add_hint;
-use crate::lines::{LineColumn, char_start, place_of_char};
-use crate::rules::{names_token, rule};
+use crate::diagnostic::{Diagnostic, diagnostic_of};
+use crate::lines::LineColumn;
 use crate::write::{add, add_number};
 use std::alloc::AllocError;
 use wat_tokens::{Error, Fault};
 
 /// Adds the name, the line and the column.
-pub(crate) fn add_heading(
-    out: &mut Vec<u8>,
-    name: &str,
-    place: LineColumn,
-) -> Result<(), AllocError>
+fn add_heading(out: &mut Vec<u8>, name: &str, place: LineColumn) -> Result<(), AllocError>
     ensures { OnOk result (out.new.items ≡ out.old.items ++ heading_text name.now place) }
 {
     add(out, name)?;
@@ -32,64 +23,61 @@ pub(crate) fn add_heading(
     add(out, ": error: ")
 }
 
-/// Adds what is wrong.
-fn add_message(out: &mut Vec<u8>, text: &str, at: usize, fault: Fault) -> Result<(), AllocError>
-    ensures { OnOk result (out.new.items ≡ out.old.items ++ message_text text.now at fault) }
+/// Adds a line of words after a label. Adds nothing if there are no words.
+#[tactic(auto, using(crate::proofs::Labels::labelled))]
+fn add_labelled(out: &mut Vec<u8>, label: &str, words: &[u8]) -> Result<(), AllocError>
+    ensures { OnOk result (out.new.items ≡ out.old.items ++ labelled_line label.now words.now) }
 {
-    add(out, rule(fault, is_word_at(text, at)))?;
-    if names_token(fault) {
-        return add_found(out, text, at);
+    if words.is_empty() {
+        return Ok(());
     }
-    Ok(())
+    add(out, label)?;
+    out.extend_from_slice(words)?;
+    add(out, "\n")
 }
 
-/// Adds the report of a fault at the character that begins at the offset, before which the groups
-/// are.
-fn add_parts(
+/// Adds the line of the place and the message.
+fn add_first_line(out: &mut Vec<u8>, name: &str, diagnostic: &Diagnostic) -> Result<(), AllocError>
+    ensures { OnOk result (out.new.items ≡ out.old.items ++ first_line name.now diagnostic.now) }
+{
+    add_heading(out, name, diagnostic.place)?;
+    out.extend_from_slice(&diagnostic.message)?;
+    add(out, "\n")
+}
+
+/// Adds the lines after the first one.
+fn add_further_lines(out: &mut Vec<u8>, diagnostic: &Diagnostic) -> Result<(), AllocError>
+    ensures { OnOk result (out.new.items ≡ out.old.items ++ further_lines diagnostic.now) }
+{
+    out.extend_from_slice(&diagnostic.shown)?;
+    add_labelled(out, "hint: ", &diagnostic.hint)?;
+    add_labelled(out, "expected: ", &diagnostic.expected)
+}
+
+/// Adds the report of a diagnostic for a text of that name.
+///
+/// The report has a line `NAME:LINE:COLUMN: error: MESSAGE`, the line of the text, a line with a
+/// caret below the place, and, for some faults, a line `hint: ..` or `expected: ..`. Of the line of
+/// the text, it shows about 100 bytes before the place and 100 bytes from the place on, with `..` on
+/// each side where there is more.
+///
+/// The error is AllocError if memory runs out. Then a prefix of the report may have been added.
+#[tactic(auto, unfolding(crate::specs::Report::report_text))]
+pub fn add_diagnostic(
     out: &mut Vec<u8>,
     name: &str,
-    text: &str,
-    groups: Option<Groups>,
-    at: usize,
-    fault: Fault,
+    diagnostic: &Diagnostic,
 ) -> Result<(), AllocError>
-    requires within { at ≤ length text.now }
-    requires boundary { IsCharBoundary text.now at }
-    ensures { OnOk result (out.new.items ≡ out.old.items
-        ++ placed_report name.now text.now groups at fault) }
+    ensures { OnOk result (out.new.items ≡ out.old.items ++ report_text name.now diagnostic.now) }
 {
-    add_heading(out, name, place_of_char(text, at))?;
-    add_message(out, text, at, fault)?;
-    add(out, "\n")?;
-    add_line(out, text, at)?;
-    add_hint(out, text, groups, at, fault)
+    add_first_line(out, name, diagnostic)?;
+    add_further_lines(out, diagnostic)
 }
 
-/// Adds the report of a fault at the character that begins at the offset.
-fn add_placed(
-    out: &mut Vec<u8>,
-    name: &str,
-    text: &str,
-    at: usize,
-    fault: Fault,
-) -> Result<(), AllocError>
-    requires within { at ≤ length text.now }
-    requires boundary { IsCharBoundary text.now at }
-    ensures { OnOk result ((said : List ℕ) × IsPlacedReport name.now text.now at fault said
-        × (out.new.items ≡ out.old.items ++ said)) }
-{
-    let groups = groups_of(*out.allocator(), &text[..at])?;
-    add_parts(out, name, text, groups, at, fault)
-}
-
-/// Adds the report of an error in a text of that name.
+/// Adds the report of an error in a text of that name: the report of the error's diagnostic. The
+/// report of Memory is the line `NAME: error: memory ran out`.
 ///
-/// It has a line `NAME:LINE:COLUMN: error: MESSAGE`, the text's line, a line with a caret below the
-/// place, and, for some faults, a line `hint: ..`. Of the text's line about 100 bytes are shown
-/// before the place and 100 from it on, with `..` on each side where more stands there. An error of
-/// memory has no place: its report is the line `NAME: error: memory ran out`.
-///
-/// It fails if memory runs out. Then a beginning of the report may have been added.
+/// The error is AllocError if memory runs out. Then a prefix of the report may have been added.
 #[tactic(auto, unfolding(crate::specs::Report::IsReport))]
 pub fn add_report(out: &mut Vec<u8>, name: &str, text: &str, error: Error) -> Result<(), AllocError>
     ensures { OnOk result (AddsReport name.now text.now (offset_of error.span) error.fault
@@ -99,11 +87,6 @@ pub fn add_report(out: &mut Vec<u8>, name: &str, text: &str, error: Error) -> Re
         add(out, name)?;
         return add(out, ": error: memory ran out\n");
     }
-    add_placed(
-        out,
-        name,
-        text,
-        char_start(text, error.span.offset()),
-        error.fault,
-    )
+    let diagnostic = diagnostic_of(*out.allocator(), text, error)?;
+    add_diagnostic(out, name, &diagnostic)
 }

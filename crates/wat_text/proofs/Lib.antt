@@ -1,2 +1,3 @@
-mod Diagnostics
+mod Expecting
+mod Found
 mod Saying

@@ -1,10 +1,11 @@
--- What is said of a text that is checked.
-use Rattle.std.specs.Prelude.{◌≡◌, ◌≢◌, ◌⊎◌, ◌++◌, ◌∷◌, ◌-◌, ◌==◌, ◌||◌, ℕ, Bool, List, [], length}
-use Rattle.std.specs.Prelude.{Option, Some, None, if◌then◌else◌, codes, decimal}
+-- What a check of a text finds.
+use Rattle.std.specs.Prelude.{◌≡◌, ◌≢◌, ◌⊎◌, ◌++◌, ◌∷◌, ◌-◌, ◌==◌, ◌||◌, ℕ, Bool, true, false}
+use Rattle.std.specs.Prelude.{List, [], length, Option, Some, None, if◌then◌else◌}
 use Rattle.std.specs.List.{list_any}
 use Rattle.std.specs.Option.{option_to_list}
-use Rattle.wat_core.specs.Cut.{IsCut}
-use Rattle.wat_core.specs.Error.{Error, Memory, Operator, Unexpected}
+use Rattle.std.specs.Str.{IsUtf8}
+use Rattle.wat_core.specs.Cut.{FirstFault, IsCut}
+use Rattle.wat_core.specs.Error.{Error, Fault, Memory, Operator, Unexpected}
 use Rattle.wat_core.specs.Field.{module_field}
 use Rattle.wat_core.specs.LexerPlace.{offset_of}
 use Rattle.wat_core.specs.Module.{ModuleTy}
@@ -15,8 +16,11 @@ use Rattle.wat_core.specs.ModuleGroups.{HasGroups}
 use Rattle.wat_core.specs.ModuleHead.{IsUnexpected}
 use Rattle.wat_core.specs.declared.wrong_fields.FieldFaults.{FieldFaults}
 use Rattle.wat_core.specs.declared.module_group.Group.{Group}
-use Rattle.wat_report.specs.Report.{IsReport}
-use Rattle.wat_text.specs.Formatted.{ReportsFault}
+use Rattle.wat_report.specs.Diagnostic.{IsDiagnostic}
+use Rattle.wat_report.specs.WrongBytes.{IsFirstWrongByte}
+use Rattle.wat_report.specs.declared.diagnostic.Diagnostic.{Diagnostic}
+use Rattle.wat_text.specs.declared.notice.Notice.{Notice}
+use Rattle.wat_text.specs.declared.notice.Notice.TheVariants.{Found, More}
 use Rattle.wat_twin.specs.Text.{IsTwin}
 
 -- ---- which errors are reported
@@ -29,88 +33,98 @@ has_error_at es offset = list_any (λ e. offset_of e.span == offset) es
 abbrev pub lead_of : Error → List Error → Option Error
 lead_of first es = if has_error_at es (offset_of first.span) then None else Some first
 
--- what is wrong beside the fields, unless an error at its place is reported already
+-- the error beside the fields, unless an error at its place is reported already
 abbrev pub beside_of : Error → List Error → Option Error → Option Error
 beside_of first es None = None
 beside_of first es (Some e) =
     if (offset_of first.span == offset_of e.span) || has_error_at es (offset_of e.span) then None
     else Some e
 
--- ---- their reports
+-- ---- their diagnostics
 
--- what could stand there, behind the word `expected` and up to a line break, or nothing; what it
--- names is not said here, nor that it has no other line break
-unfoldable pub MayExpect : List ℕ → Type 0
-MayExpect said =
-    (said ≡ []) ⊎ ((words : List ℕ) × (said ≡ codes "expected: " ++ (words ++ codes "\n")))
+-- at such a fault something else could stand
+abbrev pub may_expect : Fault → Bool
+may_expect Unexpected = true
+may_expect Operator = true
+may_expect _ = false
 
-abbrev pub AddsLine : List ℕ → List ℕ → Type 0
-AddsLine old new = (line : List ℕ) × MayExpect line × (new ≡ old ++ line)
+-- Only a fault Unexpected or Operator without a hint may have words on what could stand there; which
+-- words is not said here.
+unfoldable pub MayExpect : Fault → Diagnostic → Type 0
+MayExpect f d =
+    (d.expected.items ≡ []) ⊎ ((d.hint.items ≡ []) × (may_expect f ≡ true))
 
--- a diagnostic: the report of an error, and what could stand there, which only a fault Unexpected
--- or Operator has
-unfoldable pub IsDiagnostic : List ℕ → List ℕ → Error → List ℕ → Type 0
-IsDiagnostic name text e said =
-    (report : List ℕ) × (line : List ℕ) × IsReport name text (offset_of e.span) e.fault report
-    × MayExpect line × ((line ≡ []) ⊎ ((e.fault ≡ Unexpected) ⊎ (e.fault ≡ Operator)))
-    × (said ≡ report ++ line)
+-- the diagnostic of an error, with what could stand there
+abbrev pub IsDiagnosticOf : List ℕ → Error → Diagnostic → Type 0
+IsDiagnosticOf text e d = IsDiagnostic text (offset_of e.span) e.fault d × MayExpect e.fault d
+
+-- the diagnostics of errors, one after the other
+pub data Diagnosed (text : List ℕ) : List Error → List Notice → Type 0 where
+  none : Diagnosed text [] []
+  more : (es : List Error) (e : Error) (ns : List Notice) (d : Diagnostic) → Diagnosed text es ns
+      → IsDiagnosticOf text e d → Diagnosed text (es ++ e ∷ []) (ns ++ Found d ∷ [])
 
 -- the diagnostic of an error was added
-abbrev pub AddsDiagnostic : List ℕ → List ℕ → Error → List ℕ → List ℕ → Type 0
-AddsDiagnostic name text e old new =
-    (said : List ℕ) × IsDiagnostic name text e said × (new ≡ old ++ said)
+abbrev pub AddsFound : List ℕ → Error → List Notice → List Notice → Type 0
+AddsFound text e old new =
+    (d : Diagnostic) × IsDiagnosticOf text e d × (new ≡ old ++ Found d ∷ [])
 
--- the diagnostics of errors, one behind the other
-pub data Diagnostics (name text : List ℕ) : List Error → List ℕ → Type 0 where
-  none : Diagnostics name text [] []
-  more : (es : List Error) (e : Error) (front said : List ℕ) → Diagnostics name text es front
-      → IsDiagnostic name text e said → Diagnostics name text (es ++ e ∷ []) (front ++ said)
+-- the diagnostics of errors were added
+abbrev pub AddsDiagnosed : List ℕ → List Error → List Notice → List Notice → Type 0
+AddsDiagnosed text es old new = (ns : List Notice) × Diagnosed text es ns × (new ≡ old ++ ns)
 
-abbrev pub AddsDiagnostics : List ℕ → List ℕ → List Error → List ℕ → List ℕ → Type 0
-AddsDiagnostics name text es old new =
-    (said : List ℕ) × Diagnostics name text es said × (new ≡ old ++ said)
+-- how many more fields are refused, if any is
+abbrev pub more_notices : ℕ → List Notice
+more_notices n = if n == 0 then [] else More n ∷ []
 
--- how many more fields are refused, on a line
-abbrev pub more_line : List ℕ → ℕ → List ℕ
-more_line name n =
-    if n == 0 then []
-    else name ++ (codes ": error: " ++ (decimal n ++ codes " more fields are refused\n"))
-
--- The report for which the text is no module, those of its fields, how many more there are, and
--- that of what is wrong beside the fields.
-unfoldable pub IsSaidOf : List ℕ → List ℕ → Error → FieldFaults → List ℕ → Type 0
-IsSaidOf name text first f said =
-    (lead : List ℕ) × (fields : List ℕ) × (beside : List ℕ)
-    × Diagnostics name text (option_to_list (lead_of first f.faults.items)) lead
-    × Diagnostics name text f.faults.items fields
-    × Diagnostics name text (option_to_list (beside_of first f.faults.items f.beside)) beside
-    × (said ≡ lead ++ (fields ++ (more_line name (f.count - length f.faults.items) ++ beside)))
+-- The error for which the text is no module, those of its fields, how many more there are, and the
+-- error beside the fields.
+unfoldable pub AreNotices : List ℕ → Error → FieldFaults → List Notice → Type 0
+AreNotices text first f ns =
+    (lead : List Notice) × (fields : List Notice) × (beside : List Notice)
+    × Diagnosed text (option_to_list (lead_of first f.faults.items)) lead
+    × Diagnosed text f.faults.items fields
+    × Diagnosed text (option_to_list (beside_of first f.faults.items f.beside)) beside
+    × (ns ≡ lead ++ (fields ++ (more_notices (f.count - length f.faults.items) ++ beside)))
 
 -- ---- the whole
 
--- what is wrong with the fields of the text that is read: of those that are none, the first 20 are
--- told, and how many they are
+-- the errors of the fields of the text that is read: the first 20 invalid fields have one each, and
+-- all invalid fields are counted
 abbrev pub AreFaults : List ℕ → FieldFaults → Type 0
 AreFaults read f =
     (ts : List Placed) × (gs : List Group) × (beside : Option ℕ) × IsCut read ts
     × HasGroups (length read) ts gs beside × Tells (IsField module_field) read 20 gs f
     × IsUnexpected f.beside beside
 
-abbrev pub SaysOfFaults : List ℕ → List ℕ → List ℕ → Error → List ℕ → Type 0
-SaysOfFaults name text read first said =
-    (f : FieldFaults) × AreFaults read f × IsSaidOf name text first f said
+abbrev pub FindsFaults : List ℕ → List ℕ → Error → List Notice → Type 0
+FindsFaults text read first ns = (f : FieldFaults) × AreFaults read f × AreNotices text first f ns
 
--- the twin is a module, of which nothing is said; or it is none, and its faults are reported, in
--- the text's own lines
-unfoldable pub SaysOfTwin : List ℕ → List ℕ → List ℕ → List ℕ → ℕ → Type 0
-SaysOfTwin name text read said status =
-    ((m : ModuleTy) × SpellsModule read m × (said ≡ []) × (status ≡ 0))
+-- the twin is a module, and nothing is found, with status 0; or it is none, and its errors are found,
+-- with status 1
+unfoldable pub ChecksTwin : List ℕ → List ℕ → List Notice → ℕ → Type 0
+ChecksTwin text read ns status =
+    ((m : ModuleTy) × SpellsModule read m × (ns ≡ []) × (status ≡ 0))
     ⊎ (((m : ModuleTy) → SpellsModule read m → ⊥)
-    × ((first : Error) × (first.fault ≢ Memory) × SaysOfFaults name text read first said)
-    × (status ≡ 1))
+    × ((first : Error) × (first.fault ≢ Memory) × FindsFaults text read first ns) × (status ≡ 1))
 
--- that, by the text's twin; or the text has no cut, and its first fault is reported
-unfoldable pub SaysOfChecked : List ℕ → List ℕ → List ℕ → ℕ → Type 0
-SaysOfChecked name text said status =
-    ((read : List ℕ) × IsTwin text read × SaysOfTwin name text read said status)
-    ⊎ (ReportsFault name text said × (status ≡ 1))
+-- the text has no cut, and its first fault is found, with status 1
+abbrev pub FindsUncut : List ℕ → List Notice → ℕ → Type 0
+FindsUncut text ns status =
+    ((ts : List Placed) → IsCut text ts → ⊥)
+    × ((f : Fault) × (offset : ℕ) × (d : Diagnostic) × (f ≢ Memory) × FirstFault text f offset
+    × IsDiagnostic text offset f d × (d.expected.items ≡ []) × (ns ≡ Found d ∷ []))
+    × (status ≡ 1)
+
+-- a text is checked by its twin, which has integers in place of float literals
+unfoldable pub ChecksText : List ℕ → List Notice → ℕ → Type 0
+ChecksText text ns status =
+    ((read : List ℕ) × IsTwin text read × ChecksTwin text read ns status)
+    ⊎ FindsUncut text ns status
+
+-- of bytes that are UTF-8 their text is checked, of others the first wrong byte is found, with
+-- status 1
+unfoldable pub ChecksBytes : List ℕ → List Notice → ℕ → Type 0
+ChecksBytes bytes ns status =
+    (IsUtf8 bytes × ChecksText bytes ns status)
+    ⊎ (((d : Diagnostic) × IsFirstWrongByte bytes d × (ns ≡ Found d ∷ [])) × (status ≡ 1))

@@ -1,12 +1,13 @@
--- What a formatted text is, and what is said of one that can't be formatted.
+-- What a formatted text is, and what is reported of one that can't be formatted.
 use Rattle.std.specs.Prelude.{◌≡◌, ◌≢◌, ◌⊎◌, ℕ, List}
-use Rattle.std.specs.Str.{IsUtf8, IsValidUpTo}
+use Rattle.std.specs.Str.{IsUtf8}
 use Rattle.wat_core.specs.Cut.{FirstFault, IsCut}
 use Rattle.wat_core.specs.Error.{Fault, Memory}
 use Rattle.wat_core.specs.Token.{Placed}
 use Rattle.wat_format.specs.Parts.{SameButSpaces}
-use Rattle.wat_report.specs.Report.{IsReport}
-use Rattle.wat_report.specs.WrongBytes.{wrong_byte_report}
+use Rattle.wat_report.specs.Report.{IsReport, report_text}
+use Rattle.wat_report.specs.WrongBytes.{IsFirstWrongByte}
+use Rattle.wat_report.specs.declared.diagnostic.Diagnostic.{Diagnostic}
 
 -- the text has a cut, and the answer differs from it in spaces alone
 abbrev pub IsFormatted : List ℕ → List ℕ → Type 0
@@ -19,8 +20,12 @@ ReportsFault name text report =
     × ((f : Fault) × (offset : ℕ) × (f ≢ Memory) × FirstFault text f offset
     × IsReport name text offset f report)
 
--- bytes that are UTF-8 are a text without a cut; of others the first that is wrong is reported
+-- the report of the first byte that isn't UTF-8
+abbrev pub ReportsWrongByte : List ℕ → List ℕ → List ℕ → Type 0
+ReportsWrongByte name bytes report =
+    (d : Diagnostic) × IsFirstWrongByte bytes d × (report ≡ report_text name d)
+
+-- bytes that are UTF-8 are a text without a cut; of others the first wrong byte is reported
 unfoldable pub ReportsBytes : List ℕ → List ℕ → List ℕ → Type 0
 ReportsBytes name bytes report =
-    (IsUtf8 bytes × ReportsFault name bytes report)
-    ⊎ ((n : ℕ) × IsValidUpTo bytes n × (report ≡ wrong_byte_report name bytes n))
+    (IsUtf8 bytes × ReportsFault name bytes report) ⊎ ReportsWrongByte name bytes report

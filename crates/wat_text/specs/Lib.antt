@@ -1,3 +1,4 @@
 pub mod Checked
 pub mod Formatted
+pub mod Notices
 pub mod Outcomes

@@ -1,27 +1,33 @@
-//! What is said of a text that is checked.
+//! A check of a text: whether it is a module, and the errors if it isn't.
 
-ghost use Rattle.std.specs.Prelude.{◌≡◌, ◌++◌, List, IfOk, OnOk};
+ghost use Rattle.std.specs.Prelude.{◌≡◌, ◌++◌, ◌∷◌, [], List, IfOk, OnOk};
 ghost use Rattle.std.specs.Option.{option_to_list};
-ghost use Rattle.wat_core.specs.Cut.{IsCut};
+ghost use Rattle.wat_core.specs.Cut.{FirstFault, IsCut};
 ghost use Rattle.wat_core.specs.LexerPlace.{offset_of};
 ghost use Rattle.wat_core.specs.Token.{Placed};
-ghost use Rattle.wat_text.specs.Checked.{AddsLine, AddsDiagnostics, AddsDiagnostic};
-ghost use Rattle.wat_text.specs.Checked.{SaysOfChecked, SaysOfFaults, SaysOfTwin};
-ghost use Rattle.wat_text.specs.Checked.{IsSaidOf, beside_of, has_error_at, lead_of, more_line};
+ghost use Rattle.wat_core.specs.View.{IfFault, placed};
+ghost use Rattle.wat_text.specs.Checked.{AddsDiagnosed, AddsFound, AreNotices, ChecksBytes};
+ghost use Rattle.wat_text.specs.Checked.{ChecksText, ChecksTwin, FindsFaults, FindsUncut};
+ghost use Rattle.wat_text.specs.Checked.{IsDiagnosticOf, beside_of, has_error_at, lead_of};
+ghost use Rattle.wat_text.specs.Checked.{may_expect, more_notices};
+ghost use Rattle.wat_text.specs.declared.notice.Notice.TheVariants.{Found};
 
-use crate::expected::add_expected;
-use crate::outcome::{module_of, refused};
+use crate::expected::expected_at;
+use crate::notice::Notice;
+use crate::outcome::module_of;
 use bumpalo::Bump;
 use std::alloc::{AllocError, Global};
+use wat_core::wat_lexer::cut::cut;
+use wat_core::wat_lexer::tokens::Tokens;
 use wat_core::{Error, Fault, FieldFaults, module_faults};
-use wat_report::add_report;
+use wat_report::{Diagnostic, diagnostic_in, diagnostic_of, text_or_diagnostic};
 use wat_twin::twin::twin;
 
-/// How many fields of a text are reported.
+/// The number of invalid fields whose errors are reported.
 const MOST: usize = 20;
 
-/// Whether one of the errors is at the offset.
-#[tactic(auto, using(crate::proofs::Diagnostics::no_error_at))]
+/// Returns whether one of the errors is at the offset.
+#[tactic(auto, using(crate::proofs::Found::no_error_at))]
 fn has_error_at(errors: &[Error], offset: usize) -> bool
     ensures { result ≡ has_error_at errors.now offset }
 {
@@ -33,7 +39,7 @@ fn has_error_at(errors: &[Error], offset: usize) -> bool
     false
 }
 
-/// The error for which the text is no module, unless it is one of those of the fields.
+/// Returns the first error of the text, unless one of the errors of the fields is at its offset.
 fn lead_of(first: Error, errors: &[Error]) -> Option<Error>
     ensures { result ≡ lead_of first errors.now }
 {
@@ -43,7 +49,7 @@ fn lead_of(first: Error, errors: &[Error]) -> Option<Error>
     Some(first)
 }
 
-/// What is wrong beside the fields, unless an error at its place is reported already.
+/// Returns the error beside the fields, unless another reported error is at its offset.
 fn beside_of(first: Error, errors: &[Error], beside: Option<Error>) -> Option<Error>
     ensures { result ≡ beside_of first errors.now beside }
 {
@@ -55,167 +61,241 @@ fn beside_of(first: Error, errors: &[Error], beside: Option<Error>) -> Option<Er
     Some(error)
 }
 
-/// Whether the last line begins with the word `hint`.
-fn ends_in_hint(out: &[u8]) -> bool {
-    let before = out.split_last().map_or(out, |last| last.1);
-    let start = before
-        .iter()
-        .rposition(|byte| *byte == b'\n')
-        .map_or(0, |at| at + 1);
-    out[start..].starts_with(b"hint: ")
-}
-
-/// Adds a line of what could stand at an offset, if no hint is behind the report.
-#[tactic(auto, using(crate::proofs::Diagnostics::no_line))]
-fn add_line(out: &mut Vec<u8>, read: &str, offset: usize) -> Result<(), AllocError>
-    ensures { OnOk result (AddsLine out.old.items out.new.items) }
+/// Returns whether other tokens could stand in place of the one with the error.
+fn may_expect(fault: Fault) -> bool
+    ensures { result ≡ may_expect fault }
 {
-    if ends_in_hint(out) {
-        return Ok(());
-    }
-    add_expected(out, read, offset)
+    matches!(fault, Fault::Unexpected | Fault::Operator)
 }
 
-/// Adds the diagnostic of an error: its report, and what could stand there if that has no hint.
-fn add_diagnostic(
-    out: &mut Vec<u8>,
-    name: &str,
+/// Returns the diagnostic of an error in a text with these tokens and this twin.
+#[tactic(auto, unfolding(crate::specs::Checked::MayExpect))]
+fn diagnostic_with_expected(
+    alloc: Global,
     text: &str,
+    tokens: &Tokens,
+    read: &str,
+    error: Error,
+) -> Result<Diagnostic, AllocError>
+    requires { IsCut text.now (placed tokens.now) }
+    ensures { IfOk result (λ d. IsDiagnosticOf text.now error d) }
+{
+    let mut diagnostic = diagnostic_in(alloc, text, tokens, error)?;
+    if diagnostic.hint.is_empty() && may_expect(error.fault) {
+        diagnostic.expected = expected_at(alloc, read, tokens, error.span.offset())?;
+    }
+    Ok(diagnostic)
+}
+
+/// Adds the diagnostic of an error.
+fn add_error(
+    notices: &mut Vec<Notice>,
+    text: &str,
+    tokens: &Tokens,
     read: &str,
     error: Error,
 ) -> Result<(), AllocError>
-    ensures { OnOk result (AddsDiagnostic name.now text.now error out.old.items out.new.items) }
+    requires { IsCut text.now (placed tokens.now) }
+    ensures { OnOk result (AddsFound text.now error notices.old.items notices.new.items) }
 {
-    add_report(out, name, text, error)?;
-    match error.fault {
-        Fault::Unexpected => add_line(out, read, error.span.offset()),
-        Fault::Operator => add_line(out, read, error.span.offset()),
-        _ => Ok(()),
-    }
+    let alloc = *notices.allocator();
+    let diagnostic = diagnostic_with_expected(alloc, text, tokens, read, error)?;
+    notices.push(Notice::Found(diagnostic))?;
+    Ok(())
 }
 
 /// Adds the diagnostic of an error, if there is one.
-#[tactic(auto, using(crate::proofs::Diagnostics::adds_one))]
+#[tactic(auto, using(crate::proofs::Found::adds_one))]
 fn add_optional(
-    out: &mut Vec<u8>,
-    name: &str,
+    notices: &mut Vec<Notice>,
     text: &str,
+    tokens: &Tokens,
     read: &str,
     error: Option<Error>,
 ) -> Result<(), AllocError>
-    ensures { OnOk result (AddsDiagnostics name.now text.now (option_to_list error) out.old.items
-        out.new.items) }
+    requires { IsCut text.now (placed tokens.now) }
+    ensures { OnOk result (AddsDiagnosed text.now (option_to_list error) notices.old.items
+        notices.new.items) }
 {
     match error {
-        Some(error) => add_diagnostic(out, name, text, read, error),
+        Some(error) => add_error(notices, text, tokens, read, error),
         None => Ok(()),
     }
 }
 
-/// Adds the diagnostics of errors, one behind the other.
-#[tactic(auto, using(crate::proofs::Diagnostics::adds_none))]
-fn add_diagnostics(
-    out: &mut Vec<u8>,
-    name: &str,
+/// Adds the diagnostics of errors, one after the other.
+#[tactic(auto, using(crate::proofs::Found::adds_none))]
+fn add_errors(
+    notices: &mut Vec<Notice>,
     text: &str,
+    tokens: &Tokens,
     read: &str,
     errors: &[Error],
 ) -> Result<(), AllocError>
-    ensures { OnOk result (AddsDiagnostics name.now text.now errors.now out.old.items
-        out.new.items) }
+    requires { IsCut text.now (placed tokens.now) }
+    ensures { OnOk result (AddsDiagnosed text.now errors.now notices.old.items
+        notices.new.items) }
 {
     for error in errors {
-        add_diagnostic(out, name, text, read, *error)?;
+        add_error(notices, text, tokens, read, *error)?;
     }
     Ok(())
 }
 
-/// Adds a line that says how many more fields are refused, if any is.
-fn add_more(out: &mut Vec<u8>, name: &str, count: usize) -> Result<(), AllocError>
-    ensures { OnOk result (out.new.items ≡ out.old.items ++ more_line name.now count) }
+/// Adds the number of further invalid fields, if there are any.
+fn add_more(notices: &mut Vec<Notice>, count: usize) -> Result<(), AllocError>
+    ensures { OnOk result (notices.new.items ≡ notices.old.items ++ more_notices count) }
 {
-    if count == 0 {
-        return Ok(());
+    if count > 0 {
+        notices.push(Notice::More(count))?;
     }
-    let line = format!(in *out.allocator(); "{name}: error: {count} more fields are refused\n")?;
-    out.extend_from_slice(line.as_bytes())
+    Ok(())
 }
 
-/// What is said of the faults that were found.
-fn said_of_found(
+/// Returns the notices for the errors that were found in a text with these tokens and this twin.
+fn notices_of_found(
     alloc: Global,
-    name: &str,
     text: &str,
+    tokens: &Tokens,
     read: &str,
     first: Error,
     found: &FieldFaults,
-) -> Result<Vec<u8>, AllocError>
-    ensures { IfOk result (λ said. IsSaidOf name.now text.now first found.now said.items) }
+) -> Result<Vec<Notice>, AllocError>
+    requires { IsCut text.now (placed tokens.now) }
+    ensures { IfOk result (λ ns. AreNotices text.now first found.now ns.items) }
 {
     let faults = found.faults.as_slice();
-    let mut out = Vec::new(alloc);
-    add_optional(&mut out, name, text, read, lead_of(first, faults))?;
-    add_diagnostics(&mut out, name, text, read, faults)?;
-    add_more(&mut out, name, found.count.saturating_sub(faults.len()))?;
+    let mut notices = Vec::new(alloc);
+    add_optional(&mut notices, text, tokens, read, lead_of(first, faults))?;
+    add_errors(&mut notices, text, tokens, read, faults)?;
+    add_more(&mut notices, found.count.saturating_sub(faults.len()))?;
     let beside = beside_of(first, faults, found.beside);
-    add_optional(&mut out, name, text, read, beside)?;
-    Ok(out)
+    add_optional(&mut notices, text, tokens, read, beside)?;
+    Ok(notices)
 }
 
-/// What is said of a text whose twin is refused with that error first.
-fn said_of_faults(
+/// Returns the notices for a text with these tokens, whose twin isn't a module. `first` is the first
+/// error of the twin.
+fn notices_of_faults(
     alloc: Global,
-    name: &str,
     text: &str,
+    tokens: &Tokens,
     read: &str,
     first: Error,
-) -> Result<Vec<u8>, AllocError>
+) -> Result<Vec<Notice>, AllocError>
+    requires text { IsCut text.now (placed tokens.now) }
     requires cut { (ts : List Placed) × IsCut read.now ts }
-    ensures { IfOk result (λ said. SaysOfFaults name.now text.now read.now first said.items) }
+    ensures { IfOk result (λ ns. FindsFaults text.now read.now first ns.items) }
 {
     let arena = Bump::new(alloc);
     match module_faults(alloc, read, &arena, MOST) {
-        Ok(found) => said_of_found(alloc, name, text, read, first, &found),
+        Ok(found) => notices_of_found(alloc, text, tokens, read, first, &found),
         Err(error) => match error.fault {
             Fault::Memory => Err(AllocError),
-            // (it is cut, so it is refused for no other reason)
+            // (the twin has a cut, so module_faults has no other error)
             _ => unreachable!(),
         },
     }
 }
 
-/// What is said of a text with that twin, and its status.
-#[tactic(auto, unfolding(crate::specs::Checked::SaysOfTwin))]
-fn said_of_twin(
+/// Returns the notices for a text, whose twin isn't a module. `first` is the first error of the
+/// twin.
+fn notices_of_first(
     alloc: Global,
-    name: &str,
     text: &str,
     read: &str,
-) -> Result<(Vec<u8>, u8), AllocError>
+    first: Error,
+) -> Result<Vec<Notice>, AllocError>
+    requires text { (ts : List Placed) × IsCut text.now ts }
     requires cut { (ts : List Placed) × IsCut read.now ts }
-    ensures { IfOk result (λ said. SaysOfTwin name.now text.now read.now said.0.items said.1) }
+    ensures { IfOk result (λ ns. FindsFaults text.now read.now first ns.items) }
+{
+    let arena = Bump::new(alloc);
+    match cut(alloc, text, &arena) {
+        Ok(tokens) => notices_of_faults(alloc, text, &tokens, read, first),
+        Err(error) => match error.fault {
+            Fault::Memory => Err(AllocError),
+            // (the text has a cut)
+            _ => unreachable!(),
+        },
+    }
+}
+
+/// Returns the notices for a text with this twin, and the status.
+#[tactic(auto, unfolding(crate::specs::Checked::ChecksTwin))]
+fn notices_of_twin(alloc: Global, text: &str, read: &str) -> Result<(Vec<Notice>, u8), AllocError>
+    requires text { (ts : List Placed) × IsCut text.now ts }
+    requires cut { (ts : List Placed) × IsCut read.now ts }
+    ensures { IfOk result (λ found. ChecksTwin text.now read.now found.0.items found.1) }
 {
     let arena = Bump::new(alloc);
     match module_of(alloc, read, &arena) {
         Ok(_) => Ok((Vec::new(alloc), 0)),
         Err(first) => match first.fault {
             Fault::Memory => Err(AllocError),
-            _ => Ok((said_of_faults(alloc, name, text, read, first)?, 1)),
+            _ => Ok((notices_of_first(alloc, text, read, first)?, 1)),
         },
     }
 }
 
-/// What is said of a text of that name, and its status: nothing and 0 if its twin is a module.
-#[tactic(auto, unfolding(crate::specs::Checked::SaysOfChecked))]
-pub(crate) fn said_of_checked(
+/// Returns the one notice of a diagnostic.
+fn one_notice(alloc: Global, diagnostic: Diagnostic) -> Result<Vec<Notice>, AllocError>
+    ensures { IfOk result (λ ns. ns.items ≡ Found diagnostic ∷ []) }
+{
+    let mut notices = Vec::new(alloc);
+    notices.push(Notice::Found(diagnostic))?;
+    Ok(notices)
+}
+
+/// Returns the notices for a text without a cut, whose first error this is, and the status.
+fn notices_of_uncut(
     alloc: Global,
-    name: &str,
     text: &str,
-) -> Result<(Vec<u8>, u8), AllocError>
-    ensures { IfOk result (λ said. SaysOfChecked name.now text.now said.0.items said.1) }
+    error: Error,
+) -> Result<(Vec<Notice>, u8), AllocError>
+    requires first { IfFault error (FirstFault text.now error.fault (offset_of error.span)) }
+    requires uncut { IfFault error ((ts : List Placed) → IsCut text.now ts → ⊥) }
+    ensures { IfOk result (λ found. FindsUncut text.now found.0.items found.1) }
+{
+    match error.fault {
+        Fault::Memory => Err(AllocError),
+        _ => {
+            let diagnostic = diagnostic_of(alloc, text, error)?;
+            Ok((one_notice(alloc, diagnostic)?, 1))
+        }
+    }
+}
+
+/// Returns the notices for a text, and the status: 0 and no notices if its twin is a module, else 1.
+#[tactic(auto, unfolding(crate::specs::Checked::ChecksText))]
+fn notices_of_text(alloc: Global, text: &str) -> Result<(Vec<Notice>, u8), AllocError>
+    ensures { IfOk result (λ found. ChecksText text.now found.0.items found.1) }
 {
     match twin(alloc, text) {
-        Ok(read) => said_of_twin(alloc, name, text, read.as_str()),
-        Err(error) => refused(alloc, name, text, error),
+        Ok(read) => notices_of_twin(alloc, text, read.as_str()),
+        Err(error) => notices_of_uncut(alloc, text, error),
+    }
+}
+
+/// Checks bytes: returns what is found, and the status.
+///
+/// The status is 0, and nothing is found, if the bytes are the text of a module. A float literal is
+/// checked by its spelling only. Otherwise the status is 1. If the bytes aren't UTF-8, the first
+/// wrong byte is found; if the text has invalid tokens, its first error is found. Otherwise these
+/// are found, in order:
+///
+/// - the first error of the text, unless it is the error of a field;
+/// - the first error of each of the first 20 invalid fields;
+/// - the number of further invalid fields, if there are any;
+/// - an error after the fields, if there is one.
+///
+/// The error is AllocError if memory runs out.
+#[tactic(auto, unfolding(crate::specs::Checked::ChecksBytes))]
+pub fn checked_bytes(alloc: Global, bytes: &[u8]) -> Result<(Vec<Notice>, u8), AllocError>
+    ensures { IfOk result (λ found. ChecksBytes bytes.now found.0.items found.1) }
+{
+    match text_or_diagnostic(alloc, bytes)? {
+        Ok(text) => notices_of_text(alloc, text),
+        Err(diagnostic) => Ok((one_notice(alloc, diagnostic)?, 1)),
     }
 }

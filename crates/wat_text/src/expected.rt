@@ -1,19 +1,19 @@
-//! What could stand where a fault is. It is found by asking the parser: the text up to the fault is
-//! read with each thing behind it, and what leaves nothing to refuse but the text's end could stand
-//! there. No clause says that, since none speaks of the place of a fault.
-
-ghost use Rattle.std.specs.Prelude.{◌≡◌, ◌++◌, List, OnOk, ℕ};
-ghost use Rattle.wat_text.specs.Checked.{AddsLine, MayExpect};
+//! What could stand in place of the token with an error.
+//!
+//! The parser answers that. The text up to the error is parsed with each candidate after it. A
+//! candidate could stand there if the text is then refused at its end alone, or not at all. No
+//! clause says so, since no contract describes the position of a fault.
 
 use crate::outcome::module_of;
+use crate::shortened::short_text;
+use crate::words::INNER_WORDS;
 use bumpalo::Bump;
 use std::alloc::{AllocError, Global};
-use wat_core::wat_lexer::cut::cut;
 use wat_core::wat_lexer::tokens::Tokens;
 use wat_core::{Error, Fault, module_faults};
 use wat_report::FIELD_WORDS;
 
-/// What could stand there, but for groups.
+/// A candidate that isn't a word that begins a group.
 #[derive(Clone, Copy)]
 enum Kind {
     Open,
@@ -38,7 +38,7 @@ const KINDS: [Kind; 8] = [
 ];
 
 impl Kind {
-    /// What it is called.
+    /// Returns its name in the line `expected: ..`.
     fn name(self) -> &'static str {
         match self {
             Kind::Open => "`(`",
@@ -52,7 +52,7 @@ impl Kind {
         }
     }
 
-    /// One of the kind.
+    /// Returns a token of the kind.
     fn one(self) -> &'static str {
         match self {
             Kind::Open => "(",
@@ -67,146 +67,188 @@ impl Kind {
     }
 }
 
-/// How many bytes are read again with each thing behind them, at most: what could stand behind a
-/// longer field isn't looked for.
+/// The number of bytes that are parsed with each candidate, at most. After a longer field no
+/// candidate is tried.
 const LONGEST: usize = 65_536;
 
-/// The words that begin a group within a field, but for those of instructions and of fields.
-const INNER_WORDS: [&str; 31] = [
-    "param",
-    "result",
-    "local",
-    "then",
-    "else",
-    "on",
-    "catch",
-    "catch_ref",
-    "catch_all",
-    "catch_all_ref",
-    "item",
-    "offset",
-    "ref",
-    "mut",
-    "shared",
-    "exact",
-    "field",
-    "sub",
-    "struct",
-    "array",
-    "cont",
-    "descriptor",
-    "describes",
-    "pagesize",
-    "i8",
-    "i16",
-    "i32",
-    "i64",
-    "f32",
-    "f64",
-    "v128",
-];
+/// A field of more bytes before the error is shortened before it is read again.
+const SHORT: usize = 1_024;
 
-/// The groups that tokens leave open.
+/// The groups that are open after some tokens.
 #[derive(Clone, Copy)]
 struct Opened {
-    /// How many there are.
+    /// The number of tokens.
+    count: usize,
+    /// The number of open groups.
     depth: usize,
-    /// Where the first group within another begins, in bytes, if one does.
+    /// The offset of the first group within another, in bytes, if there is one.
     first_field: Option<usize>,
-    /// Where the last group that is within one other begins.
+    /// The index of the last token `(` of a group that is within one other.
     last_field: usize,
     /// Whether the last token is a `(`.
     behind_paren: bool,
+    /// The number of open groups around the outermost open group of an annotation.
+    annotation: Option<usize>,
 }
 
-/// The groups that tokens leave open.
-fn opened_by(tokens: &Tokens) -> Opened {
-    let mut found = Opened {
+impl Opened {
+    /// Adds the token `(` at an index.
+    fn open(&mut self, tokens: &Tokens, index: usize) {
+        if self.depth == 1 {
+            self.last_field = index;
+            self.first_field = self.first_field.or(Some(offset_at(tokens, index)));
+        }
+        self.behind_paren = true;
+        self.depth = self.depth.saturating_add(1);
+    }
+
+    /// Adds a token `)`.
+    fn close(&mut self) {
+        self.depth = self.depth.saturating_sub(1);
+        if self.annotation == Some(self.depth) {
+            self.annotation = None;
+        }
+    }
+
+    /// Adds the token at an index.
+    fn add(&mut self, tokens: &Tokens, index: usize) {
+        self.count = index.saturating_add(1);
+        if index >= tokens.len() {
+            return;
+        }
+        if tokens.opens(index) {
+            return self.open(tokens, index);
+        }
+        self.behind_paren = false;
+        if tokens.closes(index) {
+            self.close();
+        } else if tokens.annotates(index) {
+            self.annotation = self.annotation.or(Some(self.depth.saturating_sub(1)));
+        }
+    }
+}
+
+/// Returns the offset of the token at an index, in bytes, or 0 if there is none.
+fn offset_at(tokens: &Tokens, index: usize) -> usize {
+    if index < tokens.len() {
+        tokens.offset(index)
+    } else {
+        0
+    }
+}
+
+/// Returns the groups that are open at an offset, in bytes.
+fn opened_at(tokens: &Tokens, at: usize) -> Opened {
+    let mut opened = Opened {
+        count: 0,
         depth: 0,
         first_field: None,
         last_field: 0,
         behind_paren: false,
+        annotation: None,
     };
-    for at in 0..tokens.len() {
-        found.behind_paren = tokens.opens(at);
-        if tokens.closes(at) {
-            found.depth = found.depth.saturating_sub(1);
+    for index in 0..tokens.len() {
+        if tokens.offset(index) >= at {
+            return opened;
         }
-        if found.behind_paren {
-            if found.depth == 1 {
-                found.last_field = tokens.offset(at);
-                found.first_field = found.first_field.or(Some(found.last_field));
-            }
-            found.depth = found.depth.saturating_add(1);
-        }
+        opened.add(tokens, index);
     }
-    found
+    opened
 }
 
-/// A text up to a fault, without what needn't be read again.
+/// A text up to an error, without what needn't be read again.
 #[derive(Drop)]
 struct Front {
     text: String,
-    /// Whether the fault is in a field: then that one alone is in the text.
+    /// Whether the error is in a field: then that one alone is in the text.
     in_field: bool,
     /// Whether the last token is a `(`.
     behind_paren: bool,
 }
 
-/// The text up to a fault that is in the field which begins at a place.
+/// Returns the text up to an error in the field that begins at an offset.
 fn field_front(alloc: Global, text: &str, from: usize) -> Result<String, AllocError> {
     format!(in alloc; "(module {}", text.get(from..).unwrap_or(""))
 }
 
-/// The text up to a fault that is in no field, with one field for those before it.
-fn module_front(alloc: Global, text: &str, first: Option<usize>) -> Result<String, AllocError> {
-    match first {
-        None => String::from_str(alloc, text),
-        Some(first) => format!(in alloc; "{}(start 0)", text.get(..first).unwrap_or("")),
+/// Returns a short text for a field up to an error, unless it doesn't begin a field.
+fn short_front(
+    alloc: Global,
+    text: &str,
+    tokens: &Tokens,
+    opened: Opened,
+) -> Result<Option<String>, AllocError> {
+    let field = short_text(alloc, text, tokens, opened.last_field, opened.count)?;
+    let front = format!(in alloc; "(module {field}")?;
+    if begins_field(alloc, &front)? {
+        return Ok(Some(front));
     }
+    Ok(None)
 }
 
-/// The text up to the fault at a place, unless it can't be cut there, or the module is closed.
-fn front_of(alloc: Global, read: &str, at: usize) -> Result<Option<Front>, AllocError> {
-    let text = read.get(..at).unwrap_or("");
-    let arena = Bump::new(alloc);
-    let opened = match cut(alloc, text, &arena) {
-        Ok(tokens) => opened_by(&tokens),
-        Err(error) => return none_or_memory(error),
-    };
-    if opened.depth == 0 && opened.first_field.is_some() {
-        return Ok(None);
-    }
-    let in_field = opened.depth > 1;
-    let size = if in_field {
-        text.len().saturating_sub(opened.last_field)
-    } else {
-        opened.first_field.unwrap_or(text.len())
-    };
+/// Returns the text up to an error in a field. `opened` are the groups that are open there.
+fn in_field(
+    alloc: Global,
+    text: &str,
+    tokens: &Tokens,
+    opened: Opened,
+) -> Result<Option<String>, AllocError> {
+    let from = offset_at(tokens, opened.last_field);
+    let size = text.len().saturating_sub(from);
     if size > LONGEST {
         return Ok(None);
     }
-    let text = if in_field {
-        field_front(alloc, text, opened.last_field)?
+    if size > SHORT {
+        let short = short_front(alloc, text, tokens, opened)?;
+        if short.is_some() {
+            return Ok(short);
+        }
+    }
+    Ok(Some(field_front(alloc, text, from)?))
+}
+
+/// Returns the text up to an error that is in no field, with one field for those before it.
+fn in_no_field(alloc: Global, text: &str, opened: Opened) -> Result<Option<String>, AllocError> {
+    if opened.first_field.unwrap_or(text.len()) > LONGEST {
+        return Ok(None);
+    }
+    Ok(Some(match opened.first_field {
+        None => String::from_str(alloc, text)?,
+        Some(first) => { format!(in alloc; "{}(start 0)", text.get(..first).unwrap_or(""))? }
+    }))
+}
+
+/// Returns the text up to the error at an offset, unless the error is after the module or in the
+/// group of an annotation.
+fn front_of(
+    alloc: Global,
+    read: &str,
+    tokens: &Tokens,
+    at: usize,
+) -> Result<Option<Front>, AllocError> {
+    let text = read.get(..at).unwrap_or("");
+    let opened = opened_at(tokens, at);
+    let is_behind = opened.depth == 0 && opened.first_field.is_some();
+    if is_behind || opened.annotation.is_some() {
+        return Ok(None);
+    }
+    let is_in_field = opened.depth > 1;
+    let front = if is_in_field {
+        in_field(alloc, text, tokens, opened)?
     } else {
-        module_front(alloc, text, opened.first_field)?
+        in_no_field(alloc, text, opened)?
+    };
+    let Some(text) = front else {
+        return Ok(None);
     };
     Ok(Some(Front {
         text,
-        in_field,
+        in_field: is_in_field,
         behind_paren: opened.behind_paren,
     }))
 }
 
-/// Nothing, unless memory ran out.
-fn none_or_memory<T: Drop>(error: Error) -> Result<Option<T>, AllocError> {
-    match error.fault {
-        Fault::Memory => Err(AllocError),
-        _ => Ok(None),
-    }
-}
-
-/// Whether an error is at the end of a text of so many bytes.
+/// Returns whether an error is at the end of a text of this size, in bytes.
 fn is_at_end(error: Error, size: usize) -> Result<bool, AllocError> {
     match error.fault {
         Fault::Memory => Err(AllocError),
@@ -214,7 +256,7 @@ fn is_at_end(error: Error, size: usize) -> Result<bool, AllocError> {
     }
 }
 
-/// Whether the text begins a module.
+/// Returns whether the text begins a module.
 fn begins_module(alloc: Global, text: &str) -> Result<bool, AllocError> {
     let arena = Bump::new(alloc);
     match module_of(alloc, text, &arena) {
@@ -223,7 +265,7 @@ fn begins_module(alloc: Global, text: &str) -> Result<bool, AllocError> {
     }
 }
 
-/// Whether the one field of the text is one, or begins one at the text's end.
+/// Returns whether the one field of the text is a field, or begins one at the end of the text.
 fn begins_field(alloc: Global, text: &str) -> Result<bool, AllocError> {
     let arena = Bump::new(alloc);
     match module_faults(alloc, text, &arena, 1) {
@@ -235,7 +277,7 @@ fn begins_field(alloc: Global, text: &str) -> Result<bool, AllocError> {
     }
 }
 
-/// Whether something could stand behind the text.
+/// Returns whether a candidate could stand after the text.
 fn goes_on(alloc: Global, front: &Front, with: &str) -> Result<bool, AllocError> {
     let text = format!(in alloc; "{} {with}", front.text)?;
     if front.in_field {
@@ -245,7 +287,7 @@ fn goes_on(alloc: Global, front: &Front, with: &str) -> Result<bool, AllocError>
     }
 }
 
-/// Adds one of what could stand there to those in front.
+/// Adds an item to the list.
 fn add_item(list: &mut String, item: &str) -> Result<(), AllocError> {
     if !list.is_empty() {
         list.push_str(", ")?;
@@ -253,8 +295,8 @@ fn add_item(list: &mut String, item: &str) -> Result<(), AllocError> {
     list.push_str(item)
 }
 
-/// Adds what isn't a group's beginning word and could stand behind the text. A reference type is
-/// one of the value types.
+/// Adds the candidates that could stand after the text, without words. A reference type isn't added
+/// if a value type is.
 fn add_kinds(list: &mut String, front: &Front) -> Result<(), AllocError> {
     for kind in KINDS {
         let is_named = matches!(kind, Kind::ReferenceType)
@@ -266,7 +308,7 @@ fn add_kinds(list: &mut String, front: &Front) -> Result<(), AllocError> {
     Ok(())
 }
 
-/// Adds the word if it could begin a group behind the text, or go on with that which is begun.
+/// Adds the word if it could begin a group after the text, or go on with the group that is begun.
 fn add_word(list: &mut String, front: &Front, word: &str) -> Result<(), AllocError> {
     let alloc = *list.allocator();
     let open = if front.behind_paren { "" } else { "(" };
@@ -277,7 +319,7 @@ fn add_word(list: &mut String, front: &Front, word: &str) -> Result<(), AllocErr
     Ok(())
 }
 
-/// Adds the words that could begin a group behind the text, or go on with that which is begun.
+/// Adds the words that could begin a group after the text, or go on with the group that is begun.
 fn add_words(list: &mut String, front: &Front) -> Result<(), AllocError> {
     add_word(list, front, "module")?;
     for field in FIELD_WORDS {
@@ -289,25 +331,18 @@ fn add_words(list: &mut String, front: &Front) -> Result<(), AllocError> {
     Ok(())
 }
 
-/// What could stand at a fault, in words; nothing where that isn't known.
-fn expected_at(alloc: Global, read: &str, at: usize) -> Result<String, AllocError> {
+/// Returns the words for what could stand at an offset of a text, in place of the token there. They
+/// are empty if that isn't known. The tokens are those of the text, or of the text whose twin it is.
+pub(crate) fn expected_at(
+    alloc: Global,
+    read: &str,
+    tokens: &Tokens,
+    at: usize,
+) -> Result<Vec<u8>, AllocError> {
     let mut list = String::new(alloc);
-    if let Some(front) = front_of(alloc, read, at)? {
+    if let Some(front) = front_of(alloc, read, tokens, at)? {
         add_kinds(&mut list, &front)?;
         add_words(&mut list, &front)?;
     }
-    Ok(list)
-}
-
-/// Adds a line of what could stand at a fault, if that is known.
-#[tactic(auto, unfolding(crate::specs::Checked::MayExpect))]
-pub(crate) fn add_expected(out: &mut Vec<u8>, read: &str, at: usize) -> Result<(), AllocError>
-    ensures { OnOk result (AddsLine out.old.items out.new.items) }
-{
-    let list = expected_at(*out.allocator(), read, at)?;
-    if list.is_empty() {
-        return Ok(());
-    }
-    let line = format!(in *out.allocator(); "expected: {list}\n")?;
-    out.extend_from_slice(line.as_bytes())
+    Ok(list.into_bytes())
 }

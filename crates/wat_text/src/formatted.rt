@@ -1,15 +1,15 @@
-//! A text that is formatted.
+//! The formatting of a text.
 
 ghost use Rattle.std.specs.Prelude.{IfOk, MatchResult};
 ghost use Rattle.std.specs.String.{string_bytes};
 ghost use Rattle.wat_text.specs.Formatted.{IsFormatted, ReportsBytes, ReportsFault};
 
-use crate::outcome::refused;
+use crate::outcome::{refused, report_of_one};
 use std::alloc::{AllocError, Global};
 use wat_format::format::format;
-use wat_report::text_or_report;
+use wat_report::text_or_diagnostic;
 
-/// Formats a text, or reports why it can't be.
+/// Formats a text. The inner error is the report of the first invalid token.
 fn text_formatted(
     alloc: Global,
     name: &str,
@@ -25,7 +25,8 @@ fn text_formatted(
     }
 }
 
-/// Formats the text that bytes of that name are, or reports why it can't be.
+/// Formats a text of that name. The inner error is the report of the first byte that isn't UTF-8, or
+/// of the first invalid token. The outer error is AllocError if memory runs out.
 #[tactic(auto, unfolding(crate::specs::Formatted::ReportsBytes))]
 pub fn bytes_formatted(
     alloc: Global,
@@ -36,9 +37,8 @@ pub fn bytes_formatted(
         (λ answer. IsFormatted bytes.now (string_bytes answer))
         (λ report. ReportsBytes name.now bytes.now report.items)) }
 {
-    let mut report = Vec::new(alloc);
-    match text_or_report(&mut report, name, bytes)? {
-        Some(text) => text_formatted(alloc, name, text),
-        None => Ok(Err(report)),
+    match text_or_diagnostic(alloc, bytes)? {
+        Ok(text) => text_formatted(alloc, name, text),
+        Err(diagnostic) => Ok(Err(report_of_one(alloc, name, &diagnostic)?)),
     }
 }

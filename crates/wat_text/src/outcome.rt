@@ -1,25 +1,28 @@
-//! What is said of one text.
+//! The answers for one text.
 
-ghost use Rattle.std.specs.Prelude.{◌≡◌, ◌≢◌, IfOk, IfErr};
-ghost use Rattle.wat_text.specs.Outcomes.{SaysOfBytes, SaysOfText, SaysOfRead, SaysOf, WasRead};
+ghost use Rattle.std.specs.Prelude.{◌≡◌, ◌≢◌, List, ℕ, IfOk, IfErr};
+ghost use Rattle.wat_text.specs.Notices.{notice_json, notice_report};
+ghost use Rattle.wat_text.specs.Outcomes.{SaysFound, SaysOfBytes, SaysOfRead, SaysOfReadBytes};
+ghost use Rattle.wat_text.specs.Outcomes.{SaysOf, WasRead};
 ghost use Rattle.wat_text.specs.declared.task.Task.TheVariants.{Print};
 ghost use Rattle.wat_core.specs.Module.{ModuleTy, module_view};
 ghost use Rattle.wat_core.specs.Text.{SpellsModule};
 ghost use Rattle.wat_core.specs.Error.{Memory};
 ghost use Rattle.wat_core.specs.LexerPlace.{offset_of};
-ghost use Rattle.wat_report.specs.Report.{IsReport};
+ghost use Rattle.wat_report.specs.Report.{IsReport, report_text};
 
-use crate::checked::said_of_checked;
+use crate::checked::checked_bytes;
+use crate::notice::{json_of, report_of};
 use crate::task::Task;
 use bumpalo::Bump;
 use std::alloc::{AllocError, Global};
 use wat_core::{Error, Fault, Module, read_module};
 use wat_print::{Layout, Refused};
 use wat_print_module::print_module;
-use wat_report::{add_report, text_or_report};
+use wat_report::{Diagnostic, add_diagnostic, add_report, text_or_diagnostic};
 use wat_show::modules::add_module;
 
-/// A text of a module that was read, and a line break.
+/// Returns the text that a module is printed as, and a line break.
 fn printed(alloc: Global, layout: Layout, module: &Module) -> Result<Vec<u8>, AllocError>
     requires { WasRead (module_view «module».now) }
     ensures { IfOk result (λ said. SaysOf (Print layout) (module_view «module».now) said.items) }
@@ -31,13 +34,13 @@ fn printed(alloc: Global, layout: Layout, module: &Module) -> Result<Vec<u8>, Al
         }
         Err(refused) => match refused.reason {
             Refused::Memory => Err(AllocError),
-            // (a text spells the module, so it is refused for no other reason)
+            // (a text spells the module, so printing it has no other error)
             _ => unreachable!(),
         },
     }
 }
 
-/// What is said of a text that is a module.
+/// Returns the answer for a text that is a module.
 #[tactic(auto, unfolding(crate::specs::Outcomes::SaysOf))]
 fn said_of_module(alloc: Global, task: Task, module: &Module) -> Result<Vec<u8>, AllocError>
     requires { WasRead (module_view «module».now) }
@@ -45,14 +48,14 @@ fn said_of_module(alloc: Global, task: Task, module: &Module) -> Result<Vec<u8>,
 {
     let mut listing = Vec::new(alloc);
     match task {
-        Task::Check => {}
+        Task::Check | Task::Json => {}
         Task::Show => add_module(&mut listing, module)?,
         Task::Print(layout) => return printed(alloc, layout, module),
     }
     Ok(listing)
 }
 
-/// The report of why a text is refused, and its status. Want of memory has none.
+/// Returns the report of the error of a text, and the status 1.
 pub(crate) fn refused(
     alloc: Global,
     name: &str,
@@ -72,7 +75,7 @@ pub(crate) fn refused(
     Ok((report, 1))
 }
 
-/// Reads the module that the text is.
+/// Parses a text as a module.
 pub(crate) fn module_of<'a>(
     alloc: Global,
     text: &'a str,
@@ -85,7 +88,8 @@ pub(crate) fn module_of<'a>(
     read_module(alloc, text, arena)
 }
 
-/// What is said of a text that is listed or printed, and its status: 0 if it is a module, else 1.
+/// Returns the listing or the print of a text, and the status 0; or the report of its error, and the
+/// status 1.
 #[tactic(auto, unfolding(crate::specs::Outcomes::SaysOfRead))]
 fn said_of_read(
     alloc: Global,
@@ -102,24 +106,58 @@ fn said_of_read(
     }
 }
 
-/// What is said of a text of that name, and its status: 0 if it is a module, else 1.
-#[tactic(auto, unfolding(crate::specs::Outcomes::SaysOfText))]
-fn said_of_text(
+/// Returns the report of a diagnostic for a text of that name.
+pub(crate) fn report_of_one(
+    alloc: Global,
+    name: &str,
+    diagnostic: &Diagnostic,
+) -> Result<Vec<u8>, AllocError>
+    ensures { IfOk result (λ said. said.items ≡ report_text name.now diagnostic.now) }
+{
+    let mut report = Vec::new(alloc);
+    add_diagnostic(&mut report, name, diagnostic)?;
+    Ok(report)
+}
+
+/// Returns the listing or the print of bytes of that name, and the status.
+#[tactic(auto, unfolding(crate::specs::Outcomes::SaysOfReadBytes))]
+fn said_of_read_bytes(
     alloc: Global,
     task: Task,
     name: &str,
-    text: &str,
+    bytes: &[u8],
 ) -> Result<(Vec<u8>, u8), AllocError>
-    ensures { IfOk result (λ said. SaysOfText task name.now text.now said.0.items said.1) }
+    ensures { IfOk result (λ said. SaysOfReadBytes task name.now bytes.now said.0.items said.1) }
 {
-    match task {
-        Task::Check => said_of_checked(alloc, name, text),
-        Task::Show | Task::Print(_) => said_of_read(alloc, task, name, text),
+    match text_or_diagnostic(alloc, bytes)? {
+        Ok(text) => said_of_read(alloc, task, name, text),
+        Err(diagnostic) => Ok((report_of_one(alloc, name, &diagnostic)?, 1)),
     }
 }
 
-/// What is said of bytes of that name, and their status: 0 if they are the text of a module, else
-/// 1.
+/// Checks bytes of that name. Returns the report of what is found, and the status.
+fn reported(alloc: Global, name: &str, bytes: &[u8]) -> Result<(Vec<u8>, u8), AllocError>
+    ensures { IfOk result (λ said. SaysFound (notice_report name.now) bytes.now said.0.items
+        said.1) }
+{
+    let (notices, status) = checked_bytes(alloc, bytes)?;
+    Ok((report_of(alloc, name, &notices)?, status))
+}
+
+/// Checks bytes of that name. Returns what is found as JSON, and the status.
+fn reported_as_json(alloc: Global, name: &str, bytes: &[u8]) -> Result<(Vec<u8>, u8), AllocError>
+    ensures { IfOk result (λ said. SaysFound (notice_json name.now) bytes.now said.0.items
+        said.1) }
+{
+    let (notices, status) = checked_bytes(alloc, bytes)?;
+    Ok((json_of(alloc, name, &notices)?, status))
+}
+
+/// Returns the answer for bytes of that name, and the status: 0 if they are the text of a module,
+/// else 1. With status 1 the answer is the report of the errors, or for [`Task::Json`] the errors as
+/// JSON.
+///
+/// The error is AllocError if memory runs out.
 #[tactic(auto, unfolding(crate::specs::Outcomes::SaysOfBytes))]
 pub fn said_of_bytes(
     alloc: Global,
@@ -129,9 +167,9 @@ pub fn said_of_bytes(
 ) -> Result<(Vec<u8>, u8), AllocError>
     ensures { IfOk result (λ said. SaysOfBytes task name.now bytes.now said.0.items said.1) }
 {
-    let mut report = Vec::new(alloc);
-    match text_or_report(&mut report, name, bytes)? {
-        Some(text) => said_of_text(alloc, task, name, text),
-        None => Ok((report, 1)),
+    match task {
+        Task::Check => reported(alloc, name, bytes),
+        Task::Json => reported_as_json(alloc, name, bytes),
+        Task::Show | Task::Print(_) => said_of_read_bytes(alloc, task, name, bytes),
     }
 }

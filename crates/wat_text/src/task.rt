@@ -1,14 +1,16 @@
-//! What is to be said of texts.
+//! The tasks for a text.
 
 use wat_print::Layout;
 
-/// What is to be said of a text.
+/// The answer that is wanted for a text.
 #[derive(Clone, Copy, Debug, PartialEq, Eq)]
 pub enum Task {
-    /// Nothing, if it is a module.
+    /// No output for a module; the report of the errors for other texts.
     Check,
+    /// The same as `Check`, with the errors as JSON: one object an error, each on a line.
+    Json,
     /// The listing of the module.
     Show,
-    /// A text of the module, laid out as said.
+    /// The module printed as a text, in this layout.
     Print(Layout),
 }

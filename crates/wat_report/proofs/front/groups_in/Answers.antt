@@ -11,7 +11,7 @@ loop-at-preserved c =
     let es = c.args.tokens.now in
     let i = c.loop-at.at in
     let before = c.loop-at.invariant in
-    let within : i < length es = omega (arith, c.loop-at-test.true, c.len-at-end.ensures.value) in
+    let within : i < length es = omega (arith, c.loop-at-test.true, c.requires) in
     elim c.if-opens.branch [
       | then-opens w ↦
           let opens : is_open (get_or es i no_entry).token ≡ true = sym c.opens.ensures ∙ w.if-opens.true in

@@ -1,0 +1,2 @@
+(module nop)
+(assert_return (invoke "f"))

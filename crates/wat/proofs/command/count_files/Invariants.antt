@@ -1,0 +1,9 @@
+use Rattle.std.proofs.Common.{◌≡◌, ◌≤◌, length, map, take}
+use Rattle.std.specs.List.{filter}
+use Rattle.std.specs.String.{string_bytes}
+use Rattle.wat.specs.Commands.{is_file}
+use Rattle.wat.proofs.command.count_files.Given as goal
+
+-- the files among the words so far were counted
+abbrev pub invariant-loop-word : goal.invariant-loop-word
+invariant-loop-word l = (l.count ≡ length (filter is_file (map string_bytes (take l.word-index l.words)))) × (l.count ≤ l.word-index)

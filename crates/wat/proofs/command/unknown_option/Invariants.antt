@@ -1,0 +1,9 @@
+use Rattle.std.proofs.Common.{◌≡◌, ◌+◌, drop, map}
+use Rattle.std.specs.List.{position_or_len}
+use Rattle.std.specs.String.{string_bytes}
+use Rattle.wat.specs.Commands.{is_unknown}
+use Rattle.wat.proofs.command.unknown_option.Given as goal
+
+-- no word so far is an unknown option
+abbrev pub invariant-loop-at : goal.invariant-loop-at
+invariant-loop-at l = position_or_len (is_unknown l.own) (map string_bytes l.words) ≡ l.at + position_or_len (is_unknown l.own) (map string_bytes (drop l.at l.words))

@@ -1,0 +1,35 @@
+-- What a report says of a fault, in parts.
+use Rattle.std.specs.Prelude.{◌≡◌, ℕ, List, [], ◌++◌, Option, if◌then◌else◌}
+use Rattle.wat_tokens.specs.Error.{Fault}
+use Rattle.wat_report.specs.Found.{found_text, is_word_at, marked_len}
+use Rattle.wat_report.specs.Front.{HasGroups}
+use Rattle.wat_report.specs.HintWords.{hint_words}
+use Rattle.wat_report.specs.Hints.{hint_of}
+use Rattle.wat_report.specs.Places.{char_start, place_of_char}
+use Rattle.wat_report.specs.Rules.{names_token, rule_text}
+use Rattle.wat_report.specs.Shown.{shown_line}
+use Rattle.wat_report.specs.declared.diagnostic.Diagnostic.{Diagnostic}
+use Rattle.wat_report.specs.declared.front.Groups.{Groups}
+
+-- the rule, and the token that was found where that is part of it
+abbrev pub message_text : List ℕ → ℕ → Fault → List ℕ
+message_text text at f =
+    rule_text (is_word_at text at) f ++ (if names_token f then found_text text at else [])
+
+-- The diagnostic of a fault at the character that begins at the offset, before which the groups are.
+-- What could stand there is said elsewhere.
+pub record IsPlaced (text : List ℕ) (groups : Option Groups) (at : ℕ) (f : Fault) (d : Diagnostic)
+    : Type 0 where
+  pub offset : d.offset ≡ at
+  pub marked : d.length ≡ marked_len text at
+  pub place : d.place ≡ place_of_char text at
+  pub fault : d.fault ≡ f
+  pub message : d.message.items ≡ message_text text at f
+  pub shown : d.shown.items ≡ shown_line text at
+  pub hint : d.hint.items ≡ hint_words text groups at (hint_of text groups at f)
+
+-- the diagnostic of a fault at an offset, which is that of the character that holds the offset
+abbrev pub IsDiagnostic : List ℕ → ℕ → Fault → Diagnostic → Type 0
+IsDiagnostic text offset f d =
+    (groups : Option Groups) × HasGroups text (char_start text offset) groups
+    × IsPlaced text groups (char_start text offset) f d

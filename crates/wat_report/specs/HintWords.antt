@@ -1,0 +1,100 @@
+-- The words of a hint.
+use Rattle.std.specs.Prelude.{ℕ, List, [], ◌∷◌, ◌++◌, codes, decimal, flat_map, Option, Some}
+use Rattle.std.specs.Prelude.{None}
+use Rattle.wat_mnemonics.specs.Ops.{op_word}
+use Rattle.wat_mnemonics.specs.declared.table.TheConstants.{OPS}
+use Rattle.wat_report.specs.Nearest.{nearest_among}
+use Rattle.wat_report.specs.Meant.{keyword_text}
+use Rattle.wat_report.specs.declared.front.Groups.{Groups}
+use Rattle.wat_report.specs.declared.hint.Hint.{Hint}
+use Rattle.wat_report.specs.declared.hint.Hint.TheVariants.{ByteOrderMark, SeqCst, ModuleGroup}
+use Rattle.wat_report.specs.declared.hint.Hint.TheVariants.{Nearest, OldWord, Semicolon}
+use Rattle.wat_report.specs.declared.hint.Hint.TheVariants.{SlashComment, Unclosed, OpenString}
+use Rattle.wat_report.specs.declared.hint.Hint.TheVariants.{Escapes, BehindModule, NoModule}
+use Rattle.wat_report.specs.declared.hint.Hint.TheVariants.{OtherQuote, Fraction, NearField}
+use Rattle.wat_report.specs.declared.hint.Hint.TheVariants.{NearType, BareName, WrongEscape}
+use Rattle.wat_report.specs.declared.meant.TheConstants.{FIELD_WORDS, TYPE_WORDS}
+use Rattle.wat_report.specs.Escapes.{escapes_end}
+use Rattle.wat_report.specs.Found.{word_at}
+use Rattle.wat_report.specs.Places.{place_of_offset}
+use Rattle.wat_report.specs.Hints.{new_word}
+
+-- the word by which a value is spelled, between backquotes
+unfoldable pub in_backquotes : {A : Type 0} → (A → List ℕ) → A → List ℕ
+in_backquotes spelling a = codes "`" ++ (spelling a ++ codes "`")
+
+-- the same behind a comma
+abbrev pub next_quoted : {A : Type 0} → (A → List ℕ) → A → List ℕ
+next_quoted spelling a = codes ", " ++ in_backquotes spelling a
+
+-- a question for one of these
+unfoldable pub question_words : {A : Type 0} → (A → List ℕ) → A → List A → List ℕ
+question_words spelling a others =
+    codes "did you mean " ++ (in_backquotes spelling a
+    ++ (flat_map (next_quoted spelling) others ++ codes "?"))
+
+-- the same for a list, nothing if it is empty
+unfoldable pub nearest_words : {A : Type 0} → (A → List ℕ) → List A → List ℕ
+nearest_words spelling [] = []
+nearest_words spelling (a ∷ others) = question_words spelling a others
+
+-- the word that stands today for another, if there is one
+abbrev pub today_words : Option (List ℕ) → List ℕ
+today_words None = []
+today_words (Some new) = codes "this is written `" ++ (new ++ codes "` today")
+
+-- how many groups begin and end
+unfoldable pub groups_words : Groups → List ℕ
+groups_words g =
+    codes "a `)` may be missing: the text has " ++ (decimal g.begun
+    ++ (codes " `(` and " ++ (decimal g.ended ++ codes " `)`")))
+
+abbrev pub unclosed_words : Option Groups → List ℕ
+unclosed_words None = []
+unclosed_words (Some g) = groups_words g
+
+-- the word with a `$` before it
+unfoldable pub bare_name_words : List ℕ → List ℕ
+bare_name_words word = codes "an identifier begins with `$`: `$" ++ (word ++ codes "`")
+
+-- in which column a backslash is behind which no escape is
+unfoldable pub wrong_escape_words : ℕ → List ℕ
+wrong_escape_words column =
+    codes "no string has the escape in column " ++ (decimal column
+    ++ codes ": a backslash is written `\\\\`, and a byte `\\` and two hexadecimal digits")
+
+-- the words of a hint that are the same for every text, nothing for another hint
+abbrev pub same_words : Hint → List ℕ
+same_words ByteOrderMark =
+    codes "the text begins with a byte order mark, which isn't read"
+same_words SeqCst = codes "this ordering is written `seqcst`"
+same_words ModuleGroup = codes "the fields of a module stand in `(module ..)`"
+same_words SlashComment =
+    codes "a comment is written `;; ..` to the line's end, or `(; .. ;)`"
+same_words Semicolon = codes "`;;` begins a comment, and nothing ends an instruction"
+same_words OpenString =
+    codes "no `\"` closes it in this line, and no string has a line break"
+same_words Escapes =
+    codes "a backslash is written `\\\\`, and a byte `\\` and two hexadecimal digits"
+same_words BehindModule = codes "one module is read, and this stands behind it"
+same_words NoModule = codes "the text has no module, which is written `(module ..)`"
+same_words OtherQuote = codes "a string stands between `\"`, and not between `'`"
+same_words Fraction =
+    codes "a number here has to be an integer, without a `.` or an exponent"
+same_words _ = []
+
+-- the hint for the token at the offset, where there is one
+abbrev pub hint_words : List ℕ → Option Groups → ℕ → Option Hint → List ℕ
+hint_words text groups at None = []
+hint_words text groups at (Some OldWord) = today_words (new_word (word_at text at))
+hint_words text groups at (Some Unclosed) = unclosed_words groups
+hint_words text groups at (Some Nearest) =
+    nearest_words op_word (nearest_among op_word (word_at text at) OPS)
+hint_words text groups at (Some NearField) =
+    nearest_words keyword_text (nearest_among keyword_text (word_at text at) FIELD_WORDS)
+hint_words text groups at (Some NearType) =
+    nearest_words keyword_text (nearest_among keyword_text (word_at text at) TYPE_WORDS)
+hint_words text groups at (Some BareName) = bare_name_words (word_at text at)
+hint_words text groups at (Some WrongEscape) =
+    wrong_escape_words (place_of_offset text (escapes_end text at)).column
+hint_words text groups at (Some hint) = same_words hint

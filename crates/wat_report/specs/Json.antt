@@ -1,0 +1,58 @@
+-- Diagnostics as JSON (RFC 8259).
+use Rattle.std.specs.Prelude.{ℕ, ◌==◌, List, [], ◌∷◌, ◌++◌, codes, decimal, flat_map, nat_lt}
+use Rattle.std.specs.Prelude.{if◌then◌else◌}
+use Rattle.wat_lexer.specs.Faults.{fault_name}
+use Rattle.wat_report.specs.WrongBytes.{hex_text}
+use Rattle.wat_report.specs.declared.diagnostic.Diagnostic.{Diagnostic}
+
+-- A byte in a string of JSON. The escapes are those of `"`, `\` and the control characters below
+-- U+0020; each other byte stands for itself.
+abbrev pub json_escape : ℕ → List ℕ
+json_escape b =
+    if b == 34 then codes "\\\""
+    else if b == 92 then codes "\\\\"
+    else if nat_lt b 32 then codes "\\u00" ++ hex_text b
+    else b ∷ []
+
+-- the string of JSON for a text
+unfoldable pub json_string : List ℕ → List ℕ
+json_string text = codes "\"" ++ (flat_map json_escape text ++ codes "\"")
+
+-- the first member of an object: the file
+unfoldable pub json_head : List ℕ → List ℕ
+json_head file = codes "{\"file\":" ++ json_string file
+
+-- a further member with a number
+unfoldable pub json_number : List ℕ → ℕ → List ℕ
+json_number name n = codes ",\"" ++ (name ++ (codes "\":" ++ decimal n))
+
+-- a further member with a string
+unfoldable pub json_member : List ℕ → List ℕ → List ℕ
+json_member name text = codes ",\"" ++ (name ++ (codes "\":" ++ json_string text))
+
+-- the same, nothing if the string is empty
+unfoldable pub json_words : List ℕ → List ℕ → List ℕ
+json_words name [] = []
+json_words name (b ∷ words) = json_member name (b ∷ words)
+
+-- where the fault is
+unfoldable pub json_place : Diagnostic → List ℕ
+json_place d =
+    json_number (codes "line") d.place.line ++ (json_number (codes "column") d.place.column
+    ++ (json_number (codes "offset") d.offset ++ json_number (codes "length") d.length))
+
+-- what the fault is
+unfoldable pub json_fault : Diagnostic → List ℕ
+json_fault d =
+    json_member (codes "fault") (fault_name d.fault)
+    ++ json_member (codes "message") d.message.items
+
+-- what may be meant, or could stand there
+unfoldable pub json_notes : Diagnostic → List ℕ
+json_notes d =
+    json_words (codes "hint") d.hint.items ++ json_words (codes "expected") d.expected.items
+
+-- the object of a diagnostic, on a line
+unfoldable pub json_text : List ℕ → Diagnostic → List ℕ
+json_text file d =
+    json_head file ++ (json_place d ++ (json_fault d ++ (json_notes d ++ codes "}\n")))
