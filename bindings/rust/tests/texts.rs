@@ -1,4 +1,5 @@
-//! Each answer is that of the program `wat`, over the texts of the folder that TEXTS names.
+//! Each answer is that of the program `wat`, for the texts in the folder that the environment variable TEXTS names.
+use std::error::Error;
 use std::path::Path;
 use std::{env, fs};
 
@@ -6,36 +7,58 @@ fn answer(found: Result<String, dilgorza::Refused>) -> String {
     found.unwrap_or_else(|refused| refused.report)
 }
 
+/// A byte 31 after each part of a fault, and a byte 30 after each fault.
+fn records(faults: &[dilgorza::Fault]) -> String {
+    let record = |it: &dilgorza::Fault| {
+        let numbers = [it.offset, it.length, it.line, it.column].map(|number| format!("{number}\x1f")).concat();
+        let words = |it: &Option<String>| it.clone().unwrap_or_default();
+        format!("{numbers}{}\x1f{}\x1f{}\x1f{}\x1f\x1e", it.name, it.message, words(&it.hint), words(&it.expected))
+    };
+    faults.iter().map(record).collect()
+}
+
 #[test]
 fn few_texts() {
     assert_eq!(dilgorza::check("(module)"), []);
     let faults = dilgorza::check("(module\n (func i32.ad))");
     assert_eq!((faults.len(), faults[0].line, faults[0].column), (1, 2, 8));
+    assert_eq!((faults[0].offset, faults[0].length, faults[0].name), (15, 6, "Operator"));
+    assert_eq!(faults[0].to_string(), "2:8: no instruction is called `i32.ad`");
     assert!(faults[0].hint.as_ref().is_some_and(|hint| hint.contains("i32.add")));
-    let hint = dilgorza::check("(module (start))").remove(0).hint;
-    assert_eq!(hint.as_deref(), Some("expected: an identifier, an integer"));
+    let fault = dilgorza::check("(module (start))").remove(0);
+    assert_eq!((fault.hint, fault.expected.as_deref()), (None, Some("an identifier, an integer")));
+    assert_eq!(dilgorza::check(b"(module) \xff").len(), 1);
     assert_eq!(dilgorza::format("( a)").as_deref(), Ok("(a)\n"));
     assert_eq!(dilgorza::print("(module ;; c\n)", true).as_deref(), Ok("(module)\n"));
     assert_eq!(dilgorza::list("(module)").as_deref(), Ok("module text 0\n"));
-    assert_eq!(dilgorza::list("(").unwrap_err().faults.len(), 1);
+}
+
+#[test]
+fn a_refusal_is_an_error() {
+    fn listed(text: &str) -> Result<String, Box<dyn Error + Send + Sync>> {
+        Ok(dilgorza::list(text)?)
+    }
+    assert_eq!(listed("(module)").unwrap(), "module text 0\n");
+    let refused = *listed("(").unwrap_err().downcast::<dilgorza::Refused>().unwrap();
+    assert_eq!((refused.to_string(), &refused.faults), (refused.report.clone(), &dilgorza::check("(")));
+    let float = dilgorza::list("(module (func f32.const 1.5 drop))").unwrap_err();
+    assert_eq!((float.report.is_empty(), float.faults), (false, vec![]));
 }
 
 #[test]
 fn texts_of_a_folder() {
     let Ok(folder) = env::var("TEXTS") else { return };
-    let wanted = |number: usize, name: &str| {
-        fs::read_to_string(Path::new(&folder).join(format!("{number}.{name}")))
-    };
+    let wanted = |number: usize, name: &str| fs::read(Path::new(&folder).join(format!("{number}.{name}")));
     let mut number = 0;
     while let Ok(text) = wanted(number, "wat") {
-        assert_eq!(answer(dilgorza::list(&text)), wanted(number, "list").unwrap(), "{text}");
-        assert_eq!(answer(dilgorza::print(&text, false)), wanted(number, "print").unwrap(), "{text}");
-        assert_eq!(answer(dilgorza::print(&text, true)), wanted(number, "line").unwrap(), "{text}");
-        assert_eq!(answer(dilgorza::format(&text)), wanted(number, "format").unwrap(), "{text}");
-        let checked = wanted(number, "check").unwrap();
-        let is_head = |line: &&str| line.starts_with("<text>:") && !line.starts_with("<text>: ");
-        let heads = checked.lines().filter(is_head).count();
-        assert_eq!(dilgorza::check(&text).len(), heads, "{text}");
+        let expect = |found: String, name| {
+            assert_eq!(found.as_bytes(), wanted(number, name).unwrap(), "{number}: {name}");
+        };
+        expect(answer(dilgorza::list(&text)), "list");
+        expect(answer(dilgorza::print(&text, false)), "print");
+        expect(answer(dilgorza::print(&text, true)), "line");
+        expect(answer(dilgorza::format(&text)), "format");
+        expect(records(&dilgorza::check(&text)), "faults");
         number += 1;
     }
     assert!(number > 0);
