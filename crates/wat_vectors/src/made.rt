@@ -82,11 +82,16 @@ fn a_type_use_is_made(rt: HostRuntime) -> Result<(), Fail> {
     Ok(())
 }
 
+/// Makes an import of one item at the offset 5.
+fn import_of<'a>(module: &'a str, name: &'a str, sig: ItemSig<'a>) -> Imports<'a> {
+    Imports::single(Span::from_offset(5), module, name, sig)
+}
+
 #[test]
 fn an_import_is_made(rt: HostRuntime) -> Result<(), Fail> {
     let arena = Bump::new(rt.alloc());
     let sig = read::<ItemSig>(rt.alloc(), "func $f (param i32)", &arena)?;
-    let made = Imports::single(Span::from_offset(5), "m", "n", sig);
+    let made = import_of("m", "n", sig);
     assert_eq!(rt; made.span.offset(), 5);
     let text = print(rt.alloc(), &ModulePart(&made), Layout::Line)?;
     assert_eq!(rt; text.as_str(), "import \"m\" \"n\" (func $f (param i32))");
