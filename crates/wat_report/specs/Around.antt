@@ -1,4 +1,4 @@
--- What stands around an offset.
+-- Words and groups around an offset.
 use Rattle.std.specs.Prelude.{ℕ, ◌+◌, ◌-◌, ◌==◌, ◌&&◌, ◌||◌, Bool, List, [], nat_lt, drop}
 use Rattle.std.specs.Prelude.{slice_index, if◌then◌else◌}
 use Rattle.std.specs.List.{prefix_len}
@@ -6,23 +6,23 @@ use Rattle.wat_lexer.specs.Bytes.{is_space}
 use Rattle.wat_report.specs.Found.{word_at, word_end}
 use Rattle.wat_report.specs.Places.{last_up_to}
 
--- a paren stands directly before the offset
+-- a parenthesis is directly before the offset
 abbrev pub is_behind_paren : List ℕ → ℕ → Bool
 is_behind_paren text k = (slice_index text (k - 1) == 40) || (slice_index text (k - 1) == 41)
 
--- what is directly behind the last paren that stands before the offset, or the text's beginning
+-- the offset directly after the last parenthesis before the offset, or 0
 unfoldable pub list_start : List ℕ → ℕ → ℕ
 list_start text at = last_up_to (is_behind_paren text) at
 
--- where the blanks end that stand from the offset on
+-- the first offset from there on that isn't white space
 unfoldable pub blank_end : List ℕ → ℕ → ℕ
 blank_end text at = at + prefix_len is_space (drop at text)
 
--- where the word at the offset ends, and the blanks behind it
+-- the end of the word at the offset and of the white space after it
 abbrev pub past_word : List ℕ → ℕ → ℕ
 past_word text at = blank_end text (word_end text at)
 
--- the word at the offset if it is directly behind a `(`, else none
+-- the word at the offset if it is directly after a `(`, else the empty word
 unfoldable pub opened_word : List ℕ → ℕ → List ℕ
 opened_word text at =
     if nat_lt 0 at && (slice_index text (at - 1) == 40) then word_at text at else []

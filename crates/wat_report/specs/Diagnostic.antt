@@ -1,4 +1,4 @@
--- What a report says of a fault, in parts.
+-- The diagnostic of a fault: the parts of its report.
 use Rattle.std.specs.Prelude.{◌≡◌, ℕ, List, [], ◌++◌, Option, if◌then◌else◌}
 use Rattle.wat_tokens.specs.Error.{Fault}
 use Rattle.wat_report.specs.Found.{found_text, is_word_at, marked_len}
@@ -11,13 +11,13 @@ use Rattle.wat_report.specs.Shown.{shown_line}
 use Rattle.wat_report.specs.declared.diagnostic.Diagnostic.{Diagnostic}
 use Rattle.wat_report.specs.declared.front.Groups.{Groups}
 
--- the rule, and the token that was found where that is part of it
+-- the message, with the token that was found if the fault names it
 abbrev pub message_text : List ℕ → ℕ → Fault → List ℕ
 message_text text at f =
     rule_text (is_word_at text at) f ++ (if names_token f then found_text text at else [])
 
--- The diagnostic of a fault at the character that begins at the offset, before which the groups are.
--- What could stand there is said elsewhere.
+-- The diagnostic of a fault at an offset where a character begins; `groups` counts the groups before
+-- the offset. No clause here is about `expected`.
 pub record IsPlaced (text : List ℕ) (groups : Option Groups) (at : ℕ) (f : Fault) (d : Diagnostic)
     : Type 0 where
   pub offset : d.offset ≡ at
@@ -28,7 +28,7 @@ pub record IsPlaced (text : List ℕ) (groups : Option Groups) (at : ℕ) (f : F
   pub shown : d.shown.items ≡ shown_line text at
   pub hint : d.hint.items ≡ hint_words text groups at (hint_of text groups at f)
 
--- the diagnostic of a fault at an offset, which is that of the character that holds the offset
+-- the diagnostic of a fault at an offset: that of the character that contains the offset
 abbrev pub IsDiagnostic : List ℕ → ℕ → Fault → Diagnostic → Type 0
 IsDiagnostic text offset f d =
     (groups : Option Groups) × HasGroups text (char_start text offset) groups

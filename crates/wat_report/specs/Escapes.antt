@@ -1,4 +1,4 @@
--- The escapes of a string.
+-- Invalid escapes in a string.
 use Rattle.std.specs.Prelude.{ℕ, ◌+◌, ◌==◌, ◌&&◌, ◌||◌, Bool, List, [], ◌∷◌, drop}
 use Rattle.std.specs.Prelude.{slice_index, if◌then◌else◌}
 use Rattle.wat_lexer.specs.Cut.{is_hex}
@@ -9,11 +9,11 @@ is_escape_letter c =
     (c == 116) || ((c == 110) || ((c == 114) || ((c == 117) || ((c == 34) || ((c == 39)
     || (c == 92))))))
 
--- behind a backslash such a byte is an escape, or two hexadecimal digits
+-- a backslash followed by the two bytes is a valid escape: one of these, or two hexadecimal digits
 abbrev pub is_escape : ℕ → ℕ → Bool
 is_escape c d = is_escape_letter c || (is_hex c && is_hex d)
 
--- how many bytes of a string stand before a quote, or before a backslash behind which no escape is
+-- the number of bytes of a string before its first quote or invalid escape
 unfoldable pub escapes_len : List ℕ → ℕ
 escapes_len [] = 0
 escapes_len (b ∷ []) = 0
@@ -22,7 +22,6 @@ escapes_len (b ∷ c ∷ t) =
     else if b == 34 then 0
     else escapes_len (c ∷ t) + 1
 
--- where in the string at the offset the first quote is, or the first backslash behind which no
--- escape is
+-- the offset of the first quote after the one at the offset, or of the first invalid escape
 unfoldable pub escapes_end : List ℕ → ℕ → ℕ
 escapes_end text at = at + 1 + escapes_len (drop (at + 1) text)

@@ -1,23 +1,23 @@
--- The token at an offset, as a message calls it.
+-- The token at an offset, as a message names it.
 use Rattle.std.specs.Prelude.{ℕ, ◌+◌, ◌-◌, ◌==◌, ◌||◌, Bool, List, ◌++◌, length, codes, min}
 use Rattle.std.specs.Prelude.{nat_le, nat_lt, drop, slice_index, slice_range, if◌then◌else◌}
 use Rattle.std.specs.List.{prefix_len}
 use Rattle.wat_lexer.specs.Bytes.{between, is_idchar}
 
--- a lower-case letter is there
+-- a lower-case letter is at the offset
 abbrev pub is_word_at : List ℕ → ℕ → Bool
 is_word_at text at = between 97 122 (slice_index text at)
 
--- where the idchars end that stand from the offset on
+-- the end of the idchars at the offset
 unfoldable pub word_end : List ℕ → ℕ → ℕ
 word_end text at = at + prefix_len is_idchar (drop at text)
 
--- the idchars that stand from the offset on
+-- the idchars at the offset
 abbrev pub word_at : List ℕ → ℕ → List ℕ
 word_at text at = slice_range text at (word_end text at)
 
--- The idchars from the offset up to their end, between backquotes: the first 64 of them. Behind
--- these is `..` where more follow, or a quote.
+-- The first 64 of the idchars from the offset up to their end, between backquotes. They end with
+-- `..` if more idchars follow, or a quote.
 abbrev pub quoted_word : List ℕ → ℕ → ℕ → List ℕ
 quoted_word text at end =
     codes "`" ++ (slice_range text at (min end (at + 64))
@@ -27,19 +27,19 @@ quoted_word text at end =
 abbrev pub word_text : List ℕ → ℕ → List ℕ
 word_text text at = quoted_word text at (word_end text at)
 
--- where the character at the offset ends: a byte from 128 to 191 goes on with it
+-- the end of the character at the offset: bytes from 128 to 191 continue it
 unfoldable pub char_end : List ℕ → ℕ → ℕ
 char_end text at = at + 1 + prefix_len (between 128 191) (drop (at + 1) text)
 
--- how many bytes to underline at the offset: the idchars there, else the one character, and none at
--- the text's end
+-- the number of bytes to underline at the offset: the idchars there, or else one character; 0 at the
+-- end of the text
 abbrev pub marked_len : List ℕ → ℕ → ℕ
 marked_len text at =
     if nat_le (length text) at then 0
     else if nat_lt at (word_end text at) then word_end text at - at
     else char_end text at - at
 
--- the token at the offset, or the text's end
+-- the token at the offset, or the end of the text
 abbrev pub found_text : List ℕ → ℕ → List ℕ
 found_text text at =
     if nat_le (length text) at then codes "the end of the text"

@@ -6,11 +6,11 @@ use Rattle.wat_lexer.specs.Cut.{IsCut}
 use Rattle.wat_lexer.specs.Token.{Placed, Tok, is_close, is_open, tokens_of}
 use Rattle.wat_report.specs.declared.front.Groups.{Groups}
 
--- how many of the tokens are `(`, and how many `)`
+-- the number of tokens `(`, and of tokens `)`
 unfoldable pub groups_in : List Tok → Groups
 groups_in ts = record { begun = count_by is_open ts; ended = count_by is_close ts }
 
--- how many tokens begin before the offset
+-- the number of tokens that begin before the offset
 unfoldable pub count_before : ℕ → List Placed → ℕ
 count_before at ts = prefix_len (λ t. nat_lt t.offset at) ts
 
@@ -18,29 +18,29 @@ count_before at ts = prefix_len (λ t. nat_lt t.offset at) ts
 abbrev pub groups_before : ℕ → List Placed → Groups
 groups_before at ts = groups_in (take (count_before at ts) (tokens_of ts))
 
--- the groups before the offset, by the text's cut, or none if there is no cut
+-- the groups before the offset in the cut of the text, if the text has a cut
 pub data HasGroups : List ℕ → ℕ → Option Groups → Type 0 where
   cut : (text : List ℕ) (at : ℕ) (ts : List Placed) → IsCut text ts
       → HasGroups text at (Some (groups_before at ts))
   uncut : (text : List ℕ) (at : ℕ) → ((ts : List Placed) → IsCut text ts → ⊥)
       → HasGroups text at None
 
--- after a group, and in none
+-- a group ended, and none is open
 abbrev pub is_behind_group : Option Groups → Bool
 is_behind_group None = false
 is_behind_group (Some g) = (g.begun == g.ended) && nat_lt 0 g.ended
 
--- no group begins there, and none ends
+-- no group begins before the offset, and none ends
 abbrev pub is_before_groups : Option Groups → Bool
 is_before_groups None = false
 is_before_groups (Some g) = (g.begun == 0) && (g.ended == 0)
 
--- in a group
+-- a group is open
 abbrev pub is_in_group : Option Groups → Bool
 is_in_group None = false
 is_in_group (Some g) = nat_lt g.ended g.begun
 
--- in a group that is in one other
+-- exactly two groups are open
 abbrev pub is_in_two : Option Groups → Bool
 is_in_two None = false
 is_in_two (Some g) = g.begun == g.ended + 2

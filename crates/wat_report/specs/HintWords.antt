@@ -19,31 +19,31 @@ use Rattle.wat_report.specs.Found.{word_at}
 use Rattle.wat_report.specs.Places.{place_of_offset}
 use Rattle.wat_report.specs.Hints.{new_word}
 
--- the word by which a value is spelled, between backquotes
+-- the word of a value, between backquotes
 unfoldable pub in_backquotes : {A : Type 0} → (A → List ℕ) → A → List ℕ
 in_backquotes spelling a = codes "`" ++ (spelling a ++ codes "`")
 
--- the same behind a comma
+-- the same after a comma
 abbrev pub next_quoted : {A : Type 0} → (A → List ℕ) → A → List ℕ
 next_quoted spelling a = codes ", " ++ in_backquotes spelling a
 
--- a question for one of these
+-- the question whether one of the words was meant
 unfoldable pub question_words : {A : Type 0} → (A → List ℕ) → A → List A → List ℕ
 question_words spelling a others =
     codes "did you mean " ++ (in_backquotes spelling a
     ++ (flat_map (next_quoted spelling) others ++ codes "?"))
 
--- the same for a list, nothing if it is empty
+-- the question for a list of words, nothing for an empty list
 unfoldable pub nearest_words : {A : Type 0} → (A → List ℕ) → List A → List ℕ
 nearest_words spelling [] = []
 nearest_words spelling (a ∷ others) = question_words spelling a others
 
--- the word that stands today for another, if there is one
+-- the word that replaced an old word
 abbrev pub today_words : Option (List ℕ) → List ℕ
 today_words None = []
-today_words (Some new) = codes "this is written `" ++ (new ++ codes "` today")
+today_words (Some new) = codes "use `" ++ (new ++ codes "` instead")
 
--- how many groups begin and end
+-- the number of groups that begin and end
 unfoldable pub groups_words : Groups → List ℕ
 groups_words g =
     codes "a `)` may be missing: the text has " ++ (decimal g.begun
@@ -57,33 +57,33 @@ unclosed_words (Some g) = groups_words g
 unfoldable pub bare_name_words : List ℕ → List ℕ
 bare_name_words word = codes "an identifier begins with `$`: `$" ++ (word ++ codes "`")
 
--- in which column a backslash is behind which no escape is
+-- the column of an invalid escape
 unfoldable pub wrong_escape_words : ℕ → List ℕ
 wrong_escape_words column =
-    codes "no string has the escape in column " ++ (decimal column
-    ++ codes ": a backslash is written `\\\\`, and a byte `\\` and two hexadecimal digits")
+    codes "the escape in column " ++ (decimal column
+    ++ codes " is invalid: a backslash is written `\\\\`, and a byte as `\\` and two hexadecimal digits")
 
 -- the words of a hint that are the same for every text, nothing for another hint
 abbrev pub same_words : Hint → List ℕ
 same_words ByteOrderMark =
-    codes "the text begins with a byte order mark, which isn't read"
+    codes "the text begins with a byte order mark, which isn't allowed"
 same_words SeqCst = codes "this ordering is written `seqcst`"
-same_words ModuleGroup = codes "the fields of a module stand in `(module ..)`"
+same_words ModuleGroup = codes "the fields of a module go inside `(module ..)`"
 same_words SlashComment =
-    codes "a comment is written `;; ..` to the line's end, or `(; .. ;)`"
-same_words Semicolon = codes "`;;` begins a comment, and nothing ends an instruction"
+    codes "a comment is written `;; ..` to the end of the line, or `(; .. ;)`"
+same_words Semicolon = codes "`;;` begins a comment, and instructions don't end with `;`"
 same_words OpenString =
-    codes "no `\"` closes it in this line, and no string has a line break"
+    codes "no `\"` closes the string in this line, and a string can't contain a line break"
 same_words Escapes =
-    codes "a backslash is written `\\\\`, and a byte `\\` and two hexadecimal digits"
-same_words BehindModule = codes "one module is read, and this stands behind it"
-same_words NoModule = codes "the text has no module, which is written `(module ..)`"
-same_words OtherQuote = codes "a string stands between `\"`, and not between `'`"
+    codes "a backslash is written `\\\\`, and a byte as `\\` and two hexadecimal digits"
+same_words BehindModule = codes "a text has one module, and this comes after it"
+same_words NoModule = codes "the text has no module; a module is written `(module ..)`"
+same_words OtherQuote = codes "a string is written between `\"`, not between `'`"
 same_words Fraction =
-    codes "a number here has to be an integer, without a `.` or an exponent"
+    codes "a number here must be an integer, without a `.` or an exponent"
 same_words _ = []
 
--- the hint for the token at the offset, where there is one
+-- the words of a hint for the token at the offset, nothing if there is no hint
 abbrev pub hint_words : List ℕ → Option Groups → ℕ → Option Hint → List ℕ
 hint_words text groups at None = []
 hint_words text groups at (Some OldWord) = today_words (new_word (word_at text at))

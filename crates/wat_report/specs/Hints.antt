@@ -1,4 +1,4 @@
--- What may help whoever wrote the text.
+-- Hints: how an error may be mended.
 use Rattle.std.specs.Prelude.{ℕ, ◌+◌, ◌-◌, ◌==◌, ◌&&◌, ◌||◌, Bool, List, codes, count_by, length}
 use Rattle.std.specs.Prelude.{nat_le, nat_lt, take, slice_index, slice_range, Option, Some, None}
 use Rattle.std.specs.Prelude.{is_some, if◌then◌else◌}
@@ -32,13 +32,13 @@ begins_with_mark text =
 abbrev pub is_field_word : List ℕ → Bool
 is_field_word word = list_any (λ field. bytes_eq (keyword_text field) word) FIELD_WORDS
 
--- a field's word is at the offset, directly behind a `(` before which no other stands
+-- the word of a field is at the offset, directly after the first `(` of the text
 abbrev pub is_first_field : List ℕ → ℕ → Bool
 is_first_field text at =
     nat_lt 0 at && ((slice_index text (at - 1) == 40)
     && (is_field_word (word_at text at) && (count_by (λ b. b == 40) (take at text) == 1)))
 
--- the word that stands today for one of the time before the format was a standard
+-- the word that replaced a word when the format was standardized
 unfoldable pub new_word : List ℕ → Option (List ℕ)
 new_word word =
     if bytes_eq word (codes "get_local") then Some (codes "local.get")
@@ -60,24 +60,24 @@ is_slash_comment text at =
 abbrev pub is_semicolon : List ℕ → ℕ → Bool
 is_semicolon text at = slice_index text at == 59
 
--- how often a byte is in the text
+-- the number of occurrences of a byte in the text
 abbrev pub count_of : List ℕ → ℕ → ℕ
 count_of text byte = count_by (λ b. b == byte) text
 
--- the text ends at the offset, and a group goes on there
+-- the text ends at the offset, inside a group
 unfoldable pub is_unclosed : List ℕ → Option Groups → ℕ → Bool
 is_unclosed text groups at = nat_le (length text) at && is_in_group groups
 
--- how often a byte is in the text's line from the offset on
+-- the number of occurrences of a byte from the offset to the end of its line
 unfoldable pub count_in_line : List ℕ → ℕ → ℕ → ℕ
 count_in_line text at byte = count_by (λ b. b == byte) (slice_range text at (line_stop text at))
 
--- before the next quote a backslash is in the string behind which no escape is
+-- the string at the offset has an invalid escape before the next quote
 unfoldable pub has_wrong_escape : List ℕ → ℕ → Bool
 has_wrong_escape text at = slice_index text (escapes_end text at) == 92
 
--- where a string is none: of one that no further quote follows in its line, of one with a wrong
--- escape, and of one that a backslash follows there
+-- the hint for an invalid string: it isn't closed on its line, it has an invalid escape, or a
+-- backslash follows on its line
 unfoldable pub string_hint : List ℕ → ℕ → Option Hint
 string_hint text at =
     if nat_lt (count_in_line text at 34) 2 then Some OpenString
@@ -85,15 +85,15 @@ string_hint text at =
     else if nat_lt 0 (count_in_line text at 92) then Some Escapes
     else None
 
--- where no token begins: of a byte order mark and of a `;`
+-- the hint where no token begins: a byte order mark, or a `;`
 abbrev pub char_hint : List ℕ → ℕ → Option Hint
 char_hint text at =
     if (at == 0) && begins_with_mark text then Some ByteOrderMark
     else if is_semicolon text at then Some Semicolon
     else None
 
--- where another token was needed, or an instruction: of `seq_cst`, of a word of old, of a comment as
--- in other languages, and of a text that ends too soon
+-- the hint that the token itself gives: `seq_cst`, an old word, a comment of other languages, or the
+-- end of the text inside a group
 unfoldable pub token_hint : List ℕ → Option Groups → ℕ → Option Hint
 token_hint text groups at =
     if bytes_eq (word_at text at) (codes "seq_cst") then Some SeqCst
@@ -102,15 +102,15 @@ token_hint text groups at =
     else if is_unclosed text groups at then Some Unclosed
     else None
 
--- the text ends at the offset, and no group is before it
+-- the text ends at the offset, and has no group before it
 unfoldable pub has_no_group : List ℕ → Option Groups → ℕ → Bool
 has_no_group text groups at = nat_le (length text) at && is_before_groups groups
 
--- a string has to stand behind the word
+-- a string has to follow the word
 abbrev pub is_string_word : List ℕ → Bool
 is_string_word word = bytes_eq word (codes "export") || bytes_eq word (codes "import")
 
--- a `'` is at the offset, or behind a word there that a string has to follow
+-- a `'` is at the offset, or follows a word there that needs a string after it
 unfoldable pub is_other_quote : List ℕ → ℕ → Bool
 is_other_quote text at =
     (slice_index text at == 39)
@@ -125,36 +125,36 @@ abbrev pub is_fraction : List ℕ → Bool
 is_fraction word =
     nat_lt 0 (count_of word 46) || (nat_lt 0 (count_of word 101) && (count_of word 120 == 0))
 
--- a number that is no integer is at the offset
+-- a number that isn't an integer is at the offset
 unfoldable pub is_fraction_at : List ℕ → ℕ → Bool
 is_fraction_at text at = begins_number (slice_index text at) && is_fraction (word_at text at)
 
--- a word is at the offset, directly behind the `(` of a group that is in one other
+-- a word is at the offset, directly after the `(` of a group at depth two
 unfoldable pub is_field_place : List ℕ → Option Groups → ℕ → Bool
 is_field_place text groups at =
     is_word_at text at
     && (nat_lt 0 at && ((slice_index text (at - 1) == 40) && is_in_two groups))
 
--- types stand behind the word
+-- types follow the word
 abbrev pub is_types_word : List ℕ → Bool
 is_types_word word =
     bytes_eq word (codes "param")
     || (bytes_eq word (codes "result") || bytes_eq word (codes "local"))
 
--- A word is at the offset. The last paren before it is a `(`, and behind that is the word of a
--- group of types.
+-- A word is at the offset. The last parenthesis before it is a `(`, and the word of a group of types
+-- follows that.
 unfoldable pub is_type_place : List ℕ → ℕ → Bool
 is_type_place text at =
     is_word_at text at
     && (nat_lt (list_start text at) at && is_types_word (opened_word text (list_start text at)))
 
--- a group of a function that begins with the word stands before its instructions
+-- a group that begins with the word comes before the instructions of a function
 abbrev pub is_head_word : List ℕ → Bool
 is_head_word word =
     is_types_word word || (is_string_word word || bytes_eq word (codes "type"))
 
--- A word of no more than 64 bytes is at the offset, between `(func` and a group that stands before
--- the instructions of a function.
+-- A word of at most 64 bytes is at the offset, between `(func` and a group that comes before the
+-- instructions of a function.
 unfoldable pub is_bare_name : List ℕ → ℕ → Bool
 is_bare_name text at =
     is_word_at text at
@@ -163,9 +163,9 @@ is_bare_name text at =
     && (nat_le (word_end text at) (at + 64)
     && is_head_word (opened_word text (past_word text at + 1)))))
 
--- Where another token was needed: of a module's first field where `module` was, of what stands
--- behind the module, of a text without one, of `'`, of a number that is no integer, and of words
--- where one of a field or of a type was.
+-- The hint for a token that isn't expected: the first field without `(module`, text after the module,
+-- a text without a module, a `'`, a number that isn't an integer, an unknown word where a field or a
+-- type is expected.
 unfoldable pub unexpected_hint : List ℕ → Option Groups → ℕ → Option Hint
 unexpected_hint text groups at =
     if is_first_field text at then Some ModuleGroup
@@ -177,8 +177,8 @@ unexpected_hint text groups at =
     else if is_type_place text at then Some NearType
     else None
 
--- where an instruction was needed: of `'`, of a name without its `$`, and of a word that is no
--- instruction's
+-- the hint for a token that isn't the expected instruction: a `'`, an identifier without its `$`, or
+-- an unknown word
 unfoldable pub operator_hint : List ℕ → ℕ → Option Hint
 operator_hint text at =
     if is_other_quote text at then Some OtherQuote
@@ -186,8 +186,8 @@ operator_hint text at =
     else if is_word_at text at then Some Nearest
     else None
 
--- The hint for a fault before whose place the groups are, if there is one. Where another token was
--- needed, or an instruction, a hint that the token itself has comes first.
+-- The hint for a fault at an offset, if there is one; `groups` counts the groups before the offset.
+-- For Unexpected and Operator, the hint that the token itself gives comes first.
 abbrev pub hint_of : List ℕ → Option Groups → ℕ → Fault → Option Hint
 hint_of text groups at LexChar = char_hint text at
 hint_of text groups at LexString = string_hint text at

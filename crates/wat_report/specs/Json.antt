@@ -35,19 +35,19 @@ unfoldable pub json_words : List ℕ → List ℕ → List ℕ
 json_words name [] = []
 json_words name (b ∷ words) = json_member name (b ∷ words)
 
--- where the fault is
+-- the members for the position of the error
 unfoldable pub json_place : Diagnostic → List ℕ
 json_place d =
     json_number (codes "line") d.place.line ++ (json_number (codes "column") d.place.column
     ++ (json_number (codes "offset") d.offset ++ json_number (codes "length") d.length))
 
--- what the fault is
+-- the members for the kind of the error
 unfoldable pub json_fault : Diagnostic → List ℕ
 json_fault d =
     json_member (codes "fault") (fault_name d.fault)
     ++ json_member (codes "message") d.message.items
 
--- what may be meant, or could stand there
+-- the members `hint` and `expected`
 unfoldable pub json_notes : Diagnostic → List ℕ
 json_notes d =
     json_words (codes "hint") d.hint.items ++ json_words (codes "expected") d.expected.items

@@ -1,4 +1,4 @@
--- Words that may be meant, beside those of instructions.
+-- The words of fields and types, for hints.
 use Rattle.std.specs.Prelude.{ℕ, List, codes}
 use Rattle.wat_report.specs.declared.meant.Keyword.{Keyword}
 use Rattle.wat_report.specs.declared.meant.Keyword.TheVariants.{TypeField, Rec, Import, Func, Table}

@@ -11,7 +11,7 @@ heading_text name p =
     name ++ (codes ":" ++ (decimal p.line
     ++ (codes ":" ++ (decimal p.column ++ codes ": error: "))))
 
--- a line of words after a label, nothing if there are no words
+-- a line of words after a label, nothing for no words
 abbrev pub labelled_line : List ℕ → List ℕ → List ℕ
 labelled_line label [] = []
 labelled_line label (b ∷ words) = label ++ ((b ∷ words) ++ codes "\n")
@@ -20,7 +20,7 @@ labelled_line label (b ∷ words) = label ++ ((b ∷ words) ++ codes "\n")
 abbrev pub first_line : List ℕ → Diagnostic → List ℕ
 first_line name d = heading_text name d.place ++ (d.message.items ++ codes "\n")
 
--- the line with the caret, the hint, what could stand there
+-- the line of the text with the caret, the hint, and the line `expected:`
 abbrev pub further_lines : Diagnostic → List ℕ
 further_lines d =
     d.shown.items
@@ -34,7 +34,7 @@ report_text name d = first_line name d ++ further_lines d
 abbrev pub bare_report : List ℕ → List ℕ
 bare_report name = name ++ codes ": error: memory ran out\n"
 
--- The report of a fault at an offset, which doesn't say what could stand there. Memory has no place.
+-- The report of a fault at an offset, without a line `expected:`. Memory has no place.
 unfoldable pub IsReport : List ℕ → List ℕ → ℕ → Fault → List ℕ → Type 0
 IsReport name text offset f said =
     ((f ≡ Memory) × (said ≡ bare_report name))

@@ -1,31 +1,30 @@
--- The line that a report shows, and the caret below it.
+-- The line of the text in a report, and the caret below it.
 use Rattle.std.specs.Prelude.{ℕ, ◌+◌, ◌-◌, ◌==◌, Bool, List, [], ◌++◌, map, min, codes, nat_lt}
 use Rattle.std.specs.Prelude.{drop, length, slice_range, true, if◌then◌else◌}
 use Rattle.std.specs.Str.{chars}
 use Rattle.wat_report.specs.Places.{char_start, line_start, line_stop}
 
--- what stands below a character: a tab below a tab, else a space
+-- the padding below a character: a tab below a tab, else a space
 abbrev pub padding : ℕ → ℕ
 padding c = if c == 9 then 9 else 32
 
--- Of a line, 100 bytes are shown before the place, or all if they are no more. If 100 bytes before
--- the place is inside a character, all of that character is shown.
+-- Up to 100 bytes of a line are shown before the place. A character that begins earlier and reaches
+-- into these 100 bytes is shown whole.
 abbrev pub first_shown : List ℕ → ℕ → ℕ → ℕ
 first_shown text start mark =
     if nat_lt 100 (mark - start) then char_start text (mark - 100) else start
 
--- From the place on 100 bytes are shown, less those of a character that isn't whole in them, or all
--- if they are no more.
+-- Up to 100 bytes are shown from the place on, without a last character that isn't whole in them.
 abbrev pub last_shown : List ℕ → ℕ → ℕ → ℕ
 last_shown text mark stop = if nat_lt 100 (stop - mark) then char_start text (mark + 100) else stop
 
--- what is shown of the line, with `..` on each side where more of it stands there
+-- the shown part of a line, with `..` on each side where the line goes on
 abbrev pub source_line : List ℕ → Bool → Bool → List ℕ
 source_line shown cut_before cut_behind =
     (if cut_before then codes ".." else [])
     ++ (shown ++ (if cut_behind then codes "..\n" else codes "\n"))
 
--- a caret behind a space or a tab for each character that is shown before the place
+-- a caret after the padding of each character that is shown before the place
 abbrev pub caret_line : List ℕ → Bool → List ℕ
 caret_line before cut_before =
     (if cut_before then codes "  " else []) ++ (map padding (chars before) ++ codes "^\n")
@@ -36,13 +35,13 @@ cut_line text start first mark last stop =
     source_line (slice_range text first last) (nat_lt start first) (nat_lt last stop)
     ++ caret_line (slice_range text first mark) (nat_lt start first)
 
--- the line from start to stop, with the caret under the place
+-- the line from start to stop, with the caret below the place
 abbrev pub marked_line : List ℕ → ℕ → ℕ → ℕ → List ℕ
 marked_line text start mark stop =
     cut_line text start (first_shown text start mark) mark (last_shown text mark stop) stop
 
--- The line that holds the offset, with the caret under it. For the offset of what ends the line,
--- the caret is directly behind the line.
+-- The line that contains the offset, with the caret below the offset. For an offset in the line end,
+-- the caret is directly after the line.
 abbrev pub line_shown_from : List ℕ → ℕ → ℕ → ℕ → List ℕ
 line_shown_from text start at stop = marked_line text start (min at stop) stop
 
@@ -50,13 +49,13 @@ abbrev pub shown_line : List ℕ → ℕ → List ℕ
 shown_line text at =
     line_shown_from text (line_start text at) at (line_stop text (line_start text at))
 
--- the bytes from first on of the line that begins at start and goes on behind the text
+-- the line that begins at start and goes on after the end of the text, shown from first on
 abbrev pub open_from : List ℕ → ℕ → ℕ → List ℕ
 open_from text start first =
     source_line (drop first text) (nat_lt start first) true
     ++ caret_line (drop first text) (nat_lt start first)
 
--- The line that begins at start, of which there is more than the text has, with the caret below the
--- text's end.
+-- The line that begins at start and goes on after the end of the text, with the caret below the end
+-- of the text.
 abbrev pub open_line : List ℕ → ℕ → List ℕ
 open_line text start = open_from text start (first_shown text start (length text))

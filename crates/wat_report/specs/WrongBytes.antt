@@ -20,10 +20,10 @@ begins_with_utf16_mark bytes =
 
 abbrev pub utf16_words : List ℕ → List ℕ
 utf16_words bytes =
-    if begins_with_utf16_mark bytes then codes "this may be UTF-16, and has to be UTF-8" else []
+    if begins_with_utf16_mark bytes then codes "this may be UTF-16; the text must be UTF-8" else []
 
 abbrev pub wrong_byte_text : ℕ → List ℕ
-wrong_byte_text byte = codes "this isn't UTF-8: the byte 0x" ++ hex_text byte
+wrong_byte_text byte = codes "this isn't valid UTF-8: the byte 0x" ++ hex_text byte
 
 -- the line that goes on after the text
 abbrev pub last_line : List ℕ → List ℕ

@@ -1,4 +1,4 @@
-//! What stands around an offset.
+//! Words and groups around an offset.
 
 ghost use Rattle.std.specs.Prelude.{◌≡◌, ◌≤◌, length};
 ghost use Rattle.wat_report.specs.Around.{past_word, blank_end, list_start, opened_word};
@@ -6,7 +6,7 @@ ghost use Rattle.wat_report.specs.Around.{past_word, blank_end, list_start, open
 use crate::found::{word_at, word_end};
 use wat_lexer::scan::is_space;
 
-/// Where the text goes on behind the last paren that stands before the offset, or where it begins.
+/// Returns the offset directly after the last parenthesis before an offset, or 0 if there is none.
 #[tactic(auto, unfolding(crate::specs::Around::list_start), using(crate::proofs::UpTo::last_steps))]
 pub(crate) fn list_start(text: &str, at: usize) -> usize
     requires { at ≤ length text.now }
@@ -21,7 +21,7 @@ pub(crate) fn list_start(text: &str, at: usize) -> usize
     start
 }
 
-/// Where the blanks end that stand from the offset on.
+/// Returns the offset of the first byte from an offset on that isn't white space.
 #[tactic(auto, unfolding(crate::specs::Around::blank_end))]
 fn blank_end(text: &str, at: usize) -> usize
     requires { at ≤ length text.now }
@@ -36,7 +36,7 @@ fn blank_end(text: &str, at: usize) -> usize
     end
 }
 
-/// Where the word at the offset ends, and the blanks behind it.
+/// Returns the end of the word at an offset and of the white space after it.
 pub(crate) fn past_word(text: &str, at: usize) -> usize
     requires { at ≤ length text.now }
     ensures within { result ≤ length text.now }
@@ -45,7 +45,7 @@ pub(crate) fn past_word(text: &str, at: usize) -> usize
     blank_end(text, word_end(text.as_bytes(), at))
 }
 
-/// The word at the offset if it is directly behind a `(`, else none.
+/// Returns the word at an offset if it is directly after a `(`, else the empty word.
 #[tactic(auto, unfolding(crate::specs::Around::opened_word), using(crate::proofs::Cuts::at_paren))]
 pub(crate) fn opened_word(text: &str, at: usize) -> &str
     requires { at ≤ length text.now }

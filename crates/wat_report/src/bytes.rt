@@ -1,4 +1,4 @@
-//! Bytes that should be a text.
+//! Bytes that may be a text in UTF-8.
 
 ghost use Rattle.std.specs.Prelude.{◌≡◌, ◌++◌, IfOk, MatchResult, OnOk};
 ghost use Rattle.std.specs.Str.{IsValidUpTo};
@@ -36,12 +36,12 @@ fn message_of(alloc: Global, byte: u8) -> Result<Vec<u8>, AllocError>
     ensures { IfOk result (λ said. said.items ≡ wrong_byte_text byte) }
 {
     let mut message = Vec::new(alloc);
-    add(&mut message, "this isn't UTF-8: the byte 0x")?;
+    add(&mut message, "this isn't valid UTF-8: the byte 0x")?;
     add_hex(&mut message, byte)?;
     Ok(message)
 }
 
-/// Returns the last line of the text, which goes on with a wrong byte, and below it the caret.
+/// Returns the last line of the text, up to a wrong byte after it, and below it the caret.
 fn shown_of(alloc: Global, front: &str) -> Result<Vec<u8>, AllocError>
     ensures { IfOk result (λ said. said.items ≡ last_line front.now) }
 {
@@ -57,7 +57,7 @@ fn hint_of(alloc: Global, bytes: &[u8]) -> Result<Vec<u8>, AllocError>
 {
     let mut hint = Vec::new(alloc);
     if begins_with_utf16_mark(bytes) {
-        add(&mut hint, "this may be UTF-16, and has to be UTF-8")?;
+        add(&mut hint, "this may be UTF-16; the text must be UTF-8")?;
     }
     Ok(hint)
 }
@@ -87,7 +87,7 @@ fn first_wrong_byte(alloc: Global, bytes: &[u8], valid: usize) -> Result<Diagnos
     wrong_byte(alloc, bytes, front, bytes[valid])
 }
 
-/// Returns the text that the bytes are, or the diagnostic of the first byte that isn't UTF-8.
+/// Returns the bytes as a text, or the diagnostic of the first byte that isn't valid UTF-8.
 ///
 /// The fault of that diagnostic is Utf8, and its line is shown up to the byte, with `..` for the
 /// rest. The outer error is AllocError if memory runs out.

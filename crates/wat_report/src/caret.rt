@@ -1,4 +1,4 @@
-//! The line that is shown, and the caret below it.
+//! The line of the text in a report, and the caret below it.
 
 ghost use Rattle.std.specs.Prelude.{◌≡◌, ◌++◌, ◌≤◌, ◌<◌, ◌+◌, ◌-◌, OnOk, length, map, min};
 ghost use Rattle.std.specs.Str.{IsCharBoundary, chars};
@@ -10,10 +10,10 @@ use crate::lines::{char_start, line_start, line_stop};
 use crate::write::add;
 use std::alloc::AllocError;
 
-/// How many bytes of a line are shown before the place, and as many from it on.
+/// The number of bytes of a line that are shown before the place, and from the place on.
 const SHOWN: usize = 100;
 
-/// Where what is shown of a line begins.
+/// Returns the offset where the shown part of a line begins.
 fn first_shown(text: &str, start: usize, mark: usize) -> usize
     requires order { start ≤ mark }
     requires within { mark ≤ length text.now }
@@ -28,7 +28,7 @@ fn first_shown(text: &str, start: usize, mark: usize) -> usize
     start
 }
 
-/// Where what is shown of a line ends.
+/// Returns the offset where the shown part of a line ends.
 #[tactic(auto, using(crate::proofs::Cuts::char_start_behind))]
 fn last_shown(text: &str, mark: usize, stop: usize) -> usize
     requires order { mark ≤ stop }
@@ -46,7 +46,7 @@ fn last_shown(text: &str, mark: usize, stop: usize) -> usize
     stop
 }
 
-/// Adds a space for each character, and a tab for a tab.
+/// Adds a space for each character of the text, and a tab for each tab.
 #[tactic(auto, using(std::proofs::lemmas::Str::chars_from_encodes))]
 fn add_blanks(out: &mut Vec<u8>, text: &str) -> Result<(), AllocError>
     ensures { OnOk result (out.new.items ≡ out.old.items ++ map padding (chars text.now)) }
@@ -57,7 +57,7 @@ fn add_blanks(out: &mut Vec<u8>, text: &str) -> Result<(), AllocError>
     Ok(())
 }
 
-/// Adds what is shown of the line, with `..` on each side where more of it stands there.
+/// Adds the shown part of a line, with `..` on each side where the line goes on.
 fn add_source(
     out: &mut Vec<u8>,
     shown: &str,
@@ -72,7 +72,7 @@ fn add_source(
     add(out, if cut_behind { "..\n" } else { "\n" })
 }
 
-/// Adds the caret, behind as many blanks as there are characters before the place.
+/// Adds the caret, below the place: after a space or tab for each shown character before it.
 fn add_caret(out: &mut Vec<u8>, before: &str, cut_before: bool) -> Result<(), AllocError>
     ensures { OnOk result (out.new.items ≡ out.old.items ++ caret_line before.now cut_before) }
 {
@@ -81,7 +81,7 @@ fn add_caret(out: &mut Vec<u8>, before: &str, cut_before: bool) -> Result<(), Al
     add(out, "^\n")
 }
 
-/// Adds a line that begins at start and ends at stop, with a caret under the place.
+/// Adds the line from start to stop, with a caret below the place.
 fn add_marked(
     out: &mut Vec<u8>,
     text: &str,
@@ -104,7 +104,7 @@ fn add_marked(
     add_caret(out, &text[first..mark], cut_before)
 }
 
-/// Adds the line that holds the place, and below it a caret under the place.
+/// Adds the line that contains the place, with a caret below the place.
 pub(crate) fn add_line(out: &mut Vec<u8>, text: &str, at: usize) -> Result<(), AllocError>
     requires within { at ≤ length text.now }
     requires boundary { IsCharBoundary text.now at }
@@ -115,7 +115,8 @@ pub(crate) fn add_line(out: &mut Vec<u8>, text: &str, at: usize) -> Result<(), A
     add_marked(out, text, start, at.min(stop), stop)
 }
 
-/// Adds the line that begins at start and goes on behind the text, and a caret below where that is.
+/// Adds the line that begins at start and goes on after the end of the text, with a caret below the
+/// end of the text.
 pub(crate) fn add_open(out: &mut Vec<u8>, text: &str, start: usize) -> Result<(), AllocError>
     requires within { start ≤ length text.now }
     requires boundary { IsCharBoundary text.now start }

@@ -23,8 +23,7 @@ use wat_lexer::cut::cut;
 use wat_lexer::tokens::Tokens;
 use wat_tokens::{Error, Fault};
 
-/// An error of a text, with all that a report or another tool tells of it. Offsets and lengths are
-/// in bytes.
+/// An error in a text: its position, message and hint. Offsets and lengths are in bytes.
 #[derive(Drop)]
 pub struct Diagnostic {
     /// The offset of the error, from the start of the text.
@@ -58,7 +57,7 @@ fn message_of(alloc: Global, text: &str, at: usize, fault: Fault) -> Result<Vec<
     Ok(message)
 }
 
-/// Returns the line of the text that holds the offset, and below it the caret.
+/// Returns the line of the text that contains the offset, and below it the caret.
 fn shown_of(alloc: Global, text: &str, at: usize) -> Result<Vec<u8>, AllocError>
     requires within { at ≤ length text.now }
     requires boundary { IsCharBoundary text.now at }
@@ -87,8 +86,8 @@ fn hint_at(
     Ok(hint)
 }
 
-/// Returns the diagnostic of a fault at the character that begins at the offset, before which the
-/// groups are.
+/// Returns the diagnostic of a fault at an offset where a character begins. `groups` counts the
+/// groups before the offset.
 fn diagnostic_at(
     alloc: Global,
     text: &str,

@@ -1,11 +1,11 @@
-//! The escapes of a string.
+//! Invalid escapes in a string.
 
 ghost use Rattle.std.specs.Prelude.{◌≡◌, ◌≤◌, ◌+◌, drop, length, slice_index};
 ghost use Rattle.wat_report.specs.Escapes.{escapes_end, escapes_len, is_escape};
 
 use wat_lexer::string::digit_value;
 
-/// Whether behind a backslash the first of two bytes is an escape, or both are.
+/// Returns whether a backslash followed by the two bytes is a valid escape.
 fn is_escape(first: u8, second: u8) -> bool
     ensures { result ≡ is_escape first second }
 {
@@ -13,14 +13,14 @@ fn is_escape(first: u8, second: u8) -> bool
         || digit_value(first) < 16 && digit_value(second) < 16
 }
 
-/// The byte at the offset, or 0 where there is none.
+/// Returns the byte at an offset, or 0 at the end.
 fn byte_at(bytes: &[u8], at: usize) -> u8
     ensures { result ≡ slice_index bytes.now at }
 {
     if at < bytes.len() { bytes[at] } else { 0 }
 }
 
-/// Where a quote is, or a backslash behind which no escape is.
+/// Returns the offset, from an offset in a string on, of the first quote or invalid escape.
 #[tactic(auto, using(crate::proofs::Escape::steps))]
 fn escapes_end_from(bytes: &[u8], from: usize) -> usize
     requires { from ≤ length bytes.now }
@@ -42,8 +42,7 @@ fn escapes_end_from(bytes: &[u8], from: usize) -> usize
     end
 }
 
-/// Where in the string at the offset the first quote is, or the first backslash behind which no
-/// escape is.
+/// Returns the offset of the first quote after the one at `at`, or of the first invalid escape.
 #[tactic(auto, unfolding(crate::specs::Escapes::escapes_end), using(crate::proofs::Escape::steps))]
 pub(crate) fn escapes_end(text: &str, at: usize) -> usize
     requires { at ≤ length text.now }

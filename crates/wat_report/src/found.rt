@@ -1,4 +1,4 @@
-//! The token that was found, in a message.
+//! The token at an offset, as a message names it.
 
 ghost use Rattle.std.specs.Prelude.{◌≡◌, ◌++◌, ◌≤◌, ◌<◌, OnOk, length};
 ghost use Rattle.std.specs.Str.{IsCharBoundary};
@@ -9,10 +9,10 @@ use crate::write::add;
 use std::alloc::AllocError;
 use wat_lexer::scan::plain_end;
 
-/// How many bytes of a word a message shows.
+/// The greatest number of bytes of a word that a message shows.
 const SHOWN: usize = 64;
 
-/// Whether a lower-case letter is at the offset.
+/// Returns whether a lower-case letter is at the offset.
 pub(crate) fn is_word_at(text: &str, at: usize) -> bool
     ensures { result ≡ is_word_at text.now at }
 {
@@ -20,7 +20,7 @@ pub(crate) fn is_word_at(text: &str, at: usize) -> bool
     at < bytes.len() && b'a' <= bytes[at] && bytes[at] <= b'z'
 }
 
-/// Where the idchars end that stand from the offset on.
+/// Returns the end of the idchars at the offset.
 #[tactic(auto, using(crate::proofs::Words::plain_word))]
 pub(crate) fn word_end(bytes: &[u8], at: usize) -> usize
     requires { at ≤ length bytes.now }
@@ -31,7 +31,7 @@ pub(crate) fn word_end(bytes: &[u8], at: usize) -> usize
     plain_end(bytes, at)
 }
 
-/// The idchars that stand from the offset on.
+/// Returns the idchars at the offset.
 #[tactic(auto, using(crate::proofs::Words::word_boundary))]
 pub(crate) fn word_at(text: &str, at: usize) -> &str
     requires within { at ≤ length text.now }
@@ -73,8 +73,7 @@ pub(crate) fn marked_len(text: &str, at: usize) -> usize
     char_end(bytes, at) - at
 }
 
-/// Adds the word at the offset between backquotes, with `..` behind what is shown of it where more
-/// of it stands there.
+/// Adds the word at the offset between backquotes, with `..` at its end if the word goes on.
 fn add_word(out: &mut Vec<u8>, bytes: &[u8], at: usize) -> Result<(), AllocError>
     requires { at ≤ length bytes.now }
     ensures { OnOk result (out.new.items ≡ out.old.items ++ word_text bytes.now at) }
@@ -87,7 +86,7 @@ fn add_word(out: &mut Vec<u8>, bytes: &[u8], at: usize) -> Result<(), AllocError
     add(out, if goes_on { "..`" } else { "`" })
 }
 
-/// Adds what the token at the offset is called in a message.
+/// Adds the name of the token at the offset for a message.
 pub(crate) fn add_found(out: &mut Vec<u8>, text: &str, at: usize) -> Result<(), AllocError>
     ensures { OnOk result (out.new.items ≡ out.old.items ++ found_text text.now at) }
 {

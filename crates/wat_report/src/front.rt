@@ -8,7 +8,7 @@ ghost use Rattle.wat_report.specs.Front.{is_before_groups, is_behind_group, is_i
 
 use wat_lexer::tokens::Tokens;
 
-/// How many groups begin and end among the tokens before an offset.
+/// The number of groups that begin and end before an offset.
 #[derive(Clone, Copy, Debug, PartialEq, Eq)]
 pub(crate) struct Groups {
     /// The number of tokens `(`.
@@ -30,7 +30,7 @@ fn count_before(tokens: &Tokens, at: usize) -> usize
     count
 }
 
-/// Returns how many groups begin and end among the first tokens.
+/// Returns the number of groups that begin and end among the first tokens.
 #[tactic(auto, unfolding(crate::specs::Front::groups_in))]
 fn groups_in(tokens: &Tokens, count: usize) -> Groups
     requires { count ≤ length tokens.now }
@@ -47,14 +47,14 @@ fn groups_in(tokens: &Tokens, count: usize) -> Groups
     groups
 }
 
-/// Returns how many groups begin and end among the tokens that begin before the offset, in bytes.
+/// Returns the number of groups that begin and end before an offset in bytes.
 pub(crate) fn groups_before(tokens: &Tokens, at: usize) -> Groups
     ensures { result ≡ groups_before at (placed tokens.now) }
 {
     groups_in(tokens, count_before(tokens, at))
 }
 
-/// Returns whether a group ended, and none goes on.
+/// Returns whether a group ended, and none is open.
 pub(crate) fn is_behind_group(groups: Option<Groups>) -> bool
     ensures { result ≡ is_behind_group groups }
 {
@@ -64,7 +64,7 @@ pub(crate) fn is_behind_group(groups: Option<Groups>) -> bool
     }
 }
 
-/// Returns whether there is no group.
+/// Returns whether no group begins before the offset, and none ends.
 pub(crate) fn is_before_groups(groups: Option<Groups>) -> bool
     ensures { result ≡ is_before_groups groups }
 {
@@ -74,7 +74,7 @@ pub(crate) fn is_before_groups(groups: Option<Groups>) -> bool
     }
 }
 
-/// Returns whether a group goes on.
+/// Returns whether a group is open.
 pub(crate) fn is_in_group(groups: Option<Groups>) -> bool
     ensures { result ≡ is_in_group groups }
 {
@@ -84,7 +84,7 @@ pub(crate) fn is_in_group(groups: Option<Groups>) -> bool
     }
 }
 
-/// Returns whether two groups go on.
+/// Returns whether exactly two groups are open.
 pub(crate) fn is_in_two(groups: Option<Groups>) -> bool
     ensures { result ≡ is_in_two groups }
 {

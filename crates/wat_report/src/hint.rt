@@ -1,4 +1,4 @@
-//! What may help whoever wrote the text.
+//! Hints: how an error may be mended.
 
 ghost use Rattle.std.specs.Prelude.{◌≡◌, ◌≤◌, ◌+◌, length, option_map};
 ghost use Rattle.std.specs.Str.{IsCharBoundary};
@@ -22,48 +22,48 @@ use crate::meant::FIELD_WORDS;
 use crate::nearest::LONGEST;
 use wat_tokens::Fault;
 
-/// What may help whoever wrote the text.
+/// A hint: how an error may be mended.
 #[derive(Clone, Copy, Debug, PartialEq, Eq)]
 pub(crate) enum Hint {
     /// The text begins with a byte order mark.
     ByteOrderMark,
     /// `seq_cst` is written for `seqcst`.
     SeqCst,
-    /// A module's fields stand without `(module ..)` round them.
+    /// The fields of a module aren't inside `(module ..)`.
     ModuleGroup,
-    /// The word was replaced by another when the format was standardized.
+    /// The word is the name that an instruction or a type had before the format was standardized.
     OldWord,
-    /// A comment is begun by `//` or `/*`.
+    /// A comment begins with `//` or `/*`.
     SlashComment,
-    /// A single `;` stands between tokens.
+    /// A single `;` is between tokens.
     Semicolon,
-    /// The string doesn't end in its line.
+    /// The string isn't closed on its line.
     OpenString,
-    /// The string may have an escape that is none.
+    /// The string may have an invalid escape.
     Escapes,
-    /// The string has an escape that is none.
+    /// The string has an invalid escape.
     WrongEscape,
-    /// The text ends too soon, and has more `(` than `)`.
+    /// The text ends inside a group: it has more `(` than `)`.
     Unclosed,
-    /// A word that is no instruction's may be meant for one that is.
+    /// An unknown instruction, which may be a misspelled one.
     Nearest,
-    /// More stands behind the module.
+    /// The text goes on after the module.
     BehindModule,
-    /// The text has blanks and comments alone.
+    /// The text has only white space and comments.
     NoModule,
-    /// A string is written between `'`.
+    /// A string is written between `'` instead of `"`.
     OtherQuote,
-    /// A number has a point or an exponent.
+    /// A number has a point or an exponent where an integer is needed.
     Fraction,
-    /// A word may be meant for that of a field.
+    /// An unknown word, which may be a misspelled field.
     NearField,
-    /// A word may be meant for a type.
+    /// An unknown word, which may be a misspelled type.
     NearType,
-    /// A function's name is written without its `$`.
+    /// A function's identifier is written without its `$`.
     BareName,
 }
 
-/// Whether the text begins with a byte order mark.
+/// Returns whether the text begins with a byte order mark.
 fn begins_with_mark(text: &str) -> bool
     ensures { result ≡ begins_with_mark text.now }
 {
@@ -71,14 +71,14 @@ fn begins_with_mark(text: &str) -> bool
     bytes.len() >= 3 && bytes[0] == 0xef && bytes[1] == 0xbb && bytes[2] == 0xbf
 }
 
-/// Whether the word is that of a module's field.
+/// Returns whether a module's field begins with the word.
 fn is_field_word(word: &str) -> bool
     ensures { result ≡ is_field_word word.now }
 {
     FIELD_WORDS.iter().any(|field| field.word() == word)
 }
 
-/// The word that stands today for one of the time before the format was a standard.
+/// Returns the word that replaced a word when the format was standardized.
 #[tactic(auto, unfolding(crate::specs::Hints::new_word))]
 pub(crate) fn new_word(word: &str) -> Option<&'static str>
     ensures { option_map (λ new. new.now) result ≡ new_word word.now }
@@ -96,7 +96,7 @@ pub(crate) fn new_word(word: &str) -> Option<&'static str>
     }
 }
 
-/// Whether a comment of another language begins at the offset, with `//` or `/*`.
+/// Returns whether a comment of other languages begins at the offset: `//` or `/*`.
 fn is_slash_comment(text: &str, at: usize) -> bool
     ensures { result ≡ is_slash_comment text.now at }
 {
@@ -107,7 +107,7 @@ fn is_slash_comment(text: &str, at: usize) -> bool
         && (bytes[at + 1] == b'/' || bytes[at + 1] == b'*')
 }
 
-/// Whether a `;` is at the offset.
+/// Returns whether a `;` is at the offset.
 fn is_semicolon(text: &str, at: usize) -> bool
     ensures { result ≡ is_semicolon text.now at }
 {
@@ -115,7 +115,7 @@ fn is_semicolon(text: &str, at: usize) -> bool
     at < bytes.len() && bytes[at] == b';'
 }
 
-/// Whether a field's word is at the offset, directly behind a `(` before which no other stands.
+/// Returns whether the word of a field is at the offset, directly after the first `(` of the text.
 fn is_first_field(text: &str, at: usize) -> bool
     requires within { at ≤ length text.now }
     requires boundary { IsCharBoundary text.now at }
@@ -128,14 +128,14 @@ fn is_first_field(text: &str, at: usize) -> bool
         && bytes[..at].iter().filter(|b| **b == b'(').count() == 1
 }
 
-/// How often a byte is in the text.
+/// Returns the number of occurrences of a byte in the text.
 fn count_of(text: &str, byte: u8) -> usize
     ensures { result ≡ count_of text.now byte }
 {
     text.bytes().filter(|b| *b == byte).count()
 }
 
-/// Whether the text ends at the offset, and a group goes on there.
+/// Returns whether the text ends at the offset, inside a group.
 #[tactic(auto, unfolding(crate::specs::Hints::is_unclosed))]
 fn is_unclosed(text: &str, groups: Option<Groups>, at: usize) -> bool
     ensures { result ≡ is_unclosed text.now groups at }
@@ -143,7 +143,7 @@ fn is_unclosed(text: &str, groups: Option<Groups>, at: usize) -> bool
     text.len() <= at && is_in_group(groups)
 }
 
-/// How often a byte is in the text's line from the offset on.
+/// Returns the number of occurrences of a byte from the offset to the end of its line.
 #[tactic(auto, unfolding(crate::specs::Hints::count_in_line))]
 fn count_in_line(text: &str, at: usize, byte: u8) -> usize
     requires { at ≤ length text.now }
@@ -153,7 +153,7 @@ fn count_in_line(text: &str, at: usize, byte: u8) -> usize
     rest.iter().filter(|b| **b == byte).count()
 }
 
-/// Whether before the next quote a backslash is in the string behind which no escape is.
+/// Returns whether the string at the offset has an invalid escape before the next quote.
 #[tactic(auto, unfolding(crate::specs::Hints::has_wrong_escape))]
 fn has_wrong_escape(text: &str, at: usize) -> bool
     requires { at ≤ length text.now }
@@ -164,7 +164,7 @@ fn has_wrong_escape(text: &str, at: usize) -> bool
     end < bytes.len() && bytes[end] == b'\\'
 }
 
-/// The hint for a string that is none.
+/// Returns the hint for an invalid string.
 #[tactic(auto, unfolding(crate::specs::Hints::string_hint))]
 fn string_hint(text: &str, at: usize) -> Option<Hint>
     requires { at ≤ length text.now }
@@ -182,7 +182,7 @@ fn string_hint(text: &str, at: usize) -> Option<Hint>
     None
 }
 
-/// The hint where a character begins no token.
+/// Returns the hint for a character that begins no token.
 fn char_hint(text: &str, at: usize) -> Option<Hint>
     ensures { result ≡ char_hint text.now at }
 {
@@ -195,7 +195,7 @@ fn char_hint(text: &str, at: usize) -> Option<Hint>
     None
 }
 
-/// The hint where another token was needed, or an instruction, if the token itself has one.
+/// Returns the hint that the token itself gives, wherever it isn't expected.
 #[tactic(auto, unfolding(crate::specs::Hints::token_hint))]
 fn token_hint(text: &str, groups: Option<Groups>, at: usize) -> Option<Hint>
     requires within { at ≤ length text.now }
@@ -218,7 +218,7 @@ fn token_hint(text: &str, groups: Option<Groups>, at: usize) -> Option<Hint>
     None
 }
 
-/// Whether the text ends at the offset, and there is no group before it.
+/// Returns whether the text ends at the offset, and has no group before it.
 #[tactic(auto, unfolding(crate::specs::Hints::has_no_group))]
 fn has_no_group(text: &str, groups: Option<Groups>, at: usize) -> bool
     requires { at ≤ length text.now }
@@ -227,14 +227,14 @@ fn has_no_group(text: &str, groups: Option<Groups>, at: usize) -> bool
     text.len() <= at && is_before_groups(groups)
 }
 
-/// Whether a string has to stand behind the word.
+/// Returns whether a string has to follow the word.
 fn is_string_word(word: &str) -> bool
     ensures { result ≡ is_string_word word.now }
 {
     matches!(word, "export" | "import")
 }
 
-/// Whether a `'` is at the offset, or behind a word there that a string has to follow.
+/// Returns whether a `'` is at the offset, or follows a word there that needs a string after it.
 #[tactic(auto, unfolding(crate::specs::Hints::is_other_quote))]
 fn is_other_quote(text: &str, at: usize) -> bool
     requires within { at ≤ length text.now }
@@ -249,21 +249,21 @@ fn is_other_quote(text: &str, at: usize) -> bool
     is_string_word(word_at(text, at)) && behind < bytes.len() && bytes[behind] == b'\''
 }
 
-/// Whether a number begins with the byte.
+/// Returns whether a number begins with the byte.
 fn begins_number(byte: u8) -> bool
     ensures { result ≡ begins_number byte }
 {
     b'0' <= byte && byte <= b'9' || byte == b'+' || byte == b'-'
 }
 
-/// Whether the word has a `.`, or an `e` and no `x`.
+/// Returns whether the word has a `.`, or an `e` and no `x`.
 fn is_fraction(word: &str) -> bool
     ensures { result ≡ is_fraction word.now }
 {
     count_of(word, b'.') > 0 || count_of(word, b'e') > 0 && count_of(word, b'x') == 0
 }
 
-/// Whether a number that is no integer is at the offset.
+/// Returns whether a number that isn't an integer is at the offset.
 #[tactic(auto, unfolding(crate::specs::Hints::is_fraction_at))]
 fn is_fraction_at(text: &str, at: usize) -> bool
     requires within { at ≤ length text.now }
@@ -274,7 +274,7 @@ fn is_fraction_at(text: &str, at: usize) -> bool
     at < bytes.len() && begins_number(bytes[at]) && is_fraction(word_at(text, at))
 }
 
-/// Whether a word is at the offset, directly behind the `(` of a group that is in one other.
+/// Returns whether a word is at the offset, directly after the `(` of a group at depth two.
 #[tactic(auto, unfolding(crate::specs::Hints::is_field_place))]
 fn is_field_place(text: &str, groups: Option<Groups>, at: usize) -> bool
     requires { at ≤ length text.now }
@@ -283,14 +283,14 @@ fn is_field_place(text: &str, groups: Option<Groups>, at: usize) -> bool
     is_word_at(text, at) && at > 0 && text.as_bytes()[at - 1] == b'(' && is_in_two(groups)
 }
 
-/// Whether types stand behind the word.
+/// Returns whether types follow the word.
 fn is_types_word(word: &str) -> bool
     ensures { result ≡ is_types_word word.now }
 {
     matches!(word, "param" | "result" | "local")
 }
 
-/// Whether a word is at the offset, in a group of types.
+/// Returns whether a word is at the offset, in a group of types.
 #[tactic(auto, unfolding(crate::specs::Hints::is_type_place))]
 fn is_type_place(text: &str, at: usize) -> bool
     requires { at ≤ length text.now }
@@ -300,14 +300,15 @@ fn is_type_place(text: &str, at: usize) -> bool
     is_word_at(text, at) && start < at && is_types_word(opened_word(text, start))
 }
 
-/// Whether a group of a function that begins with the word stands before its instructions.
+/// Returns whether a group that begins with the word comes before the instructions of a function.
 fn is_head_word(word: &str) -> bool
     ensures { result ≡ is_head_word word.now }
 {
     is_types_word(word) || is_string_word(word) || word == "type"
 }
 
-/// Whether a group that stands before a function's instructions is behind the word at the offset.
+/// Returns whether the word at the offset is followed by a group that comes before the instructions
+/// of a function.
 fn is_before_head(text: &str, at: usize) -> bool
     requires { at ≤ length text.now }
     ensures { result ≡ is_head_word (opened_word text.now (past_word text.now at + 1)) }
@@ -316,8 +317,8 @@ fn is_before_head(text: &str, at: usize) -> bool
     open < text.len() && is_head_word(opened_word(text, open + 1))
 }
 
-/// Whether a word is at the offset, between `(func` and a group that stands before the instructions
-/// of a function.
+/// Returns whether a word is at the offset, between `(func` and a group that comes before the
+/// instructions of a function.
 #[tactic(auto, unfolding(crate::specs::Hints::is_bare_name))]
 fn is_bare_name(text: &str, at: usize) -> bool
     requires { at ≤ length text.now }
@@ -331,7 +332,7 @@ fn is_bare_name(text: &str, at: usize) -> bool
         && is_before_head(text, at)
 }
 
-/// The hint where another token was needed.
+/// Returns the hint for a token that isn't expected.
 #[tactic(auto, unfolding(crate::specs::Hints::unexpected_hint))]
 fn unexpected_hint(text: &str, groups: Option<Groups>, at: usize) -> Option<Hint>
     requires within { at ≤ length text.now }
@@ -362,7 +363,7 @@ fn unexpected_hint(text: &str, groups: Option<Groups>, at: usize) -> Option<Hint
     None
 }
 
-/// The hint where an instruction was needed.
+/// Returns the hint for a token that isn't the expected instruction.
 #[tactic(auto, unfolding(crate::specs::Hints::operator_hint))]
 fn operator_hint(text: &str, at: usize) -> Option<Hint>
     requires within { at ≤ length text.now }
@@ -381,7 +382,8 @@ fn operator_hint(text: &str, at: usize) -> Option<Hint>
     None
 }
 
-/// The hint for a fault at the character that begins at the offset, before which the groups are.
+/// Returns the hint for a fault at an offset where a character begins. `groups` counts the groups
+/// before the offset.
 pub(crate) fn hint_of(text: &str, groups: Option<Groups>, at: usize, fault: Fault) -> Option<Hint>
     requires within { at ≤ length text.now }
     requires boundary { IsCharBoundary text.now at }

@@ -111,9 +111,9 @@ fn add_new_word(out: &mut Vec<u8>, word: &str) -> Result<(), AllocError>
     let Some(new) = new_word(word) else {
         return Ok(());
     };
-    add(out, "this is written `")?;
+    add(out, "use `")?;
     add(out, new)?;
-    add(out, "` today")
+    add(out, "` instead")
 }
 
 /// Adds how many groups begin and end in a text with a missing `)`.
@@ -153,11 +153,11 @@ fn add_bare_name(out: &mut Vec<u8>, word: &str) -> Result<(), AllocError>
 fn add_column(out: &mut Vec<u8>, column: usize) -> Result<(), AllocError>
     ensures { OnOk result (out.new.items ≡ out.old.items ++ wrong_escape_words column) }
 {
-    add(out, "no string has the escape in column ")?;
+    add(out, "the escape in column ")?;
     add_number(out, column)?;
     add(
         out,
-        ": a backslash is written `\\\\`, and a byte `\\` and two hexadecimal digits",
+        " is invalid: a backslash is written `\\\\`, and a byte as `\\` and two hexadecimal digits",
     )
 }
 
@@ -175,19 +175,23 @@ fn same_words(hint: Hint) -> &'static str
     ensures { result.now ≡ same_words hint }
 {
     match hint {
-        Hint::ByteOrderMark => "the text begins with a byte order mark, which isn't read",
+        Hint::ByteOrderMark => "the text begins with a byte order mark, which isn't allowed",
         Hint::SeqCst => "this ordering is written `seqcst`",
-        Hint::ModuleGroup => "the fields of a module stand in `(module ..)`",
-        Hint::SlashComment => { "a comment is written `;; ..` to the line's end, or `(; .. ;)`" }
-        Hint::Semicolon => "`;;` begins a comment, and nothing ends an instruction",
-        Hint::OpenString => { "no `\"` closes it in this line, and no string has a line break" }
-        Hint::Escapes => {
-            "a backslash is written `\\\\`, and a byte `\\` and two hexadecimal digits"
+        Hint::ModuleGroup => "the fields of a module go inside `(module ..)`",
+        Hint::SlashComment => {
+            "a comment is written `;; ..` to the end of the line, or `(; .. ;)`"
         }
-        Hint::BehindModule => "one module is read, and this stands behind it",
-        Hint::NoModule => "the text has no module, which is written `(module ..)`",
-        Hint::OtherQuote => "a string stands between `\"`, and not between `'`",
-        Hint::Fraction => { "a number here has to be an integer, without a `.` or an exponent" }
+        Hint::Semicolon => "`;;` begins a comment, and instructions don't end with `;`",
+        Hint::OpenString => {
+            "no `\"` closes the string in this line, and a string can't contain a line break"
+        }
+        Hint::Escapes => {
+            "a backslash is written `\\\\`, and a byte as `\\` and two hexadecimal digits"
+        }
+        Hint::BehindModule => "a text has one module, and this comes after it",
+        Hint::NoModule => "the text has no module; a module is written `(module ..)`",
+        Hint::OtherQuote => "a string is written between `\"`, not between `'`",
+        Hint::Fraction => { "a number here must be an integer, without a `.` or an exponent" }
         _ => "",
     }
 }

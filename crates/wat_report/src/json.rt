@@ -95,7 +95,7 @@ fn add_words(out: &mut Vec<u8>, name: &str, words: &[u8]) -> Result<(), AllocErr
     add_member(out, name, words)
 }
 
-/// Adds the members that say where the error is.
+/// Adds the members for the position of the error.
 #[tactic(auto, unfolding(crate::specs::Json::json_place))]
 fn add_place(out: &mut Vec<u8>, diagnostic: &Diagnostic) -> Result<(), AllocError>
     ensures { OnOk result (out.new.items ≡ out.old.items ++ json_place diagnostic.now) }
@@ -106,7 +106,7 @@ fn add_place(out: &mut Vec<u8>, diagnostic: &Diagnostic) -> Result<(), AllocErro
     add_json_number(out, "length", diagnostic.length)
 }
 
-/// Adds the members that say what the error is.
+/// Adds the members for the kind of the error.
 #[tactic(auto, unfolding(crate::specs::Json::json_fault))]
 fn add_fault(out: &mut Vec<u8>, diagnostic: &Diagnostic) -> Result<(), AllocError>
     ensures { OnOk result (out.new.items ≡ out.old.items ++ json_fault diagnostic.now) }
@@ -115,7 +115,7 @@ fn add_fault(out: &mut Vec<u8>, diagnostic: &Diagnostic) -> Result<(), AllocErro
     add_member(out, "message", &diagnostic.message)
 }
 
-/// Adds the members that help.
+/// Adds the members `hint` and `expected`.
 #[tactic(auto, unfolding(crate::specs::Json::json_notes))]
 fn add_notes(out: &mut Vec<u8>, diagnostic: &Diagnostic) -> Result<(), AllocError>
     ensures { OnOk result (out.new.items ≡ out.old.items ++ json_notes diagnostic.now) }

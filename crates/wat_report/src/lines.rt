@@ -6,7 +6,7 @@ ghost use Rattle.wat_report.specs.Places.{begins_char, begins_line, count_up_to,
 ghost use Rattle.wat_report.specs.Places.{line_start, line_of_offset, line_stop};
 ghost use Rattle.wat_report.specs.Places.{place_of_char, place_of_offset};
 
-/// A place in a text as a person counts it.
+/// A position in a text: line and column, as editors count them.
 #[derive(Clone, Copy, Debug, PartialEq, Eq, Hash)]
 pub struct LineColumn {
     /// The number of the line, from 1. A line ends at LF, at CR LF, or at a CR alone.
@@ -15,14 +15,14 @@ pub struct LineColumn {
     pub column: usize,
 }
 
-/// Whether a character begins at the offset, or the text ends there.
+/// Returns whether a character begins at the offset, or the text ends there.
 fn begins_char(bytes: &[u8], at: usize) -> bool
     ensures { result ≡ begins_char bytes.now at }
 {
     at >= bytes.len() || !(128 <= bytes[at] && bytes[at] <= 191)
 }
 
-/// Whether a line begins at the offset.
+/// Returns whether a line begins at the offset.
 fn begins_line(bytes: &[u8], at: usize) -> bool
     requires { at ≤ length bytes.now }
     ensures { result ≡ begins_line bytes.now at }
@@ -34,7 +34,7 @@ fn begins_line(bytes: &[u8], at: usize) -> bool
     before == b'\n' || before == b'\r' && !(at < bytes.len() && bytes[at] == b'\n')
 }
 
-/// Where the character begins that holds the offset.
+/// Returns the start of the character that contains the offset.
 #[tactic(auto, using(crate::proofs::UpTo::last_steps))]
 pub(crate) fn char_start(text: &str, offset: usize) -> usize
     ensures within { result ≤ length text.now }
@@ -50,7 +50,7 @@ pub(crate) fn char_start(text: &str, offset: usize) -> usize
     at
 }
 
-/// Where the line begins that holds the offset.
+/// Returns the start of the line that contains the offset.
 #[tactic(auto, using(crate::proofs::UpTo::last_steps))]
 pub(crate) fn line_start(text: &str, at: usize) -> usize
     requires { at ≤ length text.now }
@@ -66,7 +66,7 @@ pub(crate) fn line_start(text: &str, at: usize) -> usize
     start
 }
 
-/// How many lines begin up to the offset.
+/// Returns the number of lines that begin at or before the offset.
 #[tactic(auto, using(crate::proofs::UpTo::count_steps))]
 fn line_number(bytes: &[u8], at: usize) -> usize
     requires { at ≤ length bytes.now }
@@ -83,7 +83,7 @@ fn line_number(bytes: &[u8], at: usize) -> usize
     line
 }
 
-/// Where the line ends that begins at the offset, without what ends it.
+/// Returns the end of the line that begins at the offset, before its line end.
 pub(crate) fn line_stop(text: &str, start: usize) -> usize
     requires { start ≤ length text.now }
     ensures within { (start ≤ result) × (result ≤ length text.now) }
@@ -98,7 +98,7 @@ pub(crate) fn line_stop(text: &str, start: usize) -> usize
     stop
 }
 
-/// The line and the column of the character that begins at the offset.
+/// Returns the line and the column of the character that begins at the offset.
 pub(crate) fn place_of_char(text: &str, at: usize) -> LineColumn
     requires within { at ≤ length text.now }
     requires boundary { IsCharBoundary text.now at }
@@ -110,20 +110,20 @@ pub(crate) fn place_of_char(text: &str, at: usize) -> LineColumn
     LineColumn { line, column }
 }
 
-/// The line and the column of an offset in bytes.
+/// Returns the line and the column of an offset in bytes.
 ///
-/// Both count from 1, and the column counts characters. An offset inside a character is that of the
-/// character, and an offset behind the text's end is that of its end. A CR LF ends one line.
+/// Both count from 1. The column counts characters. An offset inside a character has the position of
+/// the character, and an offset after the end of the text that of the end. CR LF ends one line.
 pub fn line_column(text: &str, offset: usize) -> LineColumn
     ensures { result ≡ place_of_offset text.now offset }
 {
     place_of_char(text, char_start(text, offset))
 }
 
-/// The line that holds an offset in bytes, without the LF, CR LF or CR that ends it.
+/// Returns the line that contains an offset in bytes, without the LF, CR LF or CR that ends it.
 ///
-/// The offset of what ends a line is in that line. An offset behind the text's end is in the last
-/// line.
+/// A line contains the LF, CR LF or CR that ends it. An offset after the end of the text is in the
+/// last line.
 pub fn line_at(text: &str, offset: usize) -> &str
     ensures { result.now ≡ line_of_offset text.now offset }
 {

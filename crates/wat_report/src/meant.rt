@@ -1,9 +1,9 @@
-//! Words that may be meant, beside those of instructions.
+//! The words of fields and types, for hints.
 
 ghost use Rattle.std.specs.Prelude.{◌≡◌};
 ghost use Rattle.wat_report.specs.Meant.{keyword_text};
 
-/// A word that is no instruction's.
+/// A word that begins a field, or that is a type.
 #[derive(Clone, Copy, Debug, PartialEq, Eq)]
 pub enum Keyword {
     TypeField,
@@ -79,7 +79,7 @@ pub static TYPE_WORDS: [Keyword; 19] = [
 ];
 
 impl Keyword {
-    /// The word.
+    /// Returns the word.
     pub fn word(self) -> &'static str
         ensures { result.now ≡ keyword_text self }
     {

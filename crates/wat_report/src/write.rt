@@ -1,4 +1,4 @@
-//! Adding to a report.
+//! Adding texts and numbers to a report.
 
 ghost use Rattle.std.specs.Prelude.{◌≡◌, ◌++◌, OnOk, decimal};
 
@@ -11,7 +11,7 @@ pub(crate) fn add(out: &mut Vec<u8>, text: &str) -> Result<(), AllocError>
     out.extend_from_slice(text.as_bytes())
 }
 
-/// Adds a number in decimal digits.
+/// Adds a number in decimal.
 pub(crate) fn add_number(out: &mut Vec<u8>, number: usize) -> Result<(), AllocError>
     ensures { OnOk result (out.new.items ≡ out.old.items ++ decimal number) }
 {

@@ -73,7 +73,7 @@ AddsFound text e old new =
 abbrev pub AddsDiagnosed : List ℕ → List Error → List Notice → List Notice → Type 0
 AddsDiagnosed text es old new = (ns : List Notice) × Diagnosed text es ns × (new ≡ old ++ ns)
 
--- how many more fields are refused, if any is
+-- how many more fields are invalid, if any is
 abbrev pub more_notices : ℕ → List Notice
 more_notices n = if n == 0 then [] else More n ∷ []
 

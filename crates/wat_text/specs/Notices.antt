@@ -5,9 +5,9 @@ use Rattle.wat_report.specs.Report.{report_text}
 use Rattle.wat_text.specs.declared.notice.Notice.{Notice}
 use Rattle.wat_text.specs.declared.notice.Notice.TheVariants.{Found, More}
 
--- how many more fields are refused
+-- how many more fields are invalid
 abbrev pub more_words : ℕ → List ℕ
-more_words n = decimal n ++ codes " more fields are refused"
+more_words n = decimal n ++ codes " more fields are invalid"
 
 abbrev pub more_line : List ℕ → ℕ → List ℕ
 more_line name n = name ++ (codes ": error: " ++ (more_words n ++ codes "\n"))

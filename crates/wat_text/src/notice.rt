@@ -16,17 +16,17 @@ pub enum Notice {
     More(usize),
 }
 
-/// Adds `N more fields are refused`, without a line break.
+/// Adds `N more fields are invalid`, without a line break.
 ///
 /// The error is AllocError if memory runs out.
 pub fn add_more_words(out: &mut Vec<u8>, count: usize) -> Result<(), AllocError>
     ensures { OnOk result (out.new.items ≡ out.old.items ++ more_words count) }
 {
-    let words = format!(in *out.allocator(); "{count} more fields are refused")?;
+    let words = format!(in *out.allocator(); "{count} more fields are invalid")?;
     out.extend_from_slice(words.as_bytes())
 }
 
-/// Adds the line of a report that says how many more fields are refused.
+/// Adds the line of a report that says how many more fields are invalid.
 fn add_more_line(out: &mut Vec<u8>, name: &str, count: usize) -> Result<(), AllocError>
     ensures { OnOk result (out.new.items ≡ out.old.items ++ more_line name.now count) }
 {
@@ -73,7 +73,7 @@ pub(crate) fn report_of(
     name: &str,
     notices: &[Notice],
 ) -> Result<Vec<u8>, AllocError>
-    ensures { IfOk result (λ said. said.items ≡ flat_map (notice_report name.now) notices.now) }
+    ensures { IfOk result (λ output. output.items ≡ flat_map (notice_report name.now) notices.now) }
 {
     let mut report = Vec::new(alloc);
     for notice in notices {
@@ -84,7 +84,7 @@ pub(crate) fn report_of(
 
 /// Returns notices for a text of that name as JSON, an object a line.
 pub(crate) fn json_of(alloc: Global, file: &str, notices: &[Notice]) -> Result<Vec<u8>, AllocError>
-    ensures { IfOk result (λ said. said.items ≡ flat_map (notice_json file.now) notices.now) }
+    ensures { IfOk result (λ output. output.items ≡ flat_map (notice_json file.now) notices.now) }
 {
     let mut json = Vec::new(alloc);
     for notice in notices {
