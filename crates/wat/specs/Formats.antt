@@ -16,29 +16,29 @@ way_of check name = if check then Check else if bytes_eq name (codes "-") then S
 -- replaces the input, if they differ. The inputs are `old` before and `new` after that.
 unfoldable pub Settles : {P : Type 0} → (P → P → List ℕ → List ℕ → Type 0) → Way → P → P → List ℕ
     → List ℕ → List ℕ → List ℕ → ℕ → Type 0
-Settles puts Show old new name text answer said status =
-    (new ≡ old) × (said ≡ answer) × (status ≡ 0)
-Settles puts Check old new name text answer said status =
-    (new ≡ old) × (((answer ≡ text) × (said ≡ []) × (status ≡ 0))
-    ⊎ ((answer ≢ text) × (said ≡ shown_name name ++ 10 ∷ []) × (status ≡ 1)))
-Settles puts Replace old new name text answer said status =
-    (said ≡ []) × (status ≡ 0)
+Settles puts Show old new name text answer output status =
+    (new ≡ old) × (output ≡ answer) × (status ≡ 0)
+Settles puts Check old new name text answer output status =
+    (new ≡ old) × (((answer ≡ text) × (output ≡ []) × (status ≡ 0))
+    ⊎ ((answer ≢ text) × (output ≡ shown_name name ++ 10 ∷ []) × (status ≡ 1)))
+Settles puts Replace old new name text answer output status =
+    (output ≡ []) × (status ≡ 0)
     × (((answer ≡ text) × (new ≡ old)) ⊎ ((answer ≢ text) × puts old new name answer))
 
 -- nothing is written, and nothing changes
 abbrev pub Leaves : {P : Type 0} → P → P → List ℕ → Type 0
-Leaves old new said = (new ≡ old) × (said ≡ [])
+Leaves old new output = (new ≡ old) × (output ≡ [])
 
 -- Of an input that can be read: if its bytes are formatted, that becomes of them; if they can't be,
 -- their report is not written, and the status is 1. With status 2 the input can't be read or
 -- replaced, or memory runs out.
 unfoldable pub FormatsName : {P : Type 0} → (P → List ℕ → List ℕ → Type 0) → (P → List ℕ → Type 0)
     → (P → P → List ℕ → List ℕ → Type 0) → Way → P → P → List ℕ → List ℕ → ℕ → Type 0
-FormatsName gives fails puts way old new name said status =
+FormatsName gives fails puts way old new name output status =
     ((bytes : List ℕ) × gives old name bytes
     × (((answer : List ℕ) × IsFormatted bytes answer
-    × Settles puts way old new name bytes answer said status)
-    ⊎ (((report : List ℕ) × ReportsBytes (shown_name name) bytes report) × Leaves old new said
+    × Settles puts way old new name bytes answer output status)
+    ⊎ (((report : List ℕ) × ReportsBytes (shown_name name) bytes report) × Leaves old new output
     × (status ≡ 1))))
-    ⊎ ((fails old name ⊎ ((bytes : List ℕ) × gives old name bytes)) × Leaves old new said
+    ⊎ ((fails old name ⊎ ((bytes : List ℕ) × gives old name bytes)) × Leaves old new output
     × (status ≡ 2))

@@ -1,51 +1,51 @@
--- What a run over several names says.
+-- The answers of a run over several names.
 use Rattle.std.specs.Prelude.{◌≡◌, ◌⊎◌, ℕ, ◌≤◌, ◌==◌, if◌then◌else◌, List, [], ◌∷◌, ◌++◌, length}
 use Rattle.std.specs.Prelude.{max, take, Option}
 use Rattle.std.specs.Io.KnownBytes.{Appends}
 use Rattle.wat.specs.Inputs.{shown_name}
-use Rattle.wat_text.specs.Outcomes.{SaysOfBytes}
+use Rattle.wat_text.specs.Outcomes.{AnswersBytes}
 use Rattle.wat_text.specs.declared.task.Task.{Task}
 use Rattle.wat_text.specs.declared.task.Task.TheVariants.{Print}
 use Rattle.wat_show.specs.Streams.{AppendsBeginning}
 
 -- The answer for an input that a name stands for is that for its bytes. It is empty, with status 2,
 -- where the read fails, or where memory runs out after it.
-unfoldable pub SaysOfName : (List ℕ → List ℕ → Type 0) → (List ℕ → Type 0) → Task → List ℕ → List ℕ
+unfoldable pub AnswersName : (List ℕ → List ℕ → Type 0) → (List ℕ → Type 0) → Task → List ℕ → List ℕ
     → ℕ → Type 0
-SaysOfName gives fails task name said status =
-    ((bytes : List ℕ) × gives name bytes × SaysOfBytes task (shown_name name) bytes said status)
-    ⊎ ((fails name ⊎ ((bytes : List ℕ) × gives name bytes)) × (said ≡ []) × (status ≡ 2))
+AnswersName gives fails task name output status =
+    ((bytes : List ℕ) × gives name bytes × AnswersBytes task (shown_name name) bytes output status)
+    ⊎ ((fails name ⊎ ((bytes : List ℕ) × gives name bytes)) × (output ≡ []) × (status ≡ 2))
 
--- what goes to the writer of what is said: why a module isn't printed doesn't
+-- the part of an answer that goes to the writer: not the reason why a module isn't printed
 unfoldable pub written_of : Task → ℕ → List ℕ → List ℕ
-written_of (Print layout) status said = if status == 0 then said else []
-written_of _ status said = said
+written_of (Print layout) status output = if status == 0 then output else []
+written_of _ status output = output
 
--- what is written of a name
-unfoldable pub ShowsOfName : (List ℕ → List ℕ → Type 0) → (List ℕ → Type 0) → Task → List ℕ
+-- the part of the answer for a name that is written
+unfoldable pub WritesName : (List ℕ → List ℕ → Type 0) → (List ℕ → Type 0) → Task → List ℕ
     → List ℕ → ℕ → Type 0
-ShowsOfName gives fails task name shown status =
-    (said : List ℕ) × SaysOfName gives fails task name said status
-    × (shown ≡ written_of task status said)
+WritesName gives fails task name shown status =
+    (output : List ℕ) × AnswersName gives fails task name output status
+    × (shown ≡ written_of task status output)
 
--- What is said of names, one after another, from the one state of what they stand for to the other.
--- The status is the greatest of theirs, and 0 where there are none.
-pub data SaysOfNames {S : Type 0} (says : S → S → List ℕ → List ℕ → ℕ → Type 0) (start : S)
+-- The answers for names, one after another, from the first state of the sources to the last. The
+-- status is the greatest of their statuses, and 0 for no names.
+pub data AnswersNames {S : Type 0} (answers : S → S → List ℕ → List ℕ → ℕ → Type 0) (start : S)
     : S → List (List ℕ) → List ℕ → ℕ → Type 0 where
-  none : SaysOfNames says start start [] [] 0
-  more : (mid end : S) (names : List (List ℕ)) (name out said : List ℕ) (status own : ℕ)
-      → SaysOfNames says start mid names out status → says mid end name said own
-      → SaysOfNames says start end (names ++ name ∷ []) (out ++ said) (max own status)
+  none : AnswersNames answers start start [] [] 0
+  more : (mid end : S) (names : List (List ℕ)) (name out output : List ℕ) (status own : ℕ)
+      → AnswersNames answers start mid names out status → answers mid end name output own
+      → AnswersNames answers start end (names ++ name ∷ []) (out ++ output) (max own status)
 
--- all that is said of the names was written
-abbrev pub WritesOfNames : {S : Type 0} → (S → S → List ℕ → List ℕ → ℕ → Type 0) → S → S
+-- the answers for all names were written
+abbrev pub WritesNames : {S : Type 0} → (S → S → List ℕ → List ℕ → ℕ → Type 0) → S → S
     → List (List ℕ) → Option (List ℕ) → Option (List ℕ) → ℕ → Type 0
-WritesOfNames says start end names old new status =
-    (out : List ℕ) × SaysOfNames says start end names out status × Appends old new out
+WritesNames answers start end names old new status =
+    (out : List ℕ) × AnswersNames answers start end names out status × Appends old new out
 
--- a beginning of what is said of the first so many names was written
+-- a prefix of the answers for some of the first names was written
 abbrev pub WritesPartOfNames : {S : Type 0} → (S → S → List ℕ → List ℕ → ℕ → Type 0) → S → S
     → List (List ℕ) → Option (List ℕ) → Option (List ℕ) → Type 0
-WritesPartOfNames says start end names old new =
+WritesPartOfNames answers start end names old new =
     (n : ℕ) × (out : List ℕ) × (status : ℕ) × (n ≤ length names)
-    × SaysOfNames says start end (take n names) out status × AppendsBeginning old new out
+    × AnswersNames answers start end (take n names) out status × AppendsBeginning old new out

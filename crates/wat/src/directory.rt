@@ -161,8 +161,8 @@ fn is_directory<R: Files>(rt: &R, input: &str) -> bool {
     input != "-" && rt.metadata(input).is_ok_and(|found| found.is_dir())
 }
 
-/// Finds the inputs that arguments name: a directory stands for the wanted files below it, and any
-/// other name for itself.
+/// Finds the inputs that arguments name: for a directory the wanted files below it, for any other
+/// name the name itself.
 pub(crate) fn inputs_found<R: Files + AllocGlobal + Clone + Drop, T: Watcher>(
     rt: &R,
     wanted: Wanted,

@@ -45,8 +45,8 @@ fn line_of(alloc: Global, name: &str) -> Result<Vec<u8>, AllocError>
     Ok(line.into_bytes())
 }
 
-/// Does with a formatted text what the way says. Returns what is written for the input, and the
-/// status.
+/// Shows, compares or replaces an input with its formatted text. Returns the output for the input,
+/// and its status.
 #[tactic(auto, unfolding(crate::specs::Formats::Settles))]
 fn settle<P: Places>(
     alloc: Global,
@@ -56,8 +56,8 @@ fn settle<P: Places>(
     bytes: &[u8],
     answer: String,
 ) -> io::Result<(Vec<u8>, u8)>
-    ensures settled { IfOk result (λ said. Settles P.puts way places.old places.new name.now
-        bytes.now (string_bytes answer) said.0.items said.1) }
+    ensures settled { IfOk result (λ output. Settles P.puts way places.old places.new name.now
+        bytes.now (string_bytes answer) output.0.items output.1) }
     ensures kept { IfErr result (λ _. places.new ≡ places.old) }
 {
     match way {
@@ -71,8 +71,8 @@ fn settle<P: Places>(
     }
 }
 
-/// Reads and formats an input, and does with the text what the way says; or returns the report of
-/// an input that can't be formatted.
+/// Reads and formats an input, and shows, compares or replaces it; or returns the report of an input
+/// that can't be formatted.
 fn name_formatted<P: Places>(
     alloc: Global,
     way: Way,
@@ -81,8 +81,8 @@ fn name_formatted<P: Places>(
 ) -> io::Result<Result<(Vec<u8>, u8), Vec<u8>>>
     ensures done { IfOk result (λ done. (bytes : List ℕ) × P.gives places.old name.now bytes
         × MatchResult done
-        (λ said. (answer : List ℕ) × IsFormatted bytes answer
-        × Settles P.puts way places.old places.new name.now bytes answer said.0.items said.1)
+        (λ output. (answer : List ℕ) × IsFormatted bytes answer
+        × Settles P.puts way places.old places.new name.now bytes answer output.0.items output.1)
         (λ report. ReportsBytes (shown_name name.now) bytes report.items
         × (places.new ≡ places.old))) }
     ensures unread { IfErr result (λ _. (P.fails places.old name.now
@@ -109,7 +109,7 @@ fn output_for<P: Places, T: Watcher>(
         result.1 }
 {
     match name_formatted(alloc, way, places, name) {
-        Ok(Ok(said)) => said,
+        Ok(Ok(output)) => output,
         Ok(Err(report)) => {
             watcher.refused(&report);
             (Vec::new(alloc), 1)
@@ -130,9 +130,9 @@ pub(crate) struct Formatting<P> {
 }
 
 impl<P: Places> Work for Formatting<P> {
-    ghost says = { λ old new name said status. (new.check ≡ old.check)
+    ghost answers = { λ old new name output status. (new.check ≡ old.check)
         × FormatsName P.gives P.fails P.puts (way_of old.check name) old.places new.places name
-        said status };
+        output status };
 
     fn work_on<T: Watcher>(&mut self, alloc: Global, name: &str, watcher: &T) -> (Vec<u8>, u8) {
         output_for(

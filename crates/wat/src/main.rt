@@ -41,18 +41,18 @@ wat check parses each file as one module of the WebAssembly text format, `(modul
 with its parentheses. For a module it prints nothing. Otherwise it prints the position
 and the reason of each error, and with --json a JSON object for each, on one line. It
 doesn't validate: types and indices aren't checked.
-wat list prints the contents of a module, one field or instruction a line.
+wat list prints the contents of a module, one field or instruction per line.
 wat print prints a module as a text that parses back to the same module. Instructions
-are flat, one a line, or with --line all on one line. Comments are lost.
+are flat, one per line, or with --line all on one line. Comments are lost.
 wat fmt formats each file in place. It changes white space outside tokens and comments
 only, and takes any text with valid tokens. A file is replaced atomically. With --check
 it prints the name of each input that would change, and changes nothing.
 
 Without a FILE, and for the FILE -, a command reads standard input. wat fmt prints the
 formatted text of standard input.
-A directory stands for the files below it, at any depth, in the order of their paths:
+A directory means the files below it, at any depth, in the order of their paths:
 *.wat for wat check, *.wat and *.wast for wat fmt. Symbolic links in it are left out.
-Options stand before or after the files. After -- every argument is a file, also one
+Options come before or after the files. After -- every argument is a file, also one
 that begins with -.
 
 Results go to standard output. Errors about files, arguments and output go to standard

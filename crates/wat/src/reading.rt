@@ -1,15 +1,15 @@
 //! The reading of modules.
 
 ghost use Rattle.std.specs.Prelude.{◌≡◌, ◌⊎◌, ℕ, IfOk, IfErr, List};
-ghost use Rattle.wat_text.specs.Outcomes.{SaysOfBytes};
+ghost use Rattle.wat_text.specs.Outcomes.{AnswersBytes};
 ghost use Rattle.wat.specs.Inputs.{shown_name};
-ghost use Rattle.wat.specs.Runs.{SaysOfName, ShowsOfName, written_of};
+ghost use Rattle.wat.specs.Runs.{AnswersName, WritesName, written_of};
 
 use crate::run::{Watcher, Work};
 use crate::source::{Sources, shown_name};
 use std::alloc::Global;
 use std::io;
-use wat_text::{Task, said_of_bytes};
+use wat_text::{Task, answer_for};
 
 /// Reads an input and returns the answer for its bytes, and their status.
 fn read_answer<S: Sources>(
@@ -18,26 +18,26 @@ fn read_answer<S: Sources>(
     sources: &S,
     name: &str,
 ) -> io::Result<(Vec<u8>, u8)>
-    ensures said { IfOk result (λ said. (bytes : List ℕ) × S.gives sources.now name.now bytes
-        × SaysOfBytes task (shown_name name.now) bytes said.0.items said.1) }
+    ensures output { IfOk result (λ output. (bytes : List ℕ) × S.gives sources.now name.now bytes
+        × AnswersBytes task (shown_name name.now) bytes output.0.items output.1) }
     ensures unread { IfErr result (λ _. S.fails sources.now name.now
         ⊎ ((bytes : List ℕ) × S.gives sources.now name.now bytes)) }
 {
     let bytes = sources.read(alloc, name)?;
-    Ok(said_of_bytes(alloc, task, shown_name(name), &bytes)?)
+    Ok(answer_for(alloc, task, shown_name(name), &bytes)?)
 }
 
 /// Returns the answer for an input, and its status. If the input can't be read, or memory runs out,
 /// the watcher gets the error, and the answer is empty, with status 2.
-#[tactic(auto, unfolding(crate::specs::Runs::SaysOfName))]
-fn answer_for<S: Sources, T: Watcher>(
+#[tactic(auto, unfolding(crate::specs::Runs::AnswersName))]
+fn answer_of_input<S: Sources, T: Watcher>(
     alloc: Global,
     task: Task,
     sources: &S,
     name: &str,
     watcher: &T,
 ) -> (Vec<u8>, u8)
-    ensures { SaysOfName (S.gives sources.now) (S.fails sources.now) task name.now
+    ensures { AnswersName (S.gives sources.now) (S.fails sources.now) task name.now
         result.0.items result.1 }
 {
     match read_answer(alloc, task, sources, name) {
@@ -51,7 +51,7 @@ fn answer_for<S: Sources, T: Watcher>(
 
 /// Returns what is written for an input, and its status. The watcher gets the report of an input
 /// that can't be printed.
-#[tactic(auto, unfolding(crate::specs::Runs::ShowsOfName, crate::specs::Runs::written_of))]
+#[tactic(auto, unfolding(crate::specs::Runs::WritesName, crate::specs::Runs::written_of))]
 fn output_for<S: Sources, T: Watcher>(
     alloc: Global,
     task: Task,
@@ -59,10 +59,10 @@ fn output_for<S: Sources, T: Watcher>(
     name: &str,
     watcher: &T,
 ) -> (Vec<u8>, u8)
-    ensures { ShowsOfName (S.gives sources.now) (S.fails sources.now) task name.now
+    ensures { WritesName (S.gives sources.now) (S.fails sources.now) task name.now
         result.0.items result.1 }
 {
-    let (answer, status) = answer_for(alloc, task, sources, name, watcher);
+    let (answer, status) = answer_of_input(alloc, task, sources, name, watcher);
     match task {
         Task::Print(_) if status != 0 => {
             watcher.refused(&answer);
@@ -80,8 +80,8 @@ pub(crate) struct Reading<S> {
 }
 
 impl<S: Sources> Work for Reading<S> {
-    ghost says = { λ old new name said status. (new ≡ old)
-        × ShowsOfName (S.gives old.sources) (S.fails old.sources) old.task name said status };
+    ghost answers = { λ old new name output status. (new ≡ old)
+        × WritesName (S.gives old.sources) (S.fails old.sources) old.task name output status };
 
     fn work_on<T: Watcher>(&mut self, alloc: Global, name: &str, watcher: &T) -> (Vec<u8>, u8) {
         output_for(alloc, self.task, &self.sources, name, watcher)

@@ -10,8 +10,8 @@ use std::rt::Files;
 /// How many names are tried for a new file.
 const TRIES: u32 = 100;
 
-/// Makes a file beside the one of that path, which none but its owner may read yet. Answers its
-/// path too.
+/// Makes a file beside the file of that path, which only its owner may read. Returns its path and the
+/// file.
 fn new_beside<R: Files>(rt: &R, alloc: Global, path: &str) -> io::Result<(String, R::File)> {
     for number in 0..TRIES {
         let beside = format!(in alloc; "{path}.wat-fmt-{number}")?;

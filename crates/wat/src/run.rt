@@ -3,7 +3,7 @@
 ghost use Rattle.std.specs.Prelude.{◌≡◌, ℕ, IfOk, IsOkUnless, List, OnErr, map};
 ghost use Rattle.std.specs.Io.KnownBytes.{Appends};
 ghost use Rattle.std.specs.String.{string_bytes};
-ghost use Rattle.wat.specs.Runs.{WritesOfNames, WritesPartOfNames};
+ghost use Rattle.wat.specs.Runs.{WritesNames, WritesPartOfNames};
 ghost use Rattle.wat_show.specs.Streams.{AppendsBeginning};
 
 use crate::directory::Wanted;
@@ -30,14 +30,14 @@ pub(crate) trait Watcher {
 
 /// What is done with an input.
 pub(crate) trait Work {
-    /// From the one to the other, this is written for the input with that name, and this is its
-    /// status.
-    ghost says: { Self → Self → List ℕ → List ℕ → ℕ → Type 0 };
+    /// The output for the input with that name, and its status, from the state before to the state
+    /// after.
+    ghost answers: { Self → Self → List ℕ → List ℕ → ℕ → Type 0 };
 
     /// Does the work on an input. Returns what is to be written for it, and its status. The watcher
     /// gets everything else.
     fn work_on<T: Watcher>(&mut self, alloc: Global, name: &str, watcher: &T) -> (Vec<u8>, u8)
-        ensures { says self.old self.new name.now result.0.items result.1 };
+        ensures { answers self.old self.new name.now result.0.items result.1 };
 }
 
 /// Does the work on one input, writes the output for it, and returns the status.
@@ -48,12 +48,12 @@ fn run_on<J: Work, W: Write, T: Watcher>(
     writer: &mut Watched<W>,
     watcher: &T,
 ) -> Result<u8, RunError>
-    ensures all { IfOk result (λ status. (said : List ℕ)
-        × J.says work.old work.new name.now said status
-        × Appends (W.contents writer.old.inner) (W.contents writer.new.inner) said) }
-    ensures part { OnErr result ((said : List ℕ) × (status : ℕ)
-        × J.says work.old work.new name.now said status
-        × AppendsBeginning (W.contents writer.old.inner) (W.contents writer.new.inner) said) }
+    ensures all { IfOk result (λ status. (output : List ℕ)
+        × J.answers work.old work.new name.now output status
+        × Appends (W.contents writer.old.inner) (W.contents writer.new.inner) output) }
+    ensures part { OnErr result ((output : List ℕ) × (status : ℕ)
+        × J.answers work.old work.new name.now output status
+        × AppendsBeginning (W.contents writer.old.inner) (W.contents writer.new.inner) output) }
     ensures only_write { IsOkUnless result RunError.Write }
 {
     let (output, status) = work.work_on(alloc, name, watcher);
@@ -72,9 +72,9 @@ pub(crate) fn run<J: Work, W: Write, T: Watcher>(
     writer: &mut Watched<W>,
     watcher: &mut T,
 ) -> Result<u8, RunError>
-    ensures all { IfOk result (WritesOfNames J.says work.old work.new
+    ensures all { IfOk result (WritesNames J.answers work.old work.new
         (map string_bytes names.now) (W.contents writer.old.inner) (W.contents writer.new.inner)) }
-    ensures part { OnErr result (WritesPartOfNames J.says work.old work.new
+    ensures part { OnErr result (WritesPartOfNames J.answers work.old work.new
         (map string_bytes names.now) (W.contents writer.old.inner) (W.contents writer.new.inner)) }
     ensures only_write { IsOkUnless result RunError.Write }
 {

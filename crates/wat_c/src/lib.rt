@@ -9,7 +9,7 @@ ghost use Rattle.wat_c.specs.Answers.{Answered, Filled, FormatsBytes, layout_of}
 ghost use Rattle.wat_c.specs.Faults.{FaultsAnswered, records_of, words_of};
 ghost use Rattle.wat_text.specs.Checked.{ChecksBytes};
 ghost use Rattle.wat_text.specs.declared.notice.Notice.{Notice};
-ghost use Rattle.wat_text.specs.Outcomes.{SaysOfBytes};
+ghost use Rattle.wat_text.specs.Outcomes.{AnswersBytes};
 ghost use Rattle.wat_text.specs.declared.task.Task.TheVariants.{Check, Show, Print};
 
 mod fault;
@@ -17,7 +17,7 @@ mod fault;
 use fault::{Records, WatFault, records_of};
 use std::alloc::{AllocError, Global};
 use wat_print::Layout;
-use wat_text::{Task, VERSION, bytes_formatted, checked_bytes, said_of_bytes};
+use wat_text::{Task, VERSION, answer_for, bytes_formatted, checked_bytes};
 
 /// The name of the text in reports.
 const NAME: &str = "<text>";
@@ -26,23 +26,23 @@ const NAME: &str = "<text>";
 const NO_MEMORY: i32 = 2;
 
 /// Stores the length of the output, and writes the output to the front of the room if it fits.
-fn fill<T: Copy>(said: &[T], room: &mut [T], needed: &mut usize)
-    ensures { Filled said.now room.old room.new needed.new }
+fn fill<T: Copy>(output: &[T], room: &mut [T], needed: &mut usize)
+    ensures { Filled output.now room.old room.new needed.new }
 {
-    *needed = said.len();
-    if said.len() <= room.len() {
-        room[..said.len()].copy_from_slice(said);
+    *needed = output.len();
+    if output.len() <= room.len() {
+        room[..output.len()].copy_from_slice(output);
     }
 }
 
 /// Writes the answer for the text. Returns its status, or 2 if memory ran out.
 fn answer(alloc: Global, task: Task, text: &[u8], room: &mut [u8], needed: &mut usize) -> i32
-    ensures { Answered (SaysOfBytes task (codes "<text>") text.now) result room.old room.new
+    ensures { Answered (AnswersBytes task (codes "<text>") text.now) result room.old room.new
         needed.old needed.new }
 {
-    match said_of_bytes(alloc, task, NAME, text) {
-        Ok((said, status)) => {
-            fill(&said, room, needed);
+    match answer_for(alloc, task, NAME, text) {
+        Ok((output, status)) => {
+            fill(&output, room, needed);
             i32::from(status)
         }
         Err(AllocError) => NO_MEMORY,
@@ -52,7 +52,7 @@ fn answer(alloc: Global, task: Task, text: &[u8], room: &mut [u8], needed: &mut 
 /// Checks that the text is a module. The output is empty if it is, else the report of its errors.
 #[unsafe(no_mangle)]
 pub extern "C" fn wat_check(alloc: Global, text: &[u8], room: &mut [u8], needed: &mut usize) -> i32
-    ensures { Answered (SaysOfBytes Check (codes "<text>") text.now) result room.old room.new
+    ensures { Answered (AnswersBytes Check (codes "<text>") text.now) result room.old room.new
         needed.old needed.new }
 {
     answer(alloc, Task::Check, text, room, needed)
@@ -94,7 +94,7 @@ pub extern "C" fn wat_faults(
 /// first error.
 #[unsafe(no_mangle)]
 pub extern "C" fn wat_list(alloc: Global, text: &[u8], room: &mut [u8], needed: &mut usize) -> i32
-    ensures { Answered (SaysOfBytes Show (codes "<text>") text.now) result room.old room.new
+    ensures { Answered (AnswersBytes Show (codes "<text>") text.now) result room.old room.new
         needed.old needed.new }
 {
     answer(alloc, Task::Show, text, room, needed)
@@ -117,7 +117,7 @@ pub extern "C" fn wat_print(
     room: &mut [u8],
     needed: &mut usize,
 ) -> i32
-    ensures { Answered (SaysOfBytes (Print (layout_of line)) (codes "<text>") text.now) result
+    ensures { Answered (AnswersBytes (Print (layout_of line)) (codes "<text>") text.now) result
         room.old room.new needed.old needed.new }
 {
     answer(alloc, Task::Print(layout_of(line)), text, room, needed)

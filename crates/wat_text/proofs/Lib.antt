@@ -1,3 +1,3 @@
 mod Expecting
 mod Found
-mod Saying
+mod Answering

@@ -16,52 +16,53 @@ use Rattle.wat_text.specs.Checked.{ChecksBytes}
 use Rattle.wat_text.specs.Formatted.{ReportsWrongByte}
 use Rattle.wat_text.specs.Notices.{notice_json, notice_report}
 
--- Of a module: nothing; what `watshow module` lists of it; or a text that spells it, on one line the
--- text of its tokens, and a line break.
-unfoldable pub SaysOf : Task → ModuleTy → List ℕ → Type 0
-SaysOf Check m said = said ≡ []
-SaysOf Json m said = said ≡ []
-SaysOf Show m said = said ≡ module_text m
-SaysOf (Print layout) m said =
+-- The answer for a module: nothing; the listing of `watshow module`; or a text that spells the module,
+-- and a line break. In Layout Line that text is the text of its tokens.
+unfoldable pub IsAnswer : Task → ModuleTy → List ℕ → Type 0
+IsAnswer Check m output = output ≡ []
+IsAnswer Json m output = output ≡ []
+IsAnswer Show m output = output ≡ module_text m
+IsAnswer (Print layout) m output =
     (text : List ℕ) × SpellsModule text m
-    × (layout ≡ Line → text ≡ printed_text (spell_module_group m)) × (said ≡ text ++ 10 ∷ [])
+    × (layout ≡ Line → text ≡ printed_text (spell_module_group m)) × (output ≡ text ++ 10 ∷ [])
 
 -- a text spells the module
 abbrev pub WasRead : ModuleTy → Type 0
 WasRead m = (text : List ℕ) × IsUtf8 text × SpellsModule text m
 
--- the text spells a module, of which that is said, with status 0
-abbrev pub SaysOfModule : Task → List ℕ → List ℕ → ℕ → Type 0
-SaysOfModule task text said status =
-    (m : ModuleTy) × SpellsModule text m × SaysOf task m said × (status ≡ 0)
+-- the text spells a module: the answer is that for the module, with status 0
+abbrev pub AnswersModule : Task → List ℕ → List ℕ → ℕ → Type 0
+AnswersModule task text output status =
+    (m : ModuleTy) × SpellsModule text m × IsAnswer task m output × (status ≡ 0)
 
--- the text spells no module, and a fault other than Memory is reported, with status 1
-abbrev pub SaysOfFault : List ℕ → List ℕ → List ℕ → ℕ → Type 0
-SaysOfFault name text said status =
+-- the text spells no module: the answer is the report of a fault other than Memory, with status 1
+abbrev pub AnswersFault : List ℕ → List ℕ → List ℕ → ℕ → Type 0
+AnswersFault name text output status =
     ((m : ModuleTy) → SpellsModule text m → ⊥)
-    × ((f : Fault) × (offset : ℕ) × (f ≢ Memory) × IsReport name text offset f said)
+    × ((f : Fault) × (offset : ℕ) × (f ≢ Memory) × IsReport name text offset f output)
     × (status ≡ 1)
 
--- the one or the other
-unfoldable pub SaysOfRead : Task → List ℕ → List ℕ → List ℕ → ℕ → Type 0
-SaysOfRead task name text said status =
-    SaysOfModule task text said status ⊎ SaysOfFault name text said status
+-- the answer for a text that is read as a module
+unfoldable pub AnswersText : Task → List ℕ → List ℕ → List ℕ → ℕ → Type 0
+AnswersText task name text output status =
+    AnswersModule task text output status ⊎ AnswersFault name text output status
 
--- of bytes that are UTF-8 what is said of their text, of others the first wrong byte, with status 1
-unfoldable pub SaysOfReadBytes : Task → List ℕ → List ℕ → List ℕ → ℕ → Type 0
-SaysOfReadBytes task name bytes said status =
-    (IsUtf8 bytes × SaysOfRead task name bytes said status)
-    ⊎ (ReportsWrongByte name bytes said × (status ≡ 1))
+-- the answer for bytes: that for their text if they are UTF-8, or else the report of the first wrong
+-- byte, with status 1
+unfoldable pub AnswersReadBytes : Task → List ℕ → List ℕ → List ℕ → ℕ → Type 0
+AnswersReadBytes task name bytes output status =
+    (IsUtf8 bytes × AnswersText task name bytes output status)
+    ⊎ (ReportsWrongByte name bytes output × (status ≡ 1))
 
--- what a check finds, written one after the other
-abbrev pub SaysFound : (Notice → List ℕ) → List ℕ → List ℕ → ℕ → Type 0
-SaysFound written bytes said status =
-    (ns : List Notice) × ChecksBytes bytes ns status × (said ≡ flat_map written ns)
+-- the answer of a check: its notices, written one after the other
+abbrev pub AnswersFound : (Notice → List ℕ) → List ℕ → List ℕ → ℕ → Type 0
+AnswersFound written bytes output status =
+    (ns : List Notice) × ChecksBytes bytes ns status × (output ≡ flat_map written ns)
 
 -- A text is checked, as a report or as JSON; or it is read as it is, and listed or printed.
-unfoldable pub SaysOfBytes : Task → List ℕ → List ℕ → List ℕ → ℕ → Type 0
-SaysOfBytes Check name bytes said status = SaysFound (notice_report name) bytes said status
-SaysOfBytes Json name bytes said status = SaysFound (notice_json name) bytes said status
-SaysOfBytes Show name bytes said status = SaysOfReadBytes Show name bytes said status
-SaysOfBytes (Print layout) name bytes said status =
-    SaysOfReadBytes (Print layout) name bytes said status
+unfoldable pub AnswersBytes : Task → List ℕ → List ℕ → List ℕ → ℕ → Type 0
+AnswersBytes Check name bytes output status = AnswersFound (notice_report name) bytes output status
+AnswersBytes Json name bytes output status = AnswersFound (notice_json name) bytes output status
+AnswersBytes Show name bytes output status = AnswersReadBytes Show name bytes output status
+AnswersBytes (Print layout) name bytes output status =
+    AnswersReadBytes (Print layout) name bytes output status

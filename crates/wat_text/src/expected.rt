@@ -1,8 +1,8 @@
-//! What could stand in place of the token with an error.
+//! The tokens that are possible in place of a token with an error.
 //!
-//! The parser answers that. The text up to the error is parsed with each candidate after it. A
-//! candidate could stand there if the text is then refused at its end alone, or not at all. No
-//! clause says so, since no contract describes the position of a fault.
+//! The parser finds them: the text up to the error is parsed with each candidate after it. A
+//! candidate is possible if the text is then refused at its end, or not at all. No clause says so,
+//! since no contract describes the position of a fault.
 
 use crate::outcome::module_of;
 use crate::shortened::short_text;

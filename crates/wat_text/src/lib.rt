@@ -1,7 +1,7 @@
 //! The answers for one text: whether it is a module and where it isn't, its listing, its print, its
 //! formatted text.
 //!
-//! [`said_of_bytes`] returns the first three as bytes, [`bytes_formatted`] the last, and
+//! [`answer_for`] returns the first three as bytes, [`bytes_formatted`] the last, and
 //! [`checked_bytes`] the errors as values. The program `wat` and the library for C call these.
 #![tactic(auto)]
 
@@ -17,7 +17,7 @@ mod words;
 pub use checked::checked_bytes;
 pub use formatted::bytes_formatted;
 pub use notice::{Notice, add_more_words};
-pub use outcome::said_of_bytes;
+pub use outcome::answer_for;
 pub use task::Task;
 
 /// The version of the program `wat` and of the library for C, as both print it.

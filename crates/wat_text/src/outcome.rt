@@ -2,8 +2,8 @@
 
 ghost use Rattle.std.specs.Prelude.{◌≡◌, ◌≢◌, List, ℕ, IfOk, IfErr};
 ghost use Rattle.wat_text.specs.Notices.{notice_json, notice_report};
-ghost use Rattle.wat_text.specs.Outcomes.{SaysFound, SaysOfBytes, SaysOfRead, SaysOfReadBytes};
-ghost use Rattle.wat_text.specs.Outcomes.{SaysOf, WasRead};
+ghost use Rattle.wat_text.specs.Outcomes.{AnswersFound, AnswersBytes, AnswersText, AnswersReadBytes};
+ghost use Rattle.wat_text.specs.Outcomes.{IsAnswer, WasRead};
 ghost use Rattle.wat_text.specs.declared.task.Task.TheVariants.{Print};
 ghost use Rattle.wat_core.specs.Module.{ModuleTy, module_view};
 ghost use Rattle.wat_core.specs.Text.{SpellsModule};
@@ -25,7 +25,7 @@ use wat_show::modules::add_module;
 /// Returns the text that a module is printed as, and a line break.
 fn printed(alloc: Global, layout: Layout, module: &Module) -> Result<Vec<u8>, AllocError>
     requires { WasRead (module_view «module».now) }
-    ensures { IfOk result (λ said. SaysOf (Print layout) (module_view «module».now) said.items) }
+    ensures { IfOk result (λ output. IsAnswer (Print layout) (module_view «module».now) output.items) }
 {
     match print_module(alloc, module, layout) {
         Ok(mut text) => {
@@ -41,10 +41,10 @@ fn printed(alloc: Global, layout: Layout, module: &Module) -> Result<Vec<u8>, Al
 }
 
 /// Returns the answer for a text that is a module.
-#[tactic(auto, unfolding(crate::specs::Outcomes::SaysOf))]
-fn said_of_module(alloc: Global, task: Task, module: &Module) -> Result<Vec<u8>, AllocError>
+#[tactic(auto, unfolding(crate::specs::Outcomes::IsAnswer))]
+fn answer_for_module(alloc: Global, task: Task, module: &Module) -> Result<Vec<u8>, AllocError>
     requires { WasRead (module_view «module».now) }
-    ensures { IfOk result (λ said. SaysOf task (module_view «module».now) said.items) }
+    ensures { IfOk result (λ output. IsAnswer task (module_view «module».now) output.items) }
 {
     let mut listing = Vec::new(alloc);
     match task {
@@ -62,10 +62,10 @@ pub(crate) fn refused(
     text: &str,
     error: Error,
 ) -> Result<(Vec<u8>, u8), AllocError>
-    ensures fault { IfOk result (λ said. error.fault ≢ Memory) }
-    ensures report { IfOk result (λ said. IsReport name.now text.now (offset_of error.span)
-        error.fault said.0.items) }
-    ensures status { IfOk result (λ said. said.1 ≡ 1) }
+    ensures fault { IfOk result (λ output. error.fault ≢ Memory) }
+    ensures report { IfOk result (λ output. IsReport name.now text.now (offset_of error.span)
+        error.fault output.0.items) }
+    ensures status { IfOk result (λ output. output.1 ≡ 1) }
 {
     if error.fault == Fault::Memory {
         return Err(AllocError);
@@ -90,18 +90,18 @@ pub(crate) fn module_of<'a>(
 
 /// Returns the listing or the print of a text, and the status 0; or the report of its error, and the
 /// status 1.
-#[tactic(auto, unfolding(crate::specs::Outcomes::SaysOfRead))]
-fn said_of_read(
+#[tactic(auto, unfolding(crate::specs::Outcomes::AnswersText))]
+fn answer_for_text(
     alloc: Global,
     task: Task,
     name: &str,
     text: &str,
 ) -> Result<(Vec<u8>, u8), AllocError>
-    ensures { IfOk result (λ said. SaysOfRead task name.now text.now said.0.items said.1) }
+    ensures { IfOk result (λ output. AnswersText task name.now text.now output.0.items output.1) }
 {
     let arena = Bump::new(alloc);
     match module_of(alloc, text, &arena) {
-        Ok(module) => Ok((said_of_module(alloc, task, &module)?, 0)),
+        Ok(module) => Ok((answer_for_module(alloc, task, &module)?, 0)),
         Err(error) => refused(alloc, name, text, error),
     }
 }
@@ -112,7 +112,7 @@ pub(crate) fn report_of_one(
     name: &str,
     diagnostic: &Diagnostic,
 ) -> Result<Vec<u8>, AllocError>
-    ensures { IfOk result (λ said. said.items ≡ report_text name.now diagnostic.now) }
+    ensures { IfOk result (λ output. output.items ≡ report_text name.now diagnostic.now) }
 {
     let mut report = Vec::new(alloc);
     add_diagnostic(&mut report, name, diagnostic)?;
@@ -120,25 +120,25 @@ pub(crate) fn report_of_one(
 }
 
 /// Returns the listing or the print of bytes of that name, and the status.
-#[tactic(auto, unfolding(crate::specs::Outcomes::SaysOfReadBytes))]
-fn said_of_read_bytes(
+#[tactic(auto, unfolding(crate::specs::Outcomes::AnswersReadBytes))]
+fn answer_for_bytes(
     alloc: Global,
     task: Task,
     name: &str,
     bytes: &[u8],
 ) -> Result<(Vec<u8>, u8), AllocError>
-    ensures { IfOk result (λ said. SaysOfReadBytes task name.now bytes.now said.0.items said.1) }
+    ensures { IfOk result (λ output. AnswersReadBytes task name.now bytes.now output.0.items output.1) }
 {
     match text_or_diagnostic(alloc, bytes)? {
-        Ok(text) => said_of_read(alloc, task, name, text),
+        Ok(text) => answer_for_text(alloc, task, name, text),
         Err(diagnostic) => Ok((report_of_one(alloc, name, &diagnostic)?, 1)),
     }
 }
 
 /// Checks bytes of that name. Returns the report of what is found, and the status.
 fn reported(alloc: Global, name: &str, bytes: &[u8]) -> Result<(Vec<u8>, u8), AllocError>
-    ensures { IfOk result (λ said. SaysFound (notice_report name.now) bytes.now said.0.items
-        said.1) }
+    ensures { IfOk result (λ output. AnswersFound (notice_report name.now) bytes.now output.0.items
+        output.1) }
 {
     let (notices, status) = checked_bytes(alloc, bytes)?;
     Ok((report_of(alloc, name, &notices)?, status))
@@ -146,8 +146,8 @@ fn reported(alloc: Global, name: &str, bytes: &[u8]) -> Result<(Vec<u8>, u8), Al
 
 /// Checks bytes of that name. Returns what is found as JSON, and the status.
 fn reported_as_json(alloc: Global, name: &str, bytes: &[u8]) -> Result<(Vec<u8>, u8), AllocError>
-    ensures { IfOk result (λ said. SaysFound (notice_json name.now) bytes.now said.0.items
-        said.1) }
+    ensures { IfOk result (λ output. AnswersFound (notice_json name.now) bytes.now output.0.items
+        output.1) }
 {
     let (notices, status) = checked_bytes(alloc, bytes)?;
     Ok((json_of(alloc, name, &notices)?, status))
@@ -158,18 +158,18 @@ fn reported_as_json(alloc: Global, name: &str, bytes: &[u8]) -> Result<(Vec<u8>,
 /// JSON.
 ///
 /// The error is AllocError if memory runs out.
-#[tactic(auto, unfolding(crate::specs::Outcomes::SaysOfBytes))]
-pub fn said_of_bytes(
+#[tactic(auto, unfolding(crate::specs::Outcomes::AnswersBytes))]
+pub fn answer_for(
     alloc: Global,
     task: Task,
     name: &str,
     bytes: &[u8],
 ) -> Result<(Vec<u8>, u8), AllocError>
-    ensures { IfOk result (λ said. SaysOfBytes task name.now bytes.now said.0.items said.1) }
+    ensures { IfOk result (λ output. AnswersBytes task name.now bytes.now output.0.items output.1) }
 {
     match task {
         Task::Check => reported(alloc, name, bytes),
         Task::Json => reported_as_json(alloc, name, bytes),
-        Task::Show | Task::Print(_) => said_of_read_bytes(alloc, task, name, bytes),
+        Task::Show | Task::Print(_) => answer_for_bytes(alloc, task, name, bytes),
     }
 }

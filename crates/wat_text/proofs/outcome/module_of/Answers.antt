@@ -1,5 +1,5 @@
 use Rattle.std.proofs.Common.{◌≡◌}
-use Rattle.wat_text.proofs.Saying.{none_spells}
+use Rattle.wat_text.proofs.Answering.{none_spells}
 use Rattle.wat_text.proofs.outcome.module_of.Goals as goal
 use Rattle.wat_core.specs.Error.{Memory}
 use Rattle.wat_core.specs.Module.{module_view}

@@ -1,7 +1,7 @@
 -- What a refusal means, and what is printed.
 use Rattle.std.proofs.Common.{◌≡◌, ℕ, List, [], ◌∷◌, ◌++◌, ◌∙◌, Ok, Err, inr}
 use Rattle.std.specs.Prelude.{true, ◌≢◌, Result, IfOk, IfErr, MatchResult}
-use Rattle.wat_text.specs.Outcomes.{SaysOf, SaysOfRead, WasRead}
+use Rattle.wat_text.specs.Outcomes.{IsAnswer, AnswersText, WasRead}
 use Rattle.wat_text.specs.declared.task.Task.{Task}
 use Rattle.wat_text.specs.declared.task.Task.TheVariants.{Print}
 use Rattle.wat_core.specs.Error.{Fault, Memory}
@@ -22,16 +22,16 @@ pub none_spells : {T E V : Type 0} (S : V → Type 0) (P : V → T → Type 0) (
 none_spells S P Q (Ok x) only = tt
 none_spells S P Q (Err e) only = λ other v s. other (only v s)
 
-pub says_fault : {T E : Type 0} (task : Task) (name text : List ℕ) (f : Fault) (offset : ℕ) (said : T → List ℕ) (status : T → ℕ) (r : Result T E)
-    → (f ≢ Memory → (m : ModuleTy) → SpellsModule text m → ⊥) → IfOk r (λ x. f ≢ Memory) → IfOk r (λ x. IsReport name text offset f (said x)) → IfOk r (λ x. status x ≡ 1)
-    → IfOk r (λ x. SaysOfRead task name text (said x) (status x))
-unfolding SaysOfRead
-says_fault task name text f offset said status (Ok x) none other is one = inr (none other, (f, offset, other, is), one)
-says_fault task name text f offset said status (Err e) none other is one = tt
+pub answers_fault : {T E : Type 0} (task : Task) (name text : List ℕ) (f : Fault) (offset : ℕ) (output : T → List ℕ) (status : T → ℕ) (r : Result T E)
+    → (f ≢ Memory → (m : ModuleTy) → SpellsModule text m → ⊥) → IfOk r (λ x. f ≢ Memory) → IfOk r (λ x. IsReport name text offset f (output x)) → IfOk r (λ x. status x ≡ 1)
+    → IfOk r (λ x. AnswersText task name text (output x) (status x))
+unfolding AnswersText
+answers_fault task name text f offset output status (Ok x) none other is one = inr (none other, (f, offset, other, is), one)
+answers_fault task name text f offset output status (Err e) none other is one = tt
 
-pub says_print : (layout : Layout) (m : ModuleTy) (text new said : List ℕ) → SpellsModule text m → (layout ≡ Line → text ≡ printed_text (spell_module_group m)) → new ≡ text ++ 10 ∷ [] → said ≡ new → SaysOf (Print layout) m said
-unfolding SaysOf
-says_print layout m text new said spells line added is = (text, spells, line, is ∙ added)
+pub answers_print : (layout : Layout) (m : ModuleTy) (text new output : List ℕ) → SpellsModule text m → (layout ≡ Line → text ≡ printed_text (spell_module_group m)) → new ≡ text ++ 10 ∷ [] → output ≡ new → IsAnswer (Print layout) m output
+unfolding IsAnswer
+answers_print layout m text new output spells line added is = (text, spells, line, is ∙ added)
 
 -- tokens of a text spell what was read
 pub some_spells : (m : ModuleTy) → WasRead m → NoneSpells (paren module_) m → ⊥
