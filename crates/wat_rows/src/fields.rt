@@ -107,7 +107,7 @@ impl<'a> Reader<'a, Module<'a>> for AsVisible {
     }
 }
 
-/// The bytes of a data value, put behind the byte 0xaa.
+/// Returns the byte 0xaa and the bytes of a data value.
 struct Pushed;
 
 impl<'a> Reader<'a, Vec<u8>> for Pushed {
@@ -121,7 +121,7 @@ impl<'a> Reader<'a, Vec<u8>> for Pushed {
     }
 }
 
-/// Adds the answer of a row of what is in a field.
+/// Adds the result of a row of a part of a field.
 fn add_part<'a>(out: &mut String, row: &Row<'a>) -> Result<bool, AllocError> {
     match row.kind {
         "expression" => add::<Expression<'a>, Bare, OfModules, Uncopied>(out, row),
@@ -133,7 +133,7 @@ fn add_part<'a>(out: &mut String, row: &Row<'a>) -> Result<bool, AllocError> {
     }
 }
 
-/// Adds the answer of a row of a field or a module.
+/// Adds the result of a row of a field or a module.
 pub fn add_row<'a>(out: &mut String, row: &Row<'a>) -> Result<bool, AllocError> {
     match row.kind {
         "func" => add::<Func<'a>, Bare, OfModules, Uncopied>(out, row),

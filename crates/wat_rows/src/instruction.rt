@@ -52,7 +52,7 @@ impl<'a> Copier<Whole<'a>> for OfInstructions {
     }
 }
 
-/// Adds the bytes of an opcode, or a dash where there is none.
+/// Adds the bytes of an opcode, or a dash if there is none.
 fn add_opcode(out: &mut String, row: &Row<'_>, op: Op) -> Result<(), AllocError> {
     let mut bytes = Vec::new(row.alloc);
     match op.opcode().write(&mut bytes) {
@@ -85,7 +85,7 @@ fn add_mnemonic<'a>(out: &mut String, row: &Row<'a>) -> Result<bool, AllocError>
     Ok(true)
 }
 
-/// Adds what is printed of an expression as one folded instruction, or why it is none.
+/// Adds an expression printed as one folded instruction, or the reason why it isn't one.
 fn add_regrouped<'a>(out: &mut String, row: &Row<'a>) -> Result<bool, AllocError> {
     let read = match row.parser(row.text, false) {
         Ok(mut parser) => Expression::parse(&mut parser),
@@ -106,7 +106,7 @@ fn add_regrouped<'a>(out: &mut String, row: &Row<'a>) -> Result<bool, AllocError
     Ok(true)
 }
 
-/// Adds the answer of a row of an instruction, of its word alone, or of an expression that is
+/// Adds the result of a row of an instruction, of its word alone, or of an expression that is
 /// printed as one folded instruction.
 pub fn add_row<'a>(out: &mut String, row: &Row<'a>) -> Result<bool, AllocError> {
     match row.kind {

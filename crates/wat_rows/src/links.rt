@@ -12,7 +12,7 @@ use wat_core::{
     RawCustomSection,
 };
 
-/// What an import tells of itself.
+/// A summary of an import.
 #[derive(Debug, Drop)]
 struct Told {
     /// How many items it has.
@@ -23,7 +23,7 @@ struct Told {
     item_sigs: Vec<(&'static str, usize)>,
 }
 
-/// What a custom section tells of itself.
+/// A summary of a custom section.
 #[derive(Debug, Drop)]
 struct Section<'a> {
     /// Where it is.
@@ -34,7 +34,7 @@ struct Section<'a> {
     ids: Vec<u8>,
 }
 
-/// What is told of what is read.
+/// A value with a summary.
 struct OfItself;
 
 /// The words of a signature's kind.
@@ -54,7 +54,7 @@ fn word_and_place(sig: &ItemSig<'_>) -> (&'static str, usize) {
     (word_of(sig), sig.span.offset())
 }
 
-/// What an import tells of itself.
+/// A summary of an import.
 fn tell(alloc: Global, imports: &Imports<'_>) -> Result<Told, Error> {
     let mut item_sigs = Vec::new(alloc);
     for sig in imports.item_sigs(alloc)? {
@@ -67,7 +67,7 @@ fn tell(alloc: Global, imports: &Imports<'_>) -> Result<Told, Error> {
     })
 }
 
-/// What a custom section tells of itself.
+/// A summary of a custom section.
 fn section_of<'a>(alloc: Global, custom: &Custom<'a>) -> Result<Section<'a>, Error> {
     let mut ids = Vec::new(alloc);
     if let Custom::Dylink0(dylink) = custom {
@@ -100,7 +100,7 @@ impl<'a> Reader<'a, Section<'a>> for OfItself {
     }
 }
 
-/// Adds the answer of a row of a custom section, or what is in one.
+/// Adds the result of a row of a custom section, or what is in one.
 fn add_custom<'a>(out: &mut String, row: &Row<'a>) -> Result<bool, AllocError> {
     match row.kind {
         "custom" => add::<Custom<'a>, Grouped, OfModules, Uncopied>(out, row),
@@ -114,7 +114,7 @@ fn add_custom<'a>(out: &mut String, row: &Row<'a>) -> Result<bool, AllocError> {
     }
 }
 
-/// Adds the answer of a row of an import, an export or a custom section.
+/// Adds the result of a row of an import, an export or a custom section.
 pub fn add_row<'a>(out: &mut String, row: &Row<'a>) -> Result<bool, AllocError> {
     match row.kind {
         "imports" => add::<Imports<'a>, Bare, OfModules, Cloned>(out, row),

@@ -1,24 +1,25 @@
-//! Reads rows `KIND | TEXT` from standard input, one a line, and writes of each what its text is read
-//! as: a table of tests, whose expected answers are this crate's `stdout`.
+//! A table of tests: reads rows `KIND | TEXT` from standard input, one per line, parses the text of
+//! each, and prints the result. The expected results are this crate's `stdout`.
 //!
-//! A row's answer is the row, and below it, each on lines of its own:
+//! The result of a row is the row, and below it lines of these forms:
 //!
-//! - `= VALUE`: the value that the text is, as Debug writes it, or what is told of it; of a
-//!   repetition, the numbers of members that it is read with;
-//! - `! FAULT at OFFSET`: why the text is none, and the byte at which; `! REASON`: why a value isn't
-//!   printed;
-//! - `> TEXT`: what is printed of the value on one line, and `: LINE` of each line where it is
-//!   printed on more than one;
-//! - `- LINE` of a report, or of what the program shows;
-//! - `? WORDS`: what should never be said, as that a printed text isn't read again.
+//! - `= VALUE`: the value of the text, as Debug prints it, or a summary of the value; for a
+//!   repetition, the numbers of members with which it was parsed;
+//! - `! FAULT at OFFSET`: the error of the text, with its offset in bytes; `! REASON`: the reason why
+//!   a value can't be printed;
+//! - `> TEXT`: the value printed on one line; `: LINE`: each line of the value printed on more than
+//!   one line;
+//! - `- LINE`: a line of a report, or of the output of the program;
+//! - `? WORDS`: a failure, for example a printed text that doesn't parse back to the value.
 //!
-//! In a text, `␊` stands for a line feed and `␍` for a carriage return. Behind a row's kind there may
-//! be words: `plain`, for no annotation is known; `spans`, for the spans of instructions are kept;
-//! `times`, for a repetition (the module `repeated`); and a number, where the kind takes one. A line
-//! that is no row is passed on.
+//! In a text, `␊` is a line feed and `␍` a carriage return. The kind of a row may be followed by
+//! words: `plain` (no annotation is known), `spans` (the spans of instructions are kept), `times` (a
+//! repetition, see the module `repeated`), and a number, if the kind takes one. A line that isn't a
+//! row is copied to the output.
 //!
-//! A kind is a type, or what its module says of it: of `peek`, `values`, `signatures`, `section`,
-//! `pushed`, `regrouped`, `report`, `show`, `line` and `nearest` it says more than a value.
+//! A kind is a type, or one of `peek`, `values`, `signatures`, `section`, `pushed`, `regrouped`,
+//! `report`, `show`, `line` and `nearest`, whose results are more than a value: their modules
+//! describe them.
 #![tactic(auto)]
 
 mod copies;
@@ -41,7 +42,7 @@ use std::alloc::{AllocError, Global};
 use std::io;
 use std::process::ExitCode;
 
-/// Adds the answer of a row of any kind.
+/// Adds the result of a row of any kind.
 fn add_row(out: &mut String, row: &Row<'_>) -> Result<(), AllocError> {
     let found = tokens::add_row(out, row)?
         || types::add_row(out, row)?
@@ -56,7 +57,7 @@ fn add_row(out: &mut String, row: &Row<'_>) -> Result<(), AllocError> {
     Ok(())
 }
 
-/// Adds a line, and its answer where it is a row.
+/// Adds a line, and its result if it is a row.
 fn add_line(out: &mut String, line: &str) -> Result<(), AllocError> {
     out.push_str(line)?;
     out.push_str("\n")?;
@@ -69,7 +70,7 @@ fn add_line(out: &mut String, line: &str) -> Result<(), AllocError> {
     add_row(out, &Row::of(alloc, kind, text, &arena))
 }
 
-/// The answers of all lines.
+/// Returns the results of all lines.
 fn answers(alloc: Global, lines: &str) -> Result<String, AllocError> {
     let mut out = String::new(alloc);
     for line in lines.lines() {

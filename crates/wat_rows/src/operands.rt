@@ -49,7 +49,7 @@ impl<'a> Reader<'a, MemArg<'a>> for ReadAndWrite {
     }
 }
 
-/// The answer of a row whose values aren't copied.
+/// Returns the result of a row whose values aren't copied.
 fn of<'a, T: Parse<'a> + Debug + Drop + PrintCode>(
     out: &mut String,
     row: &Row<'a>,
@@ -57,7 +57,7 @@ fn of<'a, T: Parse<'a> + Debug + Drop + PrintCode>(
     add::<T, Bare, OfOperands, Uncopied>(out, row)
 }
 
-/// The answer of a row whose values are copied.
+/// Returns the result of a row whose values are copied.
 fn copied<'a, T: Parse<'a> + Debug + Drop + PrintCode>(
     out: &mut String,
     row: &Row<'a>,
@@ -68,7 +68,7 @@ where
     add::<T, Bare, OfOperands, Cloned>(out, row)
 }
 
-/// Adds the answer of a row of an access to a memory.
+/// Adds the result of a row of an access to a memory.
 fn add_access<'a>(out: &mut String, row: &Row<'a>) -> Result<bool, AllocError> {
     match row.kind {
         "memarg" => add::<MemArg<'a>, Aligned, Unprinted, Uncopied>(out, row),
@@ -86,7 +86,7 @@ fn add_access<'a>(out: &mut String, row: &Row<'a>) -> Result<bool, AllocError> {
     }
 }
 
-/// Adds the answer of a row of an operand of control.
+/// Adds the result of a row of an operand of control.
 fn add_control<'a>(out: &mut String, row: &Row<'a>) -> Result<bool, AllocError> {
     match row.kind {
         "block" => copied::<BlockType<'a>>(out, row),
@@ -109,7 +109,7 @@ fn add_control<'a>(out: &mut String, row: &Row<'a>) -> Result<bool, AllocError> 
     }
 }
 
-/// Adds the answer of a row of an operand.
+/// Adds the result of a row of an operand.
 pub fn add_row<'a>(out: &mut String, row: &Row<'a>) -> Result<bool, AllocError> {
     match row.kind {
         "table_arg" => of::<TableArg<'a>>(out, row),

@@ -102,7 +102,7 @@ fn add_count<'a, T: Debug + Drop, R: Reader<'a, T>, P: Printer<T>, C: Copier<T>>
     }
 }
 
-/// Adds the answer of a row of a repetition.
+/// Adds the result of a row of a repetition.
 pub fn add_repeated<'a, T: Debug + Drop, R: Reader<'a, T>, P: Printer<T>, C: Copier<T>>(
     out: &mut String,
     row: &Row<'a>,

@@ -1,4 +1,4 @@
-//! A row, and what is said of it.
+//! A row, and its result.
 
 use crate::copies::Copier;
 use crate::printers::Printer;
@@ -16,7 +16,7 @@ use wat_print::Layout;
 pub struct Row<'a> {
     /// The first word of its kind.
     pub kind: &'a str,
-    /// The words behind that.
+    /// The words after that.
     pub words: &'a str,
     /// The text that is read.
     pub text: &'a str,
@@ -53,7 +53,7 @@ impl<'a> Row<'a> {
     }
 }
 
-/// The text in which line feeds and carriage returns stand for their signs.
+/// Returns the text with line feeds and carriage returns in place of their signs.
 pub fn characters<'a>(alloc: Global, text: &str, arena: &'a Bump) -> Result<&'a str, AllocError> {
     let mut out = String::new(alloc);
     for character in text.chars() {
@@ -105,8 +105,8 @@ fn is_refused<'a, T: Drop, R: Reader<'a, T>>(
     }
 }
 
-/// Adds a line where a text that is refused isn't refused three bytes further on behind three blanks;
-/// or, where no annotation is in it, not in the same way if the others are known.
+/// Adds a line if a text that is refused isn't refused three bytes later after three blanks, or, for
+/// a text without annotations, isn't refused in the same way with the other annotations known.
 fn add_elsewhere<'a, T: Drop, R: Reader<'a, T>>(
     out: &mut String,
     row: &Row<'a>,
@@ -218,8 +218,8 @@ fn add_value<'a, T: Debug + Drop, R: Reader<'a, T>, P: Printer<T>, C: Copier<T>>
     add_copy::<T, C>(out, row, value)
 }
 
-/// Adds the answer of a row. What it is read as is let go without being dropped, since each type's
-/// drop would be proved here once more.
+/// Adds the result of a row. The parsed value isn't dropped, since the
+/// drop of each type would be proved here again.
 pub fn add<'a, T: Debug + Drop, R: Reader<'a, T>, P: Printer<T>, C: Copier<T>>(
     out: &mut String,
     row: &Row<'a>,

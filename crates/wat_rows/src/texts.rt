@@ -1,4 +1,4 @@
-//! Rows of what is said of texts: reports, listings, places.
+//! Rows of the answers for texts: reports, listings, places.
 
 use crate::row::{Row, add_refusal};
 use std::alloc::{AllocError, Global};
@@ -6,7 +6,7 @@ use wat_core::read_module;
 use wat_report::{add_report, line_at, line_column, nearest_mnemonics};
 use wat_show::Mode;
 
-/// Adds lines, each behind a mark.
+/// Adds lines, each after a mark.
 fn add_marked(out: &mut String, mark: &str, bytes: &[u8]) -> Result<bool, AllocError> {
     match str::from_utf8(bytes) {
         Ok(text) => {
@@ -62,7 +62,7 @@ fn add_nearest(out: &mut String, row: &Row<'_>) -> Result<bool, AllocError> {
     Ok(true)
 }
 
-/// Adds the answer of a row of what is said of a text.
+/// Adds the result of a row of the answer for a text.
 pub fn add_row(out: &mut String, row: &Row<'_>) -> Result<bool, AllocError> {
     match row.kind {
         "report" => add_reported(out, row),

@@ -13,7 +13,7 @@ use wat_core::{
     Token, Type, ValType, kw,
 };
 
-/// The answer of a row whose values aren't copied.
+/// Returns the result of a row whose values aren't copied.
 fn of<'a, T: Parse<'a> + Debug + Drop, P: Printer<T>>(
     out: &mut String,
     row: &Row<'a>,
@@ -21,7 +21,7 @@ fn of<'a, T: Parse<'a> + Debug + Drop, P: Printer<T>>(
     add::<T, Bare, P, Uncopied>(out, row)
 }
 
-/// Adds what Debug writes of the text that bytes are, or of the bytes where they are none.
+/// Adds bytes as Debug prints their text, or the bytes if they aren't UTF-8.
 fn add_bytes(out: &mut String, bytes: &[u8]) -> Result<(), AllocError> {
     match str::from_utf8(bytes) {
         Ok(text) => write!(out, "{text:?}"),
@@ -43,7 +43,7 @@ fn add_token(out: &mut String, token: Token<'_>) -> Result<(), AllocError> {
     }
 }
 
-/// Adds the tokens of a text, each behind its offset and a colon.
+/// Adds the tokens of a text, each after its offset and a colon.
 fn add_tokens(out: &mut String, row: &Row<'_>) -> Result<bool, AllocError> {
     match cut(row.alloc, row.text, row.arena) {
         Ok(tokens) => {
@@ -60,7 +60,8 @@ fn add_tokens(out: &mut String, row: &Row<'_>) -> Result<bool, AllocError> {
     Ok(true)
 }
 
-/// Adds the numbers that an integer is in a width, read unsigned and signed, or a dash for none.
+/// Adds the numbers of an integer in a width, unsigned and signed, or a dash for an integer that is
+/// out of range.
 fn add_width(
     out: &mut String,
     bits: u32,
@@ -94,7 +95,7 @@ fn add_values(out: &mut String, row: &Row<'_>) -> Result<bool, AllocError> {
     Ok(true)
 }
 
-/// What a type is called, and whether a value of it begins in front, or behind the first token.
+/// The name of a type, and whether a value of it begins at the first token, or at the second.
 fn begun<T: Peek>(parser: &Parser<'_>, is_behind: bool) -> (&'static str, bool) {
     let begins = if is_behind {
         parser.peek2::<T>()
@@ -104,8 +105,8 @@ fn begun<T: Peek>(parser: &Parser<'_>, is_behind: bool) -> (&'static str, bool) 
     (T::display(), begins)
 }
 
-/// Adds what each type is called of which a value begins: once what several are called, which stand
-/// side by side and have to agree.
+/// Adds the name of each type of which a value begins. A name that several types share is added once;
+/// these types are neighbours and have to agree.
 fn add_begun(out: &mut String, types: &[(&str, bool)]) -> Result<(), AllocError> {
     let mut last = ("", false);
     for each in types {
@@ -122,7 +123,7 @@ fn add_begun(out: &mut String, types: &[(&str, bool)]) -> Result<(), AllocError>
     Ok(())
 }
 
-/// Adds what of tokens and types begins, in front or behind the first token.
+/// Adds the tokens and types that begin at the first token, or at the second.
 fn add_begins(out: &mut String, parser: &Parser<'_>, is_behind: bool) -> Result<(), AllocError> {
     let numbers = [
         begun::<u8>(parser, is_behind),
@@ -152,7 +153,7 @@ fn add_begins(out: &mut String, parser: &Parser<'_>, is_behind: bool) -> Result<
     add_begun(out, &types)
 }
 
-/// Adds what of words and of parts of a module begins, in front or behind the first token.
+/// Adds the words and parts of a module that begin at the first token, or at the second.
 fn add_other_begins(
     out: &mut String,
     parser: &Parser<'_>,
@@ -172,7 +173,7 @@ fn add_other_begins(
     add_begun(out, &others)
 }
 
-/// Adds what begins in front of a text, and, behind a slash, what begins behind its first token.
+/// Adds what begins at the first token of a text, and, after a slash, what begins at the second.
 fn add_peeks(out: &mut String, row: &Row<'_>) -> Result<bool, AllocError> {
     match row.parser(row.text, false) {
         Ok(parser) => {
@@ -189,7 +190,7 @@ fn add_peeks(out: &mut String, row: &Row<'_>) -> Result<bool, AllocError> {
     Ok(true)
 }
 
-/// Adds the answer of a row of an integer of a width.
+/// Adds the result of a row of an integer of a width.
 fn add_number<'a>(out: &mut String, row: &Row<'a>) -> Result<bool, AllocError> {
     match row.kind {
         "u8" => of::<u8, OfOperands>(out, row),
@@ -207,7 +208,7 @@ fn add_number<'a>(out: &mut String, row: &Row<'a>) -> Result<bool, AllocError> {
     }
 }
 
-/// Adds the answer of a row of tokens, or of what is one token.
+/// Adds the result of a row of tokens, or of a value that is one token.
 pub fn add_row<'a>(out: &mut String, row: &Row<'a>) -> Result<bool, AllocError> {
     match row.kind {
         "tokens" => add_tokens(out, row),

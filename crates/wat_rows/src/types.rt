@@ -22,7 +22,7 @@ impl<'a> Reader<'a, Option<u32>> for PageSize {
     }
 }
 
-/// The answer of a row whose values aren't copied.
+/// Returns the result of a row whose values aren't copied.
 fn of<'a, T: Parse<'a> + Debug + Drop + Print>(
     out: &mut String,
     row: &Row<'a>,
@@ -30,7 +30,7 @@ fn of<'a, T: Parse<'a> + Debug + Drop + Print>(
     add::<T, Bare, OfTypes, Uncopied>(out, row)
 }
 
-/// Adds the answer of a row of a type that is copied.
+/// Adds the result of a row of a type that is copied.
 fn add_copied<'a>(out: &mut String, row: &Row<'a>) -> Result<bool, AllocError> {
     match row.kind {
         "functype" => add::<FunctionType<'a>, Bare, OfTypes, Cloned>(out, row),
@@ -47,7 +47,7 @@ fn add_copied<'a>(out: &mut String, row: &Row<'a>) -> Result<bool, AllocError> {
     }
 }
 
-/// Adds the answer of a row of a type.
+/// Adds the result of a row of a type.
 pub fn add_row<'a>(out: &mut String, row: &Row<'a>) -> Result<bool, AllocError> {
     match row.kind {
         "abstract" => of::<AbstractHeapType>(out, row),

@@ -1,4 +1,4 @@
-//! What a run of the program answers: for deeply nested texts, and for bytes that aren't UTF-8.
+//! The output of the program for deeply nested texts, and for bytes that aren't UTF-8.
 
 use crate::streams::{Source, Target};
 use std::alloc::{AllocError, Global};

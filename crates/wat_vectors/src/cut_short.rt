@@ -51,7 +51,7 @@ fn a_module_cut_off_is_refused(rt: HostRuntime) -> Result<(), Fail> {
 /// token.
 type Row = (&'static str, &'static str);
 
-/// The letter U stands for Unexpected, O for Operator and H for HintPlace, at the end of the text,
+/// The letter U means Unexpected, O for Operator and H for HintPlace, at the end of the text,
 /// and L for LexAnnotation, at the first annotation.
 #[rattlefmt::skip]
 const ROWS: [Row; 19] = [

@@ -1,4 +1,4 @@
-//! Small texts and what is told of them, where a field is a number in parentheses.
+//! Small texts and their faults, where a field is a number in parentheses.
 
 use bumpalo::Bump;
 use std::alloc::Global;
@@ -42,7 +42,7 @@ fn check_row(rt: &impl Abort, alloc: Global, row: &Row) -> Result<(), Fail> {
     Ok(())
 }
 
-/// Texts that are told of.
+/// The texts.
 const ROWS: [Row; 19] = [
     // A good group between two wrong ones.
     Row {
@@ -74,7 +74,7 @@ const ROWS: [Row; 19] = [
         faults: &[(Fault::Range, 13)],
         beside: None,
     },
-    // Groups of annotations that aren't known, between fields and within, in the head and behind.
+    // Groups of unknown annotations: between fields and in them, in the head and after it.
     Row {
         text: "(@h (x)) (module (@a (b)) (1) (@c) ((@d ()) 2 (@e)) (@f) (x)(@g)) (@i)",
         groups: 3,
@@ -90,7 +90,7 @@ const ROWS: [Row; 19] = [
         faults: &[(Fault::Unexpected, 13)],
         beside: None,
     },
-    // Known annotations aren't known before the head and behind the module.
+    // Known annotations aren't known before the head and after the module.
     Row {
         text: "(@custom) (module (x)) (@name)",
         groups: 1,
@@ -144,7 +144,7 @@ const ROWS: [Row; 19] = [
         faults: &[(Fault::Unexpected, 9)],
         beside: Some(12),
     },
-    // Tokens behind the module.
+    // Tokens after the module.
     Row {
         text: "(module (1)) (x)",
         groups: 1,

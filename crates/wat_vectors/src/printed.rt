@@ -17,7 +17,7 @@ use wat_print_instr::expression::{expression_read_again, print_expression};
 use wat_print_instr::{Code, PrintCode};
 use wat_print_module::{ModulePart, PrintPart, print_module, read_again};
 
-/// Adds why a value isn't printed, and what is said of that.
+/// Adds the reason why a value isn't printed, and its text.
 fn add_reason<T: Print>(out: &mut String, value: &T) -> Result<(), AllocError> {
     match print(*out.allocator(), value, Layout::Line) {
         Ok(text) => write!(out, "printed: {text}\n"),
@@ -106,7 +106,7 @@ fn add_fields(out: &mut String, alloc: Global) -> Result<(), Error> {
     Ok(add_part(out, table)?)
 }
 
-/// What is said of all these.
+/// The expected texts of all these.
 const REASONS: &str = "EmptyName: an identifier is empty
 PageSize: a page size has more than 32 bits
 Label: a label stands where none may stand

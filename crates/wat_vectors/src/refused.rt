@@ -1,7 +1,7 @@
 //! Calls that take memory, and what they leave of the list and of the value that they are given.
 //!
-//! Here none is refused memory. `tests/refused_calls` runs each test with each of its calls for
-//! memory refused in turn, and reads what it says.
+//! Here no allocation fails. `tests/refused_calls` runs each test with each of its allocations failing
+//! in turn, and reads its output.
 
 use bumpalo::Bump;
 use std::alloc::{AllocError, Global};
@@ -67,7 +67,7 @@ fn an_opcode_is_written_whole(rt: HostRuntime) -> Result<(), Fail> {
     check_outcome(&rt, written(rt.alloc()), 2, &[0xaa, 0xfd, 0x6e])
 }
 
-/// Puts three bytes behind a list.
+/// Appends three bytes to a list.
 fn pushed(alloc: Global) -> Result<Outcome, Error> {
     let arena = Bump::new(alloc);
     let mut list = list_of_one(alloc)?;
@@ -107,7 +107,7 @@ fn signatures_are_listed_whole(rt: HostRuntime) -> Result<(), Fail> {
     check_outcome(&rt, listed(rt.alloc()), 2, &[])
 }
 
-/// An index, wherever it stands.
+/// An index, wherever it is.
 pub fn number<'a>(number: u32) -> Index<'a> {
     Index::Num(number, Span::from_offset(0))
 }

@@ -51,7 +51,7 @@ impl<'a> Parse<'a> for Directive<'a> {
     }
 }
 
-/// Directives, one behind the other.
+/// A list of directives.
 #[derive(Drop)]
 pub struct Script<'a>(pub Vec<Directive<'a>>);
 

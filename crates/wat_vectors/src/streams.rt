@@ -75,7 +75,7 @@ type Row<'a> = (
     &'a str,
 );
 
-/// A run over a text does what its row says.
+/// A run over a text does what its row expects.
 fn does(rt: &impl Abort, alloc: Global, text: &str, row: Row<'_>, takes_nothing: bool) {
     let ([most_read, most_written], [read, write], outcome, calls, written) = row;
     let mut reader = Watched::new(Source {
