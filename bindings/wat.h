@@ -1,9 +1,9 @@
 /* wat.h: reads, lists, prints and formats the WebAssembly text format, as the program `wat` does.
  *
- * Each function takes a text: TEXT points to LENGTH bytes, which should be UTF-8. Its output is bytes
- * without a 0 at the end. If the output fits in the ROOM bytes at SAID, it is written there, from the
- * first byte on. Otherwise nothing is written there. *NEEDED becomes the length of the output: a caller
- * who sees *NEEDED > ROOM calls again with more room.
+ * Each function takes a text: TEXT points to LENGTH bytes, which should be UTF-8. The output of a function
+ * is bytes, without a 0 at the end. If the output fits in the ROOM bytes at SAID, it is written at their
+ * start. Otherwise nothing is written. *NEEDED becomes the length of the output: if *NEEDED > ROOM, call
+ * again with a greater buffer.
  *
  * Each function returns WAT_OK, WAT_REFUSED or WAT_NO_MEMORY. With WAT_NO_MEMORY, SAID and *NEEDED are
  * unchanged.
@@ -20,7 +20,7 @@
  *         ^
  *     hint: did you mean `i32.add`, `i32.and`, `f32.add`?
  *
- * Without a hint, a line `expected: ..` may list what could stand there.
+ * Without a hint, a line `expected: ..` may list what could be at this position.
  */
 #ifndef WAT_H
 #define WAT_H
@@ -35,7 +35,7 @@ extern "C" {
 
 enum { WAT_OK = 0, WAT_REFUSED = 1, WAT_NO_MEMORY = 2 };
 
-/* wat_check: checks that the text is a module, in its parentheses.
+/* wat_check: checks that the text is one module, `(module ..)` with its parentheses.
  * WAT_OK: it is; the output is empty. WAT_REFUSED: it isn't; the output is the report. Types and indices
  * aren't checked. A float literal is checked by its spelling only: a value out of range is accepted. */
 int32_t wat_check(const uint8_t *text, size_t length, uint8_t *said, size_t room, size_t *needed);
@@ -45,14 +45,14 @@ int32_t wat_check(const uint8_t *text, size_t length, uint8_t *said, size_t room
  *
  * MESSAGE, HINT, EXPECTED and END are offsets into the messages. The message is the bytes from MESSAGE up to
  * HINT. The words after `hint: ` in the report are the bytes from HINT up to EXPECTED; the words after
- * `expected: ` are the bytes from EXPECTED up to END. Without such a line in the report there are no such bytes.
+ * `expected: ` are the bytes from EXPECTED up to END. If the report has no such line, the range is empty.
  *
  * FAULT is the number of the fault, from 1 to 21 (docs/GRAMMAR.md, "Faults"). If more than 20 fields are
  * invalid, one record has FAULT 0, and OFFSET, LENGTH, LINE and COLUMN 0: its message is
- * `N more fields are refused`. */
+ * `N more fields are invalid`. */
 typedef struct {
     size_t offset; /* of the fault, from the start of the text */
-    size_t length; /* to underline: a word or one character; 0 at the end of the text */
+    size_t length; /* of the word or character to underline; 0 at the end of the text */
     size_t line;
     size_t column;
     size_t fault;
@@ -63,23 +63,22 @@ typedef struct {
 } wat_fault;
 
 /* wat_faults: returns the faults that wat_check reports, in the same order, as numbers and messages.
- * *COUNT becomes the number of faults. If they fit in the SPACE records at FAULTS, they are written there, from
- * the first record on; otherwise nothing is written there. *NEEDED becomes the length of all messages. If they
- * fit in the ROOM bytes at MESSAGES, they are written there; otherwise nothing is written there. Messages are
- * UTF-8.
- * WAT_OK: the text is a module; *COUNT and *NEEDED are 0. WAT_REFUSED: it isn't. With WAT_NO_MEMORY all are
- * unchanged. The pointers follow the rules above: none is null, and what they point to doesn't overlap. */
+ * *COUNT becomes the number of faults. If they fit in the SPACE records at FAULTS, they are written at their
+ * start; otherwise no record is written. *NEEDED becomes the length of all messages. If they fit in the ROOM bytes
+ * at MESSAGES, they are written at their start; otherwise no message is written. Messages are UTF-8.
+ * WAT_OK: the text is a module; *COUNT and *NEEDED are 0. WAT_REFUSED: it isn't. With WAT_NO_MEMORY all outputs
+ * are unchanged. The pointers follow the rules above: none is null, and what they point to doesn't overlap. */
 int32_t wat_faults(const uint8_t *text, size_t length, wat_fault *faults, size_t space, size_t *count,
     uint8_t *messages, size_t room, size_t *needed);
 
 /* wat_list: lists the contents of a module.
- * WAT_OK: the output has one field or instruction a line. WAT_REFUSED: the output is the report why the
- * text isn't a module, or has a float literal. */
+ * WAT_OK: the output has one field or instruction per line. WAT_REFUSED: the text isn't a module, or has a
+ * float literal; the output is the report. */
 int32_t wat_list(const uint8_t *text, size_t length, uint8_t *said, size_t room, size_t *needed);
 
 /* wat_print: prints a module as a text that parses back to the same module, flat and without comments.
- * With LINE the output is one line, otherwise each instruction has a line. WAT_OK: the output is the text.
- * WAT_REFUSED: the output is the report, as for wat_list. */
+ * If LINE is true, the output is one line; otherwise each instruction has its own line. WAT_OK: the output is
+ * the text. WAT_REFUSED: the output is the report, as for wat_list. */
 int32_t wat_print(const uint8_t *text, size_t length, bool line, uint8_t *said, size_t room, size_t *needed);
 
 /* wat_format: formats any text with valid tokens: modules, scripts, fragments. It changes white space only;

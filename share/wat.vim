@@ -1,5 +1,5 @@
-" Vim and Neovim: in *.wat and *.wast, `:make` runs `wat check` on the file, and the quickfix list gets its faults.
-" `gq` formats lines by `wat fmt`, and `gggqG` the whole file. Copy this file to ~/.vim/plugin/.
+" Vim and Neovim: in *.wat and *.wast, `:make` runs `wat check` on the file and puts the faults in the quickfix list.
+" `gq` formats lines with `wat fmt`, and `gggqG` the whole file. Copy this file to ~/.vim/plugin/.
 augroup wat
   autocmd!
   autocmd BufNewFile,BufRead *.wat,*.wast call s:SetOptions()

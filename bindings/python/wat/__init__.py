@@ -4,8 +4,8 @@
     >>> wat.check("(module (func i32.ad))")[0].message
     'no instruction is called `i32.ad`'
 
-A text is a `str` or UTF-8 `bytes`. A call raises MemoryError if the library runs out of memory. The library is the
-file that the environment variable WAT_LIBRARY names, or else libwat.so in the folder of this file.
+A text is a `str` or UTF-8 `bytes`. A call raises MemoryError if the library runs out of memory. The environment
+variable WAT_LIBRARY has the path of the library; without it, the library is libwat.so in the folder of this file.
 """
 
 from __future__ import annotations
@@ -18,7 +18,8 @@ from typing import List
 __all__ = ["NAMES", "Fault", "Refused", "check", "format", "list", "print", "version"]
 __version__ = "0.1.0"
 
-#: The names of faults by their numbers. `More` isn't a fault of the text: it counts the faults that aren't listed.
+#: The names of faults by their numbers. `More` isn't a fault of the text: it has the number of invalid fields that
+#: aren't listed.
 NAMES = (
     *("More", "Memory", "LexChar", "LexString", "LexComment", "LexAnnotation", "Unexpected", "Range", "Utf8"),
     *("FloatLiteral", "Alignment", "PageSize", "Operator", "ParamAfterResult", "IfWithoutThen", "IfTooMany"),
@@ -30,13 +31,13 @@ NAMES = (
 class Fault:
     """An error of a text, with its position.
 
-    After the faults of 20 invalid fields, a fault whose name is `More` says in its message how many more fields are
-    invalid. Its four numbers are 0.
+    If more than 20 fields are invalid, a fault whose name is `More` has the number of the others in its message. Its
+    four numbers are 0.
     """
 
     #: The offset of the fault in the UTF-8 text, in bytes from 0.
     offset: int
-    #: How many bytes to underline from there on; 0 at the end of the text.
+    #: The number of bytes to underline, from the offset on; 0 at the end of the text.
     length: int
     #: The line, from 1.
     line: int
@@ -44,11 +45,11 @@ class Fault:
     column: int
     #: The name of the fault, one of NAMES.
     name: str
-    #: The error in words.
+    #: The message.
     message: str
-    #: A suggestion in words, or None.
+    #: A suggestion, or None.
     hint: str | None = None
-    #: A list in words of what could stand there, or None.
+    #: A list of what could be at this position, or None.
     expected: str | None = None
 
     def __str__(self) -> str:
@@ -59,7 +60,7 @@ class Refused(Exception):
     """The text can't be listed, printed or formatted.
 
     `report` is the reason, as the program `wat` prints it. `faults` are the faults that `check` returns for the text.
-    There is none if the only reason is a float literal, which `check` accepts.
+    The list is empty if the only reason is a float literal, which `check` accepts.
     """
 
     def __init__(self, report: str, faults: List[Fault]) -> None:
@@ -147,7 +148,7 @@ def _fault(record: _Record, messages: bytes) -> Fault:
 
 
 def check(text: str | bytes) -> List[Fault]:
-    """Returns the faults of the text; none if it is a module. Types and indices aren't checked."""
+    """Returns the faults of the text; for a module the list is empty. Types and indices aren't checked."""
     data = _bytes(text)
     space, room = _SPACE, _ROOM
     count, needed = ctypes.c_size_t(), ctypes.c_size_t()
@@ -175,7 +176,7 @@ def print(text: str | bytes, line: bool = False) -> str:
 
 
 def list(text: str | bytes) -> str:
-    """Returns the contents of the module, one field or instruction a line.
+    """Returns the contents of the module, one field or instruction per line.
 
     Raises Refused if the text isn't a module, or has a float literal.
     """

@@ -45,7 +45,8 @@ unsafe extern "C" {
     fn wat_version(said: *mut u8, room: usize, needed: *mut usize) -> i32;
 }
 
-/// The names of faults by their numbers. `More` isn't a fault of the text: it counts the faults that aren't listed.
+/// The names of faults by their numbers. `More` isn't a fault of the text: it has the number of invalid fields that
+/// aren't listed.
 pub const NAMES: [&str; 22] = [
     "More",
     "Memory",
@@ -73,13 +74,13 @@ pub const NAMES: [&str; 22] = [
 
 /// An error of a text, with its position.
 ///
-/// After the faults of 20 invalid fields, a fault whose name is `More` says in its message how many more fields are
-/// invalid. Its four numbers are 0.
+/// If more than 20 fields are invalid, a fault whose name is `More` has the number of the others in its message. Its
+/// four numbers are 0.
 #[derive(Clone, Debug, PartialEq, Eq)]
 pub struct Fault {
     /// The offset of the fault in the text, in bytes from 0.
     pub offset: usize,
-    /// How many bytes to underline from there on; 0 at the end of the text.
+    /// The number of bytes to underline, from the offset on; 0 at the end of the text.
     pub length: usize,
     /// The line, from 1.
     pub line: usize,
@@ -87,11 +88,11 @@ pub struct Fault {
     pub column: usize,
     /// The name of the fault, one of [`NAMES`].
     pub name: &'static str,
-    /// The error in words.
+    /// The message.
     pub message: String,
-    /// A suggestion in words.
+    /// A suggestion.
     pub hint: Option<String>,
-    /// A list in words of what could stand there.
+    /// A list of what could be at this position.
     pub expected: Option<String>,
 }
 
@@ -108,8 +109,8 @@ impl Error for Fault {}
 pub struct Refused {
     /// The reason, as the program `wat` prints it.
     pub report: String,
-    /// The faults that [`check()`] returns for the text. There is none if the only reason is a float literal, which
-    /// `check` accepts.
+    /// The faults that [`check()`] returns for the text. Empty if the only reason is a float literal, which `check`
+    /// accepts.
     pub faults: Vec<Fault>,
 }
 
@@ -130,7 +131,7 @@ fn words(bytes: &[u8]) -> String {
     String::from_utf8(bytes.to_vec()).expect("libwat writes UTF-8")
 }
 
-/// Returns the output of a call, and whether the text is refused; calls again with more room if the output doesn't fit.
+/// Returns whether the text is refused, and the output. Calls again with a greater buffer if the output doesn't fit.
 fn output(call: impl Fn(*mut u8, usize, &mut usize) -> i32) -> (bool, String) {
     let mut room = vec![0; 4096];
     loop {
@@ -166,7 +167,7 @@ fn fault(record: &Record, messages: &[u8]) -> Fault {
     }
 }
 
-/// Returns the faults of the text; none if it is a module. Types and indices aren't checked.
+/// Returns the faults of the text; for a module the list is empty. Types and indices aren't checked.
 pub fn check(text: impl AsRef<[u8]>) -> Vec<Fault> {
     let text = text.as_ref();
     let (mut records, mut messages) = (vec![Record::default(); 32], vec![0; 4096]);
@@ -202,7 +203,7 @@ pub fn format(text: impl AsRef<[u8]>) -> Result<String, Refused> {
     answer_of(wat_format, text.as_ref())
 }
 
-/// Returns a text that parses back to the same module, flat and without comments; if `line`, on one line.
+/// Returns a text that parses back to the same module, flat and without comments; if `line` is true, on one line.
 ///
 /// # Errors
 /// The text isn't a module, or has a float literal.
@@ -215,7 +216,7 @@ pub fn print(text: impl AsRef<[u8]>, line: bool) -> Result<String, Refused> {
     answer(text, output(call))
 }
 
-/// Returns the contents of the module, one field or instruction a line.
+/// Returns the contents of the module, one field or instruction per line.
 ///
 /// # Errors
 /// The text isn't a module, or has a float literal.
