@@ -1,26 +1,49 @@
 -- How labels are written, and lists of parts that may have one: parameters and fields.
-use Rattle.std.specs.Prelude.{ℕ, Bool, true, not, ◌&&◌, if◌then◌else◌, List, [], ◌∷◌, ◌++◌, codes}
-use Rattle.std.specs.Prelude.{map}
+use Rattle.std.specs.Prelude.{◌≡◌, ℕ, Bool, true, false, Option, not, ◌&&◌, if◌then◌else◌, List, []}
+use Rattle.std.specs.Prelude.{◌∷◌, codes, map}
 use Rattle.std.specs.Str.{is_utf8}
-use Rattle.wat_lexer.specs.Token.{Tok, Id, Annotation, String}
+use Rattle.wat_lexer.specs.Token.{Tok, LParen, Id, Annotation, String}
 use Rattle.wat_tokens.specs.Spelled.{in_parens}
 use Rattle.wat_types.specs.Label.{Label, labelled}
+use Rattle.wat_tokens.specs.NameAnnotation.{begins_name}
+use Rattle.wat_tokens.specs.Tests.{begins_id, more}
+use Rattle.wat_types.specs.Label.{begins_label}
+use Rattle.std.specs.Prelude.{◌⊎◌, flat_map, ◌||◌}
+use Rattle.std.proofs.Common.{inl, inr}
+use Rattle.wat_print.specs.Form.{else_form, only_where_form, many_form, by_where}
+use Rattle.wat_print.specs.Parts.{each}
+use Rattle.wat_print.specs.Form.{Test, any, Form, token_form, option_form, seq_form, by}
 use Rattle.wat_print.specs.WellFormed.{is_name}
-use Rattle.wat_print.specs.Parts.{spell_option, if_some}
-
-abbrev pub spell_id : List ℕ → List Tok
-spell_id n = Id n ∷ []
 
 -- ( @name name )
 abbrev pub spell_name : List ℕ → List Tok
 spell_name n = in_parens (Annotation (codes "name") ∷ String n ∷ [])
 
--- id? name?
-abbrev pub spell_label : Label → List Tok
-spell_label l = spell_option spell_id l.id ++ spell_option spell_name l.name
+abbrev pub OfIds : Test → Test → Type 0
+OfIds rest test = (n : List ℕ) (y : List Tok) → rest y ≡ true → test (Id n ∷ y) ≡ true
 
-abbrev pub printable_label : Label → Bool
-printable_label l = if_some is_name l.id && if_some is_utf8 l.name
+abbrev pub id_form : Form (List ℕ)
+id_form =
+    token_form (λ n. Id n) is_name OfIds
+
+abbrev pub name_form : Form (List ℕ)
+name_form = record {
+  spell = spell_name;
+  printable = is_utf8;
+  ready = is_utf8;
+  follows = any;
+  empty = false;
+  balanced = true;
+  Fronts = λ rest test. ((y : List Tok) → test (LParen ∷ Annotation (codes "name") ∷ y) ≡ true);
+}
+
+abbrev pub label_parts : Label → Option (List ℕ) × Option (List ℕ)
+label_parts l = (l.id, l.name)
+
+-- id? name?
+abbrev pub label_form : Form Label
+label_form =
+    by label_parts (seq_form (option_form begins_id id_form) (option_form begins_name name_form))
 
 -- none of the parts has a label
 abbrev pub none_labelled : {A : Type 0} → (A → Label) → List A → Bool
@@ -35,3 +58,36 @@ abbrev pub in_groups : {A : Type 0} → (A → Label) → List A → List (List 
 in_groups label [] = []
 in_groups label (v ∷ vs) =
     if none_labelled label (v ∷ vs) then (v ∷ vs) ∷ [] else map by_itself (v ∷ vs)
+
+-- one part with a label, or parts without
+module _ {T P : Type 0} (value : Form T) (label_in : P → Label) (value_in : P → T) where
+  abbrev pub part_form : Form P
+  part_form = by (λ x. (label_in x, value_in x)) (seq_form label_form value)
+
+  abbrev pub tree_form : Form (Label × T ⊎ List T)
+  tree_form =
+      else_form begins_label
+      (only_where_form (λ v. labelled v.0) (seq_form label_form value)) (many_form more value)
+
+  abbrev pub one_side : Bool → P → Label × T ⊎ List T
+  one_side true x = inl (label_in x, value_in x)
+  one_side false x = inr (value_in x ∷ [])
+
+  abbrev pub listed_parts : List P → Label × T ⊎ List T
+  listed_parts [] = inr []
+  listed_parts (x ∷ []) = one_side (labelled (label_in x)) x
+  listed_parts (x ∷ y ∷ xs) = inr (map value_in (x ∷ y ∷ xs))
+
+  abbrev pub at_most_one : List P → Bool
+  at_most_one [] = true
+  at_most_one (x ∷ []) = true
+  at_most_one (x ∷ y ∷ xs) = false
+
+  abbrev pub may_share : List P → Bool
+  may_share xs = (at_most_one xs || none_labelled label_in xs) && each part_form.printable xs
+
+  -- what may stand in one group
+  abbrev pub listed_form : Form (List P)
+  listed_form = record (by_where may_share listed_parts tree_form) {
+    spell = flat_map part_form.spell;
+  }

@@ -1,9 +1,11 @@
 -- Laws of the definitions: lemmas that other crates rest on.
+pub mod Before
 pub mod Bytes
 pub mod Characters
 pub mod Cutting
 pub mod Define
 pub mod Fitting
+pub mod Form
 pub mod Function
 pub mod Given
 pub mod Integer

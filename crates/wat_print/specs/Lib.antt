@@ -13,7 +13,9 @@ pub use Rattle.wat_types.specs.Recursion
 pub use Rattle.wat_types.specs.StructType
 pub use Rattle.wat_types.specs.Tag
 pub use Rattle.wat_types.specs.Value
+pub mod Before
 pub mod Define
+pub mod Form
 pub mod Function
 pub mod Index
 pub mod Integer
@@ -25,6 +27,7 @@ pub mod WellFormed
 pub mod Parts
 pub mod Printed
 pub mod Printings
+pub mod Prints
 pub mod Reference
 pub mod Refusal
 pub mod Storage

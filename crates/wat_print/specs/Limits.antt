@@ -1,46 +1,69 @@
 -- How limits, memory types and table types are written.
-use Rattle.std.specs.Prelude.{ℕ, ◌^◌, Bool, ◌&&◌, nat_lt, List, [], ◌∷◌, ◌++◌, codes, decimal}
+use Rattle.std.specs.Prelude.{◌≡◌, ℕ, ◌^◌, Bool, true, false, nat_lt, List, ◌∷◌, Option, codes}
+use Rattle.std.specs.Prelude.{decimal, ◌⊎◌}
+use Rattle.std.proofs.Common.{inl, inr}
 use Rattle.wat_lexer.specs.Token.{Tok, Integer}
+use Rattle.wat_tokens.specs.Tests.{begins_word, begins_group, begins_integer}
 use Rattle.wat_types.specs.Limits.{TableTy}
+use Rattle.wat_types.specs.Reference.{RefTy}
 use Rattle.wat_types.specs.declared.limits.Limits.{Limits}
 use Rattle.wat_types.specs.declared.limits.MemoryType.{MemoryType}
-use Rattle.wat_print.specs.Parts.{grouped, spell_flag, spell_option, if_some}
-use Rattle.wat_print.specs.Reference.{spell_ref, printable_ref}
-
-abbrev pub spell_number : ℕ → List Tok
-spell_number n = Integer (decimal n) ∷ []
+use Rattle.wat_print.specs.Form.{Test, Form, token_form, word_form, flag_form, seq_form}
+use Rattle.wat_print.specs.Form.{option_form, by, by_where, else_form, group_form, behind_form}
+use Rattle.wat_print.specs.Parts.{spell_flag}
+use Rattle.wat_print.specs.Reference.{ref_form}
 
 -- of 64 bits
 abbrev pub is_u64 : ℕ → Bool
 is_u64 n = nat_lt n (2 ^ 64)
 
--- i64? min max?
-abbrev pub spell_limits : Limits → List Tok
-spell_limits l =
-    spell_flag (codes "i64") l.is64 ++ (spell_number l.min ++ spell_option spell_number l.max)
-
-abbrev pub printable_limits : Limits → Bool
-printable_limits l = is_u64 l.min && if_some is_u64 l.max
-
--- ( pagesize 2^k )
-abbrev pub spell_page_size : ℕ → List Tok
-spell_page_size k = grouped (codes "pagesize") (spell_number (2 ^ k))
-
 -- 2^k has 32 bits
 abbrev pub is_exponent : ℕ → Bool
 is_exponent k = nat_lt k 32
 
-abbrev pub spell_memory_type : MemoryType → List Tok
-spell_memory_type m =
-    spell_limits m.limits
-    ++ (spell_flag (codes "shared") m.shared ++ spell_option spell_page_size m.page_size_log2)
+abbrev pub OfIntegers : Test → Test → Type 0
+OfIntegers rest test = (x : List ℕ) (y : List Tok) → rest y ≡ true → test (Integer x ∷ y) ≡ true
 
-abbrev pub printable_memory_type : MemoryType → Bool
-printable_memory_type m = printable_limits m.limits && if_some is_exponent m.page_size_log2
+abbrev pub number_form : Form ℕ
+number_form = token_form (λ n. Integer (decimal n)) is_u64 OfIntegers
 
-abbrev pub spell_table_type : TableTy → List Tok
-spell_table_type t =
-    spell_flag (codes "shared") t.shared ++ (spell_limits t.limits ++ spell_ref t.elem)
+-- `i64`, or nothing
+abbrev pub width_parts : Bool → Unit {0} ⊎ Bool
+width_parts true = inl tt
+width_parts false = inr false
 
-abbrev pub printable_table_type : TableTy → Bool
-printable_table_type t = printable_limits t.limits && printable_ref t.elem
+abbrev pub width_form : Form Bool
+width_form =
+    record (by_where (λ _. true) width_parts (else_form (begins_word (codes "i64"))
+    (word_form (codes "i64")) (flag_form (codes "i32")))) { spell = spell_flag (codes "i64") }
+
+abbrev pub limits_parts : Limits → Bool × (ℕ × Option ℕ)
+limits_parts l = (l.is64, (l.min, l.max))
+
+-- i64? min max?
+abbrev pub limits_form : Form Limits
+limits_form =
+    by limits_parts (behind_form begins_integer width_form
+    (seq_form number_form (option_form begins_integer number_form)))
+
+abbrev pub exponent_form : Form ℕ
+exponent_form = token_form (λ k. Integer (decimal (2 ^ k))) is_exponent OfIntegers
+
+-- ( pagesize 2^k )?
+abbrev pub page_form : Form (Option ℕ)
+page_form =
+    option_form (begins_group (codes "pagesize")) (group_form (codes "pagesize") exponent_form)
+
+abbrev pub memory_parts : MemoryType → Limits × (Bool × Option ℕ)
+memory_parts m = (m.limits, (m.shared, m.page_size_log2))
+
+abbrev pub memory_form : Form MemoryType
+memory_form =
+    by memory_parts (seq_form limits_form (seq_form (flag_form (codes "shared")) page_form))
+
+abbrev pub table_parts : TableTy → Bool × (Limits × RefTy)
+table_parts t = (t.shared, (t.limits, t.elem))
+
+abbrev pub table_form : Form TableTy
+table_form =
+    by table_parts (seq_form (flag_form (codes "shared")) (seq_form limits_form ref_form))

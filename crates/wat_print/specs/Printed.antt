@@ -1,15 +1,22 @@
 -- What printing promises.
-use Rattle.std.specs.Prelude.{◌≡◌, ℕ, Bool, true, false, List, [], ◌++◌}
+use Rattle.std.specs.Prelude.{Result, OnOk, IfErr, ◌≢◌, ◌≡◌, ℕ, Bool, true, false, List, [], ◌++◌}
 use Rattle.std.specs.Str.{IsUtf8}
+use Rattle.std.proofs.Common.{subst}
 use Rattle.wat_lexer.specs.Cut.{IsCut}
 use Rattle.wat_lexer.specs.Sight.{visible_tokens}
 use Rattle.wat_lexer.specs.Token.{Tok, Placed, tokens_of}
 use Rattle.wat_tokens.specs.Production.{Production}
-use Rattle.wat_print.specs.WellFormed.{WellFormed, is_given}
+use Rattle.wat_print.specs.Form.{Form}
+use Rattle.wat_print.specs.Layout.{Writes}
 use Rattle.wat_print.specs.Parts.{each}
-use Rattle.wat_print.specs.Laws.Only.{OnlyPrintable, only_any}
+use Rattle.wat_print.specs.Prints.{Prints, Nests}
+use Rattle.wat_print.specs.Text.{Page}
+use Rattle.wat_print.specs.WellFormed.{WellFormed, is_given}
+use Rattle.wat_print.specs.declared.fault.Refused.{Refused}
+use Rattle.wat_print.specs.declared.fault.Refused.TheVariants.{Memory}
 use Rattle.wat_print.specs.declared.output.Layout.{Layout}
 use Rattle.wat_print.specs.declared.output.Layout.TheVariants.{Line, Indented}
+use Rattle.wat_print.specs.Laws.Only.{OnlyPrintable, only_any}
 
 -- lines may be broken
 abbrev pub may_break : Layout → Bool
@@ -33,6 +40,15 @@ pub record Printing {A : Type 0} (g : Production A) : Type 0 where
   pub well_formed : (v : A) → printable v ≡ true → WellFormed (spell v)
   pub spells : (v : A) → printable v ≡ true → g.spells v (spell v) []
   pub only : (v : A) (c r : List Tok) → each is_given c ≡ true → g.spells v c r → printable v ≡ true
+
+-- From a to b a call answered r that writes the value: it was written, or it can't be, or memory
+-- ran out.
+pub record Written {X A : Type 0} {g : Production A} (p : Printing g) (v : A) (r : Result X Refused)
+    (a b : Page)
+    : Type 0 where
+  pub written : OnOk r (Writes (p.spell v) a b)
+  pub printable : OnOk r (p.printable v ≡ true)
+  pub refused : IfErr r (λ e. e ≢ Memory → p.printable v ≡ false)
 
 -- what is written spells the value in front of any rest
 abbrev pub printing_of : {A : Type 0} {g : Production A} (spell : A → List Tok)
@@ -66,3 +82,16 @@ abbrev pub printing_of_all : {A : Type 0} {g : Production A} (spell : A → List
     → Printing g
 printing_of_all {g = g} spell well_formed here =
     printing_of spell (λ _. true) (λ v h. well_formed v) (λ v h. here v) (only_any g)
+
+-- by a form, at the end
+abbrev pub printing_by : {A : Type 0} {g : Production A} (form : Form A) → Prints form g
+    → ((v : A) → form.printable v ≡ true → form.ready v ≡ true) → form.balanced ≡ true
+    → form.follows [] ≡ true → Printing g
+printing_by {A = A} form p w b f = record {
+  spell = form.spell;
+  printable = form.printable;
+  well_formed = λ v h. subst (λ (k : Bool). Nests k (form.spell v)) b (p.nests v (w v h));
+  spells = λ v h. p.here v [] (w v h) f;
+  only = λ v c r a s. (let x = p.only v c r a s in
+      subst (λ (w : A). form.printable w ≡ true) x.1 x.2);
+}

@@ -1,30 +1,45 @@
 -- How heap types, reference types and value types are written.
-use Rattle.std.specs.Prelude.{ℕ, Bool, true, false, List, [], ◌∷◌, ◌++◌, codes}
+use Rattle.std.specs.Prelude.{◌≡◌, ℕ, Bool, true, false, List, ◌∷◌, codes, ◌⊎◌}
+use Rattle.std.proofs.Common.{inl, inr}
 use Rattle.wat_lexer.specs.Token.{Tok, Keyword}
-pub use Rattle.wat_types.specs.Heap.{abstract_word}
+use Rattle.wat_tokens.specs.Begin.{begins_one_of}
+use Rattle.wat_tokens.specs.Index.{Idx, begins_index}
+use Rattle.wat_tokens.specs.Tests.{begins_group, word_in}
+use Rattle.wat_types.specs.Heap.{abstract_word}
 use Rattle.wat_types.specs.Heap.{HeapTy, concrete, exact, abstract_}
 use Rattle.wat_types.specs.Reference.{RefTy}
-use Rattle.wat_types.specs.Value.{ValTy, i32, i64, f32, f64, v128, ref}
+use Rattle.wat_types.specs.Value.{ValTy, i32, i64, f32, f64, ref, plain_words}
 use Rattle.wat_types.specs.declared.heap.AbstractHeapType.{AbstractHeapType}
 use Rattle.wat_types.specs.declared.heap.AbstractHeapType.TheVariants as word
-use Rattle.wat_print.specs.Index.{spell_index, printable_index}
-use Rattle.wat_print.specs.Parts.{grouped, spell_flag}
+use Rattle.wat_print.specs.Form.{Test, Form, token_form, flag_form, seq_form, by, else_form}
+use Rattle.wat_print.specs.Form.{group_form, unwritten_form}
+use Rattle.wat_print.specs.Index.{index_form}
 
 -- ---- heap types
 
-abbrev pub spell_abstract : AbstractHeapType → List Tok
-spell_abstract t = Keyword (abstract_word t) ∷ []
+abbrev pub OfNamed : {A : Type 0} → (A → List ℕ) → Test → Test → Type 0
+OfNamed {A} word_of rest test =
+    (t : A) (y : List Tok) → rest y ≡ true → test (Keyword (word_of t) ∷ y) ≡ true
 
-abbrev pub spell_heap : HeapTy → List Tok
-spell_heap (concrete i) = spell_index i
-spell_heap (exact i) = grouped (codes "exact") (spell_index i)
-spell_heap (abstract_ true t) = grouped (codes "shared") (spell_abstract t)
-spell_heap (abstract_ false t) = spell_abstract t
+-- the word that names the value
+abbrev pub named_form : {A : Type 0} → (A → List ℕ) → Form A
+named_form word_of = token_form (λ t. Keyword (word_of t)) (λ _. true) (OfNamed word_of)
 
-abbrev pub printable_heap : HeapTy → Bool
-printable_heap (concrete i) = printable_index i
-printable_heap (exact i) = printable_index i
-printable_heap (abstract_ shared t) = true
+abbrev pub abstract_form : Form AbstractHeapType
+abstract_form = named_form abstract_word
+
+abbrev pub heap_parts : HeapTy → Idx ⊎ (Idx ⊎ (AbstractHeapType ⊎ AbstractHeapType))
+heap_parts (concrete i) = inl i
+heap_parts (exact i) = inr (inl i)
+heap_parts (abstract_ true t) = inr (inr (inl t))
+heap_parts (abstract_ false t) = inr (inr (inr t))
+
+abbrev pub heap_form : Form HeapTy
+heap_form =
+    by heap_parts (else_form begins_index index_form
+    (else_form (begins_group (codes "exact")) (group_form (codes "exact") index_form)
+    (else_form (begins_group (codes "shared")) (group_form (codes "shared") abstract_form)
+    abstract_form)))
 
 -- ---- reference types
 
@@ -45,31 +60,44 @@ short_word word.NoExn = codes "nullexnref"
 short_word word.NoCont = codes "nullcontref"
 short_word word.None = codes "nullref"
 
--- ( ref null? HeapType )
-abbrev pub spell_long : Bool → HeapTy → List Tok
-spell_long nullable h = grouped (codes "ref") (spell_flag (codes "null") nullable ++ spell_heap h)
-
 -- by its shorthand, where it isn't shared and has one
-abbrev pub spell_reference : Bool → HeapTy → List Tok
-spell_reference true (abstract_ false t) = Keyword (short_word t) ∷ []
-spell_reference nullable h = spell_long nullable h
+abbrev pub ref_side : Bool → HeapTy → Bool × HeapTy ⊎ (AbstractHeapType ⊎ AbstractHeapType)
+ref_side true (abstract_ false t) = inr (inr t)
+ref_side nullable h = inl (nullable, h)
 
-abbrev pub spell_ref : RefTy → List Tok
-spell_ref r = spell_reference r.nullable r.heap
+abbrev pub ref_parts : RefTy → Bool × HeapTy ⊎ (AbstractHeapType ⊎ AbstractHeapType)
+ref_parts r = ref_side r.nullable r.heap
 
-abbrev pub printable_ref : RefTy → Bool
-printable_ref r = printable_heap r.heap
+-- ( ref null? HeapType )
+abbrev pub long_form : Form (Bool × HeapTy)
+long_form = group_form (codes "ref") (seq_form (flag_form (codes "null")) heap_form)
+
+abbrev pub ref_form : Form RefTy
+ref_form =
+    by ref_parts (else_form (begins_group (codes "ref")) long_form
+    (else_form (begins_group (codes "shared"))
+    (unwritten_form (group_form (codes "shared") (named_form short_word)))
+    (named_form short_word)))
 
 -- ---- value types
 
-abbrev pub spell_val : ValTy → List Tok
-spell_val i32 = Keyword (codes "i32") ∷ []
-spell_val i64 = Keyword (codes "i64") ∷ []
-spell_val f32 = Keyword (codes "f32") ∷ []
-spell_val f64 = Keyword (codes "f64") ∷ []
-spell_val v128 = Keyword (codes "v128") ∷ []
-spell_val (ref r) = spell_ref r
+abbrev pub is_plain : ValTy → Bool
+is_plain (ref r) = false
+is_plain _ = true
 
-abbrev pub printable_val : ValTy → Bool
-printable_val (ref r) = printable_ref r
-printable_val _ = true
+abbrev pub plain_word : ValTy → List ℕ
+plain_word i32 = codes "i32"
+plain_word i64 = codes "i64"
+plain_word f32 = codes "f32"
+plain_word f64 = codes "f64"
+plain_word _ = codes "v128"
+
+abbrev pub plain_form : Form ValTy
+plain_form = token_form (λ t. Keyword (plain_word t)) is_plain (OfNamed plain_word)
+
+abbrev pub val_parts : ValTy → ValTy ⊎ RefTy
+val_parts (ref r) = inr r
+val_parts t = inl t
+
+abbrev pub val_form : Form ValTy
+val_form = by val_parts (else_form (begins_one_of (word_in plain_words)) plain_form ref_form)

@@ -1,42 +1,60 @@
 -- How storage types, global types and types of fields are written.
-use Rattle.std.specs.Prelude.{Bool, true, false, List, [], ◌∷◌, ◌++◌, codes}
-use Rattle.wat_lexer.specs.Token.{Tok, Keyword}
-use Rattle.wat_tokens.specs.Spelled.{in_parens}
+use Rattle.std.specs.Prelude.{Bool, true, false, not, ◌||◌, codes, ◌⊎◌}
+use Rattle.std.proofs.Common.{inl, inr}
+use Rattle.wat_tokens.specs.Tests.{begins_word, second}
 use Rattle.wat_types.specs.FieldType.{FieldTy}
-use Rattle.wat_types.specs.Storage.{StorageTy, i8, i16, val, GlobalTy}
+use Rattle.wat_types.specs.Storage.{StorageTy, i8, i16, val, GlobalTy, long_global}
 use Rattle.wat_types.specs.Value.{ValTy}
-use Rattle.wat_print.specs.Parts.{grouped, spell_flag}
-use Rattle.wat_print.specs.Reference.{spell_val, printable_val}
+use Rattle.wat_print.specs.Form.{Test, Form, word_form, flag_form, seq_form, by, told_form}
+use Rattle.wat_print.specs.Form.{else_form, paren_form, group_form, only_where_form}
+use Rattle.wat_print.specs.Reference.{val_form}
 
-abbrev pub spell_storage : StorageTy → List Tok
-spell_storage i8 = Keyword (codes "i8") ∷ []
-spell_storage i16 = Keyword (codes "i16") ∷ []
-spell_storage (val t) = spell_val t
+abbrev pub storage_parts : StorageTy → Unit {0} ⊎ (Unit {0} ⊎ ValTy)
+storage_parts i8 = inl tt
+storage_parts i16 = inr (inl tt)
+storage_parts (val t) = inr (inr t)
 
-abbrev pub printable_storage : StorageTy → Bool
-printable_storage (val t) = printable_val t
-printable_storage _ = true
+abbrev pub storage_form : Form StorageTy
+storage_form =
+    by storage_parts (else_form (begins_word (codes "i8")) (word_form (codes "i8"))
+    (else_form (begins_word (codes "i16")) (word_form (codes "i16")) val_form))
+
+abbrev pub field_side : Bool → StorageTy → StorageTy ⊎ StorageTy
+field_side true t = inl t
+field_side false t = inr t
+
+abbrev pub field_parts : FieldTy → StorageTy ⊎ StorageTy
+field_parts f = field_side f.mutable f.ty
+
+-- a storage type may be one token, so that the next one is in the rest
+abbrev pub no_mut : Test
+no_mut r = not (begins_word (codes "mut") r)
 
 -- ( mut StorageType ), or the storage type of a field that can't be written
-abbrev pub spell_field_of : Bool → StorageTy → List Tok
-spell_field_of true t = grouped (codes "mut") (spell_storage t)
-spell_field_of false t = spell_storage t
+abbrev pub field_form : Form FieldTy
+field_form =
+    by field_parts (told_form no_mut (second (begins_word (codes "mut")))
+    (group_form (codes "mut") storage_form) storage_form)
 
-abbrev pub spell_field : FieldTy → List Tok
-spell_field f = spell_field_of f.mutable f.ty
+abbrev pub Long : Type 0
+Long = Bool × (Bool × ValTy)
 
-abbrev pub printable_field : FieldTy → Bool
-printable_field f = printable_storage f.ty
+abbrev pub global_side : Bool → Bool → ValTy → Long ⊎ ValTy
+global_side false false t = inr t
+global_side shared mutable t = inl (shared, (mutable, t))
+
+abbrev pub global_parts : GlobalTy → Long ⊎ ValTy
+global_parts g = global_side g.shared g.mutable g.ty
+
+abbrev pub is_long : Long → Bool
+is_long v = v.0 || v.1.0
+
+abbrev pub no_long : Test
+no_long r = not (begins_word (codes "shared") r || begins_word (codes "mut") r)
 
 -- the value type, in parentheses behind `shared` and `mut` where one of them stands
-abbrev pub spell_global_of : Bool → Bool → ValTy → List Tok
-spell_global_of false false t = spell_val t
-spell_global_of shared mutable t =
-    in_parens (spell_flag (codes "shared") shared
-    ++ (spell_flag (codes "mut") mutable ++ spell_val t))
-
-abbrev pub spell_global : GlobalTy → List Tok
-spell_global g = spell_global_of g.shared g.mutable g.ty
-
-abbrev pub printable_global : GlobalTy → Bool
-printable_global g = printable_val g.ty
+abbrev pub global_form : Form GlobalTy
+global_form =
+    by global_parts (told_form no_long long_global (only_where_form is_long
+    (paren_form (seq_form (flag_form (codes "shared"))
+    (seq_form (flag_form (codes "mut")) val_form)))) val_form)

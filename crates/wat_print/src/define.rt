@@ -3,23 +3,20 @@
 //! A [`TypeDef`] isn't printed alone: the groups of what it describes close parentheses that they
 //! don't open.
 
-ghost use Rattle.std.specs.Prelude.{◌≡◌, ◌≢◌, ◌&&◌, List, Some, OnOk, IfErr, true, false, map};
-ghost use Rattle.wat_tokens.specs.Index.{Idx, index_view, index};
+ghost use Rattle.std.specs.Prelude.{List, map};
+ghost use Rattle.wat_tokens.specs.Index.{Idx, index_view, index, begins_index};
+ghost use Rattle.wat_tokens.specs.Tests.{second};
 ghost use Rattle.wat_tokens.specs.Views.{option_view};
 ghost use Rattle.wat_types.specs.Define.{InnerKindTy, inner_kind_view, kind, def_view, TypeTy};
-ghost use Rattle.wat_types.specs.Define.{type_view, type_, types_view};
+ghost use Rattle.wat_types.specs.Define.{type_view, type_, types_view, begins_type};
 ghost use Rattle.wat_types.specs.Recursion.{rec_view, rec};
-ghost use Rattle.wat_print.specs.Define.{spell_kind, printable_kind, spell_described};
-ghost use Rattle.wat_print.specs.Define.{printable_described, spell_shared, spell_sub, spell_def};
-ghost use Rattle.wat_print.specs.Define.{printable_def, spell_type, printable_type};
-ghost use Rattle.wat_print.specs.Define.{spell_grouped_type, spell_rec, printable_rec};
-ghost use Rattle.wat_print.specs.Index.{spell_index, printable_index};
-ghost use Rattle.wat_print.specs.Layout.{Writes};
-ghost use Rattle.wat_print.specs.Parts.{grouped, spell_option, if_some, each, Wrote, WroteLines};
+ghost use Rattle.wat_print.specs.Define.{kind_form, link_form, core_parts, core_form};
+ghost use Rattle.wat_print.specs.Define.{shared_parts, shared_form, def_form, type_form, rec_form};
+ghost use Rattle.wat_print.specs.Form.{many_form, paren_form};
+ghost use Rattle.wat_print.specs.Index.{index_form};
 ghost use Rattle.wat_print.specs.Printings.{index_printing, kind_printing, type_printing};
 ghost use Rattle.wat_print.specs.Printings.{rec_printing};
-ghost use Rattle.wat_print.specs.Text.{put};
-ghost use Rattle.wat_print.specs.declared.fault.Refused.TheVariants.{Memory};
+ghost use Rattle.wat_print.specs.Prints.{Printed, PrintedLines};
 
 use crate::fault::Refused;
 use crate::function::write_function;
@@ -36,11 +33,7 @@ use wat_types::{ContType, InnerTypeKind, Rec, Type, TypeDef};
 /// Writes what a definition defines, without its parentheses: `func`, `struct`, `array` or `cont`,
 /// and the type (Text Format, Types, "Composite Types").
 pub fn write_kind(out: &mut Output, kind: &InnerTypeKind) -> Result<(), Refused>
-    ensures written { OnOk result (out.new ≡ put out.old
-        (spell_kind (inner_kind_view kind.now))) }
-    ensures printable { OnOk result (printable_kind (inner_kind_view kind.now) ≡ true) }
-    ensures refused { IfErr result (λ e. e ≢ Memory
-        → printable_kind (inner_kind_view kind.now) ≡ false) }
+    ensures { Printed kind_form (inner_kind_view kind.now) result out.old out.new }
 {
     match kind {
         InnerTypeKind::Func(function) => {
@@ -62,64 +55,53 @@ pub fn write_kind(out: &mut Output, kind: &InnerTypeKind) -> Result<(), Refused>
     }
 }
 
-/// `( word idx )`, where there is an index.
+/// Writes the word, the index, and `) (`, where there is an index.
+#[tactic(auto, using(crate::specs::Laws::Written::put_both))]
 fn write_link(out: &mut Output, word: &str, index: &Option<Index>) -> Result<(), Refused>
-    ensures written { OnOk result (out.new ≡ put out.old
-        (spell_option (λ i. grouped word.now (spell_index i)) (option_view index_view index.now))) }
-    ensures printable { OnOk result (if_some printable_index (option_view index_view index.now) ≡
-        true) }
-    ensures refused { IfErr result (λ e. e ≢ Memory
-        → if_some printable_index (option_view index_view index.now) ≡ false) }
+    ensures { Printed (link_form word.now) (option_view index_view index.now) result out.old
+        out.new }
 {
     match index {
         Some(index) => {
-            out.open()?;
             out.word(word)?;
             write_index(out, index)?;
-            out.close()
+            out.close()?;
+            out.open()
         }
         None => Ok(()),
     }
 }
 
-/// Writes what a definition describes and what describes it, and then what it defines in
-/// parentheses.
-fn write_described(out: &mut Output, def: &TypeDef) -> Result<(), Refused>
-    ensures written { OnOk result (out.new ≡ put out.old (spell_described (def_view def.now))) }
-    ensures printable { OnOk result (printable_described (def_view def.now) ≡ true) }
-    ensures refused { IfErr result (λ e. e ≢ Memory
-        → printable_described (def_view def.now) ≡ false) }
+/// Writes what a definition describes and what describes it, and then what it defines, without the
+/// parentheses around the last.
+#[tactic(auto, using(crate::specs::Laws::Written::put_both))]
+fn write_core(out: &mut Output, def: &TypeDef) -> Result<(), Refused>
+    ensures { Printed core_form (core_parts (def_view def.now)) result out.old out.new }
 {
     write_link(out, "describes", &def.describes)?;
     write_link(out, "descriptor", &def.descriptor)?;
-    out.open()?;
-    write_kind(out, &def.kind)?;
-    out.close()
+    write_kind(out, &def.kind)
 }
 
-/// Writes that behind `shared`, where the definition is shared.
+/// Writes that in parentheses behind `shared`, where the definition is shared.
+#[tactic(auto, using(crate::specs::Laws::Written::put_both))]
 fn write_shared(out: &mut Output, def: &TypeDef) -> Result<(), Refused>
-    ensures written { OnOk result (out.new ≡ put out.old (spell_shared (def_view def.now))) }
-    ensures printable { OnOk result (printable_described (def_view def.now) ≡ true) }
-    ensures refused { IfErr result (λ e. e ≢ Memory
-        → printable_described (def_view def.now) ≡ false) }
+    ensures { Printed shared_form (shared_parts (def_view def.now)) result out.old out.new }
 {
     if !def.shared {
-        return write_described(out, def);
+        return write_core(out, def);
     }
-    out.open()?;
     out.word("shared")?;
-    write_described(out, def)?;
+    out.open()?;
+    write_core(out, def)?;
     out.close()
 }
 
 /// Writes indices, one behind the other.
-#[tactic(auto, using(crate::specs::Laws::Written::not_each))]
+#[tactic(auto, using(std::proofs::lemmas::List::drop_more, crate::specs::Laws::Written::put_both))]
 fn write_indices(out: &mut Output, indices: &[Index]) -> Result<(), Refused>
-    ensures wrote { OnOk result (Wrote index_view spell_index printable_index indices.now out.old
-        out.new) }
-    ensures refused { IfErr result (λ e. e ≢ Memory
-        → each printable_index (map index_view indices.now) ≡ false) }
+    ensures { Printed (many_form begins_index index_form) (map index_view indices.now) result
+        out.old out.new }
 {
     for index in indices {
         write_index(out, index)?;
@@ -127,45 +109,41 @@ fn write_indices(out: &mut Output, indices: &[Index]) -> Result<(), Refused>
     Ok(())
 }
 
-/// Writes a definition behind `sub`.
-fn write_sub(out: &mut Output, def: &TypeDef, is_final: bool) -> Result<(), Refused>
-    ensures written { OnOk result (out.new ≡ put out.old
-        (spell_sub (def_view def.now) (Some is_final))) }
-    ensures printable { OnOk result (each printable_index (map index_view def.now.parents.items)
-        && printable_described (def_view def.now) ≡ true) }
-    ensures refused { IfErr result (λ e. e ≢ Memory
-        → each printable_index (map index_view def.now.parents.items)
-        && printable_described (def_view def.now) ≡ false) }
+/// Writes a definition without its parentheses. One that is below others without `sub` is refused
+/// with Parents.
+#[tactic(auto, using(crate::specs::Laws::Written::put_both))]
+fn write_bare_def(out: &mut Output, def: &TypeDef) -> Result<(), Refused>
+    ensures { Printed def_form (def_view def.now) result out.old out.new }
 {
-    out.open()?;
-    out.word("sub")?;
-    write_flag(out, "final", is_final)?;
-    write_indices(out, &def.parents)?;
-    write_shared(out, def)?;
-    out.close()
+    match def.final_type {
+        Some(is_final) => {
+            out.word("sub")?;
+            write_flag(out, "final", is_final)?;
+            write_indices(out, &def.parents)?;
+            out.open()?;
+            write_shared(out, def)?;
+            out.close()
+        }
+        None if def.parents.is_empty() => write_shared(out, def),
+        None => Err(Refused::Parents),
+    }
 }
 
 /// Writes a definition in its parentheses (Text Format, Types, "Recursive Types"). One that is
 /// below others without `sub` is refused with Parents.
+#[tactic(auto, using(crate::specs::Laws::Written::put_both))]
 pub fn write_def(out: &mut Output, def: &TypeDef) -> Result<(), Refused>
-    ensures written { OnOk result (out.new ≡ put out.old (spell_def (def_view def.now))) }
-    ensures printable { OnOk result (printable_def (def_view def.now) ≡ true) }
-    ensures refused { IfErr result (λ e. e ≢ Memory → printable_def (def_view def.now) ≡ false) }
+    ensures { Printed (paren_form def_form) (def_view def.now) result out.old out.new }
 {
-    if let Some(is_final) = def.final_type {
-        return write_sub(out, def, is_final);
-    }
-    if !def.parents.is_empty() {
-        return Err(Refused::Parents);
-    }
-    write_shared(out, def)
+    out.open()?;
+    write_bare_def(out, def)?;
+    out.close()
 }
 
 /// Writes a type, without its parentheses (Text Format, Types, "Recursive Types").
+#[tactic(auto, using(crate::specs::Laws::Written::put_both))]
 pub fn write_type(out: &mut Output, ty: &Type) -> Result<(), Refused>
-    ensures written { OnOk result (out.new ≡ put out.old (spell_type (type_view ty.now))) }
-    ensures printable { OnOk result (printable_type (type_view ty.now) ≡ true) }
-    ensures refused { IfErr result (λ e. e ≢ Memory → printable_type (type_view ty.now) ≡ false) }
+    ensures { Printed type_form (type_view ty.now) result out.old out.new }
 {
     out.word("type")?;
     write_label(out, &ty.id, &ty.name)?;
@@ -174,9 +152,7 @@ pub fn write_type(out: &mut Output, ty: &Type) -> Result<(), Refused>
 
 /// Writes a type in its parentheses, on a line of its own where the layout has lines.
 fn write_grouped_type(out: &mut Output, ty: &Type) -> Result<(), Refused>
-    ensures written { OnOk result (Writes (spell_grouped_type (type_view ty.now)) out.old out.new) }
-    ensures printable { OnOk result (printable_type (type_view ty.now) ≡ true) }
-    ensures refused { IfErr result (λ e. e ≢ Memory → printable_type (type_view ty.now) ≡ false) }
+    ensures { PrintedLines (paren_form type_form) (type_view ty.now) result out.old out.new }
 {
     out.line()?;
     out.open()?;
@@ -185,13 +161,10 @@ fn write_grouped_type(out: &mut Output, ty: &Type) -> Result<(), Refused>
 }
 
 /// Writes types in their parentheses, each on a line of its own where the layout has lines.
-#[tactic(auto, using(crate::specs::Laws::Written::not_each))]
+#[tactic(auto, using(crate::specs::Laws::Written::not_each_item))]
 fn write_types(out: &mut Output, types: &[Type]) -> Result<(), Refused>
-    ensures wrote { OnOk result (WroteLines type_view spell_grouped_type printable_type types.now
-        out.old
-        out.new) }
-    ensures refused { IfErr result (λ e. e ≢ Memory
-        → each printable_type (types_view types.now) ≡ false) }
+    ensures { PrintedLines (many_form (second begins_type) (paren_form type_form))
+        (types_view types.now) result out.old out.new }
 {
     for ty in types {
         write_grouped_type(out, ty)?;
@@ -201,9 +174,7 @@ fn write_types(out: &mut Output, types: &[Type]) -> Result<(), Refused>
 
 /// Writes a recursion group, without its parentheses (Text Format, Types, "Recursive Types").
 pub fn write_rec(out: &mut Output, group: &Rec) -> Result<(), Refused>
-    ensures written { OnOk result (Writes (spell_rec (rec_view group.now)) out.old out.new) }
-    ensures printable { OnOk result (printable_rec (rec_view group.now) ≡ true) }
-    ensures refused { IfErr result (λ e. e ≢ Memory → printable_rec (rec_view group.now) ≡ false) }
+    ensures { PrintedLines rec_form (rec_view group.now) result out.old out.new }
 {
     out.word("rec")?;
     write_types(out, &group.types)

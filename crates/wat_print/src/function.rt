@@ -1,18 +1,16 @@
 //! How function types are printed.
 
-ghost use Rattle.std.specs.Prelude.{◌≡◌, ◌≢◌, OnOk, IfErr, true, false, map, flat_map};
+ghost use Rattle.std.specs.Prelude.{◌≡◌, map};
+ghost use Rattle.wat_tokens.specs.Tests.{more};
 ghost use Rattle.wat_types.specs.Function.{function_view, params_view, param_view, function_type};
 ghost use Rattle.wat_types.specs.Group.{FuncTy};
 ghost use Rattle.wat_types.specs.Value.{val_view};
-ghost use Rattle.wat_print.specs.Function.{param_label, spell_param, printable_param, spell_group};
-ghost use Rattle.wat_print.specs.Function.{spell_alone, param_groups, result_groups};
-ghost use Rattle.wat_print.specs.Function.{spell_function, printable_function};
+ghost use Rattle.wat_print.specs.Form.{many_form};
+ghost use Rattle.wat_print.specs.Function.{param_label, param_form, param_alone_form, vals_form};
+ghost use Rattle.wat_print.specs.Function.{param_groups_form, result_groups_form, function_form};
 ghost use Rattle.wat_print.specs.Label.{none_labelled};
-ghost use Rattle.wat_print.specs.Parts.{each, Wrote};
 ghost use Rattle.wat_print.specs.Printings.{function_printing};
-ghost use Rattle.wat_print.specs.Reference.{spell_val, printable_val};
-ghost use Rattle.wat_print.specs.Text.{put};
-ghost use Rattle.wat_print.specs.declared.fault.Refused.TheVariants.{Memory};
+ghost use Rattle.wat_print.specs.Prints.{Printed};
 
 use crate::fault::Refused;
 use crate::label::write_label;
@@ -28,21 +26,16 @@ fn write_param(
     out: &mut Output,
     param: &(Option<Id>, Option<NameAnnotation>, ValType),
 ) -> Result<(), Refused>
-    ensures written { OnOk result (out.new ≡ put out.old (spell_param (param_view param.now))) }
-    ensures printable { OnOk result (printable_param (param_view param.now) ≡ true) }
-    ensures refused { IfErr result (λ e. e ≢ Memory → printable_param (param_view param.now) ≡
-        false) }
+    ensures { Printed param_form (param_view param.now) result out.old out.new }
 {
     write_label(out, &param.0, &param.1)?;
     write_val(out, &param.2)
 }
 
 /// Writes value types, one behind the other.
-#[tactic(auto, using(crate::specs::Laws::Written::not_each))]
+#[tactic(auto, using(std::proofs::lemmas::List::drop_more, crate::specs::Laws::Written::put_both))]
 pub fn write_vals(out: &mut Output, types: &[ValType]) -> Result<(), Refused>
-    ensures wrote { OnOk result (Wrote val_view spell_val printable_val types.now out.old out.new) }
-    ensures refused { IfErr result (λ e. e ≢ Memory
-        → each printable_val (map val_view types.now) ≡ false) }
+    ensures { Printed vals_form (map val_view types.now) result out.old out.new }
 {
     for ty in types {
         write_val(out, ty)?;
@@ -51,15 +44,12 @@ pub fn write_vals(out: &mut Output, types: &[ValType]) -> Result<(), Refused>
 }
 
 /// Writes parameters, one behind the other.
-#[tactic(auto, using(crate::specs::Laws::Written::not_each))]
+#[tactic(auto, using(std::proofs::lemmas::List::drop_more, crate::specs::Laws::Written::put_both))]
 fn write_params(
     out: &mut Output,
     params: &[(Option<Id>, Option<NameAnnotation>, ValType)],
 ) -> Result<(), Refused>
-    ensures wrote { OnOk result (Wrote param_view spell_param printable_param params.now out.old
-        out.new) }
-    ensures refused { IfErr result (λ e. e ≢ Memory
-        → each printable_param (params_view params.now) ≡ false) }
+    ensures { Printed (many_form more param_form) (params_view params.now) result out.old out.new }
 {
     for param in params {
         write_param(out, param)?;
@@ -73,10 +63,7 @@ fn write_alone(
     out: &mut Output,
     param: &(Option<Id>, Option<NameAnnotation>, ValType),
 ) -> Result<(), Refused>
-    ensures written { OnOk result (out.new ≡ put out.old (spell_alone (param_view param.now))) }
-    ensures printable { OnOk result (printable_param (param_view param.now) ≡ true) }
-    ensures refused { IfErr result (λ e. e ≢ Memory → printable_param (param_view param.now) ≡
-        false) }
+    ensures { Printed param_alone_form (param_view param.now) result out.old out.new }
 {
     out.open()?;
     out.word("param")?;
@@ -85,15 +72,13 @@ fn write_alone(
 }
 
 /// Writes parameters, each in a group of its own.
-#[tactic(auto, using(crate::specs::Laws::Written::not_each))]
+#[tactic(auto, using(std::proofs::lemmas::List::drop_more, crate::specs::Laws::Written::put_both))]
 fn write_each_alone(
     out: &mut Output,
     params: &[(Option<Id>, Option<NameAnnotation>, ValType)],
 ) -> Result<(), Refused>
-    ensures wrote { OnOk result (Wrote param_view spell_alone printable_param params.now out.old
-        out.new) }
-    ensures refused { IfErr result (λ e. e ≢ Memory
-        → each printable_param (params_view params.now) ≡ false) }
+    ensures { Printed (many_form more param_alone_form) (params_view params.now) result out.old
+        out.new }
 {
     for param in params {
         write_alone(out, param)?;
@@ -115,15 +100,12 @@ pub fn are_unlabelled(params: &[(Option<Id>, Option<NameAnnotation>, ValType)]) 
 }
 
 /// Writes parameters in groups: in one where none has a label, else each in its own.
+#[tactic(auto, using(crate::specs::Laws::Written::groups, crate::specs::Laws::Written::put_both))]
 fn write_param_groups(
     out: &mut Output,
     params: &[(Option<Id>, Option<NameAnnotation>, ValType)],
 ) -> Result<(), Refused>
-    ensures written { OnOk result (out.new ≡ put out.old
-        (flat_map spell_group (param_groups (params_view params.now)))) }
-    ensures printable { OnOk result (each printable_param (params_view params.now) ≡ true) }
-    ensures refused { IfErr result (λ e. e ≢ Memory
-        → each printable_param (params_view params.now) ≡ false) }
+    ensures { Printed param_groups_form (params_view params.now) result out.old out.new }
 {
     if params.is_empty() {
         return Ok(());
@@ -139,12 +121,9 @@ fn write_param_groups(
 }
 
 /// Writes results in one group, or none where there is no result.
+#[tactic(auto, using(crate::specs::Laws::Written::results_together, crate::specs::Laws::Written::put_both))]
 fn write_result_groups(out: &mut Output, types: &[ValType]) -> Result<(), Refused>
-    ensures written { OnOk result (out.new ≡ put out.old
-        (flat_map spell_group (result_groups (map val_view types.now)))) }
-    ensures printable { OnOk result (each printable_val (map val_view types.now) ≡ true) }
-    ensures refused { IfErr result (λ e. e ≢ Memory
-        → each printable_val (map val_view types.now) ≡ false) }
+    ensures { Printed result_groups_form (map val_view types.now) result out.old out.new }
 {
     if types.is_empty() {
         return Ok(());
@@ -157,12 +136,9 @@ fn write_result_groups(out: &mut Output, types: &[ValType]) -> Result<(), Refuse
 
 /// Writes a function type (Text Format, Types, "Composite Types"): its parameters, and then its
 /// results.
+#[tactic(auto, using(crate::specs::Laws::Written::function_split, crate::specs::Laws::Written::put_both))]
 pub(crate) fn write_function(out: &mut Output, function: &FunctionType) -> Result<(), Refused>
-    ensures written { OnOk result (out.new ≡ put out.old
-        (spell_function (function_view function.now))) }
-    ensures printable { OnOk result (printable_function (function_view function.now) ≡ true) }
-    ensures refused { IfErr result (λ e. e ≢ Memory
-        → printable_function (function_view function.now) ≡ false) }
+    ensures { Printed function_form (function_view function.now) result out.old out.new }
 {
     write_param_groups(out, &function.params)?;
     write_result_groups(out, &function.results)

@@ -1,17 +1,15 @@
 //! How labels are printed.
 
-ghost use Rattle.std.specs.Prelude.{◌≡◌, ◌≢◌, ℕ, List, OnOk, IfErr, true, false};
-ghost use Rattle.std.specs.Str.{is_utf8};
+ghost use Rattle.std.specs.Prelude.{ℕ, List};
 ghost use Rattle.wat_tokens.specs.Index.{name_of, identifier};
-ghost use Rattle.wat_tokens.specs.NameAnnotation.{name_annotation};
+ghost use Rattle.wat_tokens.specs.NameAnnotation.{name_annotation, begins_name};
+ghost use Rattle.wat_tokens.specs.Tests.{begins_id};
 ghost use Rattle.wat_tokens.specs.Views.{option_view};
 ghost use Rattle.wat_types.specs.Label.{label_view};
-ghost use Rattle.wat_print.specs.Label.{spell_id, spell_name, spell_label, printable_label};
-ghost use Rattle.wat_print.specs.WellFormed.{is_name};
-ghost use Rattle.wat_print.specs.Parts.{spell_option, if_some};
+ghost use Rattle.wat_print.specs.Form.{option_form};
+ghost use Rattle.wat_print.specs.Label.{id_form, name_form, label_form};
 ghost use Rattle.wat_print.specs.Printings.{id_printing, name_printing};
-ghost use Rattle.wat_print.specs.Text.{put};
-ghost use Rattle.wat_print.specs.declared.fault.Refused.TheVariants.{Memory};
+ghost use Rattle.wat_print.specs.Prints.{Printed};
 
 use crate::fault::Refused;
 use crate::output::Output;
@@ -20,11 +18,8 @@ use wat_tokens::{Id, NameAnnotation};
 
 /// Writes an identifier, where there is one.
 fn write_id(out: &mut Output, id: &Option<Id>) -> Result<(), Refused>
-    ensures written { OnOk result (out.new ≡ put out.old
-        (spell_option spell_id (option_view name_of id.now))) }
-    ensures printable { OnOk result (if_some is_name (option_view name_of id.now) ≡ true) }
-    ensures refused { IfErr result (λ e. e ≢ Memory
-        → if_some is_name (option_view name_of id.now) ≡ false) }
+    ensures { Printed (option_form begins_id id_form) (option_view name_of id.now) result out.old
+        out.new }
 {
     match id {
         Some(id) => out.id(id.name()),
@@ -34,9 +29,7 @@ fn write_id(out: &mut Output, id: &Option<Id>) -> Result<(), Refused>
 
 /// Writes `( @name name )`.
 fn write_annotation(out: &mut Output, annotation: &NameAnnotation) -> Result<(), Refused>
-    ensures written { OnOk result (out.new ≡ put out.old (spell_name annotation.now.name.now)) }
-    ensures printable { OnOk result (is_utf8 annotation.now.name.now ≡ true) }
-    ensures refused { IfErr result (λ e. e ≡ Memory) }
+    ensures { Printed name_form annotation.now.name.now result out.old out.new }
 {
     out.open()?;
     out.annotation("name")?;
@@ -46,11 +39,8 @@ fn write_annotation(out: &mut Output, annotation: &NameAnnotation) -> Result<(),
 
 /// Writes the annotation of a name, where there is one.
 fn write_name(out: &mut Output, name: &Option<NameAnnotation>) -> Result<(), Refused>
-    ensures written { OnOk result (out.new ≡ put out.old
-        (spell_option spell_name (option_view (λ a. a.name.now) name.now))) }
-    ensures printable { OnOk result (if_some is_utf8 (option_view (λ a. a.name.now) name.now) ≡
-        true) }
-    ensures refused { IfErr result (λ e. e ≡ Memory) }
+    ensures { Printed (option_form begins_name name_form)
+        (option_view (λ a. a.name.now) name.now) result out.old out.new }
 {
     match name {
         Some(annotation) => write_annotation(out, annotation),
@@ -65,11 +55,7 @@ pub fn write_label(
     id: &Option<Id>,
     name: &Option<NameAnnotation>,
 ) -> Result<(), Refused>
-    ensures written { OnOk result (out.new ≡ put out.old
-        (spell_label (label_view id.now name.now))) }
-    ensures printable { OnOk result (printable_label (label_view id.now name.now) ≡ true) }
-    ensures refused { IfErr result (λ e. e ≢ Memory
-        → printable_label (label_view id.now name.now) ≡ false) }
+    ensures { Printed label_form (label_view id.now name.now) result out.old out.new }
 {
     write_id(out, id)?;
     write_name(out, name)

@@ -1,16 +1,12 @@
 //! How limits, memory types and table types are printed.
 
-ghost use Rattle.std.specs.Prelude.{◌≡◌, ◌≢◌, OnOk, IfErr, true, false};
 ghost use Rattle.wat_types.specs.Limits.{limits_type, memory_type, table_type, TableTy};
 ghost use Rattle.wat_types.specs.Limits.{table_type_view};
-ghost use Rattle.wat_print.specs.Limits.{spell_limits, printable_limits, spell_page_size};
-ghost use Rattle.wat_print.specs.Limits.{is_exponent, spell_memory_type, printable_memory_type};
-ghost use Rattle.wat_print.specs.Limits.{spell_table_type, printable_table_type};
-ghost use Rattle.wat_print.specs.Parts.{spell_flag, spell_option, if_some};
+ghost use Rattle.wat_print.specs.Form.{flag_form};
+ghost use Rattle.wat_print.specs.Limits.{limits_form, page_form, memory_form, table_form};
+ghost use Rattle.wat_print.specs.Prints.{Printed};
 ghost use Rattle.wat_print.specs.Printings.{limits_printing, memory_type_printing};
 ghost use Rattle.wat_print.specs.Printings.{table_type_printing};
-ghost use Rattle.wat_print.specs.Text.{put};
-ghost use Rattle.wat_print.specs.declared.fault.Refused.TheVariants.{Memory};
 
 use crate::fault::Refused;
 use crate::output::Output;
@@ -20,8 +16,7 @@ use wat_types::{Limits, MemoryType, TableType};
 
 /// Writes the word, where the flag is set.
 pub fn write_flag(out: &mut Output, word: &str, flag: bool) -> Result<(), Refused>
-    ensures written { OnOk result (out.new ≡ put out.old (spell_flag word.now flag)) }
-    ensures refused { IfErr result (λ e. e ≡ Memory) }
+    ensures { Printed (flag_form word.now) flag result out.old out.new }
 {
     if !flag {
         return Ok(());
@@ -33,9 +28,7 @@ pub fn write_flag(out: &mut Output, word: &str, flag: bool) -> Result<(), Refuse
 /// one or two numbers.
 #[tactic(auto, using(crate::specs::Laws::Written::put_both))]
 fn write_limits(out: &mut Output, limits: &Limits) -> Result<(), Refused>
-    ensures written { OnOk result (out.new ≡ put out.old (spell_limits limits.now)) }
-    ensures printable { OnOk result (printable_limits limits.now ≡ true) }
-    ensures refused { IfErr result (λ e. e ≡ Memory) }
+    ensures { Printed limits_form limits.now result out.old out.new }
 {
     write_flag(out, "i64", limits.is64)?;
     out.number(limits.min)?;
@@ -48,10 +41,7 @@ fn write_limits(out: &mut Output, limits: &Limits) -> Result<(), Refused>
 /// Writes `( pagesize number )`, the number being 2 to the k, where a k is given. A k of 32 or more
 /// is refused with PageSize.
 pub fn write_page_size(out: &mut Output, exponent: Option<u32>) -> Result<(), Refused>
-    ensures written { OnOk result (out.new ≡ put out.old
-        (spell_option spell_page_size exponent)) }
-    ensures printable { OnOk result (if_some is_exponent exponent ≡ true) }
-    ensures refused { IfErr result (λ e. e ≢ Memory → if_some is_exponent exponent ≡ false) }
+    ensures { Printed page_form exponent result out.old out.new }
 {
     match exponent {
         None => Ok(()),
@@ -69,9 +59,7 @@ pub fn write_page_size(out: &mut Output, exponent: Option<u32>) -> Result<(), Re
 /// refused with PageSize where k is 32 or more.
 #[tactic(auto, using(crate::specs::Laws::Written::put_both))]
 pub fn write_memory_type(out: &mut Output, memory: &MemoryType) -> Result<(), Refused>
-    ensures written { OnOk result (out.new ≡ put out.old (spell_memory_type memory.now)) }
-    ensures printable { OnOk result (printable_memory_type memory.now ≡ true) }
-    ensures refused { IfErr result (λ e. e ≢ Memory → printable_memory_type memory.now ≡ false) }
+    ensures { Printed memory_form memory.now result out.old out.new }
 {
     write_limits(out, &memory.limits)?;
     write_flag(out, "shared", memory.shared)?;
@@ -81,11 +69,7 @@ pub fn write_memory_type(out: &mut Output, memory: &MemoryType) -> Result<(), Re
 /// Writes a table type (Text Format, Types, "Table Types").
 #[tactic(auto, using(crate::specs::Laws::Written::put_both))]
 pub fn write_table_type(out: &mut Output, table: &TableType) -> Result<(), Refused>
-    ensures written { OnOk result (out.new ≡ put out.old
-        (spell_table_type (table_type_view table.now))) }
-    ensures printable { OnOk result (printable_table_type (table_type_view table.now) ≡ true) }
-    ensures refused { IfErr result (λ e. e ≢ Memory
-        → printable_table_type (table_type_view table.now) ≡ false) }
+    ensures { Printed table_form (table_type_view table.now) result out.old out.new }
 {
     write_flag(out, "shared", table.shared)?;
     write_limits(out, &table.limits)?;

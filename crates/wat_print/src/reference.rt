@@ -1,17 +1,15 @@
 //! How indices, heap types, reference types and value types are printed.
 
-ghost use Rattle.std.specs.Prelude.{◌≡◌, OnOk, true, ◌≢◌, IfErr, false};
+ghost use Rattle.std.specs.Prelude.{◌≡◌};
 ghost use Rattle.wat_tokens.specs.Index.{Idx, index_view, index};
 ghost use Rattle.wat_types.specs.Heap.{HeapTy, heap_view, abstract_, heap_type, abstract_heap_type};
 ghost use Rattle.wat_types.specs.Reference.{RefTy, ref_view, ref_type};
 ghost use Rattle.wat_types.specs.Value.{ValTy, val_view, val_type};
-ghost use Rattle.wat_print.specs.Index.{spell_index, printable_index};
+ghost use Rattle.wat_print.specs.Index.{index_form};
 ghost use Rattle.wat_print.specs.Printings.{index_printing, abstract_printing, heap_printing};
 ghost use Rattle.wat_print.specs.Printings.{ref_printing, val_printing};
-ghost use Rattle.wat_print.specs.Reference.{short_word, spell_heap, printable_heap, spell_long};
-ghost use Rattle.wat_print.specs.Reference.{spell_ref, printable_ref, spell_val, printable_val};
-ghost use Rattle.wat_print.specs.Text.{put};
-ghost use Rattle.wat_print.specs.declared.fault.Refused.TheVariants.{Memory};
+ghost use Rattle.wat_print.specs.Prints.{Printed};
+ghost use Rattle.wat_print.specs.Reference.{short_word, heap_form, long_form, ref_form, val_form};
 
 use crate::fault::Refused;
 use crate::output::Output;
@@ -21,10 +19,7 @@ use wat_types::{AbstractHeapType, HeapType, RefType, ValType};
 
 /// Writes an index.
 pub fn write_index(out: &mut Output, index: &Index) -> Result<(), Refused>
-    ensures written { OnOk result (out.new ≡ put out.old (spell_index (index_view index.now))) }
-    ensures printable { OnOk result (printable_index (index_view index.now) ≡ true) }
-    ensures refused { IfErr result (λ e. e ≢ Memory → printable_index (index_view index.now) ≡
-        false) }
+    ensures { Printed index_form (index_view index.now) result out.old out.new }
 {
     match index {
         Index::Num(number, _) => out.number(u64::from(*number)),
@@ -34,8 +29,7 @@ pub fn write_index(out: &mut Output, index: &Index) -> Result<(), Refused>
 
 /// Writes an abstract heap type.
 fn write_abstract(out: &mut Output, shared: bool, ty: AbstractHeapType) -> Result<(), Refused>
-    ensures written { OnOk result (out.new ≡ put out.old (spell_heap (abstract_ shared ty))) }
-    ensures refused { IfErr result (λ e. e ≡ Memory) }
+    ensures { Printed heap_form (abstract_ shared ty) result out.old out.new }
 {
     if !shared {
         return out.word(ty.word());
@@ -49,9 +43,7 @@ fn write_abstract(out: &mut Output, shared: bool, ty: AbstractHeapType) -> Resul
 /// Writes a heap type.
 #[tactic(auto, using(crate::specs::Laws::Written::put_both))]
 pub fn write_heap(out: &mut Output, heap: &HeapType) -> Result<(), Refused>
-    ensures written { OnOk result (out.new ≡ put out.old (spell_heap (heap_view heap.now))) }
-    ensures printable { OnOk result (printable_heap (heap_view heap.now) ≡ true) }
-    ensures refused { IfErr result (λ e. e ≢ Memory → printable_heap (heap_view heap.now) ≡ false) }
+    ensures { Printed heap_form (heap_view heap.now) result out.old out.new }
 {
     match heap {
         HeapType::Concrete(index) => write_index(out, index),
@@ -90,11 +82,8 @@ fn shorthand_of(ty: AbstractHeapType) -> &'static str
 /// `( ref null? HeapType )`
 #[tactic(auto, using(crate::specs::Laws::Written::put_both))]
 fn write_long(out: &mut Output, reference: &RefType) -> Result<(), Refused>
-    ensures written { OnOk result (out.new ≡ put out.old
-        (spell_long reference.now.nullable (heap_view reference.now.heap))) }
-    ensures printable { OnOk result (printable_ref (ref_view reference.now) ≡ true) }
-    ensures refused { IfErr result (λ e. e ≢ Memory → printable_ref (ref_view reference.now) ≡
-        false) }
+    ensures { Printed long_form (reference.now.nullable, heap_view reference.now.heap) result
+        out.old out.new }
 {
     out.open()?;
     out.word("ref")?;
@@ -107,10 +96,7 @@ fn write_long(out: &mut Output, reference: &RefType) -> Result<(), Refused>
 
 /// Writes a reference type: by its shorthand, where it has one and isn't shared.
 pub fn write_ref(out: &mut Output, reference: &RefType) -> Result<(), Refused>
-    ensures written { OnOk result (out.new ≡ put out.old (spell_ref (ref_view reference.now))) }
-    ensures printable { OnOk result (printable_ref (ref_view reference.now) ≡ true) }
-    ensures refused { IfErr result (λ e. e ≢ Memory → printable_ref (ref_view reference.now) ≡
-        false) }
+    ensures { Printed ref_form (ref_view reference.now) result out.old out.new }
 {
     match (reference.nullable, reference.heap) {
         (true, HeapType::Abstract { shared: false, ty }) => out.word(shorthand_of(ty)),
@@ -120,9 +106,7 @@ pub fn write_ref(out: &mut Output, reference: &RefType) -> Result<(), Refused>
 
 /// Writes a value type.
 pub fn write_val(out: &mut Output, ty: &ValType) -> Result<(), Refused>
-    ensures written { OnOk result (out.new ≡ put out.old (spell_val (val_view ty.now))) }
-    ensures printable { OnOk result (printable_val (val_view ty.now) ≡ true) }
-    ensures refused { IfErr result (λ e. e ≢ Memory → printable_val (val_view ty.now) ≡ false) }
+    ensures { Printed val_form (val_view ty.now) result out.old out.new }
 {
     let word = match ty {
         ValType::I32 => "i32",

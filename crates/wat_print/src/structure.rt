@@ -1,15 +1,14 @@
 //! How structure types are printed.
 
-ghost use Rattle.std.specs.Prelude.{◌≡◌, ◌≢◌, List, OnOk, IfErr, true, false};
+ghost use Rattle.std.specs.Prelude.{◌≡◌, List};
+ghost use Rattle.wat_tokens.specs.Tests.{more};
 ghost use Rattle.wat_types.specs.Struct.{MemberTy, member_view, members_view, struct_view};
 ghost use Rattle.wat_types.specs.StructType.{struct_type};
+ghost use Rattle.wat_print.specs.Form.{many_form};
 ghost use Rattle.wat_print.specs.Label.{none_labelled};
-ghost use Rattle.wat_print.specs.Parts.{each, Wrote};
 ghost use Rattle.wat_print.specs.Printings.{struct_printing};
-ghost use Rattle.wat_print.specs.Struct.{member_label, spell_member, printable_member};
-ghost use Rattle.wat_print.specs.Struct.{spell_member_alone, spell_struct, printable_struct};
-ghost use Rattle.wat_print.specs.Text.{put};
-ghost use Rattle.wat_print.specs.declared.fault.Refused.TheVariants.{Memory};
+ghost use Rattle.wat_print.specs.Prints.{Printed};
+ghost use Rattle.wat_print.specs.Struct.{member_label, member_form, member_alone_form, struct_form};
 
 use crate::fault::Refused;
 use crate::label::write_label;
@@ -21,22 +20,17 @@ use wat_types::{StructField, StructType};
 /// Writes a field, without its group.
 #[tactic(auto, using(crate::specs::Laws::Written::put_both))]
 fn write_member(out: &mut Output, field: &StructField) -> Result<(), Refused>
-    ensures written { OnOk result (out.new ≡ put out.old (spell_member (member_view field.now))) }
-    ensures printable { OnOk result (printable_member (member_view field.now) ≡ true) }
-    ensures refused { IfErr result (λ e. e ≢ Memory
-        → printable_member (member_view field.now) ≡ false) }
+    ensures { Printed member_form (member_view field.now) result out.old out.new }
 {
     write_label(out, &field.id, &field.name)?;
     write_field(out, field.mutable, &field.ty)
 }
 
 /// Writes fields, one behind the other.
-#[tactic(auto, using(crate::specs::Laws::Written::not_each))]
+#[tactic(auto, using(std::proofs::lemmas::List::drop_more, crate::specs::Laws::Written::put_both))]
 fn write_members(out: &mut Output, fields: &[StructField]) -> Result<(), Refused>
-    ensures wrote { OnOk result (Wrote member_view spell_member printable_member fields.now out.old
-        out.new) }
-    ensures refused { IfErr result (λ e. e ≢ Memory
-        → each printable_member (members_view fields.now) ≡ false) }
+    ensures { Printed (many_form more member_form) (members_view fields.now) result out.old
+        out.new }
 {
     for field in fields {
         write_member(out, field)?;
@@ -46,11 +40,7 @@ fn write_members(out: &mut Output, fields: &[StructField]) -> Result<(), Refused
 
 /// Writes a field in a group of its own.
 fn write_alone(out: &mut Output, field: &StructField) -> Result<(), Refused>
-    ensures written { OnOk result (out.new ≡ put out.old
-        (spell_member_alone (member_view field.now))) }
-    ensures printable { OnOk result (printable_member (member_view field.now) ≡ true) }
-    ensures refused { IfErr result (λ e. e ≢ Memory
-        → printable_member (member_view field.now) ≡ false) }
+    ensures { Printed member_alone_form (member_view field.now) result out.old out.new }
 {
     out.open()?;
     out.word("field")?;
@@ -59,13 +49,10 @@ fn write_alone(out: &mut Output, field: &StructField) -> Result<(), Refused>
 }
 
 /// Writes fields, each in a group of its own.
-#[tactic(auto, using(crate::specs::Laws::Written::not_each))]
+#[tactic(auto, using(std::proofs::lemmas::List::drop_more, crate::specs::Laws::Written::put_both))]
 fn write_each_alone(out: &mut Output, fields: &[StructField]) -> Result<(), Refused>
-    ensures wrote { OnOk result (Wrote member_view spell_member_alone printable_member fields.now
-        out.old
-        out.new) }
-    ensures refused { IfErr result (λ e. e ≢ Memory
-        → each printable_member (members_view fields.now) ≡ false) }
+    ensures { Printed (many_form more member_alone_form) (members_view fields.now) result out.old
+        out.new }
 {
     for field in fields {
         write_alone(out, field)?;
@@ -87,12 +74,9 @@ fn are_unlabelled(fields: &[StructField]) -> bool
 }
 
 /// Writes fields in groups: in one where none has a label, else each in its own.
+#[tactic(auto, using(crate::specs::Laws::Written::groups, crate::specs::Laws::Written::put_both))]
 fn write_fields(out: &mut Output, fields: &[StructField]) -> Result<(), Refused>
-    ensures written { OnOk result (out.new ≡ put out.old
-        (spell_struct (members_view fields.now))) }
-    ensures printable { OnOk result (printable_struct (members_view fields.now) ≡ true) }
-    ensures refused { IfErr result (λ e. e ≢ Memory
-        → printable_struct (members_view fields.now) ≡ false) }
+    ensures { Printed struct_form (members_view fields.now) result out.old out.new }
 {
     if fields.is_empty() {
         return Ok(());
@@ -109,11 +93,7 @@ fn write_fields(out: &mut Output, fields: &[StructField]) -> Result<(), Refused>
 
 /// Writes a structure type (Text Format, Types, "Composite Types").
 pub(crate) fn write_struct(out: &mut Output, structure: &StructType) -> Result<(), Refused>
-    ensures written { OnOk result (out.new ≡ put out.old
-        (spell_struct (struct_view structure.now))) }
-    ensures printable { OnOk result (printable_struct (struct_view structure.now) ≡ true) }
-    ensures refused { IfErr result (λ e. e ≢ Memory
-        → printable_struct (struct_view structure.now) ≡ false) }
+    ensures { Printed struct_form (struct_view structure.now) result out.old out.new }
 {
     write_fields(out, &structure.fields)
 }

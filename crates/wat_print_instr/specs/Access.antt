@@ -10,8 +10,9 @@ use Rattle.wat_operands.specs.declared.memory.MemArgOrdering.{MemArgOrdering}
 use Rattle.wat_operands.specs.declared.memory.MemArgOrdering.TheVariants.{Op, Rmw}
 use Rattle.wat_operands.specs.declared.ordering.Ordering.{Ordering}
 use Rattle.wat_operands.specs.declared.ordering.Ordering.TheVariants.{AcqRel, SeqCst}
+use Rattle.wat_print.specs.Before.{spell_number}
 use Rattle.wat_print.specs.Index.{spell_index, printable_index}
-use Rattle.wat_print.specs.Limits.{spell_number, is_u64}
+use Rattle.wat_print.specs.Limits.{is_u64}
 use Rattle.wat_print.specs.Parts.{grouped, spell_option}
 use Rattle.wat_print_instr.specs.Numbers.{numbered, is_unsigned}
 use Rattle.wat_print_instr.specs.Places.{spell_index_or_0}

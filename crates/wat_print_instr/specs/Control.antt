@@ -14,11 +14,10 @@ use Rattle.wat_operands.specs.Handlers.{ResumeTy, ThrowTy}
 use Rattle.wat_operands.specs.declared.catches.CatchKind.{CatchKind}
 use Rattle.wat_operands.specs.declared.catches.CatchKind.TheVariants.{Catch, CatchRef, CatchAll}
 use Rattle.wat_operands.specs.declared.catches.CatchKind.TheVariants.{CatchAllRef}
+use Rattle.wat_print.specs.Before.{spell_label, printable_label, spell_ref, printable_ref}
+use Rattle.wat_print.specs.Before.{spell_val, printable_val, spell_use, printable_unnamed_use}
 use Rattle.wat_print.specs.Index.{spell_index, printable_index}
-use Rattle.wat_print.specs.Label.{spell_label, printable_label}
 use Rattle.wat_print.specs.Parts.{grouped, spell_option, if_some, each}
-use Rattle.wat_print.specs.Reference.{spell_ref, printable_ref, spell_val, printable_val}
-use Rattle.wat_print.specs.Use.{spell_use, printable_unnamed_use}
 use Rattle.wat_print_instr.specs.Places.{spell_index_or_0}
 
 -- ---- blocks and calls

@@ -4,8 +4,8 @@ use Rattle.std.specs.Prelude.{flat_map}
 use Rattle.wat_lexer.specs.Token.{Tok}
 use Rattle.wat_tokens.specs.Index.{Idx, number}
 use Rattle.wat_operands.specs.Branch.{BrTableTy}
+use Rattle.wat_print.specs.Before.{spell_number}
 use Rattle.wat_print.specs.Index.{spell_index, printable_index}
-use Rattle.wat_print.specs.Limits.{spell_number}
 use Rattle.wat_print.specs.Parts.{each}
 use Rattle.wat_print_instr.specs.Numbers.{is_unsigned}
 

@@ -6,7 +6,7 @@ use Rattle.wat_tokens.specs.Followed.{blank}
 use Rattle.wat_tokens.specs.Index.{identifier}
 use Rattle.wat_tokens.specs.Parts.{opt}
 use Rattle.wat_tokens.specs.Tests.{begins_id}
-use Rattle.wat_print.specs.Label.{spell_id}
+use Rattle.wat_print.specs.Before.{spell_id, spell_number}
 use Rattle.wat_print.specs.WellFormed.{is_name, nothing}
 use Rattle.wat_print.specs.Parts.{spell_option, if_some}
 use Rattle.wat_tokens.specs.Integers.{signed, unsigned}
@@ -27,7 +27,6 @@ use Rattle.wat_operands.specs.Select.{select_types}
 use Rattle.wat_operands.specs.Tables.{index_or_0, index_pair, init, copy}
 use Rattle.wat_operands.specs.Vector.{v128_const, shuffle}
 use Rattle.wat_print.specs.Index.{printable_index}
-use Rattle.wat_print.specs.Limits.{spell_number}
 use Rattle.wat_print.specs.Printed.{Printing, printing_at_end, printing_of, printing_of_all}
 use Rattle.wat_print.specs.Laws.Only.{only_any}
 use Rattle.wat_print_instr.specs.Access.{spell_access, printable_access, spell_ordering}

@@ -5,7 +5,7 @@ use Rattle.wat_operands.specs.declared.vector.I8x16Shuffle.{I8x16Shuffle}
 use Rattle.wat_operands.specs.declared.vector.V128Const.{V128Const}
 use Rattle.wat_operands.specs.declared.vector.V128Const.TheVariants.{I8x16, I16x8, I32x4, I64x2}
 use Rattle.wat_operands.specs.declared.vector.V128Const.TheVariants.{F32x4, F64x2}
-use Rattle.wat_print.specs.Limits.{spell_number}
+use Rattle.wat_print.specs.Before.{spell_number}
 use Rattle.wat_print_instr.specs.Numbers.{spell_signed, is_signed, is_unsigned, printable_number_of}
 
 -- a shape's word, and its lanes

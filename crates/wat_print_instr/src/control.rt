@@ -10,13 +10,12 @@ ghost use Rattle.wat_operands.specs.Casts.{branch_between, branch_view, branch_f
 ghost use Rattle.wat_operands.specs.Casts.{branch_desc_eq_view, branch_desc_eq_fail_view};
 ghost use Rattle.wat_operands.specs.Casts.{cast_branch};
 ghost use Rattle.wat_operands.specs.Select.{select_view, select_types};
+ghost use Rattle.wat_print.specs.Before.{printable_val, spell_use, printable_unnamed_use};
 ghost use Rattle.wat_print.specs.Function.{param_label};
 ghost use Rattle.wat_print.specs.Label.{none_labelled};
 ghost use Rattle.wat_print.specs.Parts.{if_some, each};
 ghost use Rattle.wat_print.specs.Printings.{ref_printing};
-ghost use Rattle.wat_print.specs.Reference.{printable_val};
 ghost use Rattle.wat_print.specs.Text.{put};
-ghost use Rattle.wat_print.specs.Use.{spell_use, printable_unnamed_use};
 ghost use Rattle.wat_print.specs.declared.fault.Refused.TheVariants.{Memory};
 ghost use Rattle.wat_print_instr.specs.Control.{spell_block, printable_block, spell_branch};
 ghost use Rattle.wat_print_instr.specs.Control.{printable_branch, spell_result};

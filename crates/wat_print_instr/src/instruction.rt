@@ -5,7 +5,7 @@ ghost use Rattle.wat_tokens.specs.Index.{name_of};
 ghost use Rattle.wat_tokens.specs.Views.{option_view};
 ghost use Rattle.wat_instr.specs.Instruction.{Instr, op_in, operand_in, instruction_view};
 ghost use Rattle.wat_instr.specs.Instruction.{instruction, block_in};
-ghost use Rattle.wat_print.specs.Label.{spell_id};
+ghost use Rattle.wat_print.specs.Before.{spell_id};
 ghost use Rattle.wat_print.specs.WellFormed.{is_name};
 ghost use Rattle.wat_print.specs.Parts.{spell_option, if_some};
 ghost use Rattle.wat_print.specs.Text.{put};

@@ -4,7 +4,7 @@ use Rattle.std.specs.Str.{is_utf8}
 use Rattle.wat_lexer.specs.Token.{Tok, Annotation, String}
 use Rattle.wat_links.specs.Dylink.{SubsectionTy, mem_info, needed, export_info, import_info}
 use Rattle.wat_links.specs.Dylink.{runtime_path, target_arch}
-use Rattle.wat_print.specs.Limits.{spell_number}
+use Rattle.wat_print.specs.Before.{spell_number}
 use Rattle.wat_print.specs.Parts.{grouped, each}
 use Rattle.wat_print_instr.specs.Numbers.{is_unsigned}
 use Rattle.wat_print.specs.Strings.{spell_string}

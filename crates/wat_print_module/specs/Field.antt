@@ -5,7 +5,7 @@ use Rattle.wat_tokens.specs.Index.{Idx}
 use Rattle.wat_tokens.specs.Spelled.{in_parens}
 use Rattle.wat_core.specs.Field.{ModuleFieldTy, a_type, a_rec, an_import, a_func, a_table, a_memory}
 use Rattle.wat_core.specs.Field.{a_global, an_export, a_start, an_elem, a_data, a_tag, a_custom}
-use Rattle.wat_print.specs.Define.{spell_type, printable_type, spell_rec, printable_rec}
+use Rattle.wat_print.specs.Before.{spell_type, printable_type, spell_rec, printable_rec}
 use Rattle.wat_print.specs.Index.{spell_index, printable_index}
 use Rattle.wat_print_module.specs.Custom.{spell_custom, printable_custom}
 use Rattle.wat_print_module.specs.Export.{spell_export, printable_export}

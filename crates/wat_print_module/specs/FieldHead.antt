@@ -3,7 +3,7 @@ use Rattle.std.specs.Prelude.{ℕ, Bool, ◌&&◌, List, [], ◌∷◌, ◌++◌
 use Rattle.std.specs.Str.{is_utf8}
 use Rattle.wat_lexer.specs.Token.{Tok, String}
 use Rattle.wat_links.specs.FieldHead.{FieldHeadTy}
-use Rattle.wat_print.specs.Label.{spell_label, printable_label}
+use Rattle.wat_print.specs.Before.{spell_label, printable_label}
 use Rattle.wat_print.specs.Parts.{grouped, each}
 
 -- ---- exports in line

@@ -3,12 +3,10 @@ use Rattle.std.specs.Prelude.{ℕ, Bool, ◌&&◌, List, ◌∷◌, ◌++◌, co
 use Rattle.wat_lexer.specs.Token.{Tok, Keyword}
 use Rattle.wat_tokens.specs.Spelled.{in_parens}
 use Rattle.wat_links.specs.Item.{ItemKindTy, func, table, memory, global, tag, exact_func, SigTy}
-use Rattle.wat_print.specs.Label.{spell_label, printable_label}
-use Rattle.wat_print.specs.Limits.{spell_memory_type, printable_memory_type, spell_table_type}
-use Rattle.wat_print.specs.Limits.{printable_table_type}
+use Rattle.wat_print.specs.Before.{spell_label, printable_label, spell_memory_type}
+use Rattle.wat_print.specs.Before.{printable_memory_type, spell_table_type, printable_table_type}
+use Rattle.wat_print.specs.Before.{spell_global, printable_global, spell_use, printable_use}
 use Rattle.wat_print.specs.Parts.{grouped}
-use Rattle.wat_print.specs.Storage.{spell_global, printable_global}
-use Rattle.wat_print.specs.Use.{spell_use, printable_use}
 
 abbrev pub item_word : ItemKindTy → List ℕ
 item_word (func u) = codes "func"

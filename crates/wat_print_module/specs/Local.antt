@@ -3,9 +3,9 @@ use Rattle.std.specs.Prelude.{Bool, true, ◌&&◌, List, [], ◌∷◌, ◌++�
 use Rattle.wat_lexer.specs.Token.{Tok, Keyword}
 use Rattle.wat_types.specs.Label.{Label}
 use Rattle.wat_fields.specs.Local.{LocalTy}
-use Rattle.wat_print.specs.Label.{spell_label, printable_label, none_labelled}
+use Rattle.wat_print.specs.Before.{spell_label, printable_label, spell_val, printable_val}
+use Rattle.wat_print.specs.Label.{none_labelled}
 use Rattle.wat_print.specs.Parts.{grouped, each}
-use Rattle.wat_print.specs.Reference.{spell_val, printable_val}
 
 abbrev pub local_label : LocalTy → Label
 local_label l = l.label

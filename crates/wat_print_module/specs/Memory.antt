@@ -2,8 +2,8 @@
 use Rattle.std.specs.Prelude.{Bool, ◌&&◌, List, ◌∷◌, ◌++◌, codes}
 use Rattle.wat_lexer.specs.Token.{Tok, Keyword}
 use Rattle.wat_fields.specs.Memory.{MemoryKindTy, imported, normal, inline, MemoryTy}
-use Rattle.wat_print.specs.Limits.{spell_page_size, is_exponent, spell_memory_type}
-use Rattle.wat_print.specs.Limits.{printable_memory_type}
+use Rattle.wat_print.specs.Before.{spell_page_size, spell_memory_type, printable_memory_type}
+use Rattle.wat_print.specs.Limits.{is_exponent}
 use Rattle.wat_print.specs.Parts.{grouped, spell_flag, spell_option, if_some, each}
 use Rattle.wat_print_module.specs.FieldHead.{spell_inline_import, printable_inline_import}
 use Rattle.wat_print_module.specs.FieldHead.{spell_head, printable_head}

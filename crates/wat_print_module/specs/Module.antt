@@ -7,7 +7,7 @@ use Rattle.wat_types.specs.Label.{label}
 use Rattle.wat_core.specs.Field.{ModuleFieldTy}
 use Rattle.wat_core.specs.FieldGroup.{field_group}
 use Rattle.wat_core.specs.Module.{ModuleKindTy, text, binary, ModuleTy}
-use Rattle.wat_print.specs.Label.{spell_label, printable_label}
+use Rattle.wat_print.specs.Before.{spell_label, printable_label}
 use Rattle.wat_print.specs.Parts.{each}
 use Rattle.wat_print.specs.Printed.{NoneSpells}
 use Rattle.wat_print_module.specs.Field.{printable_module_field, spell_field_group}

@@ -10,12 +10,11 @@ use Rattle.wat_fields.specs.DataVal.{DataValTy, written, numbers}
 use Rattle.wat_fields.specs.Elem.{ElemKindTy, ElemTy}
 use Rattle.wat_fields.specs.Elem as elem_kind
 use Rattle.wat_fields.specs.Payload.{PayloadTy, indices, exprs}
+use Rattle.wat_print.specs.Before.{spell_label, printable_label, spell_number, spell_ref}
+use Rattle.wat_print.specs.Before.{printable_ref}
 use Rattle.wat_print.specs.Index.{spell_index, printable_index}
-use Rattle.wat_print.specs.Label.{spell_label, printable_label}
-use Rattle.wat_print.specs.Limits.{spell_number}
 use Rattle.wat_print.specs.WellFormed.{is_byte}
 use Rattle.wat_print.specs.Parts.{grouped, spell_option, if_some, each}
-use Rattle.wat_print.specs.Reference.{spell_ref, printable_ref}
 use Rattle.wat_print.specs.Text.{all_are}
 use Rattle.wat_print_instr.specs.ExpressionForm.{spell_expression, printable_expression}
 use Rattle.wat_print_instr.specs.Places.{is_index_0}

@@ -11,10 +11,9 @@ use Rattle.wat_types.specs.declared.heap.AbstractHeapType.TheVariants as word
 use Rattle.wat_expr.specs.Expression.{Expr}
 use Rattle.wat_fields.specs.Payload.{PayloadTy, indices, exprs, is_funcref}
 use Rattle.wat_fields.specs.Table.{TableKindTy, imported, normal, inline, TableFieldTy}
+use Rattle.wat_print.specs.Before.{spell_table_type, printable_table_type, spell_ref, printable_ref}
 use Rattle.wat_print.specs.Index.{spell_index, printable_index}
-use Rattle.wat_print.specs.Limits.{spell_table_type, printable_table_type}
 use Rattle.wat_print.specs.Parts.{grouped, spell_flag, spell_option, if_some, each}
-use Rattle.wat_print.specs.Reference.{spell_ref, printable_ref}
 use Rattle.wat_print_instr.specs.ExpressionForm.{spell_expression, printable_expression}
 use Rattle.wat_print_module.specs.FieldHead.{spell_inline_import, printable_inline_import}
 use Rattle.wat_print_module.specs.FieldHead.{spell_head, printable_head}

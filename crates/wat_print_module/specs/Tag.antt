@@ -2,8 +2,8 @@
 use Rattle.std.specs.Prelude.{Bool, ◌&&◌, List, ◌∷◌, ◌++◌, codes}
 use Rattle.wat_lexer.specs.Token.{Tok, Keyword}
 use Rattle.wat_fields.specs.Tag.{TagTy}
+use Rattle.wat_print.specs.Before.{spell_use, printable_use}
 use Rattle.wat_print.specs.Parts.{spell_option, if_some}
-use Rattle.wat_print.specs.Use.{spell_use, printable_use}
 use Rattle.wat_print_module.specs.FieldHead.{spell_inline_import, printable_inline_import}
 use Rattle.wat_print_module.specs.FieldHead.{spell_head, printable_head}
 

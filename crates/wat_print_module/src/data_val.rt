@@ -2,7 +2,7 @@
 
 ghost use Rattle.std.specs.Prelude.{◌≡◌, OnOk, IfErr, true};
 ghost use Rattle.wat_fields.specs.DataVal.{DataValTy, written, numbers, data_val_view, data_val};
-ghost use Rattle.wat_print.specs.Limits.{spell_number};
+ghost use Rattle.wat_print.specs.Before.{spell_number};
 ghost use Rattle.wat_print.specs.WellFormed.{is_byte};
 ghost use Rattle.wat_print.specs.Parts.{Wrote};
 ghost use Rattle.wat_print.specs.Text.{put};

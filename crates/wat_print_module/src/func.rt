@@ -6,9 +6,9 @@ ghost use Rattle.wat_fields.specs.Func.{FuncFieldTy, func_use_view, func_kind_vi
 ghost use Rattle.wat_fields.specs.Func.{func, imported, inline};
 ghost use Rattle.wat_fields.specs.Local.{locals_view};
 ghost use Rattle.wat_links.specs.Import.{inline_import_view};
+ghost use Rattle.wat_print.specs.Before.{printable_use};
 ghost use Rattle.wat_print.specs.Layout.{Writes};
 ghost use Rattle.wat_print.specs.Text.{put};
-ghost use Rattle.wat_print.specs.Use.{printable_use};
 ghost use Rattle.wat_print.specs.declared.fault.Refused.TheVariants.{Memory};
 ghost use Rattle.wat_print_instr.specs.ExpressionForm.{spell_expression, printable_expression};
 ghost use Rattle.wat_print_module.specs.FieldPrintings.{func_printing};

@@ -2,9 +2,9 @@
 
 ghost use Rattle.std.specs.Prelude.{◌≡◌, ◌≢◌, OnOk, IfErr, true, false};
 ghost use Rattle.wat_fields.specs.Tag.{TagTy, tag_kind_view, tag_view, tag};
+ghost use Rattle.wat_print.specs.Before.{spell_use, printable_use};
 ghost use Rattle.wat_print.specs.Parts.{spell_option, if_some};
 ghost use Rattle.wat_print.specs.Text.{put};
-ghost use Rattle.wat_print.specs.Use.{spell_use, printable_use};
 ghost use Rattle.wat_print.specs.declared.fault.Refused.TheVariants.{Memory};
 ghost use Rattle.wat_print_module.specs.FieldHead.{spell_inline_import, printable_inline_import};
 ghost use Rattle.wat_print_module.specs.FieldPrintings.{tag_printing};

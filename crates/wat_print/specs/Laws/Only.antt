@@ -21,7 +21,7 @@ pub record OnlyPrintable {A : Type 0} (g : Production A) (printable : A → Bool
   pub holds : (v : A) (c r : List Tok) → each is_given c ≡ true → g.spells v c r
       → printable v ≡ true
 
-given_parts : (c d e : List Tok) → c ≡ d ++ e → each is_given c ≡ true
+pub given_parts : (c d e : List Tok) → c ≡ d ++ e → each is_given c ≡ true
     → (each is_given d ≡ true) × (each is_given e ≡ true)
 given_parts c d e s a =
     each_front is_given d e (subst (λ (l : List Tok). each is_given l ≡ true) s a)
@@ -46,7 +46,7 @@ look_up_printable {A = A} printable (x ∷ table) w v a e =
     (λ k f. (let same : x.1 ≡ v = cc in subst (λ (u : A). printable u ≡ true) same (p.0)))
     (λ k f. (look_up_printable printable table w v p.1 f)) e
 
-word_given : {A : Type 0} (printable : A → Bool) (table : List (List ℕ × A))
+pub word_given : {A : Type 0} (printable : A → Bool) (table : List (List ℕ × A))
     → each (λ e. printable e.1) table ≡ true → (t : Tok) (v : A) → is_given t ≡ true
     → word_in table t ≡ Some v → printable v ≡ true
 word_given printable table h (Keyword w) v a e = look_up_printable printable table w v h e

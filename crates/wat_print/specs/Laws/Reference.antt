@@ -1,35 +1,34 @@
 -- Laws: indices, heap types, reference types and value types are read again.
-use Rattle.std.specs.Prelude.{◌≡◌, ℕ, ◌^◌, Bool, true, false, nat_lt, List, [], ◌∷◌, ◌++◌}
+use Rattle.std.specs.Prelude.{◌≡◌, ℕ, ◌^◌, true, false, not, nat_lt, List, ◌∷◌, ◌++◌}
 use Rattle.std.specs.Prelude.{codes, decimal, ◌≤◌, ◌-◌, Option, Some, None, option_map}
-use Rattle.std.proofs.Common.{refl, arith, inl, inr, subst}
+use Rattle.std.specs.Str.{bytes_eq}
+use Rattle.std.proofs.Common.{rules, refl, arith, subst}
 use Rattle.std.proofs.lemmas.Bool.{ltb-true}
 use Rattle.std.proofs.lemmas.Bool.Decides.{nat_tests}
 use Rattle.wat_lexer.specs.Number.{unsigned_value}
-use Rattle.wat_lexer.specs.Token.{Tok, LParen, RParen, Keyword, Id, Integer}
+use Rattle.wat_lexer.specs.Token.{Tok, LParen, Keyword, Id, Integer}
 use Rattle.wat_tokens.specs.Begin.{begins_one_of}
-use Rattle.wat_tokens.specs.Groups.{group}
 use Rattle.wat_tokens.specs.Index.{Idx, number, name, index, index_of, begins_index}
-use Rattle.wat_tokens.specs.NameAnnotation.{begins_name}
-use Rattle.wat_tokens.specs.Parts.{seq, flag}
-use Rattle.wat_tokens.specs.Tests.{begins_word, begins_group, begins_id, more, word_in}
-use Rattle.wat_types.specs.Heap.{HeapTy, concrete, exact, abstract_, heap_type}
-use Rattle.wat_types.specs.Heap.{abstract_heap_type, abstract_word}
-use Rattle.wat_types.specs.Reference.{RefTy, ref_type, shorthand_for, shorthand, short}
-use Rattle.wat_types.specs.Value.{ValTy, i32, i64, f32, f64, v128, ref, val_type, begins_plain}
-use Rattle.wat_types.specs.Value.{plain_words}
+use Rattle.wat_tokens.specs.Tests.{begins_group, word_in}
+use Rattle.wat_types.specs.Heap.{concrete, exact, abstract_, heap_type}
+use Rattle.wat_types.specs.Heap.{abstract_heap_type, abstract_word, abstract_words}
+use Rattle.wat_types.specs.Reference.{ref_type, shorthand_for, shorthand, short}
+use Rattle.wat_types.specs.Reference.{shorthand_words}
+use Rattle.wat_types.specs.Value.{ValTy, i32, ref, val_type, plain_words}
 use Rattle.wat_types.specs.declared.heap.AbstractHeapType.{AbstractHeapType}
 use Rattle.wat_types.specs.declared.heap.AbstractHeapType.TheVariants as word
-use Rattle.wat_print.specs.WellFormed.{is_keyword, is_given, WellFormed}
-use Rattle.wat_print.specs.Index.{spell_index, printable_index}
-use Rattle.wat_print.specs.Parts.{grouped, spell_flag}
-use Rattle.wat_print.specs.Reference.{spell_abstract, spell_heap, printable_heap, short_word}
-use Rattle.wat_print.specs.Reference.{spell_long, spell_reference, spell_ref, printable_ref}
-use Rattle.wat_print.specs.Reference.{spell_val, printable_val}
+use Rattle.wat_print.specs.Form.{Test}
+use Rattle.wat_print.specs.WellFormed.{is_keyword, is_given, WellFormed, is_printable}
+use Rattle.wat_print.specs.Index.{spell_index, printable_index, OfIndices, index_form}
+use Rattle.wat_print.specs.Prints.{Prints}
+use Rattle.wat_print.specs.Reference.{OfNamed, abstract_form, heap_parts, heap_form, short_word}
+use Rattle.wat_print.specs.Reference.{named_form, ref_parts, ref_form, is_plain, plain_word}
+use Rattle.wat_print.specs.Reference.{val_parts, val_form}
+use Rattle.wat_print.specs.Laws.Form.{one_prints, flag_prints, seq_prints, made_prints}
+use Rattle.wat_print.specs.Laws.Form.{whole_prints, else_prints, group_prints, unwritten_prints}
 use Rattle.wat_print.specs.Laws.Numbers.{decimal_printable, unsigned_decimal, unsigned_fits}
-use Rattle.wat_print.specs.Laws.Only.{OnlyPrintable, only_any, only_one, only_where, only_made}
-use Rattle.wat_print.specs.Laws.Only.{only_group, only_word_in, only_seq}
-use Rattle.wat_print.specs.Laws.Parts.{Spells, group_here, flag_here, well_formed_one}
-use Rattle.wat_print.specs.Laws.Parts.{well_formed_group, well_formed_both, well_formed_flag}
+use Rattle.wat_print.specs.Laws.Only.{OnlyPrintable, only_one, word_given}
+use Rattle.wat_print.specs.Laws.Parts.{Spells, well_formed_one}
 
 -- ---- indices
 
@@ -44,212 +43,6 @@ index_well_formed (number n) h =
     let lt = ltb-true n (2 ^ 32) h in
     well_formed_one (Integer (decimal n)) (decimal_printable n (omega arith))
 index_well_formed (name x) h = well_formed_one (Id x) h
-
--- in its parentheses behind a word
-pub index_group_well_formed : (w : List ℕ) → is_keyword w ≡ true → (i : Idx)
-    → printable_index i ≡ true → WellFormed (grouped w (spell_index i))
-index_group_well_formed w k i h = well_formed_group w (spell_index i) k (index_well_formed i h)
-
--- ---- heap types
-
-pub abstract_here : (t : AbstractHeapType) → Spells abstract_heap_type t (spell_abstract t)
-unfolding abstract_heap_type
-abstract_here word.Func r = (Keyword (codes "func"), refl, refl)
-abstract_here t r = (Keyword (abstract_word t), refl, refl)
-
-abstract_printable : (t : AbstractHeapType) → is_keyword (abstract_word t) ≡ true
-abstract_printable word.Func = refl
-abstract_printable _ = refl
-
-pub abstract_well_formed : (t : AbstractHeapType) → WellFormed (spell_abstract t)
-abstract_well_formed t = well_formed_one (Keyword (abstract_word t)) (abstract_printable t)
-
-pub heap_here : (h : HeapTy) → printable_heap h ≡ true → Spells heap_type h (spell_heap h)
-unfolding heap_type
-heap_here (concrete (number n)) f r = inl (refl, (number n, index_here (number n) f r, refl, refl))
-heap_here (concrete (name x)) f r = inl (refl, (name x, index_here (name x) f r, refl, refl))
-heap_here (exact i) f r =
-    inr (
-      refl,
-      inl (
-        refl,
-        (
-          i,
-          group_here (codes "exact") index i (spell_index i) r refl
-              (index_here i f (RParen ∷ r)),
-          refl,
-          refl,
-        ),
-      ),
-    )
-heap_here (abstract_ true t) f r =
-    inr (
-      refl,
-      inr (
-        refl,
-        inl (
-          refl,
-          (
-            t,
-            group_here (codes "shared") abstract_heap_type t
-                (spell_abstract t) r refl (abstract_here t (RParen ∷ r)),
-            refl,
-            refl,
-          ),
-        ),
-      ),
-    )
-heap_here (abstract_ false t) f r = inr (
-  refl,
-  inr
-      (refl, inr (refl, (t, abstract_here t r, refl, refl))),
-)
-
-pub heap_well_formed : (h : HeapTy) → printable_heap h ≡ true → WellFormed (spell_heap h)
-heap_well_formed (concrete i) f = index_well_formed i f
-heap_well_formed (exact i) f = index_group_well_formed (codes "exact") refl i f
-heap_well_formed (abstract_ true t) f =
-    well_formed_group (codes "shared") (spell_abstract t) refl (abstract_well_formed t)
-heap_well_formed (abstract_ false t) f = abstract_well_formed t
-
--- ---- reference types
-
-short_here : (t : AbstractHeapType) → Spells shorthand t (Keyword (short_word t) ∷ [])
-unfolding shorthand
-short_here word.Func r =
-    (shorthand_for word.Func, (Keyword (codes "funcref"), refl, refl), refl, refl)
-short_here t r = (shorthand_for t, (Keyword (short_word t), refl, refl), refl, refl)
-
-short_printable : (t : AbstractHeapType) → is_keyword (short_word t) ≡ true
-short_printable word.Func = refl
-short_printable _ = refl
-
--- none of the heap types begins with `null`
-heap_not_null : (h : HeapTy) (r : List Tok) → begins_word (codes "null") (spell_heap h ++ r) ≡ false
-heap_not_null (concrete (number n)) r = refl
-heap_not_null (concrete (name x)) r = refl
-heap_not_null (exact i) r = refl
-heap_not_null (abstract_ true t) r = refl
-heap_not_null (abstract_ false word.Func) r = refl
-heap_not_null (abstract_ false _) r = refl
-
-long_here : (b : Bool) (h : HeapTy) → printable_heap h ≡ true
-    → Spells ref_type (record { nullable = b; heap = h }) (spell_long b h)
-unfolding ref_type
-long_here b h f r =
-    let n = spell_flag (codes "null") b in
-    inl (
-      refl,
-      (
-        (b, h),
-        group_here (codes "ref") (seq (flag (codes "null")) heap_type) (b, h)
-            (n ++ spell_heap h) r refl (
-              n,
-              spell_heap h,
-              refl,
-              flag_here (codes "null") b (spell_heap h ++ RParen ∷ r) refl
-                  (heap_not_null h (RParen ∷ r)),
-              heap_here h f (RParen ∷ r),
-            ),
-        refl,
-        refl,
-      ),
-    )
-
-ref_parts : (b : Bool) (h : HeapTy) → printable_heap h ≡ true
-    → Spells ref_type (record { nullable = b; heap = h }) (spell_reference b h)
-unfolding ref_type
-ref_parts true (abstract_ false word.Func) f r =
-    inr (refl, inr (refl, (word.Func, short_here word.Func r, refl, refl)))
-ref_parts true (abstract_ false t) f r =
-    inr (refl, inr (refl, (t, short_here t r, refl, refl)))
-ref_parts true (abstract_ true t) f r = long_here true (abstract_ true t) f r
-ref_parts true (concrete i) f r = long_here true (concrete i) f r
-ref_parts true (exact i) f r = long_here true (exact i) f r
-ref_parts false h f r = long_here false h f r
-
-pub ref_here : (t : RefTy) → printable_ref t ≡ true → Spells ref_type t (spell_ref t)
-ref_here t f = ref_parts t.nullable t.heap f
-
-long_well_formed : (b : Bool) (h : HeapTy) → printable_heap h ≡ true → WellFormed (spell_long b h)
-long_well_formed b h f =
-    let n = spell_flag (codes "null") b in
-    well_formed_group (codes "ref") (n ++ spell_heap h) refl
-    (well_formed_both n (spell_heap h) (well_formed_flag (codes "null") b refl)
-    (heap_well_formed h f))
-
-well_formed_parts : (b : Bool) (h : HeapTy) → printable_heap h ≡ true
-    → WellFormed (spell_reference b h)
-well_formed_parts true (abstract_ false t) f =
-    well_formed_one (Keyword (short_word t)) (short_printable t)
-well_formed_parts true (abstract_ true t) f = long_well_formed true (abstract_ true t) f
-well_formed_parts true (concrete i) f = long_well_formed true (concrete i) f
-well_formed_parts true (exact i) f = long_well_formed true (exact i) f
-well_formed_parts false h f = long_well_formed false h f
-
-pub ref_well_formed : (t : RefTy) → printable_ref t ≡ true → WellFormed (spell_ref t)
-ref_well_formed t f = well_formed_parts t.nullable t.heap f
-
--- ---- what a value type begins with
-
--- what the test says of a reference type in front
-abbrev pub OfRefs : (List Tok → Bool) → Bool → Type 0
-OfRefs test b = (n : Bool) (h : HeapTy) (x : List Tok) → test (spell_reference n h ++ x) ≡ b
-
-pub of_refs : (test : List Tok → Bool) (b : Bool)
-    → ((t : AbstractHeapType) (x : List Tok) → test (Keyword (short_word t) ∷ x) ≡ b)
-    → ((n : Bool) (h : HeapTy) (x : List Tok) → test (spell_long n h ++ x) ≡ b) → OfRefs test b
-of_refs test b s l true (abstract_ false t) x = s t x
-of_refs test b s l true (abstract_ true t) x = l true (abstract_ true t) x
-of_refs test b s l true (concrete i) x = l true (concrete i) x
-of_refs test b s l true (exact i) x = l true (exact i) x
-of_refs test b s l false h x = l false h x
-
-short_not_plain : (t : AbstractHeapType) (x : List Tok)
-    → begins_plain (Keyword (short_word t) ∷ x) ≡ false
-unfolding begins_plain
-short_not_plain word.Func x = refl
-short_not_plain _ x = refl
-
-long_not_plain : (n : Bool) (h : HeapTy) (x : List Tok) → begins_plain (spell_long n h ++ x) ≡ false
-unfolding begins_plain
-long_not_plain n h x = refl
-
-refs_not_plain : OfRefs begins_plain false
-refs_not_plain n h x = of_refs begins_plain false short_not_plain long_not_plain n h x
-
-pub val_more : (t : ValTy) (x : List Tok) → more (spell_val t ++ x) ≡ true
-val_more (ref t) x = of_refs more true (λ k y. refl) (λ n h y. refl) t.nullable t.heap x
-val_more _ x = refl
-
-pub val_no_id : (t : ValTy) (x : List Tok) → begins_id (spell_val t ++ x) ≡ false
-val_no_id (ref t) x = of_refs begins_id false (λ k y. refl) (λ n h y. refl) t.nullable t.heap x
-val_no_id _ x = refl
-
-pub val_no_name : (t : ValTy) (x : List Tok) → begins_name (spell_val t ++ x) ≡ false
-val_no_name (ref t) x = of_refs begins_name false (λ k y. refl) (λ n h y. refl) t.nullable t.heap x
-val_no_name _ x = refl
-
--- ---- value types
-
-pub val_here : (t : ValTy) → printable_val t ≡ true → Spells val_type t (spell_val t)
-unfolding val_type begins_plain
-val_here i32 f r = inl (refl, (Keyword (codes "i32"), refl, refl))
-val_here i64 f r = inl (refl, (Keyword (codes "i64"), refl, refl))
-val_here f32 f r = inl (refl, (Keyword (codes "f32"), refl, refl))
-val_here f64 f r = inl (refl, (Keyword (codes "f64"), refl, refl))
-val_here v128 f r = inl (refl, (Keyword (codes "v128"), refl, refl))
-val_here (ref t) f r = inr (refs_not_plain t.nullable t.heap r, (t, ref_here t f r, refl, refl))
-
-pub val_well_formed : (t : ValTy) → printable_val t ≡ true → WellFormed (spell_val t)
-val_well_formed (ref t) f = ref_well_formed t f
-val_well_formed i32 f = well_formed_one (Keyword (codes "i32")) refl
-val_well_formed i64 f = well_formed_one (Keyword (codes "i64")) refl
-val_well_formed f32 f = well_formed_one (Keyword (codes "f32")) refl
-val_well_formed f64 f = well_formed_one (Keyword (codes "f64")) refl
-val_well_formed v128 f = well_formed_one (Keyword (codes "v128")) refl
-
--- ---- what a text spells can be written
 
 number_given : (o : Option ℕ) (i : Idx) → ((n : ℕ) → o ≡ Some n → n ≤ 2 ^ 32 - 1)
     → option_map number o ≡ Some i → printable_index i ≡ true
@@ -271,33 +64,118 @@ index_given _ i a e = absurd cc
 pub index_only : OnlyPrintable index printable_index
 index_only = only_one index_of (refl, refl) printable_index index_given
 
-pub heap_only : OnlyPrintable heap_type printable_heap
+index_fronts : (rest test : Test) → OfIndices rest test → (i : Idx) (r : List Tok)
+    → rest r ≡ true → test (spell_index i ++ r) ≡ true
+index_fronts rest test f (number n) r h = f.0 (decimal n) r h
+index_fronts rest test f (name x) r h = f.1 x r h
+
+pub index_prints : Prints index_form index
+index_prints = record {
+  nests = index_well_formed;
+  front = λ rest test f i r h k e. index_fronts rest test f i r k;
+  here = λ i r h e. index_here i h r;
+  only = λ i c r a s. (i, refl, index_only.holds i c r a s);
+}
+
+-- ---- heap types
+
+abstract_fits : (t : AbstractHeapType) → is_keyword (abstract_word t) ≡ true
+abstract_fits word.Func = refl
+abstract_fits _ = refl
+
+abstract_reads : (t : AbstractHeapType)
+    → word_in abstract_words (Keyword (abstract_word t)) ≡ Some t
+abstract_reads word.Func = refl
+abstract_reads _ = refl
+
+pub abstract_prints : Prints abstract_form abstract_heap_type
+unfolding abstract_heap_type
+abstract_prints =
+    one_prints (word_in abstract_words) (refl, refl) (λ t. Keyword (abstract_word t)) (λ _. true)
+    (OfNamed abstract_word) (λ rest test f t y h k. f t y k) (λ t h. abstract_fits t)
+    (λ t h. abstract_reads t) (λ x t a e. refl)
+
+pub heap_prints : Prints heap_form heap_type
 unfolding heap_type
-heap_only =
-    only_where begins_index (only_made (λ _. true) concrete printable_heap index_only)
-    (only_where (begins_group (codes "exact"))
-    (only_made (λ _. true) exact printable_heap (only_group (codes "exact") index_only))
-    (only_where (begins_group (codes "shared"))
-    (only_made (λ _. true) (λ t. abstract_ true t) printable_heap
-    (only_any (group (codes "shared") abstract_heap_type)))
-    (only_made (λ _. true) (λ t. abstract_ false t) printable_heap (only_any abstract_heap_type))))
+heap_prints =
+    whole_prints (else_prints begins_index (made_prints index_prints concrete)
+    (else_prints (begins_group (codes "exact"))
+    (made_prints (group_prints index_prints (codes "exact") refl refl) exact)
+    (else_prints (begins_group (codes "shared"))
+    (made_prints (group_prints abstract_prints (codes "shared") refl refl) (λ t. abstract_ true t))
+    (made_prints abstract_prints (λ t. abstract_ false t)) (search rules) (search rules))
+    (search rules) (search rules)) (search rules) (search rules)) heap_parts (λ h k. grind arith)
+    (λ h k. k) (λ v k. grind arith)
 
-abbrev ref_of : Bool × HeapTy → RefTy
-ref_of v = record { nullable = v.0; heap = v.1 }
+-- ---- reference types
 
-pub ref_only : OnlyPrintable ref_type printable_ref
+short_fits : (t : AbstractHeapType) → is_keyword (short_word t) ≡ true
+short_fits word.Func = refl
+short_fits _ = refl
+
+short_reads : (t : AbstractHeapType)
+    → word_in shorthand_words (Keyword (short_word t)) ≡ Some (shorthand_for t)
+short_reads word.Func = refl
+short_reads _ = refl
+
+short_prints : Prints (named_form short_word) shorthand
+unfolding shorthand
+short_prints = record {
+  nests = λ t h. well_formed_one (Keyword (short_word t)) (short_fits t);
+  front = λ rest test f t r h i e. f t r i;
+  here = λ t r h e. (
+    shorthand_for t,
+    (Keyword (short_word t), refl, short_reads t),
+    refl,
+    refl,
+  );
+  only = λ t c r a s. (t, refl, refl);
+}
+
+no_null : (t : AbstractHeapType) → not (bytes_eq (abstract_word t) (codes "null")) ≡ true
+no_null word.Func = refl
+no_null _ = refl
+
+pub ref_prints : Prints ref_form ref_type
 unfolding ref_type
-ref_only =
-    only_where (begins_group (codes "ref"))
-    (only_made (λ _. true) ref_of printable_ref
-    (only_group (codes "ref") (only_seq (only_any (flag (codes "null"))) heap_only)))
-    (only_where (begins_group (codes "shared"))
-    (only_made (λ _. true) (short true) printable_ref (only_any (group (codes "shared") shorthand)))
-    (only_made (λ _. true) (short false) printable_ref (only_any shorthand)))
+ref_prints =
+    whole_prints (else_prints (begins_group (codes "ref"))
+    (made_prints (group_prints (seq_prints (flag_prints (codes "null") refl refl) heap_prints
+    (search (rules, no_null))) (codes "ref") refl refl)
+    (λ v. record { nullable = v.0; heap = v.1 }))
+    (else_prints (begins_group (codes "shared"))
+    (unwritten_prints (made_prints (group_prints short_prints (codes "shared") refl refl)
+    (short true))) (made_prints short_prints (short false)) tt (search rules)) (search rules)
+    (search rules)) ref_parts (λ r h. grind arith) (λ r h. grind arith) (λ v h. grind arith)
 
-pub val_only : OnlyPrintable val_type printable_val
+-- ---- value types
+
+plain_fits : (t : ValTy) → is_plain t ≡ true → is_printable (Keyword (plain_word t)) ≡ true
+plain_fits (ref r) h = absurd cc
+plain_fits _ h = refl
+
+plain_reads : (t : ValTy) → is_plain t ≡ true
+    → word_in plain_words (Keyword (plain_word t)) ≡ Some t
+plain_reads (ref r) h = absurd cc
+plain_reads _ h = refl
+
+begins_plain_word : (t : ValTy) (y : List Tok)
+    → begins_one_of (word_in plain_words) (Keyword (plain_word t) ∷ y) ≡ true
+begins_plain_word i32 y = refl
+begins_plain_word _ y = refl
+
+short_not_plain : (t : AbstractHeapType) (y : List Tok)
+    → not (begins_one_of (word_in plain_words) (Keyword (short_word t) ∷ y)) ≡ true
+short_not_plain word.Func y = refl
+short_not_plain _ y = refl
+
+pub val_prints : Prints val_form val_type
 unfolding val_type
-val_only =
-    only_where (begins_one_of (word_in plain_words))
-    (only_word_in plain_words printable_val refl)
-    (only_made (λ _. true) ref printable_val ref_only)
+val_prints =
+    whole_prints (else_prints (begins_one_of (word_in plain_words))
+    (one_prints (word_in plain_words) (refl, refl) (λ t. Keyword (plain_word t)) is_plain
+    (OfNamed plain_word) (λ rest test f t y h k. f t y k) plain_fits plain_reads
+    (word_given is_plain plain_words refl))
+    (made_prints ref_prints ref) (λ t y k. begins_plain_word t y)
+    (search (rules, short_not_plain))) val_parts (λ t h. grind arith) (λ t h. h)
+    (λ v h. grind arith)

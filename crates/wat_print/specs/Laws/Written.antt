@@ -1,7 +1,6 @@
 -- Laws: tokens that are written one behind the other.
 use Rattle.std.specs.Prelude.{◌≡◌, ℕ, zero, suc, ◌+◌, ◌*◌, ◌-◌, ◌<◌, Bool, true, not, ◌&&◌, List}
-use Rattle.std.specs.Prelude.{[], ◌∷◌, ◌++◌, length, map, flat_map, take, false, codes, ◌==◌}
-use Rattle.std.specs.Prelude.{if◌then◌else◌}
+use Rattle.std.specs.Prelude.{[], ◌∷◌, ◌++◌, length, map, flat_map, take, false, ◌==◌}
 use Rattle.std.proofs.Common.{refl, ap, subst, sym, ◌∙◌, append_assoc, append-nil, get_or, arith}
 use Rattle.std.proofs.lemmas.List.{take_more}
 use Rattle.std.proofs.lemmas.Bool.{and_parts, and_right, cond_both}
@@ -9,14 +8,13 @@ use Rattle.wat_lexer.specs.Token.{Tok, LParen, RParen, Keyword}
 use Rattle.wat_print.specs.Layout.{LayoutPart, one, line, blanks, broken, lay, tokens_in, Writes}
 use Rattle.wat_print.specs.Text.{Page, put_one, put}
 use Rattle.wat_tokens.specs.Spelled.{in_parens}
-use Rattle.wat_types.specs.Group.{Group, param, FuncTy, ParamTy}
+use Rattle.wat_types.specs.Group.{Group, param, result, ParamTy}
 use Rattle.wat_types.specs.Label.{Label}
 use Rattle.wat_types.specs.Value.{ValTy}
-use Rattle.wat_print.specs.Function.{param_label, spell_param, spell_group, param_groups}
-use Rattle.wat_print.specs.Function.{result_groups, spell_function}
+use Rattle.wat_print.specs.Function.{param_label, params_form, func_group_form, param_groups}
+use Rattle.wat_print.specs.Function.{result_groups}
 use Rattle.wat_print.specs.Label.{none_labelled, by_itself, in_groups}
 use Rattle.wat_print.specs.Parts.{each, Wrote, WroteLines, grouped}
-use Rattle.wat_print.specs.Reference.{spell_val}
 
 -- ---- pages
 
@@ -154,88 +152,6 @@ pub put_then : (ts us : List Tok) (a b c : Page) → b ≡ put a ts → c ≡ pu
     → c ≡ put a (ts ++ us)
 put_then ts us a b c e f = f ∙ ap (λ (q : Page). put q us) e ∙ sym (put_both ts us a)
 
--- ---- groups
-
--- parts, each in a group
-alone_groups : {P : Type 0} (w : List ℕ) (spell : P → List Tok) (ps : List P)
-    → flat_map (λ g. grouped w (flat_map spell g)) (map by_itself ps)
-    ≡ flat_map (λ p. grouped w (flat_map spell (by_itself p))) ps
-alone_groups w spell [] = refl
-alone_groups w spell (p ∷ ps) =
-    ap (λ (l : List Tok). grouped w (flat_map spell (by_itself p)) ++ l) (alone_groups w spell ps)
-
--- what is written of parts in groups
-abbrev pub spell_in_groups : {P : Type 0} → List ℕ → (P → Label) → (P → List Tok) → List P
-    → List Tok
-spell_in_groups w label spell ps = flat_map (λ g. grouped w (flat_map spell g)) (in_groups label ps)
-
-module _ {P : Type 0} (w : List ℕ) (label : P → Label) (spell : P → List Tok) where
-  pub in_own_groups : (p : P) (ps : List P) → none_labelled label (p ∷ ps) ≡ false
-      → spell_in_groups w label spell (p ∷ ps)
-      ≡ flat_map (λ p. grouped w (flat_map spell (by_itself p))) (p ∷ ps)
-  in_own_groups p ps u = rw u (alone_groups w spell (p ∷ ps))
-
-  pub in_one_group : (p : P) (ps : List P) → none_labelled label (p ∷ ps) ≡ true
-      → spell_in_groups w label spell (p ∷ ps) ≡ grouped w (flat_map spell (p ∷ ps))
-  in_one_group p ps u = rw u (append-nil (grouped w (flat_map spell (p ∷ ps))))
-
-  -- the same of values that are view as these
-  module _ {X : Type 0} (view : X → P) where
-    pub put_alone : (xs : List X) (q : Page) → (length xs == 0) ≡ false
-        → none_labelled label (map view xs) ≡ false
-        → put q (flat_map (λ p. grouped w (flat_map spell (by_itself p))) (map view xs))
-        ≡ put q (spell_in_groups w label spell (map view xs))
-    put_alone [] q e u = absurd cc
-    put_alone (x ∷ xs) q e u =
-        ap (λ (l : List Tok). put q l) (sym (in_own_groups (view x) (map view xs) u))
-
-    pub put_whole : (xs : List X) (q : Page) → (length xs == 0) ≡ false
-        → none_labelled label (map view xs) ≡ true
-        → put q (grouped w (flat_map spell (map view xs)))
-        ≡ put q (spell_in_groups w label spell (map view xs))
-    put_whole [] q e u = absurd cc
-    put_whole (x ∷ xs) q e u =
-        ap (λ (l : List Tok). put q l) (sym (in_one_group (view x) (map view xs) u))
-
--- a function type's groups of parameters
-param_split : (gs : List (List ParamTy)) → flat_map spell_group (map param gs)
-    ≡ flat_map (λ g. grouped (codes "param") (flat_map spell_param g)) gs
-param_split [] = refl
-param_split (g ∷ gs) = ap (λ (l : List Tok). spell_group (param g) ++ l) (param_split gs)
-
-pub params_in_groups : (ps : List ParamTy) → spell_in_groups
-    (codes "param") param_label spell_param ps
-    ≡ flat_map spell_group (param_groups ps)
-params_in_groups ps = sym (param_split (in_groups param_label ps))
-
-spell_both : (gs hs : List Group)
-    → flat_map spell_group (gs ++ hs) ≡ flat_map spell_group gs ++ flat_map spell_group hs
-spell_both [] hs = refl
-spell_both (g ∷ gs) hs =
-    ap (λ (l : List Tok). spell_group g ++ l) (spell_both gs hs)
-    ∙ sym (append_assoc (spell_group g) (flat_map spell_group gs) (flat_map spell_group hs))
-
--- the groups of parameters, and then those of results
-pub put_function : (f : FuncTy) (a b c : Page)
-    → b ≡ put a (flat_map spell_group (param_groups f.params))
-    → c ≡ put b (flat_map spell_group (result_groups f.results)) → c ≡ put a (spell_function f)
-put_function f a b c e g =
-    let ps = flat_map spell_group (param_groups f.params) in
-    let rs = flat_map spell_group (result_groups f.results) in
-    put_then ps rs a b c e g
-    ∙ ap (λ (l : List Tok). put a l) (sym (spell_both (param_groups f.params)
-    (result_groups f.results)))
-
--- the group of results, where there is one
-module _ {X : Type 0} (view : X → ValTy) where
-  pub put_results : (xs : List X) (q : Page) → (length xs == 0) ≡ false
-      → put q (grouped (codes "result") (flat_map spell_val (map view xs)))
-      ≡ put q (flat_map spell_group (result_groups (map view xs)))
-  put_results [] q e = absurd cc
-  put_results (x ∷ xs) q e =
-      ap (λ (l : List Tok). put q l)
-      (sym (append-nil (grouped (codes "result") (flat_map spell_val (map view (x ∷ xs))))))
-
 -- where one value can't be written, not all can
 module _ {X A : Type 0} (view : X → A) (printable : A → Bool) where
   pub not_each : (xs : List X) (i : ℕ) (d : X) → i < length xs
@@ -304,7 +220,47 @@ pub not_each_item : {X A : Type 0} (view : X → A) (printable : A → Bool) (xs
 not_each_item {X = X} view printable xs i x lt s f =
     not_each view printable xs i x lt (subst (λ (y : X). printable (view y) ≡ false) s f)
 
--- what stands where the flag says so
-pub put_where : (b : Bool) (x y : List Tok) (a q : Page) → b ≡ true → q ≡ put a x
-    → q ≡ put a (if b then x else y)
-put_where b x y a q e h = rw e h
+-- ---- the groups of lists that are seen
+
+spell_alone : {P : Type 0} (spell : List P → List Tok) (ps : List P)
+    → flat_map spell (map by_itself ps) ≡ flat_map (λ p. spell (by_itself p)) ps
+spell_alone spell [] = refl
+spell_alone spell (p ∷ ps) = ap (λ (l : List Tok). spell (by_itself p) ++ l) (spell_alone spell ps)
+
+module _ {X P : Type 0} (spell : List P → List Tok) (label : P → Label) (view : X → P) where
+  pub groups_together : (xs : List X) → (length xs == 0) ≡ false
+      → none_labelled label (map view xs) ≡ true
+      → flat_map spell (in_groups label (map view xs)) ≡ spell (map view xs)
+  groups_together [] e u = absurd cc
+  groups_together (x ∷ xs) e u = rw u (append-nil (spell (map view (x ∷ xs))))
+
+  pub groups_alone : (xs : List X) → (length xs == 0) ≡ false
+      → none_labelled label (map view xs) ≡ false
+      → flat_map spell (in_groups label (map view xs))
+      ≡ flat_map (λ p. spell (by_itself p)) (map view xs)
+  groups_alone [] e u = absurd cc
+  groups_alone (x ∷ xs) e u = rw u (spell_alone spell (map view (x ∷ xs)))
+
+pub ruleset groups = (groups_together, groups_alone)
+
+module _ {X : Type 0} (view : X → ValTy) where
+  pub results_together : (xs : List X) → (length xs == 0) ≡ false
+      → result_groups (map view xs) ≡ result (map view xs) ∷ []
+  results_together [] e = absurd cc
+  results_together (x ∷ xs) e = refl
+
+-- a function type's groups: those of parameters, and then that of results
+params_split : (gs : List (List ParamTy)) (hs : List Group)
+    → flat_map func_group_form.spell (map param gs ++ hs)
+    ≡ flat_map params_form.spell gs ++ flat_map func_group_form.spell hs
+params_split [] hs = refl
+params_split (g ∷ gs) hs =
+    ap (λ (l : List Tok). params_form.spell g ++ l) (params_split gs hs)
+    ∙ sym (append_assoc (params_form.spell g) (flat_map params_form.spell gs)
+    (flat_map func_group_form.spell hs))
+
+pub function_split : (ps : List ParamTy) (ts : List ValTy)
+    → flat_map func_group_form.spell (param_groups ps ++ result_groups ts)
+    ≡ flat_map params_form.spell (in_groups param_label ps)
+    ++ flat_map func_group_form.spell (result_groups ts)
+function_split ps ts = params_split (in_groups param_label ps) (result_groups ts)

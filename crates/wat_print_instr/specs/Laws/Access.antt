@@ -6,6 +6,8 @@ use Rattle.std.specs.Int.{is_power_of_two}
 use Rattle.std.proofs.Common.{refl, ap, subst, sym, inl, inr, lit≤, arith}
 use Rattle.std.proofs.lemmas.Bool.{and_parts, cond_both, eqb-true, ltb-true}
 use Rattle.std.proofs.lemmas.Fmt.{decimal_is_IsNumeral}
+use Rattle.wat_print.specs.Before.{spell_number}
+use Rattle.wat_print.specs.Laws.Before.{index_group_well_formed}
 use Rattle.wat_print.specs.Laws.Numbers.{no_sign, unsigned_decimal}
 use Rattle.wat_lexer.specs.Number.{unsigned_value, sign_of}
 use Rattle.wat_lexer.specs.Token.{Tok, LParen, RParen, Keyword, Integer}
@@ -28,14 +30,14 @@ use Rattle.wat_operands.specs.declared.memory.MemArgOrdering.TheVariants.{Op, Rm
 use Rattle.wat_operands.specs.declared.ordering.Ordering.{Ordering}
 use Rattle.wat_operands.specs.declared.ordering.Ordering.TheVariants.{AcqRel, SeqCst}
 use Rattle.wat_print.specs.Index.{spell_index}
-use Rattle.wat_print.specs.Limits.{spell_number, is_u64}
+use Rattle.wat_print.specs.Limits.{is_u64}
 use Rattle.wat_print.specs.WellFormed.{is_keyword, is_given, WellFormed, nothing}
 use Rattle.wat_print.specs.Parts.{each, if_some, spell_option}
 use Rattle.wat_print.specs.Laws.Only.{OnlyPrintable, only_any, only_one, only_where, only_opt}
 use Rattle.wat_print.specs.Laws.Only.{only_seq, only_made, only_group, only_weaker}
 use Rattle.wat_print.specs.Laws.Parts.{Spells, group_here, word_here, well_formed_one}
 use Rattle.wat_print.specs.Laws.Parts.{well_formed_both, well_formed_option, and_also}
-use Rattle.wat_print.specs.Laws.Reference.{index_here, index_only, index_group_well_formed}
+use Rattle.wat_print.specs.Laws.Reference.{index_here, index_only}
 use Rattle.wat_print_instr.specs.Access.{spell_target, printable_target, spell_unless, spell_access}
 use Rattle.wat_print_instr.specs.Access.{printable_alignment, printable_place, printable_access}
 use Rattle.wat_print_instr.specs.Access.{spell_ordering, ordering_in, spell_atomic}

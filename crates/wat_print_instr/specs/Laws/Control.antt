@@ -38,16 +38,20 @@ use Rattle.wat_operands.specs.Tables.{index_or_0}
 use Rattle.wat_operands.specs.declared.catches.CatchKind.{CatchKind}
 use Rattle.wat_operands.specs.declared.catches.CatchKind.TheVariants.{Catch, CatchRef, CatchAll}
 use Rattle.wat_operands.specs.declared.catches.CatchKind.TheVariants.{CatchAllRef}
-use Rattle.wat_print.specs.Function.{spell_group, groups_of}
+use Rattle.wat_print.specs.Before.{spell_group, spell_label, printable_label, spell_id, spell_ref}
+use Rattle.wat_print.specs.Before.{printable_ref, spell_val, printable_val, spell_use}
+use Rattle.wat_print.specs.Before.{printable_unnamed_use}
+use Rattle.wat_print.specs.Function.{groups_of}
 use Rattle.wat_print.specs.Index.{spell_index, printable_index}
-use Rattle.wat_print.specs.Label.{spell_label, printable_label, spell_id}
 use Rattle.wat_print.specs.WellFormed.{WellFormed, is_name}
 use Rattle.wat_print.specs.Parts.{grouped, spell_option, if_some, each}
-use Rattle.wat_print.specs.Reference.{spell_ref, printable_ref, spell_val, printable_val}
-use Rattle.wat_print.specs.Use.{or_empty, spell_use, printable_unnamed_use}
-use Rattle.wat_print.specs.Laws.Label.{label_here, label_well_formed, label_only, id_here}
-use Rattle.wat_print.specs.Laws.Label.{id_well_formed, id_only}
+use Rattle.wat_print.specs.Use.{or_empty}
 use Rattle.wat_tokens.specs.Index.{identifier}
+use Rattle.wat_print.specs.Laws.Before.{label_here, label_well_formed, label_only, id_here}
+use Rattle.wat_print.specs.Laws.Before.{id_well_formed, id_only, ref_here, ref_well_formed}
+use Rattle.wat_print.specs.Laws.Before.{ref_only, val_here, val_well_formed, val_only, val_more}
+use Rattle.wat_print.specs.Laws.Before.{EndsUse, unnamed_use_here, unnamed_use_well_formed}
+use Rattle.wat_print.specs.Laws.Before.{unnamed_use_only}
 use Rattle.wat_print.specs.Laws.Only.{OnlyPrintable, only_any, only_where, only_opt, only_many}
 use Rattle.wat_print.specs.Laws.Only.{only_seq, only_made, only_weaker, only_after, only_group}
 use Rattle.wat_print.specs.Laws.Only.{only_paren}
@@ -55,11 +59,7 @@ use Rattle.wat_print.specs.Laws.Parts.{Spells, paren_here, word_here, group_here
 use Rattle.wat_print.specs.Laws.Parts.{well_formed_both, well_formed_one, well_formed_word}
 use Rattle.wat_print.specs.Laws.Parts.{well_formed_group, well_formed_paren, well_formed_each}
 use Rattle.wat_print.specs.Laws.Parts.{well_formed_option, each_all}
-use Rattle.wat_print.specs.Laws.Reference.{index_here, index_well_formed, index_only, ref_here}
-use Rattle.wat_print.specs.Laws.Reference.{ref_well_formed, ref_only, val_here, val_well_formed}
-use Rattle.wat_print.specs.Laws.Reference.{val_only, val_more}
-use Rattle.wat_print.specs.Laws.Use.{EndsUse, unnamed_use_here, unnamed_use_well_formed}
-use Rattle.wat_print.specs.Laws.Use.{unnamed_use_only}
+use Rattle.wat_print.specs.Laws.Reference.{index_here, index_well_formed, index_only}
 use Rattle.wat_print_instr.specs.Control.{spell_block, printable_block, spell_call, printable_call}
 use Rattle.wat_print_instr.specs.Control.{spell_result, spell_select, printable_select}
 use Rattle.wat_print_instr.specs.Control.{spell_branch, printable_branch, spell_catch_kind}

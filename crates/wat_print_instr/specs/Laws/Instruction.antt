@@ -42,6 +42,7 @@ use Rattle.wat_print.specs.WellFormed.{WellFormed, is_given, is_keyword}
 use Rattle.wat_print.specs.Parts.{each, spell_option}
 use Rattle.wat_print.specs.Printed.{Printing}
 use Rattle.wat_print.specs.Printings.{index_printing, heap_printing, ref_printing}
+use Rattle.wat_print.specs.Laws.Before.{heap_here, ref_here}
 use Rattle.wat_print.specs.Laws.Parts.{well_formed_word}
 use Rattle.wat_print.specs.Laws.Only.{OnlyPrintable}
 use Rattle.wat_print.specs.WellFormed as well_formed
@@ -79,7 +80,7 @@ use Rattle.wat_operands.specs.Lanes.{goes_on}
 use Rattle.wat_operands.specs.Ordering.{begins_ordering}
 use Rattle.wat_operands.specs.Select.{result_follows}
 use Rattle.wat_print.specs.Index.{spell_index, printable_index}
-use Rattle.wat_print.specs.Laws.Reference.{index_here, heap_here, ref_here}
+use Rattle.wat_print.specs.Laws.Reference.{index_here}
 use Rattle.wat_print_instr.specs.Places.{spell_index_or_0, spell_pair, printable_pair}
 use Rattle.wat_print_instr.specs.Laws.Access.{EndsAccess, access_here, atomic_here, ordered_here}
 use Rattle.wat_print_instr.specs.Laws.Access.{fence_here, lane_here, lane_access_here}

@@ -15,7 +15,7 @@ use Rattle.wat_lexer.specs.Token.{Tok, LParen, Integer}
 use Rattle.wat_lexer.specs.declared.number.Sign.{Sign}
 use Rattle.wat_lexer.specs.declared.number.Sign.TheVariants.{Plus, Minus}
 use Rattle.wat_tokens.specs.Integers.{signed, signed_of, unsigned, unsigned_of}
-use Rattle.wat_print.specs.Limits.{spell_number}
+use Rattle.wat_print.specs.Before.{spell_number}
 use Rattle.wat_print.specs.Text.{all_are}
 use Rattle.wat_print.specs.WellFormed.{is_printable, is_given, WellFormed}
 use Rattle.wat_print.specs.Laws.Numbers.{magnitude_decimal, decimal_printable, no_sign}

@@ -34,15 +34,17 @@ use Rattle.wat_mnemonics.specs.Access.{lane_access_align}
 use Rattle.wat_mnemonics.specs.declared.op.Op.{Op}
 use Rattle.wat_mnemonics.specs.declared.op.Op.TheVariants as ops
 use Rattle.wat_instr.specs.Operand.{Operand}
-use Rattle.wat_print.specs.Function.{spell_group, groups_of}
+use Rattle.wat_types.specs.Heap.{abstract_word}
+use Rattle.wat_print.specs.Before.{spell_group, spell_id, spell_label, spell_number, spell_heap}
+use Rattle.wat_print.specs.Before.{spell_reference, spell_type_index, spell_inline, spell_use}
+use Rattle.wat_print.specs.Function.{groups_of}
 use Rattle.wat_print.specs.Index.{spell_index}
-use Rattle.wat_print.specs.Label.{spell_id, spell_name, spell_label}
-use Rattle.wat_print.specs.Limits.{spell_number}
+use Rattle.wat_print.specs.Label.{spell_name}
 use Rattle.wat_print.specs.Parts.{spell_option}
 use Rattle.wat_print.specs.Printed.{Printing}
 use Rattle.wat_print.specs.Printings.{index_printing, heap_printing, ref_printing}
-use Rattle.wat_print.specs.Reference.{abstract_word, short_word, spell_heap, spell_reference}
-use Rattle.wat_print.specs.Use.{or_empty, spell_type_index, spell_inline, spell_use}
+use Rattle.wat_print.specs.Reference.{short_word}
+use Rattle.wat_print.specs.Use.{or_empty}
 use Rattle.wat_print_instr.specs.Access.{spell_target, spell_unless, spell_fields, spell_access}
 use Rattle.wat_print_instr.specs.Access.{ordering_word, spell_ordering, ordering_in, spell_lane}
 use Rattle.wat_print_instr.specs.Control.{spell_block, spell_select, spell_catch}

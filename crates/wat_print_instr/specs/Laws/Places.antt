@@ -14,8 +14,8 @@ use Rattle.wat_operands.specs.Aggregates.{array_of_length}
 use Rattle.wat_operands.specs.Branch.{BrTableTy, br_table_of, BrTableSpells, indices}
 use Rattle.wat_operands.specs.BranchTable.{br_table}
 use Rattle.wat_operands.specs.Tables.{index_or_0, index_pair, init, into_0, copy}
+use Rattle.wat_print.specs.Before.{spell_number}
 use Rattle.wat_print.specs.Index.{spell_index, printable_index}
-use Rattle.wat_print.specs.Limits.{spell_number}
 use Rattle.wat_print.specs.WellFormed.{WellFormed, nothing, is_given}
 use Rattle.wat_print.specs.Parts.{each, if_some}
 use Rattle.wat_print.specs.Laws.Only.{OnlyPrintable, only_where, only_opt, only_seq, only_made}

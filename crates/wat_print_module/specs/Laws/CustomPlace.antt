@@ -13,9 +13,9 @@ use Rattle.wat_links.specs.declared.custom_place.CustomPlace.TheVariants.{After,
 use Rattle.wat_links.specs.declared.custom_place.CustomPlaceAnchor.{CustomPlaceAnchor}
 use Rattle.wat_links.specs.declared.custom_place.CustomPlaceAnchor.TheVariants as anchor
 use Rattle.wat_print.specs.WellFormed.{is_keyword, WellFormed, nothing}
+use Rattle.wat_print.specs.Laws.Before.{after_here}
 use Rattle.wat_print.specs.Laws.Parts.{Spells, paren_here, word_here, well_formed_one}
 use Rattle.wat_print.specs.Laws.Parts.{well_formed_word, well_formed_paren}
-use Rattle.wat_print.specs.Laws.Define.{after_here}
 use Rattle.wat_print_module.specs.CustomPlace.{section_word, spell_section, spell_place}
 use Rattle.wat_print_module.specs.CustomPlace.{spell_place_group}
 

@@ -17,17 +17,17 @@ use Rattle.wat_fields.specs.Data.{memory_follows, data_memory, data_active, data
 use Rattle.wat_fields.specs.DataVal.{DataValTy, written, numbers}
 use Rattle.wat_fields.specs.DataVals.{data_vals}
 use Rattle.wat_fields.specs.Offset.{head_behind, head_last, offset_inside}
+use Rattle.wat_print.specs.Before.{spell_label, printable_label}
 use Rattle.wat_print.specs.Index.{spell_index, printable_index}
-use Rattle.wat_print.specs.Label.{spell_label, printable_label}
 use Rattle.wat_print.specs.WellFormed.{WellFormed, nothing}
 use Rattle.wat_print.specs.Parts.{grouped, each, if_some}
-use Rattle.wat_print.specs.Laws.Label.{label_here, label_well_formed, label_only}
+use Rattle.wat_print.specs.Laws.Before.{label_here, label_well_formed, label_only}
+use Rattle.wat_print.specs.Laws.Before.{index_group_well_formed, after_here}
 use Rattle.wat_print.specs.Laws.Only.{OnlyPrintable, only_where, only_opt, only_seq, only_made}
 use Rattle.wat_print.specs.Laws.Only.{only_weaker, only_paren, only_after, only_group}
 use Rattle.wat_print.specs.Laws.Parts.{paren_here, group_here, well_formed_word, well_formed_both}
 use Rattle.wat_print.specs.Laws.Parts.{well_formed_group}
-use Rattle.wat_print.specs.Laws.Reference.{index_here, index_only, index_group_well_formed}
-use Rattle.wat_print.specs.Laws.Define.{after_here}
+use Rattle.wat_print.specs.Laws.Reference.{index_here, index_only}
 use Rattle.wat_print_instr.specs.ExpressionForm.{spell_expression, printable_expression}
 use Rattle.wat_print_instr.specs.Laws.Expression.{expression_closed, expression_well_formed}
 use Rattle.wat_print_instr.specs.Laws.ExpressionOnly.{expression_only}

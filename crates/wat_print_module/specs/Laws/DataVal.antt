@@ -25,18 +25,18 @@ use Rattle.wat_fields.specs.Laws.Numbers.{vector_consumes}
 use Rattle.wat_fields.specs.Numbers.{integer_bytes, integer_as_bytes, float_as_bytes, all_behind}
 use Rattle.wat_fields.specs.Numbers.{other_numbers, wide_numbers, number_list}
 use Rattle.wat_fields.specs.VectorBytes.{vector_as_bytes}
+use Rattle.wat_print.specs.Before.{spell_number}
 use Rattle.wat_print.specs.Label.{by_itself}
-use Rattle.wat_print.specs.Limits.{spell_number}
 use Rattle.wat_print.specs.WellFormed.{WellFormed, is_byte, is_given}
 use Rattle.wat_print.specs.Parts.{each}
 use Rattle.wat_print.specs.Text.{all_are}
+use Rattle.wat_print.specs.Laws.Before.{after_here}
 use Rattle.wat_print.specs.Laws.Bytes.{both_are, byte_is}
 use Rattle.wat_print.specs.Laws.Numbers.{decimal_printable, magnitude_decimal, no_sign}
 use Rattle.wat_print.specs.Laws.Only.{OnlyPrintable, only_any, only_one, only_where, only_made}
 use Rattle.wat_print.specs.Laws.Only.{only_weaker, only_many, only_paren, only_after}
 use Rattle.wat_print.specs.Laws.Parts.{Spells, paren_here, many_here, well_formed_one}
 use Rattle.wat_print.specs.Laws.Parts.{well_formed_group, well_formed_each}
-use Rattle.wat_print.specs.Laws.Define.{after_here}
 use Rattle.wat_print_instr.specs.Laws.Vectors.{none_only}
 use Rattle.wat_print_module.specs.Segments.{spell_data_val, printable_data_val, spell_data_vals}
 

@@ -27,7 +27,7 @@ use Rattle.wat_links.specs.FlagBits.{flag_words, flag_bits}
 use Rattle.wat_links.specs.Flags.{flag_list, symbol_flags}
 use Rattle.wat_links.specs.Laws.Entries.{entry_consumes}
 use Rattle.wat_links.specs.Laws.Flags.{flag_bits_consumes}
-use Rattle.wat_print.specs.Limits.{spell_number}
+use Rattle.wat_print.specs.Before.{spell_number}
 use Rattle.wat_print.specs.WellFormed.{is_given, is_keyword, WellFormed}
 use Rattle.wat_print.specs.Parts.{if_some, each}
 use Rattle.wat_print.specs.Laws.Only.{OnlyPrintable, only_word_in, only_where, only_opt, only_many}

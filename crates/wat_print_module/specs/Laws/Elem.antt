@@ -25,21 +25,21 @@ use Rattle.wat_fields.specs.Item.{written_or_folded, item}
 use Rattle.wat_fields.specs.Laws.Payload.{item_consumes}
 use Rattle.wat_fields.specs.Payload.{PayloadTy, indices, exprs, item_list, index_list}
 use Rattle.wat_fields.specs.Payload.{typed_elems, payload, payload_or_indices}
+use Rattle.wat_print.specs.Before.{spell_label, printable_label, spell_long, spell_ref}
+use Rattle.wat_print.specs.Before.{printable_ref}
 use Rattle.wat_print.specs.Index.{spell_index, printable_index}
-use Rattle.wat_print.specs.Label.{spell_label, printable_label}
 use Rattle.wat_print.specs.WellFormed.{WellFormed, nothing}
 use Rattle.wat_print.specs.Parts.{grouped, each, if_some, spell_option}
-use Rattle.wat_print.specs.Reference.{short_word, spell_long, spell_ref, printable_ref}
-use Rattle.wat_print.specs.Laws.Label.{label_here, label_well_formed, label_only}
+use Rattle.wat_print.specs.Reference.{short_word}
+use Rattle.wat_print.specs.Laws.Before.{label_here, label_well_formed, label_only, ref_here}
+use Rattle.wat_print.specs.Laws.Before.{ref_well_formed, ref_only, of_refs, index_group_well_formed}
+use Rattle.wat_print.specs.Laws.Before.{after_here}
 use Rattle.wat_print.specs.Laws.Only.{OnlyPrintable, only_where, only_opt, only_seq, only_made}
 use Rattle.wat_print.specs.Laws.Only.{only_many, only_after, only_group, only_weaker}
 use Rattle.wat_print.specs.Laws.Parts.{group_here, many_here, many_told, well_formed_word}
 use Rattle.wat_print.specs.Laws.Parts.{well_formed_both, well_formed_group, well_formed_each}
 use Rattle.wat_print.specs.Laws.Parts.{well_formed_option, well_formed_one}
-use Rattle.wat_print.specs.Laws.Reference.{index_here, index_well_formed, index_only, ref_here}
-use Rattle.wat_print.specs.Laws.Reference.{ref_well_formed, ref_only, of_refs}
-use Rattle.wat_print.specs.Laws.Reference.{index_group_well_formed}
-use Rattle.wat_print.specs.Laws.Define.{after_here}
+use Rattle.wat_print.specs.Laws.Reference.{index_here, index_well_formed, index_only}
 use Rattle.wat_print_instr.specs.ExpressionForm.{spell_expression, printable_expression}
 use Rattle.wat_print_instr.specs.Laws.Expression.{expression_well_formed}
 use Rattle.wat_print_instr.specs.Laws.ExpressionOnly.{expression_only}

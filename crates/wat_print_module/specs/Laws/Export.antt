@@ -16,12 +16,12 @@ use Rattle.wat_links.specs.declared.export.ExportKind.TheVariants as code
 use Rattle.wat_print.specs.Index.{spell_index, printable_index}
 use Rattle.wat_print.specs.WellFormed.{is_keyword, WellFormed}
 use Rattle.wat_print.specs.Parts.{grouped}
+use Rattle.wat_print.specs.Laws.Before.{after_here}
 use Rattle.wat_print.specs.Laws.Only.{OnlyPrintable, only_any, only_paren, only_seq, only_made}
 use Rattle.wat_print.specs.Laws.Only.{only_weaker, only_after}
 use Rattle.wat_print.specs.Laws.Parts.{Spells, paren_here, well_formed_one, well_formed_word}
 use Rattle.wat_print.specs.Laws.Parts.{well_formed_group, well_formed_both}
 use Rattle.wat_print.specs.Laws.Reference.{index_here, index_well_formed, index_only}
-use Rattle.wat_print.specs.Laws.Define.{after_here}
 use Rattle.wat_print_instr.specs.Laws.Places.{both_here}
 use Rattle.wat_print_module.specs.Export.{export_kind_word, spell_export_kind, spell_export}
 use Rattle.wat_print_module.specs.Export.{printable_export}

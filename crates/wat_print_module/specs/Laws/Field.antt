@@ -14,13 +14,12 @@ use Rattle.wat_core.specs.FieldGroup.{field_group}
 use Rattle.wat_print.specs.Index.{spell_index, printable_index}
 use Rattle.wat_print.specs.WellFormed.{WellFormed}
 use Rattle.wat_print.specs.Parts.{each}
-use Rattle.wat_print.specs.Laws.Define.{type_here, type_well_formed, type_only, rec_here}
-use Rattle.wat_print.specs.Laws.Define.{rec_well_formed, rec_only}
+use Rattle.wat_print.specs.Laws.Before.{type_here, type_well_formed, type_only, rec_here}
+use Rattle.wat_print.specs.Laws.Before.{rec_well_formed, rec_only, after_here}
 use Rattle.wat_print.specs.Laws.Only.{OnlyPrintable, only_where, only_paren, only_made, only_after}
 use Rattle.wat_print.specs.Laws.Parts.{Spells, paren_here, many_told, well_formed_word}
 use Rattle.wat_print.specs.Laws.Parts.{well_formed_paren}
 use Rattle.wat_print.specs.Laws.Reference.{index_here, index_well_formed, index_only}
-use Rattle.wat_print.specs.Laws.Define.{after_here}
 use Rattle.wat_print_module.specs.Custom.{spell_custom}
 use Rattle.wat_print_module.specs.Field.{spell_start, spell_module_field, printable_module_field}
 use Rattle.wat_print_module.specs.Field.{spell_field_group}

@@ -13,9 +13,9 @@ use Rattle.wat_links.specs.FieldHead.{FieldHeadTy, field_head, head}
 use Rattle.wat_links.specs.Import.{inline_import}
 use Rattle.wat_links.specs.InlineName.{inline_name}
 use Rattle.wat_links.specs.Laws.Export.{inline_name_consumes}
-use Rattle.wat_print.specs.Label.{spell_label, printable_label}
+use Rattle.wat_print.specs.Before.{spell_label, printable_label}
 use Rattle.wat_print.specs.WellFormed.{WellFormed}
-use Rattle.wat_print.specs.Laws.Label.{label_here, label_well_formed, label_only}
+use Rattle.wat_print.specs.Laws.Before.{label_here, label_well_formed, label_only}
 use Rattle.wat_print.specs.Laws.Only.{OnlyPrintable, only_many, only_seq, only_made, only_group}
 use Rattle.wat_print.specs.Laws.Parts.{Spells, group_here, many_here, well_formed_both}
 use Rattle.wat_print.specs.Laws.Parts.{well_formed_group, well_formed_each}

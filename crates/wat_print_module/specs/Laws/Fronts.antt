@@ -12,12 +12,12 @@ use Rattle.wat_types.specs.Value.{ValTy, ref}
 use Rattle.wat_links.specs.Export.{begins_inline_export}
 use Rattle.wat_links.specs.Import.{begins_inline_import}
 use Rattle.wat_fields.specs.Local.{LocalTy}
-use Rattle.wat_print.specs.Function.{spell_group, groups_of}
+use Rattle.wat_print.specs.Before.{spell_group, spell_val, spell_global_of, spell_global}
+use Rattle.wat_print.specs.Before.{spell_type_index, spell_inline, spell_use}
+use Rattle.wat_print.specs.Function.{groups_of}
 use Rattle.wat_print.specs.Parts.{spell_option}
-use Rattle.wat_print.specs.Reference.{spell_val}
-use Rattle.wat_print.specs.Storage.{spell_global_of, spell_global}
-use Rattle.wat_print.specs.Use.{or_empty, spell_type_index, spell_inline, spell_use}
-use Rattle.wat_print.specs.Laws.Reference.{of_refs}
+use Rattle.wat_print.specs.Use.{or_empty}
+use Rattle.wat_print.specs.Laws.Before.{of_refs}
 use Rattle.wat_print_module.specs.Local.{spell_locals}
 
 -- the test fails of a group of the word

@@ -19,14 +19,13 @@ use Rattle.wat_fields.specs.Func.{FuncKindTy, imported, inline, FuncUse, FuncFie
 use Rattle.wat_fields.specs.Func.{func_of, func_import, func_inline, func_defined, func}
 use Rattle.wat_fields.specs.Local.{LocalTy}
 use Rattle.wat_fields.specs.Locals.{locals}
+use Rattle.wat_print.specs.Before.{spell_use, printable_use}
 use Rattle.wat_print.specs.WellFormed.{WellFormed}
-use Rattle.wat_print.specs.Use.{spell_use, printable_use}
+use Rattle.wat_print.specs.Laws.Before.{EndsUse, use_here, use_well_formed, use_only, after_here}
 use Rattle.wat_print.specs.Laws.Only.{OnlyPrintable, only_where, only_seq, only_made, only_weaker}
 use Rattle.wat_print.specs.Laws.Only.{only_after}
 use Rattle.wat_print.specs.Laws.Parts.{group_here, well_formed_word, well_formed_group}
 use Rattle.wat_print.specs.Laws.Parts.{well_formed_both}
-use Rattle.wat_print.specs.Laws.Use.{EndsUse, use_here, use_well_formed, use_only}
-use Rattle.wat_print.specs.Laws.Define.{after_here}
 use Rattle.wat_print_instr.specs.ExpressionForm.{spell_expression, printable_expression}
 use Rattle.wat_print_instr.specs.Laws.Expression.{OnWords, OnHints, expression_first}
 use Rattle.wat_print_instr.specs.Laws.Expression.{expression_no_type, expression_closed}

@@ -14,13 +14,13 @@ use Rattle.wat_expr.specs.ExpressionProduction.{expression}
 use Rattle.wat_expr.specs.Expression.{Expr}
 use Rattle.wat_fields.specs.Global.{GlobalKindTy, imported, inline, GlobalFieldTy}
 use Rattle.wat_fields.specs.Global.{global_of, global_defined, global}
+use Rattle.wat_print.specs.Before.{spell_global, printable_global}
 use Rattle.wat_print.specs.WellFormed.{WellFormed}
-use Rattle.wat_print.specs.Storage.{spell_global, printable_global}
+use Rattle.wat_print.specs.Laws.Before.{EndsGlobal, global_here, global_well_formed, global_only}
+use Rattle.wat_print.specs.Laws.Before.{after_here}
 use Rattle.wat_print.specs.Laws.Only.{OnlyPrintable, only_where, only_seq, only_made, only_weaker}
 use Rattle.wat_print.specs.Laws.Only.{only_after}
 use Rattle.wat_print.specs.Laws.Parts.{well_formed_word, well_formed_both}
-use Rattle.wat_print.specs.Laws.Storage.{EndsGlobal, global_here, global_well_formed, global_only}
-use Rattle.wat_print.specs.Laws.Define.{after_here}
 use Rattle.wat_print_instr.specs.ExpressionForm.{spell_expression, printable_expression}
 use Rattle.wat_print_instr.specs.Laws.Expression.{expression_first, expression_closed}
 use Rattle.wat_print_instr.specs.Laws.Expression.{expression_well_formed, no_word_at_end}

@@ -17,8 +17,10 @@ use Rattle.wat_links.specs.Item.{ItemKindTy, func, SigTy, item_sig}
 use Rattle.wat_links.specs.ItemForms.{ItemsSpells}
 use Rattle.wat_links.specs.Laws.Forms.{items_from}
 use Rattle.wat_links.specs.Laws.Import.{typed_item_consumes, named_item_consumes}
+use Rattle.wat_print.specs.Before.{spell_label}
 use Rattle.wat_print.specs.WellFormed.{is_given, WellFormed}
 use Rattle.wat_print.specs.Parts.{each}
+use Rattle.wat_print.specs.Laws.Before.{after_here}
 use Rattle.wat_print.specs.Laws.Only.{OnlyPrintable, only_where, only_paren, only_many, only_seq}
 use Rattle.wat_print.specs.Laws.Only.{only_made, only_weaker, only_after, only_group}
 use Rattle.wat_print.specs.Laws.Parts.{Spells, paren_here, group_here, many_here, well_formed_word}
@@ -27,8 +29,6 @@ use Rattle.wat_print_instr.specs.Laws.Places.{both_here}
 use Rattle.wat_print_module.specs.Import.{spell_typed, printable_typed, spell_named}
 use Rattle.wat_print_module.specs.Import.{printable_shared, spell_items, printable_items}
 use Rattle.wat_print_module.specs.Import.{spell_imports, printable_imports}
-use Rattle.wat_print.specs.Label.{spell_label}
-use Rattle.wat_print.specs.Laws.Define.{after_here}
 use Rattle.wat_print_module.specs.Item.{item_word, spell_item, spell_sig, printable_sig}
 use Rattle.wat_print_module.specs.Item.{spell_sig_group}
 use Rattle.wat_print.specs.Strings.{spell_string}

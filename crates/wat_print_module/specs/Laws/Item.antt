@@ -19,23 +19,19 @@ use Rattle.wat_links.specs.ImportItem.{sig_group}
 use Rattle.wat_links.specs.Item.{ItemKindTy, func, table, memory, global, tag, exact_func, SigTy}
 use Rattle.wat_links.specs.Item.{sig_of, func_use, exact_use, func_kind_of, func_kind, item_of}
 use Rattle.wat_links.specs.Item.{global_or_tag, item_sig}
-use Rattle.wat_print.specs.Label.{spell_label, printable_label}
-use Rattle.wat_print.specs.Limits.{spell_memory_type, spell_table_type}
+use Rattle.wat_print.specs.Before.{spell_label, printable_label, spell_memory_type}
+use Rattle.wat_print.specs.Before.{spell_table_type, spell_global, spell_use, printable_use}
 use Rattle.wat_print.specs.WellFormed.{is_keyword, WellFormed}
 use Rattle.wat_print.specs.Parts.{spell_flag}
-use Rattle.wat_print.specs.Storage.{spell_global}
-use Rattle.wat_print.specs.Use.{spell_use, printable_use}
-use Rattle.wat_print.specs.Laws.Label.{label_here, label_well_formed, label_only}
-use Rattle.wat_print.specs.Laws.Limits.{EndsMemory, memory_type_here, memory_type_well_formed}
-use Rattle.wat_print.specs.Laws.Limits.{memory_type_only, table_type_here, table_type_well_formed}
-use Rattle.wat_print.specs.Laws.Limits.{table_type_only}
+use Rattle.wat_print.specs.Laws.Before.{label_here, label_well_formed, label_only, EndsMemory}
+use Rattle.wat_print.specs.Laws.Before.{memory_type_here, memory_type_well_formed, memory_type_only}
+use Rattle.wat_print.specs.Laws.Before.{table_type_here, table_type_well_formed, table_type_only}
+use Rattle.wat_print.specs.Laws.Before.{EndsGlobal, global_here, global_well_formed, global_only}
+use Rattle.wat_print.specs.Laws.Before.{EndsUse, use_here, use_well_formed, use_only, after_here}
 use Rattle.wat_print.specs.Laws.Only.{OnlyPrintable, only_where, only_paren, only_seq, only_made}
 use Rattle.wat_print.specs.Laws.Only.{only_weaker, only_after, only_group}
 use Rattle.wat_print.specs.Laws.Parts.{paren_here, group_here, well_formed_word, well_formed_group}
 use Rattle.wat_print.specs.Laws.Parts.{well_formed_paren, well_formed_both}
-use Rattle.wat_print.specs.Laws.Storage.{EndsGlobal, global_here, global_well_formed, global_only}
-use Rattle.wat_print.specs.Laws.Use.{EndsUse, use_here, use_well_formed, use_only}
-use Rattle.wat_print.specs.Laws.Define.{after_here}
 use Rattle.wat_print_instr.specs.Laws.Places.{both_here}
 use Rattle.wat_print_module.specs.Item.{item_word, spell_item, printable_item, spell_sig}
 use Rattle.wat_print_module.specs.Item.{printable_sig, spell_sig_group}

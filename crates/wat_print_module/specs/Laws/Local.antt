@@ -16,19 +16,19 @@ use Rattle.wat_fields.specs.Local.{LocalTy, local_of, labelled_local, plain_loca
 use Rattle.wat_fields.specs.Local.{listed_locals, local_parser, local_group, local_follows}
 use Rattle.wat_fields.specs.Locals.{locals}
 use Rattle.wat_instr.specs.Laws.Sees.{fails_at_end}
-use Rattle.wat_print.specs.Label.{spell_label, printable_label, none_labelled, by_itself}
+use Rattle.wat_print.specs.Before.{spell_label, printable_label, spell_val, printable_val}
+use Rattle.wat_print.specs.Label.{none_labelled, by_itself}
 use Rattle.wat_print.specs.WellFormed.{WellFormed}
 use Rattle.wat_print.specs.Parts.{each}
-use Rattle.wat_print.specs.Reference.{spell_val, printable_val}
-use Rattle.wat_print.specs.Laws.Label.{label_here, label_well_formed, label_only, labelled_front}
+use Rattle.wat_print.specs.Laws.Before.{label_here, label_well_formed, label_only, val_here}
+use Rattle.wat_print.specs.Laws.Before.{val_well_formed, val_only, val_more, val_no_id, val_no_name}
+use Rattle.wat_print.specs.Laws.Before.{after_here}
+use Rattle.wat_print.specs.Laws.Label.{labelled_front}
 use Rattle.wat_print.specs.Laws.Only.{OnlyPrintable, only_where, only_many, only_seq, only_made}
 use Rattle.wat_print.specs.Laws.Only.{only_weaker, only_paren, only_after}
 use Rattle.wat_print.specs.Laws.Parts.{Spells, paren_here, many_here, well_formed_word}
 use Rattle.wat_print.specs.Laws.Parts.{well_formed_group, well_formed_both, well_formed_each}
 use Rattle.wat_print.specs.Laws.Parts.{each_all, and_also}
-use Rattle.wat_print.specs.Laws.Reference.{val_here, val_well_formed, val_only, val_more, val_no_id}
-use Rattle.wat_print.specs.Laws.Reference.{val_no_name}
-use Rattle.wat_print.specs.Laws.Define.{after_here}
 use Rattle.wat_print_module.specs.Local.{local_label, spell_listed, printable_local, spell_local}
 use Rattle.wat_print_module.specs.Local.{spell_locals, printable_locals, spell_local_parser}
 use Rattle.wat_print_module.specs.Local.{may_share_group, printable_local_parser}

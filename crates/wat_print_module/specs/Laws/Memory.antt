@@ -17,18 +17,18 @@ use Rattle.wat_fields.specs.DataVal.{DataValTy}
 use Rattle.wat_fields.specs.DataVals.{data_vals}
 use Rattle.wat_fields.specs.Memory.{MemoryKindTy, imported, normal, inline, MemoryTy, memory_of}
 use Rattle.wat_fields.specs.Memory.{inline_memory, begins_inline_data, memory_kind, memory}
-use Rattle.wat_print.specs.Limits.{spell_number, spell_page_size, is_exponent}
-use Rattle.wat_print.specs.Limits.{spell_memory_type, printable_memory_type}
+use Rattle.wat_print.specs.Before.{spell_number, spell_page_size, spell_memory_type}
+use Rattle.wat_print.specs.Before.{printable_memory_type}
+use Rattle.wat_print.specs.Limits.{is_exponent}
 use Rattle.wat_print.specs.WellFormed.{WellFormed}
 use Rattle.wat_print.specs.Parts.{grouped, spell_flag, spell_option, each, if_some}
-use Rattle.wat_print.specs.Laws.Limits.{EndsMemory, memory_type_here, memory_type_well_formed}
-use Rattle.wat_print.specs.Laws.Limits.{memory_type_only, width_here, page_part, page_well_formed}
-use Rattle.wat_print.specs.Laws.Limits.{page_only}
+use Rattle.wat_print.specs.Laws.Before.{EndsMemory, memory_type_here, memory_type_well_formed}
+use Rattle.wat_print.specs.Laws.Before.{memory_type_only, width_here, page_part, page_well_formed}
+use Rattle.wat_print.specs.Laws.Before.{page_only, after_here}
 use Rattle.wat_print.specs.Laws.Only.{OnlyPrintable, only_any, only_where, only_seq, only_made}
 use Rattle.wat_print.specs.Laws.Only.{only_after, only_group}
 use Rattle.wat_print.specs.Laws.Parts.{group_here, well_formed_word, well_formed_both}
 use Rattle.wat_print.specs.Laws.Parts.{well_formed_group, well_formed_flag, well_formed_option}
-use Rattle.wat_print.specs.Laws.Define.{after_here}
 use Rattle.wat_print_instr.specs.Laws.Places.{both_here}
 use Rattle.wat_print_module.specs.FieldHead.{spell_inline_import, printable_inline_import}
 use Rattle.wat_print_module.specs.FieldHead.{spell_head, printable_head}

@@ -18,19 +18,18 @@ use Rattle.wat_core.specs.Module.{ModuleKindTy, text, binary, ModuleTy, module_w
 use Rattle.wat_core.specs.Module.{module_kind, module_}
 use Rattle.wat_core.specs.Text.{IsModule, SpellsModule}
 use Rattle.wat_core.specs.Laws.Text.{is_module}
+use Rattle.wat_print.specs.Before.{spell_label, printable_label}
 use Rattle.wat_print.specs.Layout.{Writes}
 use Rattle.wat_print.specs.Text.{Page, blank_page}
+use Rattle.wat_print.specs.Laws.Before.{label_here, label_well_formed, label_only, after_here}
 use Rattle.wat_print.specs.Laws.Nesting.{well_formed_visible}
-use Rattle.wat_print.specs.Label.{spell_label, printable_label}
 use Rattle.wat_print.specs.WellFormed.{WellFormed}
 use Rattle.wat_print.specs.Parts.{each}
-use Rattle.wat_print.specs.Laws.Label.{label_here, label_well_formed, label_only}
 use Rattle.wat_print.specs.Laws.Only.{OnlyPrintable, only_where, only_many, only_seq, only_made}
 use Rattle.wat_print.specs.Laws.Only.{only_after, only_weaker, only_paren}
 use Rattle.wat_print.specs.Laws.Parts.{Spells, paren_here, many_here, well_formed_word}
 use Rattle.wat_print.specs.Laws.Parts.{well_formed_both, well_formed_each, well_formed_paren}
 use Rattle.wat_print.specs.Laws.Printed.{cut_back, unspelled}
-use Rattle.wat_print.specs.Laws.Define.{after_here}
 use Rattle.wat_print_instr.specs.Laws.Places.{both_here}
 use Rattle.wat_print_module.specs.Field.{spell_module_field, printable_module_field}
 use Rattle.wat_print_module.specs.Field.{spell_field_group}

@@ -29,16 +29,16 @@ use Rattle.wat_fields.specs.Payload.{by_index, by_item, of_type, listed}
 use Rattle.wat_fields.specs.Table.{TableKindTy, imported, normal, inline, TableFieldTy, table_of}
 use Rattle.wat_fields.specs.Table.{begins_inline_elems, begins_normal}
 use Rattle.wat_fields.specs.Table.{inline_table, normal_table, imported_table, table_kind, table}
+use Rattle.wat_print.specs.Before.{spell_number, spell_table_type, printable_table_type, spell_ref}
+use Rattle.wat_print.specs.Before.{printable_ref}
 use Rattle.wat_print.specs.Index.{spell_index, printable_index}
-use Rattle.wat_print.specs.Limits.{spell_number, spell_table_type, printable_table_type}
 use Rattle.wat_print.specs.WellFormed.{WellFormed}
 use Rattle.wat_print.specs.Parts.{grouped, spell_flag, spell_option, each, if_some}
-use Rattle.wat_print.specs.Reference.{short_word, spell_ref, printable_ref}
-use Rattle.wat_print.specs.Laws.Limits.{table_type_here, table_type_well_formed, width_here}
+use Rattle.wat_print.specs.Reference.{short_word}
+use Rattle.wat_print.specs.Laws.Before.{table_type_here, table_type_well_formed, width_here}
+use Rattle.wat_print.specs.Laws.Before.{ref_here, ref_well_formed, after_here}
 use Rattle.wat_print.specs.Laws.Parts.{flag_here, group_here, well_formed_word, well_formed_both}
 use Rattle.wat_print.specs.Laws.Parts.{well_formed_group, well_formed_flag, well_formed_option}
-use Rattle.wat_print.specs.Laws.Reference.{ref_here, ref_well_formed}
-use Rattle.wat_print.specs.Laws.Define.{after_here}
 use Rattle.wat_print_instr.specs.ExpressionForm.{HintedInstr, step_of, spell_step, printable_step}
 use Rattle.wat_print_instr.specs.ExpressionForm.{steps_from, hint_for, hints_after}
 use Rattle.wat_print_instr.specs.ExpressionForm.{spell_expression, printable_expression}

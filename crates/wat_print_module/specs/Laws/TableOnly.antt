@@ -22,14 +22,13 @@ use Rattle.wat_fields.specs.Payload.{by_index, by_item, of_type, item_list, list
 use Rattle.wat_fields.specs.Table.{TableKindTy, imported, normal, table_of}
 use Rattle.wat_fields.specs.Table.{begins_inline_elems, begins_normal, inline_table}
 use Rattle.wat_fields.specs.Table.{normal_table, imported_table, table_kind, table}
+use Rattle.wat_print.specs.Before.{printable_ref}
 use Rattle.wat_print.specs.Index.{printable_index}
 use Rattle.wat_print.specs.WellFormed.{is_given}
 use Rattle.wat_print.specs.Parts.{each, if_some}
-use Rattle.wat_print.specs.Reference.{printable_ref}
-use Rattle.wat_print.specs.Laws.Limits.{table_type_only}
+use Rattle.wat_print.specs.Laws.Before.{table_type_only, ref_only}
 use Rattle.wat_print.specs.Laws.Only.{OnlyPrintable, only_any, only_where, only_seq, only_made}
 use Rattle.wat_print.specs.Laws.Only.{only_after, only_group}
-use Rattle.wat_print.specs.Laws.Reference.{ref_only}
 use Rattle.wat_print_instr.specs.ExpressionForm.{printable_expression}
 use Rattle.wat_print_instr.specs.Laws.ExpressionOnly.{expression_only}
 use Rattle.wat_print_module.specs.Table.{printable_elements, printable_initial}

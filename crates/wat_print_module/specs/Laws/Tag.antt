@@ -15,14 +15,13 @@ use Rattle.wat_links.specs.FieldHead.{head}
 use Rattle.wat_links.specs.Import.{inline_import, begins_inline_import}
 use Rattle.wat_instr.specs.Laws.Sees.{fails_at_end}
 use Rattle.wat_fields.specs.Tag.{TagTy, tag_of, tag}
+use Rattle.wat_print.specs.Before.{spell_use, printable_use}
 use Rattle.wat_print.specs.WellFormed.{WellFormed}
 use Rattle.wat_print.specs.Parts.{spell_option, if_some}
-use Rattle.wat_print.specs.Use.{spell_use, printable_use}
+use Rattle.wat_print.specs.Laws.Before.{use_here, use_well_formed, use_only, after_here}
 use Rattle.wat_print.specs.Laws.Only.{OnlyPrintable, only_opt, only_seq, only_made, only_weaker}
 use Rattle.wat_print.specs.Laws.Only.{only_after}
 use Rattle.wat_print.specs.Laws.Parts.{well_formed_word, well_formed_both, well_formed_option}
-use Rattle.wat_print.specs.Laws.Use.{use_here, use_well_formed, use_only}
-use Rattle.wat_print.specs.Laws.Define.{after_here}
 use Rattle.wat_print_instr.specs.Laws.Places.{both_here}
 use Rattle.wat_print_module.specs.FieldHead.{spell_inline_import, printable_inline_import}
 use Rattle.wat_print_module.specs.FieldHead.{spell_head, printable_head}

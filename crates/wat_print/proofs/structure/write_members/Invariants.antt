@@ -1,9 +1,11 @@
-use Rattle.std.proofs.Common.{take}
+use Rattle.std.proofs.Common.{drop}
+use Rattle.std.specs.Prelude.{map}
 use Rattle.wat_types.specs.Struct.{member_view}
-use Rattle.wat_print.specs.Parts.{Wrote}
-use Rattle.wat_print.specs.Struct.{spell_member, printable_member}
+use Rattle.wat_print.specs.Struct.{member_form}
+use Rattle.wat_print.specs.Prints.{Left}
 use Rattle.wat_print.proofs.structure.write_members.Given as goal
 
 abbrev pub invariant-loop-field : goal.invariant-loop-field
 invariant-loop-field l =
-    Wrote member_view spell_member printable_member (take l.field-index l.fields) l.fn.out l.out
+    Left member_form (map member_view (drop l.field-index l.fields))
+    (map member_view l.fields) l.fn.out l.out

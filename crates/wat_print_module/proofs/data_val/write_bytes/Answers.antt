@@ -1,4 +1,4 @@
-use Rattle.wat_print.specs.Limits.{spell_number}
+use Rattle.wat_print.specs.Before.{spell_number}
 use Rattle.wat_print.specs.WellFormed.{is_byte}
 use Rattle.wat_print.specs.Laws.Written.{wrote_more}
 use Rattle.wat_print_module.proofs.data_val.write_bytes.Goals as goal

@@ -1,5 +1,5 @@
 use Rattle.std.proofs.Common.{take}
-use Rattle.wat_print.specs.Limits.{spell_number}
+use Rattle.wat_print.specs.Before.{spell_number}
 use Rattle.wat_print.specs.WellFormed.{is_byte}
 use Rattle.wat_print.specs.Parts.{Wrote}
 use Rattle.wat_print_module.proofs.data_val.write_bytes.Given as goal

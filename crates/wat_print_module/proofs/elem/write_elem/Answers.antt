@@ -2,7 +2,7 @@ use Rattle.std.proofs.lemmas.Result.{on_ok_weaker}
 use Rattle.std.specs.Prelude.{[], ◌∷◌, ◌++◌, codes}
 use Rattle.wat_lexer.specs.Token.{Keyword}
 use Rattle.wat_fields.specs.Elem.{elem_view}
-use Rattle.wat_print.specs.Label.{spell_label}
+use Rattle.wat_print.specs.Before.{spell_label}
 use Rattle.wat_print.specs.Laws.Written.{puts_both}
 use Rattle.wat_print_module.specs.Segments.{spell_elem_kind, spell_payload}
 use Rattle.wat_print_module.proofs.Grouped.{puts_first}

@@ -1,7 +1,7 @@
 use Rattle.std.proofs.lemmas.Result.{on_ok_weaker}
 use Rattle.std.specs.Prelude.{flat_map, map}
 use Rattle.wat_expr.specs.Expression.{expression_view}
-use Rattle.wat_print.specs.Reference.{spell_ref}
+use Rattle.wat_print.specs.Before.{spell_ref}
 use Rattle.wat_print_module.specs.Segments.{spell_item}
 use Rattle.wat_print_module.proofs.Grouped.{puts_first}
 use Rattle.wat_print_module.proofs.elem.write_typed.Goals as goal

@@ -1,8 +1,8 @@
 use Rattle.std.proofs.lemmas.Result.{on_ok_weaker}
 use Rattle.std.specs.Prelude.{codes}
 use Rattle.wat_fields.specs.Func.{func_use_view}
+use Rattle.wat_print.specs.Before.{spell_use}
 use Rattle.wat_print.specs.Laws.Written.{enclosed}
-use Rattle.wat_print.specs.Use.{spell_use}
 use Rattle.wat_print_module.proofs.func.write_exact_use.Goals as goal
 
 pub returns-clause-written : goal.returns-clause-written

@@ -3,7 +3,7 @@ use Rattle.std.specs.Prelude.{◌++◌}
 use Rattle.wat_expr.specs.Expression.{expression_view}
 use Rattle.wat_fields.specs.Func.{func_use_view}
 use Rattle.wat_fields.specs.Local.{locals_view}
-use Rattle.wat_print.specs.Use.{spell_use}
+use Rattle.wat_print.specs.Before.{spell_use}
 use Rattle.wat_print_instr.specs.ExpressionForm.{spell_expression}
 use Rattle.wat_print_module.specs.Local.{spell_locals}
 use Rattle.wat_print_module.proofs.Grouped.{puts_first}

@@ -1,7 +1,7 @@
 use Rattle.std.proofs.lemmas.Result.{on_ok_weaker}
 use Rattle.wat_links.specs.Import.{inline_import_view}
+use Rattle.wat_print.specs.Before.{spell_global}
 use Rattle.wat_print.specs.Laws.Written.{put_then}
-use Rattle.wat_print.specs.Storage.{spell_global}
 use Rattle.wat_print_module.specs.FieldHead.{spell_inline_import}
 use Rattle.wat_types.specs.Storage.{global_type_view}
 use Rattle.wat_print_module.proofs.global.write_imported.Goals as goal

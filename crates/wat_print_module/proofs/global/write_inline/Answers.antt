@@ -1,6 +1,6 @@
 use Rattle.std.proofs.lemmas.Result.{on_ok_weaker}
 use Rattle.wat_expr.specs.Expression.{expression_view}
-use Rattle.wat_print.specs.Storage.{spell_global}
+use Rattle.wat_print.specs.Before.{spell_global}
 use Rattle.wat_print_instr.specs.ExpressionForm.{spell_expression}
 use Rattle.wat_types.specs.Storage.{global_type_view}
 use Rattle.wat_print_module.proofs.Grouped.{puts_first}

@@ -2,7 +2,7 @@ use Rattle.std.proofs.lemmas.Result.{on_ok_weaker}
 use Rattle.std.specs.Prelude.{codes}
 use Rattle.wat_types.specs.Function.{function_view}
 use Rattle.wat_types.specs.Use.{use_view}
-use Rattle.wat_print.specs.Use.{spell_use}
+use Rattle.wat_print.specs.Before.{spell_use}
 use Rattle.wat_print.specs.Laws.Written.{enclosed}
 use Rattle.wat_print_module.proofs.item.write_exact.Goals as goal
 

@@ -1,7 +1,7 @@
 use Rattle.std.proofs.lemmas.Result.{on_ok_weaker}
 use Rattle.std.specs.Prelude.{◌++◌, codes}
 use Rattle.wat_fields.specs.DataVal.{data_vals_view}
-use Rattle.wat_print.specs.Limits.{spell_page_size}
+use Rattle.wat_print.specs.Before.{spell_page_size}
 use Rattle.wat_print.specs.Parts.{grouped, spell_flag, spell_option}
 use Rattle.wat_print.specs.Laws.Written.{put_then}
 use Rattle.wat_print_module.specs.Segments.{spell_data_vals}

@@ -2,7 +2,7 @@ use Rattle.std.proofs.lemmas.Result.{on_ok_weaker}
 use Rattle.std.specs.Prelude.{[], ◌∷◌, ◌++◌, codes}
 use Rattle.wat_lexer.specs.Token.{Keyword}
 use Rattle.wat_core.specs.Module.{module_view}
-use Rattle.wat_print.specs.Label.{spell_label}
+use Rattle.wat_print.specs.Before.{spell_label}
 use Rattle.wat_print_module.specs.Module.{spell_module_kind}
 use Rattle.wat_print_module.proofs.Grouped.{puts_first}
 use Rattle.wat_print_module.proofs.module.write_content.Goals as goal

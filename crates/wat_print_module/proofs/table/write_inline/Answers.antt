@@ -1,8 +1,8 @@
 use Rattle.std.proofs.lemmas.Result.{on_ok_weaker}
 use Rattle.std.specs.Prelude.{◌++◌, codes}
 use Rattle.wat_fields.specs.Payload.{payload_view}
+use Rattle.wat_print.specs.Before.{spell_ref}
 use Rattle.wat_print.specs.Parts.{grouped, spell_flag}
-use Rattle.wat_print.specs.Reference.{spell_ref}
 use Rattle.wat_print_module.specs.Table.{spell_elements}
 use Rattle.wat_print_module.proofs.Grouped.{puts_first}
 use Rattle.wat_print_module.proofs.table.write_inline.Goals as goal

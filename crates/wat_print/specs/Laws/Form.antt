@@ -1,0 +1,715 @@
+-- Laws: what a form writes is read again, part by part.
+use Rattle.std.specs.Prelude.{◌≡◌, ◌≤◌, ℕ, Bool, true, false, not, ◌&&◌, List, [], ◌∷◌, ◌++◌}
+use Rattle.std.specs.Prelude.{Option, Some, None, flat_map, map, ◌⊎◌, ◌||◌}
+use Rattle.std.specs.Str.{bytes_eq}
+use Rattle.std.proofs.Common.{refl, ap, subst, sym, ◌∙◌, append_assoc, inl, inr}
+use Rattle.std.proofs.lemmas.Bool.{and_parts}
+use Rattle.wat_lexer.specs.Token.{Tok, LParen, RParen, Keyword}
+use Rattle.wat_tokens.specs.Followed.{followed, blank}
+use Rattle.wat_tokens.specs.Groups.{paren, group, turn}
+use Rattle.wat_tokens.specs.Many.{many}
+use Rattle.wat_tokens.specs.ManySpells.{many_spells}
+use Rattle.wat_tokens.specs.Parens.{NoParens}
+use Rattle.wat_tokens.specs.Parts.{one, seq, where_else, made, made_where, opt, word, flag}
+use Rattle.wat_tokens.specs.Parts.{after_word}
+use Rattle.wat_tokens.specs.Production.{Production}
+use Rattle.wat_tokens.specs.Restated.{restated}
+use Rattle.wat_tokens.specs.Spelled.{in_parens}
+use Rattle.wat_tokens.specs.Tests.{begins_word}
+use Rattle.wat_print.specs.Form.{Test, any, Form, told_form, token_form, OfWord, word_form}
+use Rattle.wat_print.specs.Form.{flag_form, seq_follows, SeqFronts, seq_form, by, by_where, pick}
+use Rattle.wat_print.specs.Form.{else_follows, else_form, option_form, many_form, ParenFronts}
+use Rattle.wat_print.specs.Form.{paren_form, turn_form, after_form, group_form, only_where_form}
+use Rattle.wat_print.specs.Form.{behind_form, unwritten_form, followed_form, blank_form}
+use Rattle.wat_print.specs.Form.{filled_form, some_and}
+use Rattle.wat_print.specs.Parts.{spell_option, if_some, each, spell_flag}
+use Rattle.wat_print.specs.Prints.{Passes, Closes, Nests, Unparses, Prints, Must}
+use Rattle.wat_print.specs.WellFormed.{WellFormed, nothing, is_given, is_keyword, is_printable}
+use Rattle.wat_print.specs.WellFormed as well_formed
+use Rattle.wat_print.specs.Laws.Only.{given_parts, OnlyPrintable}
+use Rattle.wat_print.specs.Laws.Parts.{flag_here, word_here, well_formed_one, well_formed_flag}
+use Rattle.wat_print.specs.Laws.Parts.{well_formed_both, well_formed_paren}
+
+-- ---- how tokens nest
+
+closes_behind : (x z : List Tok) → WellFormed x → Closes z → Closes (x ++ z)
+closes_behind x z n c = (
+  x ++ c.0,
+  c.1,
+  ap (λ (l : List Tok). x ++ l) c.2 ∙ sym (append_assoc x c.0 (RParen ∷ c.1)),
+  well_formed_both x c.0 n c.3,
+  c.4,
+)
+
+nests_inside : (b : Bool) (x z : List Tok) → Nests b x → Closes z → Closes (x ++ z)
+nests_inside true x z n c = closes_behind x z n c
+nests_inside false x z n c = n z c
+
+nests_seq : (a b : Bool) (x y : List Tok) → Nests a x → Nests b y → Nests (a && b) (x ++ y)
+nests_seq true true x y m n = well_formed_both x y m n
+nests_seq true false x y m n = λ z c. subst Closes (sym (append_assoc x y z))
+    (closes_behind x (y ++ z) m (n z c))
+nests_seq false b x y m n = λ z c. subst Closes (sym (append_assoc x y z))
+    (m (y ++ z) (nests_inside b y z n c))
+
+nests_left : (a b : Bool) (x : List Tok) → Nests a x → Nests (a && b) x
+nests_left true true x n = n
+nests_left true false x n = λ z c. closes_behind x z n c
+nests_left false b x n = n
+
+nests_right : (a b : Bool) (x : List Tok) → Nests b x → Nests (a && b) x
+nests_right true b x n = n
+nests_right false b x n = λ z c. nests_inside b x z n c
+
+nests_same : (b : Bool) (x : List Tok) → Nests (b && b) x → Nests b x
+nests_same true x n = n
+nests_same false x n = n
+
+nests_nothing : (b : Bool) → Nests b []
+nests_nothing true = nothing
+nests_nothing false = λ z c. c
+
+nests_paren : (b : Bool) (x : List Tok) → Nests b x → WellFormed (in_parens x)
+nests_paren true x n = well_formed_paren x n
+nests_paren false x n =
+    let c = n (RParen ∷ []) ([], [], refl, nothing, nothing) in
+    subst WellFormed (ap (λ (l : List Tok). LParen ∷ l) (sym c.2))
+    (well_formed.group c.0 c.1 c.3 c.4)
+
+closes_turn : (x : List Tok) → Closes x → Closes (RParen ∷ LParen ∷ x)
+closes_turn x c = (
+  [],
+  LParen ∷ x,
+  refl,
+  nothing,
+  subst WellFormed (ap (λ (l : List Tok). LParen ∷ l) (sym c.2))
+      (well_formed.group c.0 c.1 c.3 c.4),
+)
+
+-- ---- what is in front
+
+passes_of : (e : Bool) (test : Test) (r : List Tok) → test r ≡ true → Passes e test r
+passes_of true test r h = h
+passes_of false test r h = tt
+
+-- what a part that isn't empty has in front
+must_pass : {P : Type 0} (e : Bool) (test : Test) (r : List Tok) (F : Type 0) → Must e F
+    → (F → Passes e test r → P) → P
+must_pass true test r F m f = absurd m
+must_pass false test r F m f = f m tt
+
+pub not_true : (b : Bool) → not b ≡ true → b ≡ false
+not_true true h = absurd cc
+not_true false h = refl
+
+module _ {A B : Type 0} {form : Form A} {view : A → B} {g : Production B}
+    (p : Unparses form view g)
+  where
+    begun : (test : Test) → Must form.empty (form.Fronts any test) → (a : A) (r : List Tok)
+        → form.ready a ≡ true → test (form.spell a ++ r) ≡ true
+    begun test m a r h =
+        must_pass form.empty test r (form.Fronts any test) m
+        (λ f e. p.front any test f a r h refl e)
+
+-- ---- one token
+
+module _ {A : Type 0} (value_of : Tok → Option A) (flat : NoParens value_of) (token : A → Tok)
+    (printable : A → Bool) (Fronts : Test → Test → Type 0)
+  where
+    pub one_prints : ((rest test : Test) → Fronts rest test → (v : A) (y : List Tok)
+        → printable v ≡ true → rest y ≡ true → test (token v ∷ y) ≡ true)
+        → ((v : A) → printable v ≡ true → is_printable (token v) ≡ true)
+        → ((v : A) → printable v ≡ true → value_of (token v) ≡ Some v)
+        → ((t : Tok) (v : A) → is_given t ≡ true → value_of t ≡ Some v → printable v ≡ true)
+        → Prints (token_form token printable Fronts) (one value_of flat)
+    one_prints front fits reads only = record {
+      nests = λ v h. well_formed_one (token v) (fits v h);
+      front = λ rest test f v r h k e. front rest test f v r h k;
+      here = λ v r h e. (token v, refl, reads v h);
+      only = λ v c r a s. (let k = subst (λ (l : List Tok). each is_given l ≡ true) s.1 a in
+          (v, refl, only s.0 v (and_parts (is_given s.0) true k).0 s.2));
+    }
+
+pub word_prints : (w : List ℕ) → is_keyword w ≡ true → bytes_eq w w ≡ true
+    → Prints (word_form w) (word w)
+word_prints w k e = record {
+  nests = λ v h. well_formed_one (Keyword w) k;
+  front = λ rest test f v r h k p. f r k;
+  here = λ v r h p. word_here w e r;
+  only = λ v c r a s. (tt, refl, refl);
+}
+
+flag_front : (w : List ℕ) (rest test : Test) → OfWord w rest test → (b : Bool) (r : List Tok)
+    → rest r ≡ true → test r ≡ true → test (spell_flag w b ++ r) ≡ true
+flag_front w rest test f true r k h = f r k
+flag_front w rest test f false r k h = h
+
+pub flag_prints : (w : List ℕ) → is_keyword w ≡ true → bytes_eq w w ≡ true
+    → Prints (flag_form w) (flag w)
+flag_prints w k e = record {
+  nests = λ b h. well_formed_flag w b k;
+  front = λ rest test f b r h k p. flag_front w rest test f b r k p;
+  here = λ b r h p. flag_here w b r e (not_true (begins_word w r) p);
+  only = λ b c r a s. (b, refl, refl);
+}
+
+-- ---- one part, and then another
+
+follows_parts : (e : Bool) (f g : Test) (r : List Tok) → seq_follows e f g r ≡ true
+    → Passes e f r × (g r ≡ true)
+follows_parts true f g r h = and_parts (f r) (g r) h
+follows_parts false f g r h = (tt, h)
+
+seq_front : (d e : Bool) (F G : Test → Test → Type 0) (behind rest test : Test) (x y r : List Tok)
+    → (F behind test → Passes d test (y ++ r) → test (x ++ (y ++ r)) ≡ true)
+    → (G rest test → Passes e test r → test (y ++ r) ≡ true)
+    → SeqFronts d F G behind rest test → Passes (d && e) test r → test (x ++ (y ++ r)) ≡ true
+seq_front true e F G behind rest test x y r f g h p = f h.0 (g h.1 p)
+seq_front false e F G behind rest test x y r f g h p = f h tt
+
+module _ {A B C D : Type 0} {form : Form A} {other : Form B} {view : A → C} {also : B → D}
+    {g : Production C} {h : Production D} (behind : Test) (p : Unparses form view g)
+    (q : Unparses other also h)
+    (passes : (v : B) (r : List Tok) → other.ready v ≡ true → behind (other.spell v ++ r) ≡ true)
+  where
+    front_of : (rest test : Test)
+        → SeqFronts form.empty form.Fronts other.Fronts behind rest test → (v : A × B)
+        (r : List Tok)
+        → form.ready v.0 && other.ready v.1 ≡ true → rest r ≡ true
+        → Passes (form.empty && other.empty) test r
+        → test ((form.spell v.0 ++ other.spell v.1) ++ r) ≡ true
+    front_of rest test f v r k i e =
+        let a = and_parts (form.ready v.0) (other.ready v.1) k in
+        subst (λ (l : List Tok). test l ≡ true)
+        (sym (append_assoc (form.spell v.0) (other.spell v.1) r))
+        (seq_front form.empty other.empty form.Fronts other.Fronts behind rest test
+        (form.spell v.0) (other.spell v.1) r
+        (λ f e. p.front behind test f v.0 (other.spell v.1 ++ r) a.0 (passes v.1 r a.1) e)
+        (λ f e. q.front rest test f v.1 r a.1 i e) f e)
+
+    -- in front of what the second part writes the first one is read
+    both_here : other.Fronts any form.follows → (v : A × B) (r : List Tok)
+        → form.ready v.0 && other.ready v.1 ≡ true
+        → seq_follows other.empty form.follows other.follows r ≡ true
+        → (seq g h).spells (view v.0, also v.1) (form.spell v.0 ++ other.spell v.1) r
+    both_here f v r k e =
+        let a = and_parts (form.ready v.0) (other.ready v.1) k in
+        let b = follows_parts other.empty form.follows other.follows r e in (
+          form.spell v.0,
+          other.spell v.1,
+          refl,
+          p.here v.0 (other.spell v.1 ++ r) a.0 (q.front any form.follows f v.1 r a.1 refl b.0),
+          q.here v.1 r a.1 b.1,
+        )
+
+    both_only : (w : C × D) (c r : List Tok) → each is_given c ≡ true → (seq g h).spells w c r
+        → (v : A × B) × ((view v.0, also v.1) ≡ w)
+        × (form.printable v.0 && other.printable v.1 ≡ true)
+    both_only w c r a s =
+        let k = given_parts c s.0 s.1 s.2 a in
+        let x = p.only w.0 s.0 (s.1 ++ r) k.0 s.3 in
+        let y = q.only w.1 s.1 r k.1 s.4 in
+        ((x.0, y.0), rw (x.1, y.1) refl, rw (x.2, y.2) refl)
+
+    both_prints : other.Fronts any form.follows
+        → Unparses (behind_form behind form other) (λ v. (view v.0, also v.1)) (seq g h)
+    both_prints f = record {
+      nests = λ v k. (let a = and_parts (form.ready v.0) (other.ready v.1) k in
+          nests_seq form.balanced other.balanced (form.spell v.0) (other.spell v.1)
+          (p.nests v.0 a.0) (q.nests v.1 a.1));
+      front = front_of;
+      here = both_here f;
+      only = both_only;
+    }
+
+module _ {A B C D : Type 0} {form : Form A} {other : Form B} {view : A → C} {also : B → D}
+    {g : Production C} {h : Production D}
+  where
+    pub seq_prints : Unparses form view g → Unparses other also h → other.Fronts any form.follows
+        → Unparses (seq_form form other) (λ v. (view v.0, also v.1)) (seq g h)
+    seq_prints p q f = both_prints any p q (λ v r k. refl) f
+
+    pub behind_prints : (behind : Test) → Unparses form view g → (q : Unparses other also h)
+        → Must other.empty (other.Fronts any behind) → other.Fronts any form.follows
+        → Unparses (behind_form behind form other) (λ v. (view v.0, also v.1)) (seq g h)
+    behind_prints behind p q m f = both_prints behind p q (λ v r k. begun q behind m v r k) f
+
+-- ---- values made of parts
+
+module _ {A B C : Type 0} {form : Form A} {view : A → B} {g : Production B}
+    (p : Unparses form view g)
+  where
+    pub made_prints : (f : B → C) → Unparses form (λ a. f (view a)) (made f g)
+    made_prints f = record {
+      nests = p.nests;
+      front = p.front;
+      here = λ a r h e. (view a, p.here a r h e, refl, refl);
+      only = λ b c r a s. (let x = p.only s.0 c r a s.1 in (x.0, ap f x.1 ∙ s.3, x.2));
+    }
+
+module _ {A B : Type 0} {form : Form A} {view : A → B} {g : Production B}
+    (p : Unparses form view g) (parts : B → A) (ok : B → Bool)
+    (is : (b : B) → ok b ≡ true → view (parts b) ≡ b)
+    (is_ready : (b : B) → ok b ≡ true → form.ready (parts b) ≡ true)
+    (covers : (a : A) → form.printable a ≡ true → ok (view a) ≡ true)
+  where
+    pub whole_where : Prints (by_where ok parts form) g
+    whole_where = record {
+      nests = λ b h. p.nests (parts b) (is_ready b h);
+      front = λ rest test f b r h i e. p.front rest test f (parts b) r (is_ready b h) i e;
+      here = λ b r h e. (subst (λ (w : B). g.spells w (form.spell (parts b)) r) (is b h)
+          (p.here (parts b) r (is_ready b h) e));
+      only = λ b c r a s. (let x = p.only b c r a s in
+          (b, refl, subst (λ (w : B). ok w ≡ true) x.1 (covers x.0 x.2)));
+    }
+
+module _ {A B : Type 0} {form : Form A} {view : A → B} {g : Production B}
+    (p : Unparses form view g) (parts : B → A)
+  where
+    pub whole_prints : ((b : B) → form.printable (parts b) ≡ true → view (parts b) ≡ b)
+        → ((b : B) → form.printable (parts b) ≡ true → form.ready (parts b) ≡ true)
+        → ((a : A) → form.printable a ≡ true → form.printable (parts (view a)) ≡ true)
+        → Prints (by parts form) g
+    whole_prints is is_ready covers =
+        whole_where p parts (λ b. form.printable (parts b)) is is_ready covers
+
+module _ {A B : Type 0} {form : Form A} {view : A → B} {g : Production B}
+    (p : Unparses form view g) (ok : A → Bool)
+  where
+    pub only_where_prints : Unparses (only_where_form ok form) view g
+    only_where_prints = record {
+      nests = λ a h. p.nests a (and_parts (ok a) (form.ready a) h).1;
+      front = λ rest test f a r h i e.
+          p.front rest test f a r (and_parts (ok a) (form.ready a) h).1 i e;
+      here = λ a r h e. p.here a r (and_parts (ok a) (form.ready a) h).1 e;
+      only = p.only;
+    }
+
+-- ---- one of two
+
+else_parts : (e : Bool) (test f : Test) (r : List Tok)
+    → else_follows e test f r ≡ true → Passes e (λ t. not (test t)) r × (f r ≡ true)
+else_parts true test f r h = and_parts (not (test r)) (f r) h
+else_parts false test f r h = (tt, h)
+
+module _ {A B : Type 0} {form : Form A} {view : A → B} {g : Production B}
+    (p : Unparses form view g)
+  where
+    pub unwritten_prints : Unparses (unwritten_form form) view g
+    unwritten_prints = record {
+      nests = λ a h. absurd cc;
+      front = λ rest test f a r h i e. absurd cc;
+      here = λ a r h e. absurd cc;
+      only = p.only;
+    }
+
+module _ {A B : Type 0} {form : Form A} {view : A → B} {g : Production B}
+    (p : Unparses form view g) (spell : A → List Tok)
+    (same : (a : A) → form.ready a ≡ true → form.spell a ≡ spell a)
+  where
+    -- the same tokens, written in another way
+    pub respelled : Unparses (record form { spell = spell }) view g
+    respelled = record {
+      nests = λ a h. subst (λ (c : List Tok). Nests form.balanced c) (same a h) (p.nests a h);
+      front = λ rest test f a r h i e. (subst (λ (c : List Tok). test (c ++ r) ≡ true) (same a h)
+          (p.front rest test f a r h i e));
+      here = λ a r h e. (subst (λ (c : List Tok). g.spells (view a) c r) (same a h)
+          (p.here a r h e));
+      only = p.only;
+    }
+
+module _ {A B : Type 0} {form : Form A} {view : A → B} {g : Production B}
+    (p : Unparses form view g)
+  where
+    -- a value made of parts that meet a condition
+    pub where_prints : {C : Type 0} (ok : B → Bool) (f : B → C)
+        → ((a : A) → form.ready a ≡ true → ok (view a) ≡ true)
+        → Unparses form (λ a. f (view a)) (made_where ok f g)
+    where_prints ok f meets = record {
+      nests = p.nests;
+      front = p.front;
+      here = λ a r h e. (view a, p.here a r h e, meets a h, refl);
+      only = λ b c r a s. (let x = p.only s.0 c r a s.1 in (x.0, ap f x.1 ∙ s.3, x.2));
+    }
+
+    pub restated_prints : (Spells : B → List Tok → List Tok → Type 0)
+        (to : (v : B) (c r : List Tok) → g.spells v c r → Spells v c r)
+        (from : (v : B) (c r : List Tok) → Spells v c r → g.spells v c r)
+        → Unparses form view (restated g Spells to from)
+    restated_prints Spells to from = record {
+      nests = p.nests;
+      front = p.front;
+      here = λ a r h e. to (view a) (form.spell a) r (p.here a r h e);
+      only = λ b c r a s. p.only b c r a (from b c r s);
+    }
+
+passes_left : (a b : Bool) (test : Test) (r : List Tok) → Passes (a || b) test r → Passes a test r
+passes_left true b test r e = e
+passes_left false b test r e = tt
+
+passes_right : (a b : Bool) (test : Test) (r : List Tok) → Passes (a || b) test r → Passes b test r
+passes_right true b test r e = passes_of b test r e
+passes_right false b test r e = e
+
+module _ {A B C : Type 0} {form : Form A} {other : Form B} {view : A → C} {also : B → C}
+    {g h : Production C} (rest test : Test) (p : Unparses form view g)
+    (q : Unparses other also h)
+  where
+    else_nests : (v : A ⊎ B) → pick form.ready other.ready v ≡ true
+        → Nests (form.balanced && other.balanced) (pick form.spell other.spell v)
+    else_nests (inl a) k = nests_left form.balanced other.balanced (form.spell a) (p.nests a k)
+    else_nests (inr b) k = nests_right form.balanced other.balanced (other.spell b) (q.nests b k)
+
+    else_front : (x t : Test) → form.Fronts x t × other.Fronts x t → (v : A ⊎ B) (r : List Tok)
+        → pick form.ready other.ready v ≡ true → x r ≡ true → Passes (form.empty || other.empty) t r
+        → t (pick form.spell other.spell v ++ r) ≡ true
+    else_front x t f (inl a) r k i e =
+        p.front x t f.0 a r k i (passes_left form.empty other.empty t r e)
+    else_front x t f (inr b) r k i e =
+        q.front x t f.1 b r k i (passes_right form.empty other.empty t r e)
+
+    else_here : ((a : A) (r : List Tok) → form.ready a ≡ true → rest r ≡ true
+        → test (form.spell a ++ r) ≡ true)
+        → other.Fronts rest (λ t. not (test t))
+        → (v : A ⊎ B) (r : List Tok) → pick form.ready other.ready v ≡ true
+        → rest r && (form.follows r && else_follows other.empty test other.follows r) ≡ true
+        → (where_else test g h).spells (pick view also v) (pick form.spell other.spell v) r
+    else_here m f (inl a) r k e =
+        let i = and_parts (rest r) _ e in
+        let x = and_parts (form.follows r) (else_follows other.empty test other.follows r) i.1 in
+        inl (m a r k i.0, p.here a r k x.0)
+    else_here m f (inr b) r k e =
+        let i = and_parts (rest r) _ e in
+        let x = and_parts (form.follows r) (else_follows other.empty test other.follows r) i.1 in
+        let y = else_parts other.empty test other.follows r x.1 in
+        inr (
+          not_true (test (other.spell b ++ r))
+              (q.front rest (λ t. not (test t)) f b r k i.0 y.0),
+          q.here b r k y.1,
+        )
+
+    else_only : (w : C) (c r : List Tok) → each is_given c ≡ true
+        → (where_else test g h).spells w c r
+        → (v : A ⊎ B) × (pick view also v ≡ w) × (pick form.printable other.printable v ≡ true)
+    else_only w c r a (inl k) = let x = p.only w c r a k.1 in (inl x.0, x.1, x.2)
+    else_only w c r a (inr k) = let x = q.only w c r a k.1 in (inr x.0, x.1, x.2)
+
+    -- the test passes of what the first writes, and of nothing that the second writes in front of
+    -- such a rest
+    pub told_prints : ((a : A) (r : List Tok) → form.ready a ≡ true → rest r ≡ true
+        → test (form.spell a ++ r) ≡ true)
+        → other.Fronts rest (λ t. not (test t))
+        → Unparses (told_form rest test form other) (pick view also) (where_else test g h)
+    told_prints m f = record {
+      nests = else_nests;
+      front = else_front;
+      here = else_here m f;
+      only = else_only;
+    }
+
+module _ {A B C : Type 0} {form : Form A} {other : Form B} {view : A → C} {also : B → C}
+    {g h : Production C} (test : Test) (p : Unparses form view g) (q : Unparses other also h)
+  where
+    pub else_prints : Must form.empty (form.Fronts any test) → other.Fronts any (λ t. not (test t))
+        → Unparses (else_form test form other) (pick view also) (where_else test g h)
+    else_prints m f = told_prints any test p q (λ a r k e. begun p test m a r k) f
+
+-- ---- parts that may be absent, and lists of parts
+
+module _ {A : Type 0} {form : Form A} {g : Production A} (begins : Test)
+    (p : Prints form g)
+  where
+    option_nests : (o : Option A) → if_some form.ready o ≡ true
+        → Nests form.balanced (spell_option form.spell o)
+    option_nests (Some v) h = p.nests v h
+    option_nests None h = nests_nothing form.balanced
+
+    option_front : (rest test : Test) → form.Fronts rest test → (o : Option A) (r : List Tok)
+        → if_some form.ready o ≡ true → rest r ≡ true → test r ≡ true
+        → test (spell_option form.spell o ++ r) ≡ true
+    option_front rest test f (Some v) r h i e =
+        p.front rest test f v r h i (passes_of form.empty test r e)
+    option_front rest test f None r h i e = e
+
+    option_here : Must form.empty (form.Fronts any begins) → (o : Option A) (r : List Tok)
+        → if_some form.ready o ≡ true → not (begins r) && form.follows r ≡ true
+        → (opt begins g).spells o (spell_option form.spell o) r
+    option_here m (Some v) r h e =
+        (begun p begins m v r h, p.here v r h (and_parts (not (begins r)) (form.follows r) e).1)
+    option_here m None r h e =
+        (refl, not_true (begins r) (and_parts (not (begins r)) (form.follows r) e).0)
+
+    option_only : (o : Option A) (c r : List Tok) → each is_given c ≡ true
+        → (opt begins g).spells o c r → if_some form.printable o ≡ true
+    option_only (Some v) c r a s = let x = p.only v c r a s.1 in
+        subst (λ (w : A). form.printable w ≡ true) x.1 x.2
+    option_only None c r a s = refl
+
+    pub option_prints : Must form.empty (form.Fronts any begins)
+        → Prints (option_form begins form) (opt begins g)
+    option_prints m = record {
+      nests = option_nests;
+      front = option_front;
+      here = option_here m;
+      only = λ o c r a s. (o, refl, option_only o c r a s);
+    }
+
+module _ {A : Type 0} {form : Form A} {g : Production A} (begins : Test) (p : Prints form g)
+    (m : Must form.empty (form.Fronts any begins))
+  where
+    filled_nests : (o : Option A) → some_and form.ready o ≡ true
+        → Nests form.balanced (spell_option form.spell o)
+    filled_nests (Some v) h = p.nests v h
+    filled_nests None h = absurd cc
+
+    filled_front : (rest test : Test) → form.Fronts rest test → (o : Option A) (r : List Tok)
+        → some_and form.ready o ≡ true → rest r ≡ true → Passes form.empty test r
+        → test (spell_option form.spell o ++ r) ≡ true
+    filled_front rest test f (Some v) r h i e = p.front rest test f v r h i e
+    filled_front rest test f None r h i e = absurd cc
+
+    filled_here : (o : Option A) (r : List Tok) → some_and form.ready o ≡ true
+        → form.follows r ≡ true → (opt begins g).spells o (spell_option form.spell o) r
+    filled_here (Some v) r h e = (begun p begins m v r h, p.here v r h e)
+    filled_here None r h e = absurd cc
+
+    pub filled_prints : Prints (filled_form begins form) (opt begins g)
+    filled_prints = record {
+      nests = filled_nests;
+      front = filled_front;
+      here = filled_here;
+      only = λ o c r a s. (o, refl, option_only begins p o c r a s);
+    }
+
+module _ {A B : Type 0} {form : Form A} {view : A → B} {g : Production B} (begins : Test)
+    (p : Unparses form view g)
+  where
+    many_nests : (vs : List A) → each form.ready vs ≡ true
+        → Nests form.balanced (flat_map form.spell vs)
+    many_nests [] h = nests_nothing form.balanced
+    many_nests (v ∷ vs) h =
+        let a = and_parts (form.ready v) (each form.ready vs) h in
+        nests_same form.balanced (form.spell v ++ flat_map form.spell vs)
+        (nests_seq form.balanced form.balanced (form.spell v) (flat_map form.spell vs)
+        (p.nests v a.0) (many_nests vs a.1))
+
+    many_front : (test : Test) → form.Fronts any test → (vs : List A) (r : List Tok)
+        → each form.ready vs ≡ true → test r ≡ true
+        → test (flat_map form.spell vs ++ r) ≡ true
+    many_front test f [] r h e = e
+    many_front test f (v ∷ vs) r h e =
+        let a = and_parts (form.ready v) (each form.ready vs) h in
+        let x = flat_map form.spell vs in
+        subst (λ (l : List Tok). test l ≡ true) (sym (append_assoc (form.spell v) x r))
+        (p.front any test f v (x ++ r) a.0 refl
+        (passes_of form.empty test (x ++ r) (many_front test f vs r a.1 e)))
+
+    many_end : Must form.empty (form.Fronts any form.follows) → (vs : List A) (r : List Tok)
+        → each form.ready vs ≡ true → form.follows r ≡ true
+        → form.follows (flat_map form.spell vs ++ r) ≡ true
+    many_end n [] r h e = e
+    many_end n (v ∷ vs) r h e =
+        let a = and_parts (form.ready v) (each form.ready vs) h in
+        let x = flat_map form.spell vs in
+        subst (λ (l : List Tok). form.follows l ≡ true) (sym (append_assoc (form.spell v) x r))
+        (begun p form.follows n v (x ++ r) a.0)
+
+    many_here : Must form.empty (form.Fronts any begins)
+        → Must form.empty (form.Fronts any form.follows) → (vs : List A) (r : List Tok)
+        → each form.ready vs ≡ true → form.follows r ≡ true → begins r ≡ false
+        → many_spells begins g (map view vs) (flat_map form.spell vs) r
+    many_here m n [] r h e k = (refl, k)
+    many_here m n (v ∷ vs) r h e k =
+        let a = and_parts (form.ready v) (each form.ready vs) h in
+        let x = flat_map form.spell vs in (
+          form.spell v,
+          x,
+          refl,
+          subst (λ (l : List Tok). begins l ≡ true) (sym (append_assoc (form.spell v) x r))
+              (begun p begins m v (x ++ r) a.0),
+          p.here v (x ++ r) a.0 (many_end n vs r a.1 e),
+          many_here m n vs r a.1 e k,
+        )
+
+    many_only : (ws : List B) (c r : List Tok) → each is_given c ≡ true
+        → many_spells begins g ws c r
+        → (vs : List A) × (map view vs ≡ ws) × (each form.printable vs ≡ true)
+    many_only [] c r a s = ([], refl, refl)
+    many_only (w ∷ ws) c r a s =
+        let k = given_parts c s.0 s.1 s.2 a in
+        let x = p.only w s.0 (s.1 ++ r) k.0 s.4 in
+        let y = many_only ws s.1 r k.1 s.5 in
+        (x.0 ∷ y.0, rw (x.1, y.1) refl, rw (x.2) (y.2))
+
+    -- a part is told from what may follow, further parts too
+    pub many_seen : (consumes : 1 ≤ g.least) → Must form.empty (form.Fronts any begins)
+        → Must form.empty (form.Fronts any form.follows)
+        → Unparses (many_form begins form) (map view) (many begins g consumes)
+    many_seen consumes m n = record {
+      nests = many_nests;
+      front = λ rest test f vs r h i e. many_front test f vs r h e;
+      here = λ vs r h e. (let k = and_parts (not (begins r)) (form.follows r) e in
+          many_here m n vs r h k.1 (not_true (begins r) k.0));
+      only = many_only;
+    }
+
+pub prints_only : {A : Type 0} {form : Form A} {g : Production A} → Prints form g
+    → OnlyPrintable g form.printable
+prints_only {A = A} {form = form} p = record {
+  holds = λ v c r a s. (let x = p.only v c r a s in
+      subst (λ (w : A). form.printable w ≡ true) x.1 x.2);
+}
+
+map_same : {A : Type 0} (vs : List A) → map (λ v. v) vs ≡ vs
+map_same [] = refl
+map_same (v ∷ vs) = ap (λ l. v ∷ l) (map_same vs)
+
+module _ {A : Type 0} {form : Form A} {g : Production A} (begins : Test) (p : Prints form g)
+  where
+    pub many_prints : (consumes : 1 ≤ g.least) → Must form.empty (form.Fronts any begins)
+        → Must form.empty (form.Fronts any form.follows)
+        → Prints (many_form begins form) (many begins g consumes)
+    many_prints consumes m n =
+        let q = many_seen begins p consumes m n in
+        record {
+          nests = q.nests;
+          front = q.front;
+          here = λ vs r h e. (subst
+              (λ (ws : List A). many_spells begins g ws (flat_map form.spell vs) r)
+              (map_same vs) (q.here vs r h e));
+          only = λ vs c r a s. (let x = q.only vs c r a s in
+              (x.0, sym (map_same x.0) ∙ x.1, x.2));
+        }
+
+-- ---- groups
+
+paren_front : (b : Bool) (F : Test → Test → Type 0) (test : Test) (x r : List Tok)
+    → (F any (λ t. test (LParen ∷ t)) → Passes b (λ t. test (LParen ∷ t)) (RParen ∷ r)
+    → test (LParen ∷ (x ++ (RParen ∷ r))) ≡ true)
+    → ParenFronts b F test → test (LParen ∷ (x ++ (RParen ∷ r))) ≡ true
+paren_front true F test x r f h = f h.0 (h.1 r)
+paren_front false F test x r f h = f h tt
+
+module _ {A B : Type 0} {form : Form A} {view : A → B} {g : Production B}
+    (p : Unparses form view g)
+  where
+    paren_front_of : (test : Test) → ParenFronts form.empty form.Fronts test → (a : A)
+        (r : List Tok) → form.ready a ≡ true → test (in_parens (form.spell a) ++ r) ≡ true
+    paren_front_of test f a r h =
+        subst (λ (l : List Tok). test (LParen ∷ l) ≡ true)
+        (sym (append_assoc (form.spell a) (RParen ∷ []) r))
+        (paren_front form.empty form.Fronts test (form.spell a) r
+        (λ f e. p.front any (λ t. test (LParen ∷ t)) f a (RParen ∷ r) h refl e) f)
+
+    pub paren_prints : Unparses (paren_form form) view (paren g)
+    paren_prints = record {
+      nests = λ a h. nests_paren form.balanced (form.spell a) (p.nests a h);
+      front = λ rest test f a r h i e. paren_front_of test f a r h;
+      here = λ a r h e. (form.spell a, refl, p.here a (RParen ∷ r) h e);
+      only = λ b c r a s. (let k = given_parts c (LParen ∷ s.0) (RParen ∷ []) s.1 a in
+          p.only b s.0 (RParen ∷ r) k.0 s.2);
+    }
+
+    -- the word, and then
+    after_only : (w : List ℕ) (b : B) (c r : List Tok) → each is_given c ≡ true
+        → (after_word w g).spells b c r → (a : A) × (view a ≡ b) × (form.printable a ≡ true)
+    after_only w b c r a s =
+        let t = s.1 in
+        let k = given_parts c t.0 t.1 t.2 a in
+        let x = p.only s.0.1 t.1 r k.1 t.4 in
+        (x.0, x.1 ∙ s.3, x.2)
+
+    pub after_prints : (w : List ℕ) → is_keyword w ≡ true → bytes_eq w w ≡ true
+        → Unparses (after_form w form) view (after_word w g)
+    after_prints w k e = record {
+      nests = λ a h. nests_seq true form.balanced (Keyword w ∷ []) (form.spell a)
+          (well_formed_one (Keyword w) k) (p.nests a h);
+      front = λ rest test f a r h i e. f (form.spell a ++ r) refl;
+      here = λ a r h i. (
+        (tt, view a),
+        (
+          Keyword w ∷ [],
+          form.spell a,
+          refl,
+          word_here w e (form.spell a ++ r),
+          p.here a r h i,
+        ),
+        refl,
+        refl,
+      );
+      only = after_only w;
+    }
+
+module _ {A B : Type 0} {form : Form A} {view : A → B} {g : Production B}
+    (p : Unparses form view g)
+  where
+    -- ( word .. )
+    pub group_prints : (w : List ℕ) → is_keyword w ≡ true → bytes_eq w w ≡ true
+        → Unparses (group_form w form) view (group w g)
+    group_prints w k e = paren_prints (after_prints p w k e)
+
+pub turn_prints : Prints turn_form turn
+turn_prints = record {
+  nests = λ v h. closes_turn;
+  front = λ rest test f v r h i e. f r;
+  here = λ v r h e. refl;
+  only = λ v c r a s. (tt, refl, refl);
+}
+
+-- ---- what the first part decides
+
+module _ {A A' B : Type 0} {C : A → Type 0} {form : Form A} {view : A → A'} {g : Production A'}
+    (h : A' → Production B) (ends : Test) (p : Unparses form view g) (q : (a : A) → Form (C a))
+    (also : (a : A) → C a → B) (each_prints : (a : A) → Unparses (q a) (also a) (h (view a)))
+    (here_balanced : form.balanced ≡ true) (balanced : (a : A) → (q a).balanced ≡ true)
+    (filled : form.empty ≡ false)
+    (behind : (a : A) (v : C a) (r : List Tok) → (q a).ready v ≡ true
+    → form.follows ((q a).spell v ++ r) ≡ true)
+    (may_end : (a : A) (r : List Tok) → ends r ≡ true → (q a).follows r ≡ true)
+  where
+    followed_only : (w : B) (c r : List Tok) → each is_given c ≡ true
+        → (followed g h).spells w c r
+        → (v : (a : A) × C a) × (also v.0 v.1 ≡ w)
+        × (form.printable v.0 && (q v.0).printable v.1 ≡ true)
+    followed_only w c r a s =
+        let k = given_parts c s.1 s.2 s.3 a in
+        let x = p.only s.0 s.1 (s.2 ++ r) k.0 s.4 in
+        let t = subst (λ (b : A'). (h b).spells w s.2 r) (sym x.1) s.5 in
+        let y = (each_prints x.0).only w s.2 r k.1 t in
+        ((x.0, y.0), y.1, rw (x.2, y.2) refl)
+
+    pub followed_prints
+        : Unparses (followed_form ends form q) (λ v. also v.0 v.1) (followed g h)
+    followed_prints = record {
+      nests = λ v k. (let a = and_parts (form.ready v.0) ((q v.0).ready v.1) k in
+          well_formed_both (form.spell v.0) ((q v.0).spell v.1)
+          (subst (λ (b : Bool). Nests b (form.spell v.0)) here_balanced (p.nests v.0 a.0))
+          (subst (λ (b : Bool). Nests b ((q v.0).spell v.1)) (balanced v.0)
+          ((each_prints v.0).nests v.1 a.1)));
+      front = λ rest test f v r k i e. (
+          let a = and_parts (form.ready v.0) ((q v.0).ready v.1) k in
+          let x = (q v.0).spell v.1 ++ r in
+          subst (λ (l : List Tok). test l ≡ true)
+          (sym (append_assoc (form.spell v.0) ((q v.0).spell v.1) r))
+          (p.front any test f v.0 x a.0 refl
+          (subst (λ (b : Bool). Passes b test x) (sym filled) tt)));
+      here = λ v r k e. (
+          let a = and_parts (form.ready v.0) ((q v.0).ready v.1) k in
+          let x = (q v.0).spell v.1 in (
+            view v.0,
+            form.spell v.0,
+            x,
+            refl,
+            p.here v.0 (x ++ r) a.0 (behind v.0 v.1 r a.1),
+            (each_prints v.0).here v.1 r a.1 (may_end v.0 r e),
+          ));
+      only = followed_only;
+    }
+
+pub blank_prints : {A : Type 0} (a : A) → Unparses blank_form (λ (u : Unit {0}). a) (blank a)
+blank_prints a = record {
+  nests = λ v h. nothing;
+  front = λ rest test f v r h i e. e;
+  here = λ v r h e. (refl, refl);
+  only = λ v c r b s. (tt, sym s.1, refl);
+}
